@@ -1,0 +1,6 @@
+pub mod Kinds
+pub mod Tags
+pub mod Rows
+pub mod Octets
+pub mod Numbers
+pub mod Texts

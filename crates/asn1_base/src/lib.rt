@@ -1,0 +1,16 @@
+//! ASN.1 base values: tags, constraints, tables of components, the traits of types, and the kinds of refusal.
+#![tactic(auto)]
+
+mod codec;
+mod constraints;
+mod error;
+mod fields;
+mod tag;
+mod traits;
+
+pub use codec::Codec;
+pub use constraints::{Bounded, Constraints};
+pub use error::{DecodeError, DecodeErrorKind, EncodeError, EncodeErrorKind};
+pub use fields::{Field, FieldPresence, Fields};
+pub use tag::{Class, Tag};
+pub use traits::{AsnType, Choice, Constructed, Enumerated};
