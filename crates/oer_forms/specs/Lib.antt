@@ -1,0 +1,10 @@
+pub mod Mode
+pub mod Orders
+pub mod Tree
+pub mod Lengths
+pub mod Leaves
+pub mod Places
+pub mod Same
+pub mod Encoding
+pub mod Versions
+pub mod Laws
