@@ -4,3 +4,5 @@ pub mod Rows
 pub mod Octets
 pub mod Numbers
 pub mod Texts
+pub mod Bounds
+pub mod Narrowing

@@ -1,5 +1,5 @@
 -- What clauses see of a table of components: its rows, without their names.
-use Rattle.std.specs.Prelude.{◌≡◌, ℕ, suc, List, [], ◌∷◌, length, map, Bool, true, false, ⊤, ◌&&◌, ◌||◌, ◌==◌}
+use Rattle.std.specs.Prelude.{◌≡◌, ℕ, suc, List, [], ◌∷◌, length, map, Bool, true, false, ⊤}
 use Rattle.asn1_base.specs.declared.tag.Tag.{Tag}
 use Rattle.asn1_base.specs.declared.fields.Field.{Field}
 use Rattle.asn1_base.specs.declared.fields.FieldPresence.{FieldPresence}

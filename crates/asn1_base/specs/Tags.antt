@@ -1,5 +1,5 @@
 -- Tags (X.680, clause 8; X.696, 8.7): a class and a number, and their order.
-use Rattle.std.specs.Prelude.{◌≡◌, ℕ, ◌+◌, Bool, true, false, cond, ◌&&◌, ◌||◌, ◌==◌, nat_lt, nat_le, List, [], ◌∷◌, ⊤}
+use Rattle.std.specs.Prelude.{◌≡◌, ℕ, ◌+◌, Bool, false, cond, ◌&&◌, ◌||◌, ◌==◌, nat_lt, nat_le, List, [], ◌∷◌, ⊤}
 use Rattle.asn1_base.specs.declared.tag.Class.{Class}
 use Rattle.asn1_base.specs.declared.tag.Class.TheVariants.{Universal, Application, Context, Private}
 use Rattle.asn1_base.specs.declared.tag.Tag.{Tag}

@@ -5,6 +5,7 @@ mod codec;
 mod constraints;
 mod error;
 mod fields;
+pub mod laws;
 mod tag;
 mod traits;
 

@@ -1,0 +1,21 @@
+//! What the definitions mean, as contracts of functions that do nothing.
+ghost use Rattle.std.specs.Prelude.{ℕ};
+ghost use Rattle.asn1_base.specs.declared.constraints.Constraints.{Constraints};
+ghost use Rattle.asn1_base.specs.Narrowing.{AllowsAlike, IsFixedWhereAlone, KeepsNone, Narrows};
+
+/// `Constraints::narrowed` keeps consistency, allows exactly what both allow where that is something, else what its
+/// own constraints allow, and leaves constraints as they are where the other ones are absent.
+pub fn narrowing()
+    ensures narrows { (own other : Constraints) → Narrows own other }
+    ensures none { (own : Constraints) → KeepsNone own }
+{}
+
+/// The ranges that trees have of constraints allow what the constraints do.
+pub fn ranges()
+    ensures { (c : Constraints) → AllowsAlike c }
+{}
+
+/// `Constraints::fixed_size` is the size that is allowed where no other is.
+pub fn fixed_sizes()
+    ensures { (c : Constraints) (n : ℕ) → IsFixedWhereAlone c n }
+{}
