@@ -3,12 +3,13 @@ use Rattle.std.proofs.Common.{◌≡◌, ◌≢◌, ℕ, ◌+◌, ◌-◌, ◌*�
 use Rattle.std.specs.List.{AllByRecursion}
 use Rattle.std.specs.Int.Digits.{digits_of}
 use Rattle.std.proofs.lemmas.Bool.{lt-ltb, le-ltb, cond-true, cond-false}
+use Rattle.asn1_base.specs.Bounds.{fixed_size}
 use Rattle.asn1_base.specs.Numbers.{number_octets, signed_octets}
 use Rattle.asn1_base.specs.Octets.{Octets, AreOctets, unsigned, AllFalse, pack, joined}
 use Rattle.asn1_base.specs.Tags.{holds, class_number}
 use Rattle.asn1_base.specs.declared.tag.Tag.{Tag}
 use Rattle.oer_forms.specs.Encoding.{IsEncoding, AreItems, IsItem, AreElements, canonical_octets, canonical_items, canonical_item, canonical_elements}
-use Rattle.oer_forms.specs.Leaves.{Width, Fixed, Counted, IsBoolean, IsInteger, IsEnumerated, IsBitString, IsText, IsLeafEncoding, IsShort, value_of, fixed_size, width_of, is_small, fixed_octets, counted_octets, unsigned_octets, int_octets, enum_octets, bits_octets, text_octets, leaf_octets}
+use Rattle.oer_forms.specs.Leaves.{Width, Fixed, Counted, IsBoolean, IsInteger, IsEnumerated, IsBitString, IsText, IsLeafEncoding, IsShort, value_of, width_of, is_small, fixed_octets, counted_octets, unsigned_octets, int_octets, enum_octets, bits_octets, text_octets, leaf_octets}
 use Rattle.oer_forms.specs.Lengths.{IsLength, IsBehindLength, IsTag, IsOpenType, AreCountedBits, IsQuantity, AnyTrue, NoLeadingZero, length_octets, behind_length, tag_octets, with_top_bits, counted_bits, quantity_octets}
 use Rattle.oer_forms.specs.Mode.{OwnSized}
 use Rattle.oer_forms.specs.Orders.{Reorders, Stands}

@@ -1,10 +1,11 @@
 -- An encoding has octets where what is written has.
 use Rattle.std.proofs.Common.{◌≡◌, ℕ, suc, ◌+◌, ◌-◌, ◌*◌, ◌<◌, Bool, true, false, cond, not, ◌&&◌, List, [], ◌∷◌, ◌++◌, length, inl, inr, refl, sym, ap, ap₂, ◌∙◌, subst, arith, append-nil, ℤ, pos, negsuc, Option, Some, None}
+use Rattle.asn1_base.specs.Bounds.{fixed_size}
 use Rattle.asn1_base.specs.Numbers.{low_octets, signed_octets}
 use Rattle.asn1_base.specs.Octets.{Octets, bits_of, pack, octets_for, joined}
 use Rattle.asn1_base.specs.declared.tag.Tag.{Tag}
 use Rattle.oer_forms.specs.Encoding.{IsTree, AreRows, IsEncoding, AreItems, IsItem, canonical_octets, canonical_items, canonical_elements}
-use Rattle.oer_forms.specs.Leaves.{Width, Fixed, Counted, width_of, IsInteger, IsEnumerated, IsBitString, IsText, SpellsLeaf, fixed_size, leaf_octets, int_octets, fixed_octets, enum_octets, bits_octets, text_octets, is_small, counted_octets}
+use Rattle.oer_forms.specs.Leaves.{Width, Fixed, Counted, width_of, IsInteger, IsEnumerated, IsBitString, IsText, SpellsLeaf, leaf_octets, int_octets, fixed_octets, enum_octets, bits_octets, text_octets, is_small, counted_octets}
 use Rattle.oer_forms.specs.Lengths.{IsLength, IsBehindLength, IsTag, behind_length}
 use Rattle.oer_forms.specs.Mode.{Mode}
 use Rattle.oer_forms.specs.Places.{Item, SpellsStruct, SpellsList, SpellsChoice, presence, in_writing_order, bodies, IsExtension}

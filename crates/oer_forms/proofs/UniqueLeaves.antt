@@ -1,12 +1,13 @@
 -- No encoding of a leaf begins another.
 use Rattle.std.proofs.Common.{◌≡◌, ℕ, ◌/◌, Bool, true, false, cond, ◌==◌, List, [], ◌∷◌, ◌++◌, length, inl, inr, refl, sym, ap, ap₂, ◌∙◌, subst, subst₂, arith, ℤ, pos, Option, Some, None, nat_le}
 use Rattle.std.proofs.lemmas.Bool.{and_parts, not-false, leb-true, eqb-true}
+use Rattle.asn1_base.specs.Bounds.{fixed_size, size_fits, Size}
 use Rattle.asn1_base.specs.Octets.{Octets}
 use Rattle.asn1_base.specs.Texts.{Rule, Bmp, Obeys}
-use Rattle.oer_forms.specs.Leaves.{BadSize, Width, Fixed, Counted, width_of, IsBoolean, IsInteger, IsEnumerated, IsBitString, IsText, IsLeafEncoding, fixed_size, size_fits, unit_of, IsLeaf}
+use Rattle.oer_forms.specs.Leaves.{BadSize, Width, Fixed, Counted, width_of, IsBoolean, IsInteger, IsEnumerated, IsBitString, IsText, IsLeafEncoding, unit_of, IsLeaf}
 use Rattle.oer_forms.specs.Mode.{Mode}
 use Rattle.oer_forms.specs.Same.{AlikeLeaf}
-use Rattle.oer_forms.specs.Tree.{Size, Content, Written, Civil, Leaf, Boolean, Null, Enum, Int, Bits, Text}
+use Rattle.oer_forms.specs.Tree.{Content, Written, Civil, Leaf, Boolean, Null, Enum, Int, Bits, Text}
 use Rattle.oer_forms.proofs.Lists.{head_same, tail_same, not_nil, split_same}
 use Rattle.oer_forms.proofs.Unique.{behind_unique, counted_bits_unique, packed_unique}
 

@@ -1,10 +1,11 @@
 -- What one mode reads a more lenient one reads.
 use Rattle.std.proofs.Common.{ℕ, ◌-◌, Bool, true, false, List, [], ◌∷◌, length, drop, inl, inr, ℤ, Option, Some, None}
+use Rattle.asn1_base.specs.Bounds.{fixed_size}
 use Rattle.asn1_base.specs.Octets.{Octets}
 use Rattle.asn1_base.specs.Tags.{holds}
 use Rattle.asn1_base.specs.declared.tag.Tag.{Tag}
 use Rattle.oer_forms.specs.Encoding.{IsEncoding, AreItems, IsItem, AreElements}
-use Rattle.oer_forms.specs.Leaves.{Width, Fixed, Counted, IsInteger, IsEnumerated, IsBitString, IsText, SpellsLeaf, fixed_size, width_of}
+use Rattle.oer_forms.specs.Leaves.{Width, Fixed, Counted, IsInteger, IsEnumerated, IsBitString, IsText, SpellsLeaf, width_of}
 use Rattle.oer_forms.specs.Lengths.{IsLength, IsBehindLength, IsTag, IsOpenType, AreCountedBits, IsBitmap, IsQuantity}
 use Rattle.oer_forms.specs.Mode.{Mode, Lenient, Canonical, OwnSized, InLenient, InStrict, InOwnSized}
 use Rattle.oer_forms.specs.Places.{Item, AreSkipped, IsAddition, AreAdditions, IsExtension, SpellsStruct, IsInOrder, SpellsList, IsAlternative, SpellsChoice}

@@ -7,13 +7,14 @@ use Rattle.std.proofs.lemmas.Int.Digits.{number_digits_of, number_push, first_di
 use native.Mathlib.Nat.{mul-le-mul_right}
 use Rattle.std.proofs.lemmas.Nat.{div_below, div-add-mod'}
 use Rattle.std.proofs.lemmas.Bool.{ltb-true, ltb-false, lt-ltb, cases_lt, cases_eq, cond-true, cond-false, cond_both, cases_Bool, and_parts, not-false}
+use Rattle.asn1_base.specs.Bounds.{in_range, fixed_size, Range}
 use Rattle.asn1_base.specs.Numbers.{number_octets, in_i128, complement, with_sign, low_octets, signed_octets}
 use Rattle.asn1_base.specs.Octets.{Octets, AreOctets, unsigned, signed, usize_max, octets_for}
 use Rattle.asn1_base.specs.Texts.{Rule}
-use Rattle.oer_forms.specs.Leaves.{Width, Fixed, Counted, width_of, signed_width, unsigned_width, holds_signed, in_range, IsShort, value_of, fixed_octets, unsigned_octets, counted_octets, int_octets, enum_octets, bits_octets, text_octets, leaf_octets, leaf_fails, count_too_long, string_too_long, is_small, IsInteger, IsEnumerated, IsBitString, IsText, IsLeafEncoding, fixed_size, IsLeaf, Failure, BadValue, BadTime, TooLong}
+use Rattle.oer_forms.specs.Leaves.{Width, Fixed, Counted, width_of, signed_width, unsigned_width, holds_signed, IsShort, value_of, fixed_octets, unsigned_octets, counted_octets, int_octets, enum_octets, bits_octets, text_octets, leaf_octets, leaf_fails, count_too_long, string_too_long, is_small, IsInteger, IsEnumerated, IsBitString, IsText, IsLeafEncoding, IsLeaf, Failure, BadValue, BadTime, TooLong}
 use Rattle.oer_forms.specs.Lengths.{NoLeadingZero, behind_length}
 use Rattle.oer_forms.specs.Mode.{OwnSized}
-use Rattle.oer_forms.specs.Tree.{Range, Written, Civil, Leaf, Boolean, Null, Enum, Int, Bits, Text}
+use Rattle.oer_forms.specs.Tree.{Written, Civil, Leaf, Boolean, Null, Enum, Int, Bits, Text}
 use Rattle.oer_forms.proofs.Numbers.{IsTight, unsigned_cons, complement_octets, complement_twice, length-complement, tight_complement, signed_low, signed_high, signed_complement, with_sign_low, with_sign_high, powers}
 use Rattle.oer_forms.proofs.Written.{digits_octets, append_octets, number_is, behind_form, behind_are_octets, packed_is, counted_bits_form, counted_bits_are_octets, few_digits}
 

@@ -1,11 +1,12 @@
 -- Leaves: why one can't be written, the octets that are written, and the octets that spell one.
 use Rattle.std.specs.Prelude.{◌≡◌, ◌≢◌, ℕ, zero, suc, ◌+◌, ◌-◌, ◌*◌, ◌/◌, ◌%◌, ◌^◌, ◌<◌, ◌≤◌, Bool, true, false, cond, not, ◌&&◌, List, [], ◌∷◌, ◌++◌, length, get_or, map, ◌⊎◌, ⊤, ℤ, pos, negsuc, int_le, int_lt, nat_le, nat_lt, ◌==◌, Option, Some, None}
+use Rattle.asn1_base.specs.Bounds.{Range, fixed_size, in_range, size_fits}
 use Rattle.asn1_base.specs.Numbers.{number_octets, signed_octets, low_octets, complement, in_i128, in_isize}
 use Rattle.asn1_base.specs.Octets.{Octets, AreOctets, unsigned, signed, usize_max, bits_of, AllFalse, octets_for, pack}
 use Rattle.asn1_base.specs.Texts.{Rule, Bmp, Obeys}
 use Rattle.oer_forms.specs.Lengths.{IsBehindLength, AreCountedBits, behind_length, counted_bits}
 use Rattle.oer_forms.specs.Mode.{Mode, InLenient, InStrict}
-use Rattle.oer_forms.specs.Tree.{Range, Size, Content, Written, Civil, Leaf, Boolean, Null, Enum, Int, Bits, Text}
+use Rattle.oer_forms.specs.Tree.{Content, Written, Civil, Leaf, Boolean, Null, Enum, Int, Bits, Text}
 use Rattle.std.specs.Int.Digits.{digits_of}
 
 -- Why a tree can't be written: a number outside its range, a size outside its bounds, arcs that are no identifier, a time
@@ -37,28 +38,6 @@ width_of None = Counted true
 width_of (Some (None, high)) = Counted true
 width_of (Some (Some low, None)) = cond (int_lt low (pos 0)) (Counted true) (Counted false)
 width_of (Some (Some low, Some high)) = cond (int_lt low (pos 0)) (signed_width low high) (unsigned_width high)
-
-abbrev pub is_above : Option ℤ → ℤ → Bool
-is_above None n = true
-is_above (Some low) n = int_le low n
-
-abbrev pub is_below : Option ℤ → ℤ → Bool
-is_below None n = true
-is_below (Some high) n = int_le n high
-
--- where a range is there, the number is within it and one of i128
-abbrev pub in_range : Range → ℤ → Bool
-in_range None n = true
-in_range (Some (low, high)) n = is_above low n && (is_below high n && in_i128 n)
-
-abbrev pub size_fits : Size → ℕ → Bool
-size_fits None n = true
-size_fits (Some (low, high)) n = nat_le low n && nat_le n high
-
--- a size is fixed where its bounds allow one number
-abbrev pub fixed_size : Size → Option ℕ
-fixed_size None = None
-fixed_size (Some (low, high)) = cond (low == high) (Some low) None
 
 -- how many octets a text's size counts as one: a BMPString's characters are two octets each, other sizes count octets
 abbrev pub unit_of : Rule → ℕ

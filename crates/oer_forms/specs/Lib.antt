@@ -8,3 +8,4 @@ pub mod Same
 pub mod Encoding
 pub mod Versions
 pub mod Laws
+pub mod Spelled

@@ -1,16 +1,9 @@
 -- The tree of a value: what the value, its type and the constraints say, without the type.
 use Rattle.std.specs.Prelude.{ℕ, Bool, List, ℤ, Option}
+use Rattle.asn1_base.specs.Bounds.{Range, Size}
 use Rattle.asn1_base.specs.Octets.{Octets}
 use Rattle.asn1_base.specs.Texts.{Rule}
 use Rattle.asn1_base.specs.declared.tag.Tag.{Tag}
-
--- the range of an INTEGER: absent, or a lower and an upper bound, each optional
-abbrev pub Range : Type 0
-Range = Option (Option ℤ × Option ℤ)
-
--- the size of a string: absent, or the least and the greatest
-abbrev pub Size : Type 0
-Size = Option (ℕ × ℕ)
 
 -- the octets of a text; a time without a text has its civil fields in their place
 pub data Content : Type 0 where

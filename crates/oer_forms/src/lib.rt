@@ -2,3 +2,6 @@
 #![tactic(auto)]
 
 pub mod laws;
+mod spelled;
+
+pub use spelled::Spelled;

@@ -1,0 +1,72 @@
+-- The trees of values, and what is promised of them.
+use Rattle.std.specs.Prelude.{◌≡◌, Bool, true, List, [], ◌∷◌, ⊤, refl}
+use Rattle.asn1_base.specs.Bounds.{is_consistent}
+use Rattle.asn1_base.specs.declared.constraints.Constraints.{Constraints}
+use Rattle.oer_forms.specs.Encoding.{IsTree, AreTrees}
+use Rattle.oer_forms.specs.Same.{Alike, AlikeTrees, EachTree}
+use Rattle.oer_forms.specs.Tree.{Tree, Primitive, Leaf, Boolean, Null, ListOf, Trees, NoTrees, More}
+
+-- every range of the constraints holds a number
+abbrev pub IsConsistent : Constraints → Type 0
+IsConsistent c = is_consistent c ≡ true
+
+-- every value is one that the type admits
+abbrev pub IsAny : {A : Type 0} → A → Type 0
+IsAny v = ⊤
+
+abbrev pub EachValue : {A : Type 0} → (A → Type 0) → List A → Type 0
+EachValue IsValue [] = ⊤
+EachValue IsValue (v ∷ vs) = IsValue v × EachValue IsValue vs
+
+-- the trees of a list's elements
+abbrev pub trees_of : {A : Type 0} → (A → Tree) → List A → Trees
+trees_of tree [] = NoTrees
+trees_of tree (v ∷ vs) = More (tree v) (trees_of tree vs)
+
+unfoldable pub boolean : Bool → Tree
+boolean b = Primitive (Boolean b)
+
+unfoldable pub null : Unit {0} → Tree
+null v = Primitive Null
+
+unfoldable pub list_of : {A : Type 0} → Bool → (A → Tree) → List A → Tree
+list_of ordered tree vs = ListOf ordered (trees_of tree vs)
+
+pub boolean_is : (b : Bool) → IsTree (boolean b)
+unfolding boolean Rattle.oer_forms.specs.Encoding.IsTree
+boolean_is b = tt
+
+pub booleans_alike : (a b : Bool) → Alike (boolean a) (boolean b)
+unfolding boolean Rattle.oer_forms.specs.Same.Alike
+booleans_alike a b = tt
+
+pub null_is : (v : Unit {0}) → IsTree (null v)
+unfolding null Rattle.oer_forms.specs.Encoding.IsTree
+null_is v = tt
+
+pub nulls_alike : (v w : Unit {0}) → Alike (null v) (null w)
+unfolding null Rattle.oer_forms.specs.Same.Alike
+nulls_alike v w = tt
+
+module _ {A : Type 0} (tree : A → Tree) (IsValue : A → Type 0) where
+  trees_are : ((v : A) → IsValue v → IsTree (tree v)) → (vs : List A) → EachValue IsValue vs → AreTrees (trees_of tree vs)
+  unfolding Rattle.oer_forms.specs.Encoding.IsTree
+  trees_are is [] i = tt
+  trees_are is (v ∷ vs) i = (is v i.0, trees_are is vs i.1)
+
+  each_alike : ((v w : A) → IsValue v → IsValue w → Alike (tree v) (tree w)) → (v : A) (ws : List A) → IsValue v → EachValue IsValue ws → EachTree (λ u. Alike (tree v) u) (trees_of tree ws)
+  each_alike like v [] i j = tt
+  each_alike like v (w ∷ ws) i j = (like v w i j.0, each_alike like v ws i j.1)
+
+  trees_alike : ((v w : A) → IsValue v → IsValue w → Alike (tree v) (tree w)) → (vs ws : List A) → EachValue IsValue vs → EachValue IsValue ws → AlikeTrees (trees_of tree vs) (trees_of tree ws)
+  unfolding Rattle.oer_forms.specs.Same.Alike
+  trees_alike like [] ws i j = tt
+  trees_alike like (v ∷ vs) ws i j = (each_alike like v ws i.0 j, trees_alike like vs ws i.1 j)
+
+  pub list_is : (ordered : Bool) → ((v : A) → IsValue v → IsTree (tree v)) → (vs : List A) → EachValue IsValue vs → IsTree (list_of ordered tree vs)
+  unfolding list_of Rattle.oer_forms.specs.Encoding.IsTree
+  list_is ordered is vs i = trees_are is vs i
+
+  pub lists_alike : (ordered : Bool) → ((v w : A) → IsValue v → IsValue w → Alike (tree v) (tree w)) → (vs ws : List A) → EachValue IsValue vs → EachValue IsValue ws → Alike (list_of ordered tree vs) (list_of ordered tree ws)
+  unfolding list_of Rattle.oer_forms.specs.Same.Alike
+  lists_alike ordered like vs ws i j = (refl, trees_alike like vs ws i j)
