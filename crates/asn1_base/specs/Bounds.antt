@@ -91,6 +91,10 @@ is_consistent c = is_consistent_part_by int_le c.value && is_consistent_part_by 
 abbrev pub narrowed : Constraints → Constraints → Constraints
 narrowed own other = record { value = narrowed_part_by int_le own.value other.value; size = narrowed_part_by nat_le own.size other.size }
 
+-- the values from low to high, both included, and no others
+abbrev pub values_between : ℤ → ℤ → Constraints
+values_between low high = record { value = Some (bounded.Range (Some low) (Some high), false); size = None }
+
 -- no range, or a lower and an upper bound, each optional
 abbrev pub Range : Type 0
 Range = Option (Option ℤ × Option ℤ)

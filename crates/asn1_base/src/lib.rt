@@ -8,10 +8,12 @@ mod fields;
 pub mod laws;
 mod tag;
 mod traits;
+mod types;
 
 pub use codec::Codec;
-pub use constraints::{Bounded, Constraints};
+pub use constraints::{Bounded, Constraints, Limits};
 pub use error::{DecodeError, DecodeErrorKind, EncodeError, EncodeErrorKind};
 pub use fields::{Field, FieldPresence, Fields};
 pub use tag::{Class, Tag};
 pub use traits::{AsnType, Choice, Constructed, Enumerated};
+pub use types::{SequenceOf, Utf8String};

@@ -1,0 +1,384 @@
+use crate::constraints::{Bounded, Constraints};
+use crate::tag::Tag;
+use crate::traits::AsnType;
+
+/// UTF8String: a text.
+pub type Utf8String = String;
+
+/// SEQUENCE OF: a list in its order.
+pub type SequenceOf<T> = Vec<T>;
+
+impl AsnType for bool {
+    ghost use Rattle.std.specs.Prelude.{false};
+    ghost use Rattle.asn1_base.specs.declared.tag.TheConstants.Tag.{BOOL};
+    ghost use Rattle.asn1_base.specs.declared.constraints.TheConstants.Constraints.{NONE};
+
+    ghost TAG = { BOOL };
+
+    const TAG: Tag = Tag::BOOL;
+
+    ghost CONSTRAINTS = { NONE };
+
+    const CONSTRAINTS: Constraints = Constraints::NONE;
+
+    ghost IS_CHOICE = { false };
+
+    const IS_CHOICE: bool = false;
+}
+
+impl AsnType for () {
+    ghost use Rattle.std.specs.Prelude.{false};
+    ghost use Rattle.asn1_base.specs.declared.tag.TheConstants.Tag.{NULL};
+    ghost use Rattle.asn1_base.specs.declared.constraints.TheConstants.Constraints.{NONE};
+
+    ghost TAG = { NULL };
+
+    const TAG: Tag = Tag::NULL;
+
+    ghost CONSTRAINTS = { NONE };
+
+    const CONSTRAINTS: Constraints = Constraints::NONE;
+
+    ghost IS_CHOICE = { false };
+
+    const IS_CHOICE: bool = false;
+}
+
+impl AsnType for Utf8String {
+    ghost use Rattle.std.specs.Prelude.{false};
+    ghost use Rattle.asn1_base.specs.declared.tag.TheConstants.Tag.{UTF8_STRING};
+    ghost use Rattle.asn1_base.specs.declared.constraints.TheConstants.Constraints.{NONE};
+
+    ghost TAG = { UTF8_STRING };
+
+    const TAG: Tag = Tag::UTF8_STRING;
+
+    ghost CONSTRAINTS = { NONE };
+
+    const CONSTRAINTS: Constraints = Constraints::NONE;
+
+    ghost IS_CHOICE = { false };
+
+    const IS_CHOICE: bool = false;
+}
+
+impl<T> AsnType for SequenceOf<T> {
+    ghost use Rattle.std.specs.Prelude.{false};
+    ghost use Rattle.asn1_base.specs.declared.tag.TheConstants.Tag.{SEQUENCE};
+    ghost use Rattle.asn1_base.specs.declared.constraints.TheConstants.Constraints.{NONE};
+
+    ghost TAG = { SEQUENCE };
+
+    const TAG: Tag = Tag::SEQUENCE;
+
+    ghost CONSTRAINTS = { NONE };
+
+    const CONSTRAINTS: Constraints = Constraints::NONE;
+
+    ghost IS_CHOICE = { false };
+
+    const IS_CHOICE: bool = false;
+}
+
+/// A box is its content.
+impl<T: AsnType> AsnType for Box<T> {
+    ghost TAG = { T.TAG };
+
+    const TAG: Tag = T::TAG;
+
+    ghost CONSTRAINTS = { T.CONSTRAINTS };
+
+    const CONSTRAINTS: Constraints = T::CONSTRAINTS;
+
+    ghost IS_CHOICE = { T.IS_CHOICE };
+
+    const IS_CHOICE: bool = T::IS_CHOICE;
+}
+
+impl AsnType for i128 {
+    ghost use Rattle.std.specs.Prelude.{false};
+    ghost use Rattle.asn1_base.specs.declared.tag.TheConstants.Tag.{INTEGER};
+    ghost use Rattle.asn1_base.specs.declared.constraints.TheConstants.Constraints.{NONE};
+
+    ghost TAG = { INTEGER };
+
+    const TAG: Tag = Tag::INTEGER;
+
+    ghost CONSTRAINTS = { NONE };
+
+    const CONSTRAINTS: Constraints = Constraints::NONE;
+
+    ghost IS_CHOICE = { false };
+
+    const IS_CHOICE: bool = false;
+}
+
+impl AsnType for u128 {
+    ghost use Rattle.std.specs.Prelude.{false};
+    ghost use Rattle.asn1_base.specs.declared.tag.TheConstants.Tag.{INTEGER};
+    ghost use Rattle.asn1_base.specs.declared.constraints.TheConstants.Constraints.{NONE};
+
+    ghost TAG = { INTEGER };
+
+    const TAG: Tag = Tag::INTEGER;
+
+    ghost CONSTRAINTS = { NONE };
+
+    const CONSTRAINTS: Constraints = Constraints::NONE;
+
+    ghost IS_CHOICE = { false };
+
+    const IS_CHOICE: bool = false;
+}
+
+impl AsnType for isize {
+    ghost use Rattle.std.specs.Prelude.{false};
+    ghost use Rattle.asn1_base.specs.declared.tag.TheConstants.Tag.{INTEGER};
+    ghost use Rattle.asn1_base.specs.declared.constraints.TheConstants.Constraints.{NONE};
+
+    ghost TAG = { INTEGER };
+
+    const TAG: Tag = Tag::INTEGER;
+
+    ghost CONSTRAINTS = { NONE };
+
+    const CONSTRAINTS: Constraints = Constraints::NONE;
+
+    ghost IS_CHOICE = { false };
+
+    const IS_CHOICE: bool = false;
+}
+
+impl AsnType for usize {
+    ghost use Rattle.std.specs.Prelude.{false};
+    ghost use Rattle.asn1_base.specs.declared.tag.TheConstants.Tag.{INTEGER};
+    ghost use Rattle.asn1_base.specs.declared.constraints.TheConstants.Constraints.{NONE};
+
+    ghost TAG = { INTEGER };
+
+    const TAG: Tag = Tag::INTEGER;
+
+    ghost CONSTRAINTS = { NONE };
+
+    const CONSTRAINTS: Constraints = Constraints::NONE;
+
+    ghost IS_CHOICE = { false };
+
+    const IS_CHOICE: bool = false;
+}
+
+impl AsnType for i8 {
+    ghost use Rattle.std.specs.Prelude.{false, pos, negsuc, ◌^◌, ◌-◌};
+    ghost use Rattle.asn1_base.specs.declared.tag.TheConstants.Tag.{INTEGER};
+    ghost use Rattle.asn1_base.specs.Bounds.{values_between};
+
+    ghost TAG = { INTEGER };
+
+    const TAG: Tag = Tag::INTEGER;
+
+    ghost CONSTRAINTS = { values_between (negsuc (2 ^ 7 - 1)) (pos (2 ^ 7 - 1)) };
+
+    const CONSTRAINTS: Constraints = Constraints {
+        value: Some((
+            Bounded::Range {
+                start: Some(i8::MIN as i128),
+                end: Some(i8::MAX as i128),
+            },
+            false,
+        )),
+        size: None,
+    };
+
+    ghost IS_CHOICE = { false };
+
+    const IS_CHOICE: bool = false;
+}
+
+impl AsnType for i16 {
+    ghost use Rattle.std.specs.Prelude.{false, pos, negsuc, ◌^◌, ◌-◌};
+    ghost use Rattle.asn1_base.specs.declared.tag.TheConstants.Tag.{INTEGER};
+    ghost use Rattle.asn1_base.specs.Bounds.{values_between};
+
+    ghost TAG = { INTEGER };
+
+    const TAG: Tag = Tag::INTEGER;
+
+    ghost CONSTRAINTS = { values_between (negsuc (2 ^ 15 - 1)) (pos (2 ^ 15 - 1)) };
+
+    const CONSTRAINTS: Constraints = Constraints {
+        value: Some((
+            Bounded::Range {
+                start: Some(i16::MIN as i128),
+                end: Some(i16::MAX as i128),
+            },
+            false,
+        )),
+        size: None,
+    };
+
+    ghost IS_CHOICE = { false };
+
+    const IS_CHOICE: bool = false;
+}
+
+impl AsnType for i32 {
+    ghost use Rattle.std.specs.Prelude.{false, pos, negsuc, ◌^◌, ◌-◌};
+    ghost use Rattle.asn1_base.specs.declared.tag.TheConstants.Tag.{INTEGER};
+    ghost use Rattle.asn1_base.specs.Bounds.{values_between};
+
+    ghost TAG = { INTEGER };
+
+    const TAG: Tag = Tag::INTEGER;
+
+    ghost CONSTRAINTS = { values_between (negsuc (2 ^ 31 - 1)) (pos (2 ^ 31 - 1)) };
+
+    const CONSTRAINTS: Constraints = Constraints {
+        value: Some((
+            Bounded::Range {
+                start: Some(i32::MIN as i128),
+                end: Some(i32::MAX as i128),
+            },
+            false,
+        )),
+        size: None,
+    };
+
+    ghost IS_CHOICE = { false };
+
+    const IS_CHOICE: bool = false;
+}
+
+impl AsnType for i64 {
+    ghost use Rattle.std.specs.Prelude.{false, pos, negsuc, ◌^◌, ◌-◌};
+    ghost use Rattle.asn1_base.specs.declared.tag.TheConstants.Tag.{INTEGER};
+    ghost use Rattle.asn1_base.specs.Bounds.{values_between};
+
+    ghost TAG = { INTEGER };
+
+    const TAG: Tag = Tag::INTEGER;
+
+    ghost CONSTRAINTS = { values_between (negsuc (2 ^ 63 - 1)) (pos (2 ^ 63 - 1)) };
+
+    const CONSTRAINTS: Constraints = Constraints {
+        value: Some((
+            Bounded::Range {
+                start: Some(i64::MIN as i128),
+                end: Some(i64::MAX as i128),
+            },
+            false,
+        )),
+        size: None,
+    };
+
+    ghost IS_CHOICE = { false };
+
+    const IS_CHOICE: bool = false;
+}
+
+impl AsnType for u8 {
+    ghost use Rattle.std.specs.Prelude.{false, pos, ◌^◌, ◌-◌};
+    ghost use Rattle.asn1_base.specs.declared.tag.TheConstants.Tag.{INTEGER};
+    ghost use Rattle.asn1_base.specs.Bounds.{values_between};
+
+    ghost TAG = { INTEGER };
+
+    const TAG: Tag = Tag::INTEGER;
+
+    ghost CONSTRAINTS = { values_between (pos 0) (pos (2 ^ 8 - 1)) };
+
+    const CONSTRAINTS: Constraints = Constraints {
+        value: Some((
+            Bounded::Range {
+                start: Some(u8::MIN as i128),
+                end: Some(u8::MAX as i128),
+            },
+            false,
+        )),
+        size: None,
+    };
+
+    ghost IS_CHOICE = { false };
+
+    const IS_CHOICE: bool = false;
+}
+
+impl AsnType for u16 {
+    ghost use Rattle.std.specs.Prelude.{false, pos, ◌^◌, ◌-◌};
+    ghost use Rattle.asn1_base.specs.declared.tag.TheConstants.Tag.{INTEGER};
+    ghost use Rattle.asn1_base.specs.Bounds.{values_between};
+
+    ghost TAG = { INTEGER };
+
+    const TAG: Tag = Tag::INTEGER;
+
+    ghost CONSTRAINTS = { values_between (pos 0) (pos (2 ^ 16 - 1)) };
+
+    const CONSTRAINTS: Constraints = Constraints {
+        value: Some((
+            Bounded::Range {
+                start: Some(u16::MIN as i128),
+                end: Some(u16::MAX as i128),
+            },
+            false,
+        )),
+        size: None,
+    };
+
+    ghost IS_CHOICE = { false };
+
+    const IS_CHOICE: bool = false;
+}
+
+impl AsnType for u32 {
+    ghost use Rattle.std.specs.Prelude.{false, pos, ◌^◌, ◌-◌};
+    ghost use Rattle.asn1_base.specs.declared.tag.TheConstants.Tag.{INTEGER};
+    ghost use Rattle.asn1_base.specs.Bounds.{values_between};
+
+    ghost TAG = { INTEGER };
+
+    const TAG: Tag = Tag::INTEGER;
+
+    ghost CONSTRAINTS = { values_between (pos 0) (pos (2 ^ 32 - 1)) };
+
+    const CONSTRAINTS: Constraints = Constraints {
+        value: Some((
+            Bounded::Range {
+                start: Some(u32::MIN as i128),
+                end: Some(u32::MAX as i128),
+            },
+            false,
+        )),
+        size: None,
+    };
+
+    ghost IS_CHOICE = { false };
+
+    const IS_CHOICE: bool = false;
+}
+
+impl AsnType for u64 {
+    ghost use Rattle.std.specs.Prelude.{false, pos, ◌^◌, ◌-◌};
+    ghost use Rattle.asn1_base.specs.declared.tag.TheConstants.Tag.{INTEGER};
+    ghost use Rattle.asn1_base.specs.Bounds.{values_between};
+
+    ghost TAG = { INTEGER };
+
+    const TAG: Tag = Tag::INTEGER;
+
+    ghost CONSTRAINTS = { values_between (pos 0) (pos (2 ^ 64 - 1)) };
+
+    const CONSTRAINTS: Constraints = Constraints {
+        value: Some((
+            Bounded::Range {
+                start: Some(u64::MIN as i128),
+                end: Some(u64::MAX as i128),
+            },
+            false,
+        )),
+        size: None,
+    };
+
+    ghost IS_CHOICE = { false };
+
+    const IS_CHOICE: bool = false;
+}
