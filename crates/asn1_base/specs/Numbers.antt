@@ -1,5 +1,5 @@
 -- The shortest octets of numbers, and those of a fixed count.
-use Rattle.std.specs.Prelude.{ℕ, zero, suc, ◌-◌, ◌/◌, ◌%◌, ◌^◌, Bool, cond, ◌&&◌, List, [], ◌∷◌, ◌++◌, get_or, map, ℤ, pos, negsuc, int_le, int_lt, nat_lt, ◌==◌}
+use Rattle.std.specs.Prelude.{ℕ, zero, suc, ◌-◌, ◌/◌, ◌%◌, ◌^◌, Bool, cond, ◌&&◌, [], ◌∷◌, ◌++◌, get_or, slice_index, length, map, ℤ, pos, negsuc, int_le, int_lt, nat_lt, ◌==◌}
 use Rattle.std.specs.Int.Digits.{digits_of}
 use Rattle.asn1_base.specs.Octets.{Octets}
 
@@ -12,6 +12,10 @@ in_isize n = int_le (negsuc (2 ^ 63 - 1)) n && int_lt n (pos (2 ^ 63))
 -- the shortest octets of a number that isn't negative: at least one
 abbrev pub number_octets : ℕ → Octets
 number_octets n = cond (n == 0) (0 ∷ []) (digits_of 256 n)
+
+abbrev pub unsigned_octets : ℤ → Octets
+unsigned_octets (pos n) = number_octets n
+unsigned_octets (negsuc n) = []
 
 -- -(n + 1) has the octets of n, each taken from 255
 abbrev pub complement : Octets → Octets
@@ -30,3 +34,11 @@ signed_octets (negsuc n) = complement (with_sign (digits_of 256 n))
 abbrev pub low_octets : ℕ → ℕ → Octets
 low_octets zero n = []
 low_octets (suc k) n = low_octets k (n / 256) ++ (n % 256 ∷ [])
+
+-- the first octet could be left out of an unsigned number
+abbrev pub has_superfluous_zero : Octets → Bool
+has_superfluous_zero o = nat_lt 1 (length o) && (slice_index o 0 == 0)
+
+-- the first octet could be left out of a number in two's complement: it only repeats the sign
+abbrev pub has_superfluous_sign : Octets → Bool
+has_superfluous_sign o = nat_lt 1 (length o) && cond (nat_lt (slice_index o 1) 128) (slice_index o 0 == 0) (slice_index o 0 == 255)

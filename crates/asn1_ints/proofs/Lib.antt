@@ -1,0 +1,6 @@
+pub mod Limits
+pub mod Shortening
+pub mod Appending
+pub mod Order
+pub mod Compare
+pub mod Kept

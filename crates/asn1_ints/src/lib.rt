@@ -1,0 +1,10 @@
+//! Whole numbers of any size, and the types that ASN.1's INTEGER is held in.
+#![tactic(auto)]
+
+mod integer;
+mod integer_type;
+mod number;
+mod octets;
+
+pub use integer::Integer;
+pub use integer_type::IntegerType;
