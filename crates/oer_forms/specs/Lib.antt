@@ -9,3 +9,4 @@ pub mod Encoding
 pub mod Versions
 pub mod Laws
 pub mod Spelled
+pub mod Reading

@@ -1,0 +1,3 @@
+//! Readers and writers of leaves and their parts, over slices.
+
+pub mod read;
