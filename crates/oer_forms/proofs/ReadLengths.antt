@@ -1,5 +1,5 @@
 -- A length is read exactly where a front of the octets spells it, and so is what stands behind one.
-use Rattle.std.proofs.Common.{◌≡◌, ◌≢◌, ℕ, ◌+◌, ◌-◌, ◌^◌, ◌<◌, ◌≤◌, Bool, true, false, cond, ltb, eqb, List, [], ◌∷◌, ◌++◌, length, get_or, take, drop, Result, Ok, Err, refl, sym, ap, subst, ◌∙◌, append_assoc, arith, inl, inr}
+use Rattle.std.proofs.Common.{◌≡◌, ◌≢◌, ℕ, ◌+◌, ◌-◌, ◌^◌, ◌<◌, ◌≤◌, false, ltb, eqb, [], ◌∷◌, ◌++◌, length, get_or, take, drop, Result, Ok, refl, sym, ap, subst, ◌∙◌, append_assoc, arith, inl, inr}
 use Rattle.std.specs.Option.{ok_or}
 use Rattle.std.proofs.lemmas.Bool.{cases_lt, cases_eq, ltb-false, lt-ltb, le-ltb, eqb-false, ne_eqb}
 use Rattle.std.proofs.lemmas.List.{take-append-drop, length-take-le}
@@ -9,8 +9,8 @@ use Rattle.asn1_base.specs.declared.error.DecodeErrorKind.{DecodeErrorKind}
 use Rattle.asn1_base.specs.declared.error.DecodeErrorKind.TheVariants.{LengthExceedsPlatformWidth}
 use Rattle.oer_forms.specs.Lengths.{IsLength, IsBehindLength}
 use Rattle.oer_forms.specs.Mode.{Mode, mode_of, InStrict}
-use Rattle.oer_forms.specs.Reading.{◌>>=◌, ◌>>◌, octets_at, canonical, begins_with_zero, is_coer, if_below, long_length_at, length_at, content_at}
-use Rattle.oer_forms.proofs.Steps.{Reads, bind_ok, then_ok, ok_is, pair_is, octets_ok, octets_again, canonical_ok, canonical_again, strict_is, strict_has, if_below_ok, if_below_again, front_octets, rear_octets}
+use Rattle.oer_forms.specs.Reading.{◌>>=◌, ◌>>◌, octets_at, canonical, begins_with_zero, if_below, long_length_at, length_at, content_at}
+use Rattle.oer_forms.proofs.Steps.{Reads, bind_ok, then_ok, pair_is, octets_ok, octets_again, canonical_ok, canonical_again, strict_is, strict_has, if_below_ok, if_below_again, front_octets, rear_octets}
 
 -- what the octets behind the first spell
 IsLong : Mode → ℕ → Octets → ℕ → Type 0

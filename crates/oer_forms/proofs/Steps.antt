@@ -1,14 +1,13 @@
 -- Steps of reading, taken apart and put together.
-use Rattle.std.proofs.Common.{◌≡◌, ℕ, zero, suc, ◌+◌, ◌-◌, ◌<◌, ◌≤◌, Bool, true, false, cond, ltb, eqb, List, [], ◌∷◌, ◌++◌, length, get_or, take, drop, Result, Ok, Err, refl, sym, ap, subst, ◌∙◌, arith, inl, inr, Fits, w8}
-use Rattle.std.specs.Prelude.{◌&&◌, Option, Some, None}
+use Rattle.std.proofs.Common.{◌≡◌, ℕ, suc, ◌-◌, ◌<◌, ◌≤◌, Bool, true, false, cond, ltb, [], ◌∷◌, ◌++◌, length, get_or, take, drop, Result, Ok, Err, refl, sym, ap, ◌∙◌, arith, inl, inr, Fits, w8}
 use Rattle.std.specs.Option.{ok_or}
 use Rattle.std.proofs.lemmas.Bool.{cases_lt, ltb-false, lt-ltb, le-ltb}
-use Rattle.std.proofs.lemmas.List.{take_at, drop_at, length-append, take-append-drop}
+use Rattle.std.proofs.lemmas.List.{take_at, drop_at, length-append}
 use Rattle.asn1_base.specs.Octets.{Octets, AreOctets}
 use Rattle.asn1_base.specs.declared.codec.Codec.{Codec}
 use Rattle.asn1_base.specs.declared.codec.Codec.TheVariants.{Oer, Coer}
 use Rattle.asn1_base.specs.declared.error.DecodeErrorKind.{DecodeErrorKind}
-use Rattle.asn1_base.specs.declared.error.DecodeErrorKind.TheVariants.{Incomplete, NotValidCanonicalEncoding, OutOfMemory}
+use Rattle.asn1_base.specs.declared.error.DecodeErrorKind.TheVariants.{Incomplete, OutOfMemory}
 use Rattle.oer_forms.specs.Mode.{mode_of, InStrict}
 use Rattle.oer_forms.specs.Reading.{◌>>=◌, ◌>>◌, Gives, seen, ReadsFront, NoFront, octets_at, canonical, is_coer, if_below}
 

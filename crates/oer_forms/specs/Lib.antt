@@ -10,3 +10,5 @@ pub mod Versions
 pub mod Laws
 pub mod Spelled
 pub mod Reading
+pub mod Failures
+pub mod Writing
