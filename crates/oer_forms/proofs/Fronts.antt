@@ -1,5 +1,5 @@
 -- No canonical encoding is a proper front of another's.
-use Rattle.std.proofs.Common.{◌≡◌, [], ◌++◌, sym, ◌∙◌, arith, append-nil}
+use Rattle.std.proofs.Common.{◌≡◌, ℕ, List, [], ◌++◌, refl, sym, ap, ◌∙◌, arith, append-nil}
 use Rattle.asn1_base.specs.Octets.{Octets}
 use Rattle.oer_forms.specs.Encoding.{IsTree, IsEncodable, canonical_octets, levels}
 use Rattle.oer_forms.specs.Mode.{OwnSized}

@@ -1,7 +1,7 @@
 -- Trees and their octets.
-use Rattle.std.specs.Prelude.{◌≡◌, ℕ, suc, ◌+◌, ◌-◌, ◌≤◌, max, Bool, true, false, not, ◌&&◌, ◌||◌, List, [], ◌∷◌, length, nat_lt, ◌⊎◌, ⊤}
+use Rattle.std.specs.Prelude.{◌≡◌, ℕ, suc, ◌+◌, ◌-◌, ◌<◌, ◌≤◌, max, Bool, true, false, cond, not, ◌&&◌, ◌||◌, List, [], ◌∷◌, length, nat_lt, ◌⊎◌, ⊤}
 use Rattle.asn1_base.specs.Octets.{Octets, usize_max, octets_for}
-use Rattle.asn1_base.specs.Tags.{holds}
+use Rattle.asn1_base.specs.Tags.{holds, same_tag}
 use Rattle.asn1_base.specs.Tags.{AreDistinct, holds, times_held}
 use Rattle.asn1_base.specs.declared.tag.Tag.{Tag}
 use Rattle.oer_forms.specs.Leaves.{Failure, TooManyEmpty, TooLong, leaf_octets, leaf_fails, IsLeafEncoding, IsLeaf}

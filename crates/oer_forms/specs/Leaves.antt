@@ -1,12 +1,13 @@
 -- Leaves: why one can't be written, the octets that are written, and the octets that spell one.
-use Rattle.std.specs.Prelude.{◌≡◌, ◌≢◌, ℕ, ◌+◌, ◌-◌, ◌*◌, ◌/◌, ◌^◌, ◌<◌, ◌≤◌, Bool, true, false, cond, not, ◌&&◌, List, [], ◌∷◌, ◌++◌, length, ◌⊎◌, ⊤, ℤ, pos, negsuc, int_le, int_lt, nat_lt, ◌==◌, Option, Some, None}
+use Rattle.std.specs.Prelude.{◌≡◌, ◌≢◌, ℕ, zero, suc, ◌+◌, ◌-◌, ◌*◌, ◌/◌, ◌%◌, ◌^◌, ◌<◌, ◌≤◌, Bool, true, false, cond, not, ◌&&◌, List, [], ◌∷◌, ◌++◌, length, get_or, map, ◌⊎◌, ⊤, ℤ, pos, negsuc, int_le, int_lt, nat_le, nat_lt, ◌==◌, Option, Some, None}
 use Rattle.asn1_base.specs.Bounds.{Range, fixed_size, in_range, size_fits}
-use Rattle.asn1_base.specs.Numbers.{number_octets, signed_octets, low_octets, complement, in_isize}
+use Rattle.asn1_base.specs.Numbers.{number_octets, signed_octets, low_octets, complement, in_i128, in_isize}
 use Rattle.asn1_base.specs.Octets.{Octets, AreOctets, unsigned, signed, usize_max, bits_of, AllFalse, octets_for, pack}
 use Rattle.asn1_base.specs.Texts.{Rule, Bmp, Obeys}
 use Rattle.oer_forms.specs.Lengths.{IsBehindLength, AreCountedBits, behind_length, counted_bits}
 use Rattle.oer_forms.specs.Mode.{Mode, InLenient, InStrict}
 use Rattle.oer_forms.specs.Tree.{Content, Written, Civil, Leaf, Boolean, Null, Enum, Int, Bits, Text}
+use Rattle.std.specs.Int.Digits.{digits_of}
 
 -- Why a tree can't be written: a number outside its range, a size outside its bounds, arcs that are no identifier, a time
 -- without a text, too many elements without octets, a length that the platform can't hold.

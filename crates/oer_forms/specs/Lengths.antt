@@ -1,6 +1,6 @@
 -- Lengths, tags, open types, bitmaps and quantities.
 use Rattle.asn1_base.specs.Tags.{class_number}
-use Rattle.std.specs.Prelude.{◌≡◌, ◌≢◌, ℕ, ◌+◌, ◌-◌, ◌*◌, ◌%◌, ◌<◌, ◌≤◌, Bool, true, false, cond, List, [], ◌∷◌, ◌++◌, length, get_or, ◌⊎◌, ⊤, nat_lt}
+use Rattle.std.specs.Prelude.{◌≡◌, ◌≢◌, ℕ, ◌+◌, ◌-◌, ◌*◌, ◌%◌, ◌<◌, ◌≤◌, Bool, true, false, cond, List, [], ◌∷◌, ◌++◌, length, get_or, ◌⊎◌, ⊤, nat_lt, ◌==◌}
 use Rattle.asn1_base.specs.Numbers.{number_octets}
 use Rattle.asn1_base.specs.Octets.{Octets, AreOctets, unsigned, usize_max, bits_of, AllFalse, pack, octets_for}
 use Rattle.asn1_base.specs.declared.tag.Tag.{Tag}

@@ -1,5 +1,5 @@
 -- How the octets of parts lie in the octets of a node, without trees.
-use Rattle.std.specs.Prelude.{◌≡◌, ◌<◌, Bool, true, false, cond, ◌||◌, List, [], ◌∷◌, ◌++◌, length, get_or, drop, map}
+use Rattle.std.specs.Prelude.{◌≡◌, ◌<◌, Bool, true, false, cond, ◌&&◌, ◌||◌, List, [], ◌∷◌, ◌++◌, length, get_or, drop, map, nat_lt, nat_le, ◌==◌}
 use Rattle.std.specs.List.{AllByRecursion}
 use Rattle.asn1_base.specs.Octets.{Octets, AreOctets, bits_of, AllFalse, pack, joined}
 use Rattle.asn1_base.specs.Tags.{tag_le, holds}

@@ -4,7 +4,7 @@ use Rattle.asn1_base.specs.Bounds.{is_consistent}
 use Rattle.asn1_base.specs.declared.constraints.Constraints.{Constraints}
 use Rattle.oer_forms.specs.Encoding.{IsTree, AreTrees}
 use Rattle.oer_forms.specs.Same.{Alike, AlikeTrees, EachTree}
-use Rattle.oer_forms.specs.Tree.{Tree, Primitive, Boolean, Null, ListOf, Trees, NoTrees, More}
+use Rattle.oer_forms.specs.Tree.{Tree, Primitive, Leaf, Boolean, Null, ListOf, Trees, NoTrees, More}
 
 -- every range of the constraints holds a number
 abbrev pub IsConsistent : Constraints → Type 0

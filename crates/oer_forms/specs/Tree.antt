@@ -1,5 +1,5 @@
 -- The tree of a value: what the value, its type and the constraints say, without the type.
-use Rattle.std.specs.Prelude.{ℕ, Bool, List, ℤ}
+use Rattle.std.specs.Prelude.{ℕ, Bool, List, ℤ, Option}
 use Rattle.asn1_base.specs.Bounds.{Range, Size}
 use Rattle.asn1_base.specs.Octets.{Octets}
 use Rattle.asn1_base.specs.Texts.{Rule}
