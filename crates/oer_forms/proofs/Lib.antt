@@ -1,3 +1,6 @@
+pub mod Digits
+pub mod Steps
+pub mod ReadLengths
 pub mod Lists
 pub mod Unique
 pub mod UniqueLeaves

@@ -9,3 +9,6 @@ pub mod Encoding
 pub mod Versions
 pub mod Laws
 pub mod Spelled
+pub mod Reading
+pub mod Failures
+pub mod Writing

@@ -2,6 +2,7 @@
 #![tactic(auto)]
 
 pub mod laws;
+pub mod leaf;
 mod spelled;
 
 pub use spelled::Spelled;

@@ -1,0 +1,4 @@
+//! Readers and writers of leaves and their parts, over slices.
+
+pub mod read;
+pub mod write;

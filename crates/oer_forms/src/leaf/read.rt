@@ -1,0 +1,11 @@
+//! Readers: each answers what the octets at the front spell and what is left, or the first refusal.
+//!
+//! Each contract names the reading function, which says the value, what is left, or the first refusal with its fields,
+//! and the relation between octets and values: what is answered was spelled by the front that was taken, and where a
+//! reader refuses, no front spells any value.
+
+mod lengths;
+mod parts;
+
+pub use lengths::{read_content, read_length};
+pub use parts::{read_octet, read_octets, require_canonical};
