@@ -6,7 +6,8 @@ use crate::tag::Tag;
 pub trait AsnType {
     ghost use Rattle.asn1_base.specs.declared.constraints.Constraints.{Constraints};
     ghost use Rattle.asn1_base.specs.declared.tag.Tag.{Tag};
-    ghost use Rattle.std.specs.Prelude.{Bool};
+    ghost use Rattle.asn1_base.specs.Bounds.{is_consistent};
+    ghost use Rattle.std.specs.Prelude.{◌≡◌, Bool, true};
 
     ghost TAG: { Tag };
 
@@ -15,8 +16,10 @@ pub trait AsnType {
 
     ghost CONSTRAINTS: { Constraints };
 
-    /// The type's own constraints.
+    /// The type's own constraints: each of their ranges holds a number.
     const CONSTRAINTS: Constraints;
+
+    ghost consistent: { is_consistent CONSTRAINTS ≡ true };
 
     ghost IS_CHOICE: { Bool };
 

@@ -9,7 +9,7 @@ pub type Utf8String = String;
 pub type SequenceOf<T> = Vec<T>;
 
 impl AsnType for bool {
-    ghost use Rattle.std.specs.Prelude.{false};
+    ghost use Rattle.std.specs.Prelude.{false, refl};
     ghost use Rattle.asn1_base.specs.declared.tag.TheConstants.Tag.{BOOL};
     ghost use Rattle.asn1_base.specs.declared.constraints.TheConstants.Constraints.{NONE};
 
@@ -21,13 +21,15 @@ impl AsnType for bool {
 
     const CONSTRAINTS: Constraints = Constraints::NONE;
 
+    ghost consistent = { refl };
+
     ghost IS_CHOICE = { false };
 
     const IS_CHOICE: bool = false;
 }
 
 impl AsnType for () {
-    ghost use Rattle.std.specs.Prelude.{false};
+    ghost use Rattle.std.specs.Prelude.{false, refl};
     ghost use Rattle.asn1_base.specs.declared.tag.TheConstants.Tag.{NULL};
     ghost use Rattle.asn1_base.specs.declared.constraints.TheConstants.Constraints.{NONE};
 
@@ -39,13 +41,15 @@ impl AsnType for () {
 
     const CONSTRAINTS: Constraints = Constraints::NONE;
 
+    ghost consistent = { refl };
+
     ghost IS_CHOICE = { false };
 
     const IS_CHOICE: bool = false;
 }
 
 impl AsnType for Utf8String {
-    ghost use Rattle.std.specs.Prelude.{false};
+    ghost use Rattle.std.specs.Prelude.{false, refl};
     ghost use Rattle.asn1_base.specs.declared.tag.TheConstants.Tag.{UTF8_STRING};
     ghost use Rattle.asn1_base.specs.declared.constraints.TheConstants.Constraints.{NONE};
 
@@ -57,13 +61,15 @@ impl AsnType for Utf8String {
 
     const CONSTRAINTS: Constraints = Constraints::NONE;
 
+    ghost consistent = { refl };
+
     ghost IS_CHOICE = { false };
 
     const IS_CHOICE: bool = false;
 }
 
 impl<T> AsnType for SequenceOf<T> {
-    ghost use Rattle.std.specs.Prelude.{false};
+    ghost use Rattle.std.specs.Prelude.{false, refl};
     ghost use Rattle.asn1_base.specs.declared.tag.TheConstants.Tag.{SEQUENCE};
     ghost use Rattle.asn1_base.specs.declared.constraints.TheConstants.Constraints.{NONE};
 
@@ -74,6 +80,8 @@ impl<T> AsnType for SequenceOf<T> {
     ghost CONSTRAINTS = { NONE };
 
     const CONSTRAINTS: Constraints = Constraints::NONE;
+
+    ghost consistent = { refl };
 
     ghost IS_CHOICE = { false };
 
@@ -90,13 +98,15 @@ impl<T: AsnType> AsnType for Box<T> {
 
     const CONSTRAINTS: Constraints = T::CONSTRAINTS;
 
+    ghost consistent = { T.consistent };
+
     ghost IS_CHOICE = { T.IS_CHOICE };
 
     const IS_CHOICE: bool = T::IS_CHOICE;
 }
 
 impl AsnType for i128 {
-    ghost use Rattle.std.specs.Prelude.{false};
+    ghost use Rattle.std.specs.Prelude.{false, refl};
     ghost use Rattle.asn1_base.specs.declared.tag.TheConstants.Tag.{INTEGER};
     ghost use Rattle.asn1_base.specs.declared.constraints.TheConstants.Constraints.{NONE};
 
@@ -107,6 +117,8 @@ impl AsnType for i128 {
     ghost CONSTRAINTS = { NONE };
 
     const CONSTRAINTS: Constraints = Constraints::NONE;
+
+    ghost consistent = { refl };
 
     ghost IS_CHOICE = { false };
 
@@ -114,7 +126,7 @@ impl AsnType for i128 {
 }
 
 impl AsnType for u128 {
-    ghost use Rattle.std.specs.Prelude.{false};
+    ghost use Rattle.std.specs.Prelude.{false, refl};
     ghost use Rattle.asn1_base.specs.declared.tag.TheConstants.Tag.{INTEGER};
     ghost use Rattle.asn1_base.specs.declared.constraints.TheConstants.Constraints.{NONE};
 
@@ -125,6 +137,8 @@ impl AsnType for u128 {
     ghost CONSTRAINTS = { NONE };
 
     const CONSTRAINTS: Constraints = Constraints::NONE;
+
+    ghost consistent = { refl };
 
     ghost IS_CHOICE = { false };
 
@@ -132,7 +146,7 @@ impl AsnType for u128 {
 }
 
 impl AsnType for isize {
-    ghost use Rattle.std.specs.Prelude.{false};
+    ghost use Rattle.std.specs.Prelude.{false, refl};
     ghost use Rattle.asn1_base.specs.declared.tag.TheConstants.Tag.{INTEGER};
     ghost use Rattle.asn1_base.specs.declared.constraints.TheConstants.Constraints.{NONE};
 
@@ -143,6 +157,8 @@ impl AsnType for isize {
     ghost CONSTRAINTS = { NONE };
 
     const CONSTRAINTS: Constraints = Constraints::NONE;
+
+    ghost consistent = { refl };
 
     ghost IS_CHOICE = { false };
 
@@ -150,7 +166,7 @@ impl AsnType for isize {
 }
 
 impl AsnType for usize {
-    ghost use Rattle.std.specs.Prelude.{false};
+    ghost use Rattle.std.specs.Prelude.{false, refl};
     ghost use Rattle.asn1_base.specs.declared.tag.TheConstants.Tag.{INTEGER};
     ghost use Rattle.asn1_base.specs.declared.constraints.TheConstants.Constraints.{NONE};
 
@@ -162,13 +178,15 @@ impl AsnType for usize {
 
     const CONSTRAINTS: Constraints = Constraints::NONE;
 
+    ghost consistent = { refl };
+
     ghost IS_CHOICE = { false };
 
     const IS_CHOICE: bool = false;
 }
 
 impl AsnType for i8 {
-    ghost use Rattle.std.specs.Prelude.{false, pos, negsuc, ◌^◌, ◌-◌};
+    ghost use Rattle.std.specs.Prelude.{false, pos, negsuc, ◌^◌, ◌-◌, refl};
     ghost use Rattle.asn1_base.specs.declared.tag.TheConstants.Tag.{INTEGER};
     ghost use Rattle.asn1_base.specs.Bounds.{values_between};
 
@@ -189,13 +207,15 @@ impl AsnType for i8 {
         size: None,
     };
 
+    ghost consistent = { refl };
+
     ghost IS_CHOICE = { false };
 
     const IS_CHOICE: bool = false;
 }
 
 impl AsnType for i16 {
-    ghost use Rattle.std.specs.Prelude.{false, pos, negsuc, ◌^◌, ◌-◌};
+    ghost use Rattle.std.specs.Prelude.{false, pos, negsuc, ◌^◌, ◌-◌, refl};
     ghost use Rattle.asn1_base.specs.declared.tag.TheConstants.Tag.{INTEGER};
     ghost use Rattle.asn1_base.specs.Bounds.{values_between};
 
@@ -216,13 +236,15 @@ impl AsnType for i16 {
         size: None,
     };
 
+    ghost consistent = { refl };
+
     ghost IS_CHOICE = { false };
 
     const IS_CHOICE: bool = false;
 }
 
 impl AsnType for i32 {
-    ghost use Rattle.std.specs.Prelude.{false, pos, negsuc, ◌^◌, ◌-◌};
+    ghost use Rattle.std.specs.Prelude.{false, pos, negsuc, ◌^◌, ◌-◌, refl};
     ghost use Rattle.asn1_base.specs.declared.tag.TheConstants.Tag.{INTEGER};
     ghost use Rattle.asn1_base.specs.Bounds.{values_between};
 
@@ -243,13 +265,15 @@ impl AsnType for i32 {
         size: None,
     };
 
+    ghost consistent = { refl };
+
     ghost IS_CHOICE = { false };
 
     const IS_CHOICE: bool = false;
 }
 
 impl AsnType for i64 {
-    ghost use Rattle.std.specs.Prelude.{false, pos, negsuc, ◌^◌, ◌-◌};
+    ghost use Rattle.std.specs.Prelude.{false, pos, negsuc, ◌^◌, ◌-◌, refl};
     ghost use Rattle.asn1_base.specs.declared.tag.TheConstants.Tag.{INTEGER};
     ghost use Rattle.asn1_base.specs.Bounds.{values_between};
 
@@ -270,13 +294,15 @@ impl AsnType for i64 {
         size: None,
     };
 
+    ghost consistent = { refl };
+
     ghost IS_CHOICE = { false };
 
     const IS_CHOICE: bool = false;
 }
 
 impl AsnType for u8 {
-    ghost use Rattle.std.specs.Prelude.{false, pos, ◌^◌, ◌-◌};
+    ghost use Rattle.std.specs.Prelude.{false, pos, ◌^◌, ◌-◌, refl};
     ghost use Rattle.asn1_base.specs.declared.tag.TheConstants.Tag.{INTEGER};
     ghost use Rattle.asn1_base.specs.Bounds.{values_between};
 
@@ -297,13 +323,15 @@ impl AsnType for u8 {
         size: None,
     };
 
+    ghost consistent = { refl };
+
     ghost IS_CHOICE = { false };
 
     const IS_CHOICE: bool = false;
 }
 
 impl AsnType for u16 {
-    ghost use Rattle.std.specs.Prelude.{false, pos, ◌^◌, ◌-◌};
+    ghost use Rattle.std.specs.Prelude.{false, pos, ◌^◌, ◌-◌, refl};
     ghost use Rattle.asn1_base.specs.declared.tag.TheConstants.Tag.{INTEGER};
     ghost use Rattle.asn1_base.specs.Bounds.{values_between};
 
@@ -324,13 +352,15 @@ impl AsnType for u16 {
         size: None,
     };
 
+    ghost consistent = { refl };
+
     ghost IS_CHOICE = { false };
 
     const IS_CHOICE: bool = false;
 }
 
 impl AsnType for u32 {
-    ghost use Rattle.std.specs.Prelude.{false, pos, ◌^◌, ◌-◌};
+    ghost use Rattle.std.specs.Prelude.{false, pos, ◌^◌, ◌-◌, refl};
     ghost use Rattle.asn1_base.specs.declared.tag.TheConstants.Tag.{INTEGER};
     ghost use Rattle.asn1_base.specs.Bounds.{values_between};
 
@@ -351,13 +381,15 @@ impl AsnType for u32 {
         size: None,
     };
 
+    ghost consistent = { refl };
+
     ghost IS_CHOICE = { false };
 
     const IS_CHOICE: bool = false;
 }
 
 impl AsnType for u64 {
-    ghost use Rattle.std.specs.Prelude.{false, pos, ◌^◌, ◌-◌};
+    ghost use Rattle.std.specs.Prelude.{false, pos, ◌^◌, ◌-◌, refl};
     ghost use Rattle.asn1_base.specs.declared.tag.TheConstants.Tag.{INTEGER};
     ghost use Rattle.asn1_base.specs.Bounds.{values_between};
 
@@ -377,6 +409,8 @@ impl AsnType for u64 {
         )),
         size: None,
     };
+
+    ghost consistent = { refl };
 
     ghost IS_CHOICE = { false };
 

@@ -153,7 +153,7 @@ impl PartialOrd for Integer {
 }
 
 impl AsnType for Integer {
-    ghost use Rattle.std.specs.Prelude.{false};
+    ghost use Rattle.std.specs.Prelude.{false, refl};
     ghost use Rattle.asn1_base.specs.declared.tag.TheConstants.Tag.{INTEGER};
     ghost use Rattle.asn1_base.specs.declared.constraints.TheConstants.Constraints.{NONE};
 
@@ -164,6 +164,8 @@ impl AsnType for Integer {
     ghost CONSTRAINTS = { NONE };
 
     const CONSTRAINTS: Constraints = Constraints::NONE;
+
+    ghost consistent = { refl };
 
     ghost IS_CHOICE = { false };
 

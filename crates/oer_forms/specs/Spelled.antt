@@ -1,10 +1,14 @@
 -- The trees of values, and what is promised of them.
-use Rattle.std.specs.Prelude.{◌≡◌, Bool, true, List, [], ◌∷◌, ⊤, refl}
-use Rattle.asn1_base.specs.Bounds.{is_consistent}
+use Rattle.std.specs.Prelude.{◌≡◌, Bool, true, ℤ, List, [], ◌∷◌, ⊤, refl}
+use Rattle.std.specs.Bool.{Decides, beq}
+use Rattle.std.specs.Cmp.{booleans_Decides, signed_Decides}
+use Rattle.std.specs.Ordering.{int_eq}
+use Rattle.std.proofs.Common.{ap}
+use Rattle.asn1_base.specs.Bounds.{is_consistent, value_bounds}
 use Rattle.asn1_base.specs.declared.constraints.Constraints.{Constraints}
 use Rattle.oer_forms.specs.Encoding.{IsTree, AreTrees}
-use Rattle.oer_forms.specs.Same.{Alike, AlikeTrees, EachTree}
-use Rattle.oer_forms.specs.Tree.{Tree, Primitive, Leaf, Boolean, Null, ListOf, Trees, NoTrees, More}
+use Rattle.oer_forms.specs.Same.{Same, Alike, AlikeTrees, EachTree}
+use Rattle.oer_forms.specs.Tree.{Tree, Primitive, Leaf, Boolean, Null, Int, ListOf, Trees, NoTrees, More}
 
 -- every range of the constraints holds a number
 abbrev pub IsConsistent : Constraints → Type 0
@@ -29,6 +33,10 @@ boolean b = Primitive (Boolean b)
 unfoldable pub null : Unit {0} → Tree
 null v = Primitive Null
 
+-- an integer under constraints
+unfoldable pub integer : Constraints → ℤ → Tree
+integer c n = Primitive (Int (value_bounds c) n)
+
 unfoldable pub list_of : {A : Type 0} → Bool → (A → Tree) → List A → Tree
 list_of ordered tree vs = ListOf ordered (trees_of tree vs)
 
@@ -47,6 +55,28 @@ null_is v = tt
 pub nulls_alike : (v w : Unit {0}) → Alike (null v) (null w)
 unfolding null Rattle.oer_forms.specs.Same.Alike
 nulls_alike v w = tt
+
+pub integer_is : (c : Constraints) (n : ℤ) → IsTree (integer c n)
+unfolding integer Rattle.oer_forms.specs.Encoding.IsTree
+integer_is c n = tt
+
+pub integers_alike : (c : Constraints) (m n : ℤ) → Alike (integer c m) (integer c n)
+unfolding integer Rattle.oer_forms.specs.Same.Alike
+integers_alike c m n = refl
+
+-- ---- equality of trees
+
+pub booleans_same : (a b : Bool) → Decides (beq a b) (Same (boolean a) (boolean b))
+unfolding boolean Rattle.oer_forms.specs.Same.Same
+booleans_same a b = (λ e. ap Boolean ((booleans_Decides a b).0 e), λ s. (booleans_Decides a b).1 (cc s))
+
+pub nulls_same : (v w : Unit {0}) → Same (null v) (null w)
+unfolding null Rattle.oer_forms.specs.Same.Same
+nulls_same v w = refl
+
+pub integers_same : (c : Constraints) (m n : ℤ) → Decides (int_eq m n) (Same (integer c m) (integer c n))
+unfolding integer Rattle.oer_forms.specs.Same.Same
+integers_same c m n = (λ e. ap (Int (value_bounds c)) ((signed_Decides m n).0 e), λ s. (signed_Decides m n).1 (cc s))
 
 module _ {A : Type 0} (tree : A → Tree) (IsValue : A → Type 0) where
   trees_are : ((v : A) → IsValue v → IsTree (tree v)) → (vs : List A) → EachValue IsValue vs → AreTrees (trees_of tree vs)

@@ -5,4 +5,4 @@ pub mod laws;
 pub mod leaf;
 mod spelled;
 
-pub use spelled::Spelled;
+pub use spelled::{EqualAsSpelled, Spelled};

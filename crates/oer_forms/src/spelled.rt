@@ -1,5 +1,7 @@
 //! The tree of each value, by which every other contract speaks of types.
 
+mod integers;
+
 use asn1_base::AsnType;
 
 /// A type each of whose values has a tree.
@@ -27,7 +29,74 @@ pub trait Spelled: AsnType + Drop {
 
     /// The trees of two admitted values could be of one type.
     ghost alike: { (c : Constraints) → IsConsistent c → (v w : Self) → IsValue v → IsValue w → Alike (tree c v) (tree c w) };
+}
 
-    /// The type's own constraints are consistent.
-    ghost own_consistent: { IsConsistent Self.CONSTRAINTS };
+/// A type whose `==` is equality of trees: what each component with a default has to have.
+pub trait EqualAsSpelled: Spelled + PartialEq {
+    ghost use Rattle.asn1_base.specs.declared.constraints.Constraints.{Constraints};
+    ghost use Rattle.oer_forms.specs.Same.{Same};
+    ghost use Rattle.oer_forms.specs.Spelled.{IsConsistent};
+    ghost use Rattle.std.specs.Bool.{Decides};
+
+    /// Two admitted values are equal exactly where their trees are same.
+    ghost eq_is_same: { (c : Constraints) → IsConsistent c → (v w : Self) → Self.IsValue v → Self.IsValue w → Decides (Self.eq v w) (Same (Self.tree c v) (Self.tree c w)) };
+}
+
+impl Spelled for bool {
+    ghost use Rattle.oer_forms.specs.Spelled.{IsAny, boolean, boolean_is, booleans_alike};
+
+    ghost tree = { λ c b. boolean b };
+
+    ghost IsValue = { IsAny };
+
+    ghost is_tree = { λ c k b i. boolean_is b };
+
+    ghost alike = { λ c k a b i j. booleans_alike a b };
+}
+
+impl Spelled for () {
+    ghost use Rattle.oer_forms.specs.Spelled.{IsAny, null, null_is, nulls_alike};
+
+    ghost tree = { λ c v. null v };
+
+    ghost IsValue = { IsAny };
+
+    ghost is_tree = { λ c k v i. null_is v };
+
+    ghost alike = { λ c k v w i j. nulls_alike v w };
+}
+
+/// A box is its content.
+impl<T: Spelled> Spelled for Box<T> {
+    ghost tree = { λ c b. T.tree c b.value };
+
+    ghost IsValue = { λ b. T.IsValue b.value };
+
+    ghost is_tree = { λ c k b i. T.is_tree c k b.value i };
+
+    ghost alike = { λ c k a b i j. T.alike c k a.value b.value i j };
+}
+
+impl<T: Spelled> Spelled for Vec<T> {
+    ghost use Rattle.std.specs.Prelude.{true};
+    ghost use Rattle.oer_forms.specs.Spelled.{EachValue, list_of, list_is, lists_alike};
+
+    ghost tree = { λ c vs. list_of true (T.tree T.CONSTRAINTS) vs.items };
+
+    ghost IsValue = { λ vs. EachValue T.IsValue vs.items };
+
+    ghost is_tree = { λ c k vs i. list_is (T.tree T.CONSTRAINTS) T.IsValue true (T.is_tree T.CONSTRAINTS T.consistent) vs.items i };
+
+    ghost alike = { λ c k vs ws i j. lists_alike (T.tree T.CONSTRAINTS) T.IsValue true (T.alike T.CONSTRAINTS T.consistent) vs.items ws.items i j };
+}
+
+impl EqualAsSpelled for bool {
+    ghost use Rattle.oer_forms.specs.Spelled.{booleans_same};
+
+    ghost eq_is_same = { λ c k a b i j. booleans_same a b };
+}
+
+/// A box is equal where its content is.
+impl<T: EqualAsSpelled> EqualAsSpelled for Box<T> {
+    ghost eq_is_same = { λ c k a b i j. T.eq_is_same c k a.value b.value i j };
 }
