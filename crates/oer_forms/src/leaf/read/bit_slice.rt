@@ -1,6 +1,6 @@
 ghost use Rattle.std.specs.Prelude.{◌≡◌, ◌<◌, ◌+◌, ◌/◌, length, false, slice_index_or, option_map};
 ghost use Rattle.asn1_base.specs.Octets.{bits_of};
-ghost use Rattle.oer_forms.specs.Bits.{front_bits, first_bit, has_no_bit};
+ghost use Rattle.oer_forms.specs.Bits.{front_bits, first_bit, has_no_bit, any_set};
 ghost use Rattle.oer_forms.specs.Views.{bits_left};
 ghost use Rattle.std.specs.Iterator.{YieldsFirst, item_count};
 
@@ -72,6 +72,20 @@ impl<'a> BitSlice<'a> {
                 unused,
             },
         ))
+    }
+
+    /// Whether a bit that is left is set.
+    pub fn any_set(self) -> bool
+        ensures { result ≡ any_set (bits_left self.entry) }
+    {
+        let mut bits = self;
+        while let Some((bit, rest)) = bits.split_first() {
+            if bit {
+                return true;
+            }
+            bits = rest;
+        }
+        false
     }
 }
 
