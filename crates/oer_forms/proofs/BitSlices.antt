@@ -1,7 +1,7 @@
 -- Reading bits one by one from octets.
-use Rattle.std.proofs.Common.{◌≡◌, ℕ, zero, suc, ◌+◌, ◌-◌, ◌*◌, ◌/◌, ◌%◌, ◌^◌, ◌<◌, ◌≤◌, Bool, true, false, cond, eqb, leb, List, [], ◌∷◌, ◌++◌, length, get_or, take, drop, refl, sym, ap, ap₂, ◌∙◌, subst, arith, length-append, length-drop, drop-cons, inl, inr, ◌⊎◌, Option, Some, None}
+use Rattle.std.proofs.Common.{◌≡◌, ℕ, zero, suc, ◌+◌, ◌-◌, ◌*◌, ◌/◌, ◌%◌, ◌^◌, ◌<◌, ◌≤◌, Bool, false, eqb, leb, List, [], ◌∷◌, ◌++◌, length, get_or, take, drop, refl, sym, ap, ap₂, ◌∙◌, arith, length-drop, drop-cons, inl, inr, ◌⊎◌, Some, None}
 use Rattle.std.proofs.lemmas.Bool.{cases_lt, le-leb, lt-leb}
-use Rattle.std.proofs.lemmas.List.{length-take, length-take-le, get_or-take, drop-take, drop-drop, drop_at, get_or-append_right}
+use Rattle.std.proofs.lemmas.List.{get_or-take, drop-take, drop-drop, drop_at, get_or-append_right}
 use Rattle.asn1_base.specs.Octets.{Octets, is_odd, bits8, bits_of}
 use Rattle.oer_forms.specs.Bits.{front_bits, first_bit, has_no_bit}
 use Rattle.oer_forms.proofs.Fill.{length-front}

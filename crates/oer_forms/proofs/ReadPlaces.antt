@@ -1,6 +1,6 @@
 -- Preambles, bitmaps and skipped additions are read exactly where a front of the octets spells them.
-use Rattle.std.proofs.Common.{◌≡◌, ℕ, ◌+◌, ◌-◌, ◌*◌, ◌<◌, ◌≤◌, Bool, true, false, ltb, List, [], ◌∷◌, ◌++◌, length, take, drop, Result, Ok, Err, refl, sym, ap, ap₂, subst, ◌∙◌, arith, append_assoc, length-append}
-use Rattle.std.specs.Prelude.{◌||◌, not}
+use Rattle.std.proofs.Common.{◌≡◌, ℕ, ◌+◌, ◌-◌, ◌*◌, ◌<◌, ◌≤◌, Bool, true, false, ltb, List, [], ◌∷◌, ◌++◌, length, Result, Ok, Err, refl, sym, ap, ap₂, subst, ◌∙◌, arith, append_assoc, length-append}
+use Rattle.std.specs.Prelude.{not}
 use Rattle.std.proofs.lemmas.Bool.{ltb-false, le-ltb, or_parts, or_from}
 use Rattle.std.proofs.lemmas.List.{take-append-drop, length-take-le}
 use Rattle.asn1_base.specs.Octets.{Octets, AreOctets, bits_of, octets_for, AllFalse}
@@ -8,7 +8,7 @@ use Rattle.asn1_base.specs.declared.codec.Codec.{Codec}
 use Rattle.asn1_base.specs.declared.error.DecodeErrorKind.{DecodeErrorKind}
 use Rattle.asn1_base.specs.declared.error.DecodeErrorKind.TheVariants.{InvalidPreamble, InvalidExtensionHeader}
 use Rattle.oer_forms.specs.Bits.{front_bits, has_set_fill, any_set}
-use Rattle.oer_forms.specs.Lengths.{IsBehindLength, AnyTrue, AreCountedBits, IsBitmap}
+use Rattle.oer_forms.specs.Lengths.{IsBehindLength, AnyTrue, IsBitmap}
 use Rattle.oer_forms.specs.Mode.{mode_of, InStrict}
 use Rattle.oer_forms.specs.Places.{IsPreamble, AreSkipped}
 use Rattle.oer_forms.specs.Reading.{Gives, ◌>>=◌, ◌>>◌, octets_at, canonical, is_coer, content_at}

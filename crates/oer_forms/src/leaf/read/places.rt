@@ -26,7 +26,10 @@ fn preamble(bits: usize, input: &[u8]) -> Result<(BitSlice<'_>, &[u8]), DecodeEr
 {
     let (octets, rest) = read_octets(octets_for(bits), input)?;
     let unused = unused_for(bits);
-    refuse_if(has_set_fill(unused, octets), DecodeErrorKind::InvalidPreamble)?;
+    refuse_if(
+        has_set_fill(unused, octets),
+        DecodeErrorKind::InvalidPreamble,
+    )?;
     Ok((BitSlice::new(octets, unused), rest))
 }
 
@@ -34,10 +37,7 @@ fn preamble(bits: usize, input: &[u8]) -> Result<(BitSlice<'_>, &[u8]), DecodeEr
 ///
 /// Refused, the first that applies: `Incomplete` by as many octets as are missing; nonzero bits after the last one, as
 /// `InvalidPreamble`.
-pub fn read_preamble(
-    bits: usize,
-    input: &[u8],
-) -> Result<(BitSlice<'_>, &[u8]), DecodeErrorKind>
+pub fn read_preamble(bits: usize, input: &[u8]) -> Result<(BitSlice<'_>, &[u8]), DecodeErrorKind>
     ensures function { Gives (λ x. (bits_left x.0, x.1.now)) result (preamble_at bits input.now) }
     ensures relation { ReadsFront (λ o b. IsPreamble o b × (length b ≡ bits)) input.now (seen (λ x. (bits_left x.0, x.1.now)) result) }
     ensures memory { IfErr result IsNotForMemory }
@@ -53,7 +53,10 @@ fn bitmap_of(codec: Codec, content: &[u8]) -> Result<BitSlice<'_>, DecodeErrorKi
     let [unused, octets @ ..] = content else {
         return Err(DecodeErrorKind::InvalidExtensionHeader);
     };
-    refuse_if(is_overfull(*unused, octets), DecodeErrorKind::InvalidExtensionHeader)?;
+    refuse_if(
+        is_overfull(*unused, octets),
+        DecodeErrorKind::InvalidExtensionHeader,
+    )?;
     require_canonical(codec, has_set_fill(*unused, octets))?;
     let bits = BitSlice::new(octets, *unused);
     require_canonical(codec, !bits.any_set())?;
