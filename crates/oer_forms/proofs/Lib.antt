@@ -21,3 +21,7 @@ pub mod Nil
 pub mod Fronts
 pub mod Readable
 pub mod Short
+pub mod Fill
+pub mod BitSlices
+pub mod ReadPlaces
+pub mod Packing

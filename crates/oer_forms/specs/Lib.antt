@@ -12,3 +12,6 @@ pub mod Spelled
 pub mod Reading
 pub mod Failures
 pub mod Writing
+pub mod Bits
+pub mod Views
+pub mod ReadingBits

@@ -4,8 +4,14 @@
 //! and the relation between octets and values: what is answered was spelled by the front that was taken, and where a
 //! reader refuses, no front spells any value.
 
+mod bit_slice;
+mod bits;
 mod lengths;
 mod parts;
+mod places;
 
+pub use bit_slice::BitSlice;
+pub(crate) use bits::{octets_for, unused_for};
 pub use lengths::{read_content, read_length};
 pub use parts::{read_octet, read_octets, require_canonical};
+pub use places::{read_bitmap, read_preamble, skip_additions};

@@ -2,5 +2,7 @@
 //! still there, perhaps with more behind them.
 
 mod lengths;
+mod places;
 
 pub use lengths::{write_content, write_length};
+pub use places::{write_bitmap, write_preamble};
