@@ -1,14 +1,16 @@
 -- The trees of values, and what is promised of them.
-use Rattle.std.specs.Prelude.{◌≡◌, Bool, true, ℤ, List, [], ◌∷◌, ⊤, refl}
+use Rattle.std.specs.Prelude.{◌≡◌, Bool, true, ℤ, List, [], ◌∷◌, Option, None, ⊤, refl}
 use Rattle.std.specs.Bool.{Decides, beq}
 use Rattle.std.specs.Cmp.{booleans_Decides, signed_Decides}
 use Rattle.std.specs.Ordering.{int_eq}
 use Rattle.std.proofs.Common.{ap}
-use Rattle.asn1_base.specs.Bounds.{is_consistent, value_bounds}
+use Rattle.asn1_base.specs.Bounds.{is_consistent, value_bounds, size_bounds}
+use Rattle.asn1_base.specs.Octets.{Octets, AreOctets}
+use Rattle.asn1_base.specs.Texts.{Rule, Obeys}
 use Rattle.asn1_base.specs.declared.constraints.Constraints.{Constraints}
 use Rattle.oer_forms.specs.Encoding.{IsTree, AreTrees}
 use Rattle.oer_forms.specs.Same.{Same, Alike, AlikeTrees, EachTree}
-use Rattle.oer_forms.specs.Tree.{Tree, Primitive, Leaf, Boolean, Null, Int, ListOf, Trees, NoTrees, More}
+use Rattle.oer_forms.specs.Tree.{Tree, Primitive, Leaf, Boolean, Null, Int, Bits, Text, Written, ListOf, Trees, NoTrees, More}
 
 -- every range of the constraints holds a number
 abbrev pub IsConsistent : Constraints → Type 0
@@ -37,6 +39,22 @@ null v = Primitive Null
 unfoldable pub integer : Constraints → ℤ → Tree
 integer c n = Primitive (Int (value_bounds c) n)
 
+-- a bit string under constraints
+unfoldable pub bit_string : Constraints → List Bool → Tree
+bit_string c b = Primitive (Bits (size_bounds c) b)
+
+-- octets that obey a rule, under constraints; and those whose size no constraint bounds
+unfoldable pub text : Rule → Constraints → Octets → Tree
+text r c o = Primitive (Text r (size_bounds c) (Written o))
+
+unfoldable pub unsized_text : Rule → Octets → Tree
+unsized_text r o = Primitive (Text r None (Written o))
+
+-- octets that obey the rule
+pub record IsTextOf (r : Rule) (o : Octets) : Type 0 where
+  pub octets : AreOctets o
+  pub obeys : Obeys r o
+
 unfoldable pub list_of : {A : Type 0} → Bool → (A → Tree) → List A → Tree
 list_of ordered tree vs = ListOf ordered (trees_of tree vs)
 
@@ -63,6 +81,30 @@ integer_is c n = tt
 pub integers_alike : (c : Constraints) (m n : ℤ) → Alike (integer c m) (integer c n)
 unfolding integer Rattle.oer_forms.specs.Same.Alike
 integers_alike c m n = refl
+
+pub bit_string_is : (c : Constraints) (b : List Bool) → IsTree (bit_string c b)
+unfolding bit_string Rattle.oer_forms.specs.Encoding.IsTree
+bit_string_is c b = tt
+
+pub bit_strings_alike : (c : Constraints) (a b : List Bool) → Alike (bit_string c a) (bit_string c b)
+unfolding bit_string Rattle.oer_forms.specs.Same.Alike
+bit_strings_alike c a b = refl
+
+pub text_is : (r : Rule) (c : Constraints) (o : Octets) → IsTextOf r o → IsTree (text r c o)
+unfolding text Rattle.oer_forms.specs.Encoding.IsTree
+text_is r c o i = (i.octets, i.obeys)
+
+pub texts_alike : (r : Rule) (c : Constraints) (o p : Octets) → Alike (text r c o) (text r c p)
+unfolding text Rattle.oer_forms.specs.Same.Alike
+texts_alike r c o p = (refl, refl)
+
+pub unsized_text_is : (r : Rule) (o : Octets) → IsTextOf r o → IsTree (unsized_text r o)
+unfolding unsized_text Rattle.oer_forms.specs.Encoding.IsTree
+unsized_text_is r o i = (i.octets, i.obeys)
+
+pub unsized_texts_alike : (r : Rule) (o p : Octets) → Alike (unsized_text r o) (unsized_text r p)
+unfolding unsized_text Rattle.oer_forms.specs.Same.Alike
+unsized_texts_alike r o p = (refl, refl)
 
 -- ---- equality of trees
 

@@ -1,6 +1,7 @@
 //! The tree of each value, by which every other contract speaks of types.
 
 mod integers;
+mod strings;
 
 use asn1_base::AsnType;
 
