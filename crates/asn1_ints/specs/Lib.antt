@@ -2,3 +2,5 @@ pub mod Numbers
 pub mod Octets
 pub mod Reading
 pub mod Widths
+pub mod Ranges
+pub mod Equal

@@ -100,6 +100,7 @@ impl<R: IntegerRange> AsnType for ConstrainedInteger<R> {
     ghost use Rattle.std.specs.Prelude.{false};
     ghost use Rattle.asn1_base.specs.declared.tag.TheConstants.Tag.{INTEGER};
     ghost use Rattle.asn1_base.specs.Bounds.{values_between};
+    ghost use Rattle.asn1_ints.specs.Ranges.{range_is_consistent};
 
     ghost TAG = { INTEGER };
 
@@ -117,6 +118,8 @@ impl<R: IntegerRange> AsnType for ConstrainedInteger<R> {
         )),
         size: None,
     };
+
+    ghost consistent = { range_is_consistent R.MIN R.MAX R.holds_number };
 
     ghost IS_CHOICE = { false };
 
