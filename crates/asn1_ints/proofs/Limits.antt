@@ -1,17 +1,17 @@
 -- When the number of octets is one of i128, or of u128.
-use Rattle.std.proofs.Common.{◌≡◌, ℕ, zero, suc, ◌+◌, ◌-◌, ◌*◌, ◌^◌, ◌<◌, ◌≤◌, Bool, true, false, cond, leb, [], ◌∷◌, length, get_or, take, refl, sym, ap, subst, ◌∙◌, arith, inl, inr}
+use Rattle.std.proofs.Common.{◌≡◌, ℕ, zero, suc, ◌+◌, ◌-◌, ◌*◌, ◌^◌, ◌<◌, ◌≤◌, Bool, true, false, cond, leb, [], ◌∷◌, length, get_or, take, refl, sym, ap, subst, ◌∙◌, arith, inl, inr, Option, option_map}
 use Rattle.std.specs.Prelude.{◌⊎◌, Some, None, FitsSigned, ℤ, pos, negsuc, ◌+ℤ◌, ◌-ℤ◌, ◌*ℤ◌, ◌≤ℤ◌, ◌<ℤ◌}
 use Rattle.std.specs.Int.{w128}
 use Rattle.std.proofs.Math.Nat.{pow-suc}
 use Rattle.std.proofs.lemmas.Int.{ints}
 use Rattle.std.proofs.lemmas.Int.Digits.{number_more}
-use Rattle.std.proofs.lemmas.Bool.{cases_lt, lt-ltb, le-ltb, le-leb, lt-leb}
+use Rattle.std.proofs.lemmas.Bool.{cases_lt, lt-ltb, le-ltb, le-leb, lt-leb, leb-true, leb-false}
 use Rattle.std.proofs.lemmas.List.{take_all, length-take-le}
 use Rattle.asn1_base.specs.Octets.{Octets, AreOctets, unsigned, signed}
 use Rattle.asn1_base.specs.Numbers.{in_i128}
 use Rattle.asn1_base.proofs.Digits.{unsigned_below, octets_from_each}
 use Rattle.asn1_base.proofs.Complement.{signed_low, signed_high}
-use Rattle.asn1_ints.specs.Numbers.{if_in_i128}
+use Rattle.asn1_ints.specs.Numbers.{if_in_i128, if_below}
 use Rattle.asn1_ints.specs.Octets.{in_complement, if_in_u128}
 
 -- ---- two's complement, one octet at a time
@@ -149,3 +149,18 @@ unsigned_ends_outside xs i n lt e none =
     go : (n * 256 + get_or xs i 0 < 2 ^ 128) ⊎ (2 ^ 128 ≤ n * 256 + get_or xs i 0) → 2 ^ 128 ≤ n * 256 + get_or xs i 0
     go (inr h) = h
     go (inl h) = let t = rw (lt-ltb (n * 256 + get_or xs i 0) (2 ^ 128) h) at none in absurd cc
+
+low_value : (xs : Octets) → get_or xs 0 0 < 128 → signed xs ≡ pos (unsigned xs)
+low_value [] h = refl
+low_value (x ∷ xs) h = signed_low x xs h
+
+pub signed_below : (xs : Octets) (o : Option ℕ) → false ≡ leb 128 (get_or xs 0 0) → o ≡ if_in_u128 (unsigned xs) → option_map pos o ≡ if_below (2 ^ 128) (signed xs)
+signed_below xs o h e = ap (option_map pos) e ∙ go (cases_lt (unsigned xs) (2 ^ 128)) ∙ ap (if_below (2 ^ 128)) (sym (low_value xs (leb-false 128 (get_or xs 0 0) (sym h))))
+  where
+    go : (unsigned xs < 2 ^ 128) ⊎ (2 ^ 128 ≤ unsigned xs) → option_map pos (if_in_u128 (unsigned xs)) ≡ if_below (2 ^ 128) (pos (unsigned xs))
+    go (inl small) = rw (lt-ltb (unsigned xs) (2 ^ 128) small, le-leb 0 (unsigned xs) (omega arith)) refl
+    go (inr large) = rw (le-ltb (unsigned xs) (2 ^ 128) large, le-leb 0 (unsigned xs) (omega arith)) refl
+
+pub signed_not_below : (xs : Octets) → true ≡ leb 128 (get_or xs 0 0) → None ≡ if_below (2 ^ 128) (signed xs)
+signed_not_below [] h = absurd cc
+signed_not_below (x ∷ xs) h = rw (signed_high x xs (leb-true 128 x (sym h))) refl

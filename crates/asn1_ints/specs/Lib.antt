@@ -1,3 +1,6 @@
 pub mod Numbers
 pub mod Octets
 pub mod Reading
+pub mod Widths
+pub mod Ranges
+pub mod Equal

@@ -1,5 +1,5 @@
 -- Reading a number into a type.
-use Rattle.std.specs.Prelude.{◌≡◌, ℤ, Bool, IsTrue, cond, ◌==◌, length, Result, Ok, Err}
+use Rattle.std.specs.Prelude.{◌≡◌, ℤ, Bool, IsTrue, cond, ◌==◌, length, Option, Some, None, Result, Ok, Err}
 use Rattle.asn1_base.specs.declared.codec.Codec.{Codec}
 use Rattle.asn1_base.specs.declared.error.DecodeError.{DecodeError}
 use Rattle.asn1_base.specs.declared.error.DecodeErrorKind.{DecodeErrorKind}
@@ -20,3 +20,8 @@ RefusesBy takes_memory kind read = read ≡ Err kind
 abbrev pub ReadsNumber : {T : Type 0} → (T → ℤ) → (ℤ → Bool) → Bool → Octets → ℤ → Codec → Result T DecodeError → Type 0
 ReadsNumber number admits takes_memory octets n codec (Ok v) = number_in admits octets n ≡ Ok (number v)
 ReadsNumber number admits takes_memory octets n codec (Err e) = (e.codec ≡ codec) × RefusesBy takes_memory e.kind (number_in admits octets n)
+
+-- the value of octets, where there are some and it is one of the type
+abbrev pub value_or_refusal : {T : Type 0} → Octets → Codec → Option T → Result T DecodeError
+value_or_refusal octets codec None = Err (record { kind = cond (length octets == 0) EmptyInteger IntegerOverflow; codec = codec })
+value_or_refusal octets codec (Some v) = cond (length octets == 0) (Err (record { kind = EmptyInteger; codec = codec })) (Ok v)

@@ -1,10 +1,14 @@
 //! Whole numbers of any size, and the types that ASN.1's INTEGER is held in.
 #![tactic(auto)]
 
+mod constrained;
 mod integer;
 mod integer_type;
 mod number;
 mod octets;
+mod primitive;
 
+pub use constrained::{ConstrainedInteger, IntegerRange};
 pub use integer::Integer;
 pub use integer_type::IntegerType;
+pub use primitive::PrimitiveInteger;

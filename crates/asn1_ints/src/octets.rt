@@ -1,9 +1,11 @@
-ghost use Rattle.std.specs.Prelude.{◌≡◌, ◌<◌, ◌+◌, ◌*◌, ◌*ℤ◌, ◌+ℤ◌, pos, [], length, slice_index, nat_le};
+ghost use Rattle.std.specs.Prelude.{◌≡◌, ◌<◌, ◌+◌, ◌*◌, ◌*ℤ◌, ◌+ℤ◌, pos, [], ◌^◌, option_map, length, slice_index, nat_le};
 ghost use Rattle.asn1_base.specs.Octets.{unsigned, signed};
 ghost use Rattle.asn1_base.specs.Numbers.{number_octets, signed_octets, has_superfluous_zero, has_superfluous_sign};
-ghost use Rattle.asn1_ints.specs.Numbers.{if_in_i128};
+ghost use Rattle.asn1_ints.specs.Numbers.{if_in_i128, if_below};
 ghost use Rattle.asn1_ints.specs.Octets.{in_complement, if_in_u128, Appends};
+ghost use Rattle.asn1_ints.specs.Reading.{value_or_refusal};
 
+use asn1_base::{Codec, DecodeError, DecodeErrorKind};
 use std::alloc::AllocError;
 
 /// Whether the first bit of the octets is set.
@@ -154,4 +156,46 @@ pub fn write_with_sign(octets: &[u8], out: &mut Vec<u8>) -> Result<(), AllocErro
         out.push(0)?;
     }
     out.extend_from_slice(shortest)
+}
+
+/// The number of the octets in two's complement, where it is one of u128.
+#[tactic(auto, using(crate::proofs::Limits::signed_below, crate::proofs::Limits::signed_not_below))]
+pub fn signed_u128_of(octets: &[u8]) -> Option<u128>
+    ensures { option_map pos result ≡ if_below (2 ^ 128) (signed octets.now) }
+{
+    if has_sign(octets) {
+        return None;
+    }
+    u128_of(octets)
+}
+
+/// Appends the shortest octets in two's complement of the unsigned number.
+pub fn write_signed_u128(n: u128, out: &mut Vec<u8>) -> Result<(), AllocError>
+    ensures { Appends result (signed_octets (pos n)) out.old.items out.new.items }
+{
+    let octets = n.to_be_bytes();
+    write_with_sign(&octets, out)
+}
+
+/// The value, or the refusal of octets that have none.
+pub fn value_or_refusal<T: Drop>(
+    octets: &[u8],
+    value: Option<T>,
+    codec: Codec,
+) -> Result<T, DecodeError>
+    ensures { result ≡ value_or_refusal octets.now codec value }
+{
+    if octets.is_empty() {
+        return Err(DecodeError {
+            kind: DecodeErrorKind::EmptyInteger,
+            codec,
+        });
+    }
+    match value {
+        Some(value) => Ok(value),
+        None => Err(DecodeError {
+            kind: DecodeErrorKind::IntegerOverflow,
+            codec,
+        }),
+    }
 }
