@@ -1,7 +1,7 @@
 -- The trees of values, and what is promised of them.
-use Rattle.std.specs.Prelude.{◌≡◌, Bool, true, ℤ, List, [], ◌∷◌, Option, None, ⊤, refl}
+use Rattle.std.specs.Prelude.{◌≡◌, ℕ, ◌==◌, Bool, true, ℤ, pos, List, [], ◌∷◌, Option, None, ⊤, refl}
 use Rattle.std.specs.Bool.{Decides, beq}
-use Rattle.std.specs.Cmp.{booleans_Decides, signed_Decides}
+use Rattle.std.specs.Cmp.{booleans_Decides, signed_Decides, unsigned_Decides}
 use Rattle.std.specs.Ordering.{int_eq}
 use Rattle.std.proofs.Common.{ap}
 use Rattle.asn1_base.specs.Bounds.{is_consistent, value_bounds, size_bounds}
@@ -119,6 +119,10 @@ nulls_same v w = refl
 pub integers_same : (c : Constraints) (m n : ℤ) → Decides (int_eq m n) (Same (integer c m) (integer c n))
 unfolding integer Rattle.oer_forms.specs.Same.Same
 integers_same c m n = (λ e. ap (Int (value_bounds c)) ((signed_Decides m n).0 e), λ s. (signed_Decides m n).1 (cc s))
+
+pub naturals_same : (c : Constraints) (m n : ℕ) → Decides (m == n) (Same (integer c (pos m)) (integer c (pos n)))
+unfolding integer Rattle.oer_forms.specs.Same.Same
+naturals_same c m n = (λ e. ap (λ k. Int (value_bounds c) (pos k)) ((unsigned_Decides m n).0 e), λ s. (unsigned_Decides m n).1 (cc s))
 
 module _ {A : Type 0} (tree : A → Tree) (IsValue : A → Type 0) where
   trees_are : ((v : A) → IsValue v → IsTree (tree v)) → (vs : List A) → EachValue IsValue vs → AreTrees (trees_of tree vs)
