@@ -73,7 +73,7 @@ pub fn u128_of(octets: &[u8]) -> Option<u128>
 }
 
 /// Whether the first octet of an unsigned number could be left out.
-fn has_superfluous_zero(octets: &[u8]) -> bool
+pub fn has_superfluous_zero(octets: &[u8]) -> bool
     ensures { result ≡ has_superfluous_zero octets.now }
 {
     match octets {
@@ -83,7 +83,7 @@ fn has_superfluous_zero(octets: &[u8]) -> bool
 }
 
 /// Whether the first octet of a number in two's complement could be left out.
-fn has_superfluous_sign(octets: &[u8]) -> bool
+pub fn has_superfluous_sign(octets: &[u8]) -> bool
     ensures { result ≡ has_superfluous_sign octets.now }
 {
     match octets {

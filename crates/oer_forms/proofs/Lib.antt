@@ -1,6 +1,10 @@
 pub mod Digits
 pub mod Steps
 pub mod ReadLengths
+pub mod ReadBooleans
+pub mod ReadTags
+pub mod ReadQuantities
+pub mod WriteTags
 pub mod Lists
 pub mod Unique
 pub mod UniqueLeaves

@@ -1,5 +1,6 @@
 -- What writers' contracts say: which octets stand at the end, and why a value was refused.
-use Rattle.std.specs.Prelude.{◌≡◌, false, ◌++◌, ◌⊎◌, Some, Result, MatchResult}
+use Rattle.std.specs.Prelude.{◌≡◌, ℕ, ◌+◌, ◌/◌, ◌%◌, false, [], ◌∷◌, ◌++◌, map, ◌⊎◌, Some, Result, MatchResult}
+use Rattle.std.specs.Int.Digits.{digits_of}
 use Rattle.asn1_base.specs.Octets.{Octets}
 use Rattle.asn1_base.specs.declared.error.EncodeErrorKind.{EncodeErrorKind}
 use Rattle.asn1_base.specs.declared.error.EncodeErrorKind.TheVariants.{OutOfMemory}
@@ -22,3 +23,7 @@ AppendsLeaf result leaf old new =
     MatchResult result
     (λ _. ((k : Failure) → leaf_fails leaf k ≡ false) × (new ≡ old ++ leaf_octets leaf))
     (λ e. ((e ≡ OutOfMemory) ⊎ (first_failure leaf ≡ Some e)) × BeginsWith old new)
+
+-- a number in groups of seven bits, highest first: the top bit is set on all but the last
+abbrev pub group_octets : ℕ → Octets
+group_octets n = map (λ d. d + 128) (digits_of 128 (n / 128)) ++ (n % 128 ∷ [])

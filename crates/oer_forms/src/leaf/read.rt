@@ -6,12 +6,18 @@
 
 mod bit_slice;
 mod bits;
+mod booleans;
 mod lengths;
 mod parts;
 mod places;
+mod quantities;
+mod tags;
 
 pub use bit_slice::BitSlice;
 pub(crate) use bits::{octets_for, unused_for};
+pub use booleans::read_bool;
 pub use lengths::{read_content, read_length};
 pub use parts::{read_octet, read_octets, require_canonical};
 pub use places::{read_bitmap, read_preamble, skip_additions};
+pub use quantities::read_quantity;
+pub use tags::read_tag;

@@ -1,8 +1,14 @@
 //! Writers: each appends the canonical octets to those of before, or refuses; after a refusal the octets of before are
 //! still there, perhaps with more behind them.
 
+mod booleans;
 mod lengths;
 mod places;
+mod quantities;
+mod tags;
 
+pub use booleans::write_bool;
 pub use lengths::{write_content, write_length};
 pub use places::{write_bitmap, write_preamble};
+pub use quantities::write_quantity;
+pub use tags::{write_groups, write_tag};

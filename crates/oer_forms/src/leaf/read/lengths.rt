@@ -22,7 +22,7 @@ fn read_long_length(
     require_canonical(codec, begins_with_zero(octets))?;
     let n = unsigned_of(octets).ok_or(DecodeErrorKind::LengthExceedsPlatformWidth)?;
     require_canonical(codec, n < 128)?;
-    Ok((n as usize, rest))
+    Ok((n, rest))
 }
 
 /// The length at the front, and what is left (X.696, 8.6).

@@ -47,17 +47,17 @@ pub(super) fn begins_with_zero(octets: &[u8]) -> bool
     }
 }
 
-/// The number of the octets, highest first, where it is below 2^64.
+/// The number of the octets, highest first, where it is no more than `usize::MAX`.
 #[tactic(auto, using(crate::proofs::Digits::unsigned_none, crate::proofs::Digits::unsigned_more, crate::proofs::Digits::unsigned_too_large))]
-pub(super) fn unsigned_of(octets: &[u8]) -> Option<u64>
+pub(super) fn unsigned_of(octets: &[u8]) -> Option<usize>
     ensures { result ≡ if_below (2 ^ 64) (unsigned octets.now) }
 {
-    let mut n: u64 = 0;
+    let mut n: usize = 0;
     for octet in octets {
         if n >= 1 << 56 {
             return None;
         }
-        n = n * 256 + *octet as u64;
+        n = n * 256 + *octet as usize;
     }
     Some(n)
 }
