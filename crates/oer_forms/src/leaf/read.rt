@@ -9,9 +9,11 @@ mod bits;
 mod lengths;
 mod parts;
 mod places;
+mod texts;
 
 pub use bit_slice::BitSlice;
 pub(crate) use bits::{octets_for, unused_for};
 pub use lengths::{read_content, read_length};
 pub use parts::{read_octet, read_octets, require_canonical};
 pub use places::{read_bitmap, read_preamble, skip_additions};
+pub use texts::read_octet_string;

@@ -3,6 +3,8 @@
 
 mod lengths;
 mod places;
+mod texts;
 
 pub use lengths::{write_content, write_length};
 pub use places::{write_bitmap, write_preamble};
+pub use texts::write_octet_string;
