@@ -29,3 +29,4 @@ pub mod Fill
 pub mod BitSlices
 pub mod ReadPlaces
 pub mod Packing
+pub mod ReadTexts

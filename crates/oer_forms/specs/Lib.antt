@@ -15,3 +15,5 @@ pub mod Writing
 pub mod Bits
 pub mod Views
 pub mod ReadingBits
+pub mod ReadingTexts
+pub mod WritingTexts

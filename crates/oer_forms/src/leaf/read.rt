@@ -12,6 +12,7 @@ mod parts;
 mod places;
 mod quantities;
 mod tags;
+mod texts;
 
 pub use bit_slice::BitSlice;
 pub(crate) use bits::{octets_for, unused_for};
@@ -21,3 +22,4 @@ pub use parts::{read_octet, read_octets, require_canonical};
 pub use places::{read_bitmap, read_preamble, skip_additions};
 pub use quantities::read_quantity;
 pub use tags::read_tag;
+pub use texts::read_octet_string;

@@ -6,9 +6,11 @@ mod lengths;
 mod places;
 mod quantities;
 mod tags;
+mod texts;
 
 pub use booleans::write_bool;
 pub use lengths::{write_content, write_length};
 pub use places::{write_bitmap, write_preamble};
 pub use quantities::write_quantity;
 pub use tags::{write_groups, write_tag};
+pub use texts::write_octet_string;

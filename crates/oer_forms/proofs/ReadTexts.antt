@@ -1,0 +1,117 @@
+-- Octet strings, character strings, object identifiers and times are read exactly where a front of the octets spells them.
+use Rattle.std.proofs.Common.{◌≡◌, ℕ, zero, suc, ◌+◌, ◌-◌, ◌*◌, ◌/◌, ◌%◌, ◌<◌, ◌≤◌, Bool, true, false, cond, ltb, eqb, leb, List, [], ◌∷◌, ◌++◌, length, take, drop, Result, Ok, Err, Option, Some, None, refl, sym, ap, ap₂, subst, ◌∙◌, arith, append_assoc}
+use Rattle.std.specs.Prelude.{not, ◌&&◌, ◌↔◌, ◌==◌, nat_le}
+use Rattle.std.proofs.lemmas.Bool.{ltb-false, le-ltb, and_parts, and_from, leb-true, le-leb, eqb-true, eq-eqb, not-false}
+use Rattle.asn1_base.specs.Bounds.{Size, fixed_size, size_fits}
+use Rattle.asn1_base.specs.Octets.{Octets, AreOctets, usize_max}
+use Rattle.asn1_base.specs.Texts.{Rule, Obeys}
+use Rattle.asn1_base.specs.declared.codec.Codec.{Codec}
+use Rattle.asn1_base.specs.declared.error.DecodeErrorKind.{DecodeErrorKind}
+use Rattle.asn1_base.specs.declared.error.DecodeErrorKind.TheVariants.{LengthExceedsPlatformWidth, SizeConstraintNotSatisfied, PermittedAlphabetError}
+use Rattle.oer_forms.specs.Leaves.{Failure, BadValue, BadSize, BadIdentifier, BadTime, TooManyEmpty, TooLong, leaf_fails, string_too_long, IsText, IsLeafEncoding, unit_of}
+use Rattle.oer_forms.specs.Lengths.{IsLength, IsBehindLength}
+use Rattle.oer_forms.specs.Mode.{mode_of}
+use Rattle.oer_forms.specs.Reading.{◌>>=◌, ◌>>◌, octets_at, length_at}
+use Rattle.oer_forms.specs.ReadingBits.{refuse_if}
+use Rattle.oer_forms.specs.ReadingTexts.{string_at, size_test, sized_octets_at, octet_string_at, text_at, sized_units_at, units_at}
+use Rattle.oer_forms.specs.Tree.{Leaf, Text, Written}
+use Rattle.oer_forms.proofs.ReadLengths.{length_reads}
+use Rattle.oer_forms.proofs.ReadPlaces.{refuse_ok, octets_found, reads_like}
+use Rattle.oer_forms.proofs.Steps.{Reads, bind_ok, then_ok, ok_is, pair_is, octets_again, front_octets, rear_octets}
+
+-- ---- sizes
+not_not : (b : Bool) → not b ≡ false → b ≡ true
+not_not true e = refl
+not_not false e = absurd cc
+
+-- a fixed size allows itself alone
+pub fixed_only : (s : Size) (n k : ℕ) → fixed_size s ≡ Some n → size_fits s k ≡ true → k ≡ n
+fixed_only None n k f g = absurd (cc f)
+fixed_only (Some (low, high)) n k f g = go (low == high) refl f
+  where
+    go : (t : Bool) → (low == high) ≡ t → cond t (Some low) None ≡ Some n → k ≡ n
+    go true e h =
+        let same : low ≡ high = eqb-true low high e in
+        let is : low ≡ n = cc h in
+        let parts = and_parts (nat_le low k) (nat_le k high) g in
+        let from : low ≤ k = leb-true low k parts.0 in
+        let to : k ≤ high = leb-true k high parts.1 in
+        omega arith
+    go false e h = absurd (cc h)
+
+pub fixed_fits : (s : Size) (n : ℕ) → fixed_size s ≡ Some n → size_fits s n ≡ true
+fixed_fits None n f = absurd (cc f)
+fixed_fits (Some (low, high)) n f = go (low == high) refl f
+  where
+    go : (t : Bool) → (low == high) ≡ t → cond t (Some low) None ≡ Some n → size_fits (Some (low, high)) n ≡ true
+    go true e h =
+        let same : low ≡ high = eqb-true low high e in
+        let is : low ≡ n = cc h in
+        and_from (nat_le low n) (nat_le n high) (le-leb low n (omega arith)) (le-leb n high (omega arith))
+    go false e h = absurd (cc h)
+
+-- ---- a length and octets
+string_found : (codec : Codec) (input rest c : Octets) → AreOctets input → string_at codec input ≡ Ok (c, rest) → (o : Octets) × (input ≡ o ++ rest) × IsBehindLength (mode_of codec) o c × (length c ≤ usize_max / 8)
+unfolding string_at
+string_found codec input rest c fits e =
+    let a = bind_ok (length_at codec input) (λ count. refuse_if (ltb (usize_max / 8) count.0) LengthExceedsPlatformWidth >> octets_at count.0 count.1) (c, rest) e in
+    let t = then_ok (refuse_if (ltb (usize_max / 8) a.0.0) LengthExceedsPlatformWidth) (octets_at a.0.0 a.0.1) (c, rest) a.2 in
+    let l = (length_reads codec).found input a.0.1 a.0.0 fits a.1 in
+    let p = octets_found a.0.0 a.0.1 (c, rest) t.2 in
+    let octets : AreOctets c = front_octets c rest (subst AreOctets p.1 (rear_octets l.0 a.0.1 (subst AreOctets l.1 fits))) in
+    let few : a.0.0 ≤ usize_max / 8 = ltb-false (usize_max / 8) a.0.0 (refuse_ok (ltb (usize_max / 8) a.0.0) LengthExceedsPlatformWidth t.0 t.1) in
+    (l.0 ++ c, l.1 ∙ ap (λ z. l.0 ++ z) p.1 ∙ sym (append_assoc l.0 c rest), (l.0, refl, subst (λ k. IsLength (mode_of codec) l.0 k) (sym p.0) l.2, octets), subst (λ k. k ≤ usize_max / 8) (sym p.0) few)
+
+string_again : (codec : Codec) (o rest c : Octets) → IsBehindLength (mode_of codec) o c → length c ≤ usize_max / 8 → string_at codec (o ++ rest) ≡ Ok (c, rest)
+unfolding string_at
+string_again codec o rest c (l, whole, len, octets) few =
+    let regrouped : o ++ rest ≡ l ++ (c ++ rest) = ap (λ z. z ++ rest) whole ∙ append_assoc l c rest in
+    ap (string_at codec) regrouped ∙ rw ((length_reads codec).again l (c ++ rest) (length c) len, le-ltb (usize_max / 8) (length c) few) (octets_again c rest (length c) refl)
+
+-- ---- what fails of a text
+module _ (r : Rule) (s : Size) (c : Octets) where
+  pub text_fine : size_fits s (length c / unit_of r) ≡ true → string_too_long (fixed_size s) (length c) ≡ false → (k : Failure) → leaf_fails (Text r s (Written c)) k ≡ false
+  text_fine size long BadValue = refl
+  text_fine size long BadSize = ap not size
+  text_fine size long BadIdentifier = refl
+  text_fine size long BadTime = refl
+  text_fine size long TooManyEmpty = refl
+  text_fine size long TooLong = long
+
+  pub text_size : ((k : Failure) → leaf_fails (Text r s (Written c)) k ≡ false) → size_fits s (length c / unit_of r) ≡ true
+  text_size fine = not_not (size_fits s (length c / unit_of r)) (fine BadSize)
+
+-- ---- octet strings
+by_ones : (n u : ℕ) → u ≡ 1 → n / u ≡ n
+by_ones n u e = rw e (omega arith)
+
+module _ (r : Rule) (one : unit_of r ≡ 1) (s : Size) (codec : Codec) where
+  sized_found : (f : Option ℕ) → fixed_size s ≡ f → (input rest c : Octets) → AreOctets input → sized_octets_at f s codec input ≡ Ok (c, rest) → (o : Octets) × (input ≡ o ++ rest) × IsLeafEncoding (mode_of codec) o (Text r s (Written c))
+  sized_found (Some n) f input rest c fits e =
+      let p = octets_found n input (c, rest) e in
+      let size : size_fits s (length c / unit_of r) ≡ true = ap (size_fits s) (by_ones (length c) (unit_of r) one ∙ p.0) ∙ fixed_fits s n f in
+      (c, p.1, (text_fine r s c size (ap (λ z. string_too_long z (length c)) f), subst (λ z. IsText (mode_of codec) c z (Written c)) (sym f) (refl, front_octets c rest (subst AreOctets p.1 fits))))
+  sized_found None f input rest c fits e =
+      let a = bind_ok (string_at codec input) (λ octets. size_test s (length octets.0) >> Ok octets) (c, rest) e in
+      let t = then_ok (size_test s (length a.0.0)) (Ok a.0) (c, rest) a.2 in
+      let same = pair_is a.0.0 c a.0.1 rest t.2 in
+      let k = string_found codec input rest c fits (a.1 ∙ t.2) in
+      let plain : size_fits s (length a.0.0) ≡ true = not_not (size_fits s (length a.0.0)) (refuse_ok (not (size_fits s (length a.0.0))) (SizeConstraintNotSatisfied (length a.0.0)) t.0 t.1) in
+      let size : size_fits s (length c / unit_of r) ≡ true = ap (size_fits s) (by_ones (length c) (unit_of r) one) ∙ subst (λ z. size_fits s (length z) ≡ true) same.0 plain in
+      (k.0, k.1, (text_fine r s c size (ap (λ z. string_too_long z (length c)) f ∙ le-ltb (usize_max / 8) (length c) k.3), subst (λ z. IsText (mode_of codec) k.0 z (Written c)) (sym f) k.2))
+
+  sized_again : (f : Option ℕ) → fixed_size s ≡ f → (o rest c : Octets) → IsLeafEncoding (mode_of codec) o (Text r s (Written c)) → sized_octets_at f s codec (o ++ rest) ≡ Ok (c, rest)
+  sized_again (Some n) f o rest c (fine, spells) =
+      let text : (o ≡ c) × AreOctets c = subst (λ z. IsText (mode_of codec) o z (Written c)) f spells in
+      let size : size_fits s (length c) ≡ true = ap (size_fits s) (sym (by_ones (length c) (unit_of r) one)) ∙ text_size r s c fine in
+      let count : length o ≡ n = ap length text.0 ∙ fixed_only s n (length c) f size in
+      octets_again o rest n count ∙ ap (λ z. Ok (z, rest)) text.0
+  sized_again None f o rest c (fine, spells) =
+      let text : IsBehindLength (mode_of codec) o c = subst (λ z. IsText (mode_of codec) o z (Written c)) f spells in
+      let size : size_fits s (length c) ≡ true = ap (size_fits s) (sym (by_ones (length c) (unit_of r) one)) ∙ text_size r s c fine in
+      let long : ltb (usize_max / 8) (length c) ≡ false = ap (λ z. string_too_long z (length c)) (sym f) ∙ fine TooLong in
+      rw (string_again codec o rest c text (ltb-false (usize_max / 8) (length c) long), size) refl
+
+  pub octet_string_reads : Reads (octet_string_at s codec) (λ o c. IsLeafEncoding (mode_of codec) o (Text r s (Written c)))
+  unfolding octet_string_at
+  octet_string_reads = record { found = sized_found (fixed_size s) refl; again = sized_again (fixed_size s) refl }

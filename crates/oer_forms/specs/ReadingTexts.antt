@@ -1,0 +1,52 @@
+-- Reading octet strings, character strings, object identifiers and times.
+use Rattle.std.specs.Prelude.{ℕ, ◌*◌, ◌/◌, Bool, not, nat_lt, length, Option, Some, None, Result, Ok, Err}
+use Rattle.asn1_base.specs.Bounds.{Size, fixed_size, size_fits}
+use Rattle.asn1_base.specs.Octets.{Octets, usize_max}
+use Rattle.asn1_base.specs.declared.codec.Codec.{Codec}
+use Rattle.asn1_base.specs.declared.error.DecodeErrorKind.{DecodeErrorKind}
+use Rattle.asn1_base.specs.declared.error.DecodeErrorKind.TheVariants.{LengthExceedsPlatformWidth, SizeConstraintNotSatisfied, PermittedAlphabetError}
+use Rattle.oer_forms.specs.Reading.{◌>>=◌, ◌>>◌, octets_at, length_at}
+use Rattle.oer_forms.specs.ReadingBits.{refuse_if}
+
+-- a length, not above usize::MAX / 8, and that many octets
+unfoldable pub string_at : Codec → Octets → Result (Octets × Octets) DecodeErrorKind
+string_at codec input = do
+  count ← length_at codec input
+  refuse_if (nat_lt (usize_max / 8) count.0) LengthExceedsPlatformWidth
+  octets_at count.0 count.1
+
+-- a size that isn't allowed
+abbrev pub size_test : Size → ℕ → Result (Unit {0}) DecodeErrorKind
+size_test s n = refuse_if (not (size_fits s n)) (SizeConstraintNotSatisfied n)
+
+-- as many octets as the size has, where it is fixed; else octets behind a length, of a size that is allowed
+abbrev pub sized_octets_at : Option ℕ → Size → Codec → Octets → Result (Octets × Octets) DecodeErrorKind
+sized_octets_at (Some n) s codec input = octets_at n input
+sized_octets_at None s codec input = do
+  octets ← string_at codec input
+  size_test s (length octets.0)
+  Ok octets
+
+-- OCTET STRING (X.696, 14).
+unfoldable pub octet_string_at : Size → Codec → Octets → Result (Octets × Octets) DecodeErrorKind
+octet_string_at s codec input = sized_octets_at (fixed_size s) s codec input
+
+-- Texts whose size counts octets (21, 27, 29): octets that pass a test.
+unfoldable pub text_at : (Octets → Bool) → DecodeErrorKind → Size → Codec → Octets → Result (Octets × Octets) DecodeErrorKind
+text_at is_text kind s codec input = do
+  octets ← octet_string_at s codec input
+  refuse_if (not (is_text octets.0)) kind
+  Ok octets
+
+-- two octets for each of so many characters; else octets behind a length, an even count, of a size that is allowed
+abbrev pub sized_units_at : (Octets → Bool) → Option ℕ → Size → Codec → Octets → Result (Octets × Octets) DecodeErrorKind
+sized_units_at is_text (Some n) s codec input = refuse_if (nat_lt usize_max (2 * n)) LengthExceedsPlatformWidth >> octets_at (2 * n) input
+sized_units_at is_text None s codec input = do
+  octets ← string_at codec input
+  refuse_if (not (is_text octets.0)) PermittedAlphabetError
+  size_test s (length octets.0 / 2)
+  Ok octets
+
+-- BMPString (27), whose size counts characters.
+unfoldable pub units_at : (Octets → Bool) → Size → Codec → Octets → Result (Octets × Octets) DecodeErrorKind
+units_at is_text s codec input = sized_units_at is_text (fixed_size s) s codec input

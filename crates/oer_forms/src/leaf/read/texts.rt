@@ -1,0 +1,67 @@
+ghost use Rattle.std.specs.Prelude.{IfErr};
+ghost use Rattle.asn1_base.specs.Bounds.{size_bounds};
+ghost use Rattle.asn1_base.specs.Texts.{AnyOctets};
+ghost use Rattle.oer_forms.specs.Leaves.{IsLeafEncoding};
+ghost use Rattle.oer_forms.specs.Mode.{mode_of};
+ghost use Rattle.oer_forms.specs.Reading.{Gives, seen, ReadsFront, IsNotForMemory};
+ghost use Rattle.oer_forms.specs.ReadingTexts.{string_at, octet_string_at};
+ghost use Rattle.oer_forms.specs.Tree.{Text, Written};
+
+use crate::leaf::read::lengths::read_length;
+use crate::leaf::read::parts::read_octets;
+use crate::leaf::read::places::refuse_if;
+use asn1_base::{Codec, Constraints, DecodeErrorKind};
+
+/// A length, and that many octets of a string.
+#[tactic(auto, unfolding(crate::specs::ReadingTexts::string_at))]
+pub(super) fn read_string(codec: Codec, input: &[u8]) -> Result<(&[u8], &[u8]), DecodeErrorKind>
+    ensures function { Gives (λ x. (x.0.now, x.1.now)) result (string_at codec input.now) }
+    ensures memory { IfErr result IsNotForMemory }
+{
+    let (count, rest) = read_length(codec, input)?;
+    refuse_if(
+        count > usize::MAX / 8,
+        DecodeErrorKind::LengthExceedsPlatformWidth,
+    )?;
+    read_octets(count, rest)
+}
+
+#[tactic(auto, unfolding(crate::specs::ReadingTexts::octet_string_at))]
+fn octet_string(
+    codec: Codec,
+    constraints: Constraints,
+    input: &[u8],
+) -> Result<(&[u8], &[u8]), DecodeErrorKind>
+    ensures function { Gives (λ x. (x.0.now, x.1.now)) result (octet_string_at (size_bounds constraints) codec input.now) }
+    ensures memory { IfErr result IsNotForMemory }
+{
+    if let Some(size) = constraints.fixed_size() {
+        return read_octets(size, input);
+    }
+    let (octets, rest) = read_string(codec, input)?;
+    let size = octets.len();
+    refuse_if(
+        !constraints.allows_size(size),
+        DecodeErrorKind::SizeConstraintNotSatisfied { size },
+    )?;
+    Ok((octets, rest))
+}
+
+/// The octets of an OCTET STRING at the front, borrowed from the input, and what is left (X.696, 14).
+///
+/// Under a fixed size as many octets, else a length and that many. Refused, the first that applies: as the length is
+/// (`read_length`); a length above `usize::MAX / 8`, as `LengthExceedsPlatformWidth`; `Incomplete` by as many octets as
+/// are missing; a size that the constraint doesn't allow, as `SizeConstraintNotSatisfied` with the size in octets.
+pub fn read_octet_string(
+    codec: Codec,
+    constraints: Constraints,
+    input: &[u8],
+) -> Result<(&[u8], &[u8]), DecodeErrorKind>
+    ensures function { Gives (λ x. (x.0.now, x.1.now)) result (octet_string_at (size_bounds constraints) codec input.now) }
+    ensures relation { ReadsFront
+        (λ o c. IsLeafEncoding (mode_of codec) o (Text AnyOctets (size_bounds constraints) (Written c)))
+        input.now (seen (λ x. (x.0.now, x.1.now)) result) }
+    ensures memory { IfErr result IsNotForMemory }
+{
+    octet_string(codec, constraints, input)
+}
