@@ -3,4 +3,3 @@ pub mod Octets
 pub mod Reading
 pub mod Widths
 pub mod Ranges
-pub mod Equal

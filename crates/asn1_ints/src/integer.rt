@@ -1,6 +1,6 @@
-ghost use Rattle.std.specs.Prelude.{◌≡◌, ◌==◌, pos, Some, None, IfOk, cond, length, int_lt, true};
+ghost use Rattle.std.specs.Prelude.{◌≡◌, ◌==◌, pos, Some, None, IfOk, IsOk, cond, length, int_lt, true};
 ghost use Rattle.asn1_base.specs.Octets.{signed, unsigned};
-ghost use Rattle.asn1_base.specs.Numbers.{signed_octets};
+ghost use Rattle.asn1_base.specs.Numbers.{in_i128, signed_octets};
 ghost use Rattle.asn1_ints.specs.Numbers.{if_in_i128};
 
 use crate::integer_type::IntegerType;
@@ -56,8 +56,11 @@ impl Integer {
     }
 
     /// The number of octets in two's complement, highest octet first; `None` for no octets.
+    ///
+    /// Memory is taken for a number outside i128 alone.
     pub fn from_signed_octets(alloc: Global, octets: &[u8]) -> Result<Option<Integer>, AllocError>
-        ensures { IfOk result (λ n. n ≡ cond (length octets.now == 0) None (Some (signed octets.now))) }
+        ensures value { IfOk result (λ n. n ≡ cond (length octets.now == 0) None (Some (signed octets.now))) }
+        ensures small { in_i128 (signed octets.now) ≡ true → IsOk result }
     {
         if octets.is_empty() {
             return Ok(None);

@@ -6,5 +6,5 @@ use Rattle.asn1_ints.proofs.integer.Integer.from_signed_octets.Goals as goal
 pub invariant_of-result : goal.invariant_of-result
 invariant_of-result c = are_large c.in_ok-kept.kept.items (signed c.args.octets.now) (c.in_ok-kept.ensures.items ∙ c.shortest_signed.ensures) (sym c.in_default.is ∙ c.i128_of.ensures)
 
-pub returns : goal.returns
-returns c = some_value c.in_ok-kept.kept.items c.args.octets.now (signed c.args.octets.now) (c.in_ok-kept.ensures.items ∙ c.shortest_signed.ensures) (sym c.if-is_empty.ensures)
+pub returns-clause-value : goal.returns-clause-value
+returns-clause-value c = some_value c.in_ok-kept.kept.items c.args.octets.now (signed c.args.octets.now) (c.in_ok-kept.ensures.items ∙ c.shortest_signed.ensures) (sym c.if-is_empty.ensures)
