@@ -1,15 +1,12 @@
 -- The rules that the octets of texts obey.
 use Rattle.std.specs.Prelude.{◌≡◌, ℕ, ◌+◌, ◌-◌, ◌*◌, ◌%◌, ◌^◌, Bool, true, false, cond, not, ◌&&◌, ◌||◌, List, [], ◌∷◌, length, get_or, take, drop, map, nat_lt, nat_le, ◌==◌, Option, Some, None, IsUtf8, ⊤}
+use Rattle.std.specs.List.{list_all}
 use Rattle.std.specs.Int.Digits.{number_from_digits}
 use Rattle.asn1_base.specs.Octets.{Octets}
 
 -- what octets are: an octet string or an open type's content, a character string, an object identifier, a time
 pub data Rule : Type 0 where
   AnyOctets Utf8 Numeric Printable Visible Ia5 General Graphic Teletex Bmp Identifier Utc Generalized Date : Rule
-
-abbrev pub each_is : (ℕ → Bool) → Octets → Bool
-each_is p [] = true
-each_is p (x ∷ xs) = p x && each_is p xs
 
 abbrev pub from_to : ℕ → ℕ → ℕ → Bool
 from_to low high x = nat_le low x && nat_le x high
@@ -21,10 +18,27 @@ is_one_of (y ∷ ys) x = (y == x) || is_one_of ys x
 abbrev pub is_digit : ℕ → Bool
 is_digit x = from_to 0x30 0x39 x
 
+-- ---- alphabets (X.680, clause 41)
+
+-- digits and space
+abbrev pub is_numeric : ℕ → Bool
+is_numeric x = is_digit x || (x == 0x20)
+
 -- letters, digits, space and ' ( ) + , - . / : = ? (X.680, 41.4)
 abbrev pub is_printable : ℕ → Bool
 is_printable x =
     from_to 0x41 0x5A x || (from_to 0x61 0x7A x || (is_digit x || is_one_of (0x20 ∷ 0x27 ∷ 0x28 ∷ 0x29 ∷ 0x2B ∷ 0x2C ∷ 0x2D ∷ 0x2E ∷ 0x2F ∷ 0x3A ∷ 0x3D ∷ 0x3F ∷ []) x))
+
+abbrev pub is_visible : ℕ → Bool
+is_visible x = from_to 0x20 0x7E x
+
+abbrev pub is_ia5 : ℕ → Bool
+is_ia5 x = nat_lt x 128
+
+-- how many octets a text's size counts as one: a BMPString's characters are two octets each, other sizes count octets
+abbrev pub unit_of : Rule → ℕ
+unit_of Bmp = 2
+unit_of _ = 1
 
 -- ---- object identifiers (X.690, 8.19): the parts in base 128, highest group first
 
@@ -43,7 +57,7 @@ parts_from inside n (x ∷ xs) =
 abbrev pub are_parts : Option (List ℕ) → Bool
 are_parts None = false
 are_parts (Some []) = false
-are_parts (Some (n ∷ parts)) = nat_lt n (80 + 2 ^ 32) && each_is (λ k. nat_lt k (2 ^ 32)) parts
+are_parts (Some (n ∷ parts)) = nat_lt n (80 + 2 ^ 32) && list_all (λ k. nat_lt k (2 ^ 32)) parts
 
 -- ---- times
 
@@ -71,7 +85,7 @@ full_year yy = cond (nat_lt yy 50) (2000 + yy) (1900 + yy)
 -- YYMMDDhhmmssZ
 abbrev pub is_utc : Octets → Bool
 is_utc c =
-    (length c == 13) && (each_is is_digit (take 12 c) && ((get_or c 12 0 == 0x5A)
+    (length c == 13) && (list_all is_digit (take 12 c) && ((get_or c 12 0 == 0x5A)
     && (is_day (full_year (digits_at c 0 2)) (digits_at c 2 2) (digits_at c 4 2) && is_clock (digits_at c 6 2) (digits_at c 8 2) (digits_at c 10 2))))
 
 -- Z; or a point, 1 to 9 digits of which the last is no 0, and Z
@@ -79,26 +93,26 @@ abbrev pub is_ending : Octets → Bool
 is_ending [] = false
 is_ending (x ∷ xs) =
     ((x == 0x5A) && (length xs == 0))
-    || ((x == 0x2E) && (from_to 2 10 (length xs) && (each_is is_digit (take (length xs - 1) xs) && (not (get_or xs (length xs - 2) 0 == 0x30) && (get_or xs (length xs - 1) 0 == 0x5A)))))
+    || ((x == 0x2E) && (from_to 2 10 (length xs) && (list_all is_digit (take (length xs - 1) xs) && (not (get_or xs (length xs - 2) 0 == 0x30) && (get_or xs (length xs - 1) 0 == 0x5A)))))
 
 -- YYYYMMDDhhmmss and an ending
 abbrev pub is_generalized : Octets → Bool
 is_generalized c =
-    nat_le 15 (length c) && (each_is is_digit (take 14 c) && (is_ending (drop 14 c)
+    nat_le 15 (length c) && (list_all is_digit (take 14 c) && (is_ending (drop 14 c)
     && (is_day (digits_at c 0 4) (digits_at c 4 2) (digits_at c 6 2) && is_clock (digits_at c 8 2) (digits_at c 10 2) (digits_at c 12 2))))
 
 -- YYYYMMDD
 abbrev pub is_date : Octets → Bool
-is_date c = (length c == 8) && (each_is is_digit c && is_day (digits_at c 0 4) (digits_at c 4 2) (digits_at c 6 2))
+is_date c = (length c == 8) && (list_all is_digit c && is_day (digits_at c 0 4) (digits_at c 4 2) (digits_at c 6 2))
 
 -- ---- each rule (X.696, 14, 21, 27, 29; X.680, clause 41; times and dates: the project's own choice of one text each)
 abbrev pub Obeys : Rule → Octets → Type 0
 Obeys AnyOctets c = ⊤
 Obeys Utf8 c = IsUtf8 c
-Obeys Numeric c = each_is (λ x. is_digit x || (x == 0x20)) c ≡ true
-Obeys Printable c = each_is is_printable c ≡ true
-Obeys Visible c = each_is (from_to 0x20 0x7E) c ≡ true
-Obeys Ia5 c = each_is (λ x. nat_lt x 128) c ≡ true
+Obeys Numeric c = list_all is_numeric c ≡ true
+Obeys Printable c = list_all is_printable c ≡ true
+Obeys Visible c = list_all is_visible c ≡ true
+Obeys Ia5 c = list_all is_ia5 c ≡ true
 Obeys General c = ⊤
 Obeys Graphic c = ⊤
 Obeys Teletex c = ⊤

@@ -1,2 +1,3 @@
 pub mod BitLists
 pub mod OctetLists
+pub mod CharacterLists

@@ -2,7 +2,16 @@
 #![tactic(auto)]
 
 mod bits;
+mod bmp;
+mod characters;
 mod octets;
+mod strings;
 
 pub use bits::BitString;
+pub use characters::{
+    BmpCharacters, BmpString, GeneralCharacters, GeneralString, GraphicCharacters, GraphicString,
+    Ia5Characters, Ia5String, NumericCharacters, NumericString, PrintableCharacters,
+    PrintableString, TeletexCharacters, TeletexString, VisibleCharacters, VisibleString,
+};
 pub use octets::{Any, AnyType, OctetContent, OctetString, OctetStringType, OctetType};
+pub use strings::{CharacterSet, RestrictedString, StringError};

@@ -7,7 +7,7 @@ use std::alloc::{AllocError, Global};
 use std::marker::{Model, PhantomData};
 
 /// An ASN.1 type whose values are octets.
-pub trait OctetType {
+pub trait OctetType: Drop {
     ghost use Rattle.asn1_base.specs.declared.tag.Tag.{Tag};
 
     ghost TAG: { Tag };
@@ -17,12 +17,12 @@ pub trait OctetType {
 }
 
 /// The type OCTET STRING.
-#[derive(Debug, PartialEq, Eq, Drop)]
-pub struct OctetStringType;
+#[derive(Drop)]
+pub enum OctetStringType {}
 
 /// An open type.
-#[derive(Debug, PartialEq, Eq, Drop)]
-pub struct AnyType;
+#[derive(Drop)]
+pub enum AnyType {}
 
 impl OctetType for OctetStringType {
     ghost use Rattle.asn1_base.specs.declared.tag.TheConstants.Tag.{OCTET_STRING};
@@ -41,8 +41,9 @@ impl OctetType for AnyType {
 }
 
 /// Octets: a value of OCTET STRING, or the content of an open type.
-#[derive(Debug, PartialEq, Eq, Drop)]
-pub struct OctetContent<K> {
+#[derive_where(Debug, PartialEq, Eq)]
+#[derive(Drop)]
+pub struct OctetContent<K: OctetType> {
     octets: Bytes,
     kind: PhantomData<K>,
 }
@@ -53,7 +54,7 @@ pub type OctetString = OctetContent<OctetStringType>;
 /// The octets of an open type (X.681, 14.2), uninterpreted.
 pub type Any = OctetContent<AnyType>;
 
-impl<K> Model for OctetContent<K> {
+impl<K: OctetType> Model for OctetContent<K> {
     ghost use Rattle.std.specs.Prelude.{List, ℕ};
 
     ghost Value = { List ℕ };
@@ -82,7 +83,7 @@ impl<K: OctetType> AsnType for OctetContent<K> {
     const IS_CHOICE: bool = false;
 }
 
-impl<K> OctetContent<K> {
+impl<K: OctetType> OctetContent<K> {
     /// A copy of the octets.
     pub fn from_slice(alloc: Global, octets: &[u8]) -> Result<OctetContent<K>, AllocError>
         ensures { IfOk result (λ s. s ≡ octets.now) }

@@ -3,7 +3,8 @@ use Rattle.std.specs.Prelude.{◌≡◌, ◌≢◌, ℕ, zero, suc, ◌+◌, ◌
 use Rattle.asn1_base.specs.Bounds.{Range, fixed_size, in_range, size_fits}
 use Rattle.asn1_base.specs.Numbers.{number_octets, signed_octets, low_octets, complement, in_i128, in_isize}
 use Rattle.asn1_base.specs.Octets.{Octets, AreOctets, unsigned, signed, usize_max, bits_of, AllFalse, octets_for, pack}
-use Rattle.asn1_base.specs.Texts.{Rule, Bmp, Obeys}
+use Rattle.asn1_base.specs.Texts.{Rule, Obeys}
+pub use Rattle.asn1_base.specs.Texts.{unit_of}
 use Rattle.oer_forms.specs.Lengths.{IsBehindLength, AreCountedBits, behind_length, counted_bits}
 use Rattle.oer_forms.specs.Mode.{Mode, InLenient, InStrict}
 use Rattle.oer_forms.specs.Tree.{Content, Written, Civil, Leaf, Boolean, Null, Enum, Int, Bits, Text}
@@ -38,11 +39,6 @@ width_of None = Counted true
 width_of (Some (None, high)) = Counted true
 width_of (Some (Some low, None)) = cond (int_lt low (pos 0)) (Counted true) (Counted false)
 width_of (Some (Some low, Some high)) = cond (int_lt low (pos 0)) (signed_width low high) (unsigned_width high)
-
--- how many octets a text's size counts as one: a BMPString's characters are two octets each, other sizes count octets
-abbrev pub unit_of : Rule → ℕ
-unit_of Bmp = 2
-unit_of _ = 1
 
 -- ---- the octets that are written
 
