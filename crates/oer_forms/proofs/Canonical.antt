@@ -81,7 +81,7 @@ counted_canonical : (sign : Bool) (c : Octets) (n : ℤ) → AreOctets c → n �
 counted_canonical true c n f e s = sym (signed_octets_signed c f (tight c f s)) ∙ ap signed_octets (sym e)
 counted_canonical false c n f e s = sym (number_octets_unsigned c f (plain c s)) ∙ ap unsigned_octets (sym e)
 
-int_canonical : (o : Octets) (w : Width) (n : ℤ) → IsInteger OwnSized o w n → o ≡ int_octets w n
+pub int_canonical : (o : Octets) (w : Width) (n : ℤ) → IsInteger OwnSized o w n → o ≡ int_octets w n
 int_canonical o (Fixed true k) n (l, f, e) = sym (fixed_octets_signed k o f l) ∙ ap (fixed_octets k) (sym e)
 int_canonical o (Fixed false k) n (l, f, e) = sym (fixed_octets_unsigned k o f l) ∙ ap (fixed_octets k) (sym e)
 int_canonical o (Counted sign) n (c, a, l, e, s) =

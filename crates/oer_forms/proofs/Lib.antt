@@ -30,3 +30,9 @@ pub mod BitSlices
 pub mod ReadPlaces
 pub mod Packing
 pub mod ReadTexts
+pub mod ExampleParts
+pub mod ExampleRows
+pub mod ExampleLeaves
+pub mod ExampleStructs
+pub mod ExampleLists
+pub mod ExamplePremises

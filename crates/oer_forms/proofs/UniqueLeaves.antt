@@ -53,7 +53,7 @@ text_unique m o p x y (Some n) c d same f g e =
 text_unique m o p x y None c d same f g e = behind_unique m o p c d x y f g e
 
 -- a fixed size is the count
-fixed_count : (s : Size) (n k : ℕ) → size_fits s k ≡ true → fixed_size s ≡ Some n → k ≡ n
+pub fixed_count : (s : Size) (n k : ℕ) → size_fits s k ≡ true → fixed_size s ≡ Some n → k ≡ n
 fixed_count None n k f g = absurd (cc g)
 fixed_count (Some (low, high)) n k f g = go (low == high) refl g
   where

@@ -160,7 +160,7 @@ tag_form t = go (cases_lt t.value 63)
           l,
         ))
 
-class_below : (c : Class) → class_number c < 4
+pub class_below : (c : Class) → class_number c < 4
 class_below Universal = omega arith
 class_below Application = omega arith
 class_below Context = omega arith

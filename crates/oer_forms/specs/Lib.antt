@@ -17,3 +17,7 @@ pub mod Views
 pub mod ReadingBits
 pub mod ReadingTexts
 pub mod WritingTexts
+pub mod Examples
+pub mod WorkedRows
+pub mod NearMisses
+pub mod Premises

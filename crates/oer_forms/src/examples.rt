@@ -1,0 +1,32 @@
+//! Checks of the definitions: rows that hold, near misses that don't, and trees that meet what the laws ask.
+//!
+//! These functions do nothing; what counts is that their contracts are proved.
+ghost use Rattle.oer_forms.specs.NearMisses.{PlainMisses, StringMisses, StructMisses, ListAndChoiceMisses};
+ghost use Rattle.oer_forms.specs.Premises.{UnambiguousPremises, WithinPremises, CanonicalPremises, SkipsPremises, LiftsPremises};
+ghost use Rattle.oer_forms.specs.WorkedRows.{PlainRows, StringRows, StructRows, ListAndChoiceRows};
+
+/// For every sort of node, trees and their canonical octets.
+pub fn worked_rows()
+    ensures plain { PlainRows }
+    ensures strings { StringRows }
+    ensures structs { StructRows }
+    ensures lists_and_choices { ListAndChoiceRows }
+{}
+
+/// For every sort of node, octets that spell a value, and octets that nearly do: these spell it in lenient mode alone,
+/// or spell no value of the type in any mode.
+pub fn near_misses()
+    ensures plain { PlainMisses }
+    ensures strings { StringMisses }
+    ensures structs { StructMisses }
+    ensures lists_and_choices { ListAndChoiceMisses }
+{}
+
+/// For each law of [`crate::laws`], trees and octets that meet all of its premises: so no law holds for want of a case.
+pub fn premises()
+    ensures unambiguous { UnambiguousPremises }
+    ensures within { WithinPremises }
+    ensures canonical { CanonicalPremises }
+    ensures skips { SkipsPremises }
+    ensures lifts { LiftsPremises }
+{}
