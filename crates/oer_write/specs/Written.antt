@@ -1,14 +1,14 @@
 -- What contracts see of an encoder: the octets written, and the open scopes.
-use Rattle.std.specs.Prelude.{◌≡◌, ℕ, Bool, true, false, List, [], ◌∷◌, ◌++◌, ◌⊎◌, Result, Ok, Err}
+use Rattle.std.specs.Prelude.{◌≡◌, ℕ, Bool, true, false, List, [], ◌∷◌, ◌++◌, ◌⊎◌, Option, Some, Result, Ok, Err}
 use Rattle.asn1_base.specs.Octets.{Octets}
 use Rattle.asn1_base.specs.declared.error.EncodeError.{EncodeError}
 use Rattle.asn1_base.specs.declared.error.EncodeErrorKind.{EncodeErrorKind}
 use Rattle.asn1_base.specs.declared.error.EncodeErrorKind.TheVariants.{OutOfMemory}
 use Rattle.oer_forms.specs.Encoding.{IsEncodable, canonical_octets}
 use Rattle.oer_forms.specs.Places.{Item}
-use Rattle.oer_forms.specs.Tree.{Tree}
+use Rattle.oer_forms.specs.Tree.{Leaf, Tree}
 use Rattle.oer_forms.specs.Writing.{BeginsWith}
-use Rattle.oer_forms.specs.Failures.{Fails}
+use Rattle.oer_forms.specs.Failures.{Fails, first_failure}
 
 -- A scope: whether it is open, what kind it is, and what was recorded in it so far.
 pub record Frame : Type 0 where
@@ -62,7 +62,12 @@ pub record Refused (t : Tree) (kind : EncodeErrorKind) (e e' : Written) : Type 0
   pub reason : (kind ≡ OutOfMemory) ⊎ Fails t kind
   pub keeps : Keeps e e'
 
--- the same by what a call answers
+-- Of a leaf: by the first condition that it breaks.
+pub record RefusedLeaf (l : Leaf) (kind : EncodeErrorKind) (e e' : Written) : Type 0 where
+  pub reason : (kind ≡ OutOfMemory) ⊎ (first_failure l ≡ Some kind)
+  pub keeps : Keeps e e'
+
+-- the law by what a call answers
 abbrev pub WritesTree : Tree → Written → Result (Unit {0}) EncodeError → Written → Type 0
 WritesTree t e (Ok u) e' = Encodes t e e'
 WritesTree t e (Err x) e' = Refused t x.kind e e'

@@ -5,6 +5,7 @@ ghost use Rattle.oer_write.specs.Written.{Encodes, Refused};
 
 use crate::encoder::Encoder;
 use asn1_base::{Constraints, EncodeError, Tag};
+use asn1_ints::Integer;
 use oer_forms::Spelled;
 
 /// A type whose values are written.
@@ -63,5 +64,50 @@ pub trait Encode: Spelled {
         ensures { result ≡ true }
     {
         true
+    }
+}
+
+impl Encode for bool {
+    fn encode_with_tag_and_constraints(
+        &self,
+        encoder: &mut Encoder<'_>,
+        tag: Tag,
+        _constraints: Constraints,
+    ) -> Result<(), EncodeError> {
+        encoder.encode_bool(tag, *self)
+    }
+}
+
+impl Encode for () {
+    fn encode_with_tag_and_constraints(
+        &self,
+        encoder: &mut Encoder<'_>,
+        tag: Tag,
+        _constraints: Constraints,
+    ) -> Result<(), EncodeError> {
+        encoder.encode_null(tag)
+    }
+}
+
+impl Encode for Integer {
+    fn encode_with_tag_and_constraints(
+        &self,
+        encoder: &mut Encoder<'_>,
+        tag: Tag,
+        constraints: Constraints,
+    ) -> Result<(), EncodeError> {
+        encoder.encode_integer(tag, constraints, self)
+    }
+}
+
+/// A box is written as its content.
+impl<T: Encode> Encode for Box<T> {
+    fn encode_with_tag_and_constraints(
+        &self,
+        encoder: &mut Encoder<'_>,
+        tag: Tag,
+        constraints: Constraints,
+    ) -> Result<(), EncodeError> {
+        (**self).encode_with_tag_and_constraints(encoder, tag, constraints)
     }
 }

@@ -7,8 +7,8 @@ ghost use Rattle.oer_write.specs.Scopes.{any_true, extension_of, sequence_octets
 ghost use Rattle.oer_write.specs.Seen.{frame_of, item};
 ghost use Rattle.oer_write.specs.Written.{fresh, closed};
 
-use crate::leaf::{write_bitmap, write_bits};
 use asn1_base::{EncodeErrorKind, Tag};
+use oer_forms::leaf::write::{write_bitmap, write_preamble};
 use std::alloc::Global;
 
 /// A root component of a set.
@@ -93,12 +93,12 @@ impl Scope {
         ensures { Appends result (pack (extension_bit self.now.extensible (any_true self.now.bitmap.items) ++ presence.now)) out.old.items out.new.items }
     {
         if !self.extensible {
-            return write_bits(presence, out);
+            return write_preamble(presence, out);
         }
         let mut bits = Vec::new(alloc);
         bits.push(any(&self.bitmap))?;
         bits.extend_from_slice(presence)?;
-        write_bits(&bits, out)
+        write_preamble(&bits, out)
     }
 
     /// Writes the bitmap and the open types, where some addition is present (X.696, 16.4 and 16.5).
