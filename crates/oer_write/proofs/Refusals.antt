@@ -1,0 +1,51 @@
+-- A leaf that is refused by its first failure is refused by the law.
+use Rattle.std.proofs.Common.{◌≡◌, ◌/◌, ℤ, List, length, Bool, true, false, cond, ◌⊎◌, inl, inr, refl, sym, ap, ◌∙◌, Option, Some, None}
+use Rattle.std.specs.Prelude.{Result, IfErr}
+use Rattle.std.proofs.lemmas.Result.{IfErr-weaker}
+use Rattle.asn1_base.specs.Bounds.{value_bounds}
+use Rattle.asn1_base.specs.Octets.{Octets}
+use Rattle.asn1_base.specs.declared.constraints.Constraints.{Constraints}
+use Rattle.asn1_base.specs.declared.error.EncodeError.{EncodeError}
+use Rattle.asn1_base.specs.declared.error.EncodeErrorKind.{EncodeErrorKind}
+use Rattle.asn1_base.specs.declared.error.EncodeErrorKind.TheVariants.{ValueConstraintNotSatisfied, SizeConstraintNotSatisfied, TimeNotRepresentable, LengthExceedsPlatformSize, OutOfMemory}
+use Rattle.oer_forms.specs.Encoding.{fails}
+use Rattle.oer_forms.specs.Failures.{Fails, failure_of, first_failure}
+use Rattle.oer_forms.specs.Leaves.{Failure, BadValue, BadSize, BadTime, TooLong, leaf_fails, unit_of}
+use Rattle.oer_forms.specs.Spelled.{integer}
+use Rattle.oer_forms.specs.Tree.{Leaf, Boolean, Null, Enum, Int, Bits, Text, Content, Written, Civil, Primitive}
+use Rattle.oer_write.specs.Written as state
+
+abbrev LeafFails : Leaf → EncodeErrorKind → Type 0
+LeafFails l kind = (f : Failure) × (failure_of kind ≡ Some f) × (leaf_fails l f ≡ true)
+
+-- of two tests, the first that holds
+first_of_two : (l : Leaf) (a b : Failure) (j k kind : EncodeErrorKind) → failure_of j ≡ Some a → failure_of k ≡ Some b → (x y : Bool) → leaf_fails l a ≡ x → leaf_fails l b ≡ y → cond x (Some j) (cond y (Some k) None) ≡ Some kind → LeafFails l kind
+first_of_two l a b j k kind named_a named_b true y is_a is_b e = let same : j ≡ kind = cc in (a, ap failure_of (sym same) ∙ named_a, is_a)
+first_of_two l a b j k kind named_a named_b false true is_a is_b e = let same : k ≡ kind = cc in (b, ap failure_of (sym same) ∙ named_b, is_b)
+first_of_two l a b j k kind named_a named_b false false is_a is_b e = absurd cc
+
+first_leaf_fails : (l : Leaf) (kind : EncodeErrorKind) → first_failure l ≡ Some kind → LeafFails l kind
+first_leaf_fails (Boolean b) kind e = absurd cc
+first_leaf_fails Null kind e = absurd cc
+first_leaf_fails (Enum n) kind e = absurd cc
+first_leaf_fails (Int r n) kind e = first_of_two (Int r n) BadValue TooLong ValueConstraintNotSatisfied LengthExceedsPlatformSize kind refl refl _ _ refl refl e
+first_leaf_fails (Bits s b) kind e = first_of_two (Bits s b) BadSize TooLong (SizeConstraintNotSatisfied (length b)) LengthExceedsPlatformSize kind refl refl _ _ refl refl e
+first_leaf_fails (Text r s (Written c)) kind e = first_of_two (Text r s (Written c)) BadSize TooLong (SizeConstraintNotSatisfied (length c / unit_of r)) LengthExceedsPlatformSize kind refl refl _ _ refl refl e
+first_leaf_fails (Text r s (Civil fields)) kind e = let same : TimeNotRepresentable ≡ kind = cc in (BadTime, ap failure_of (sym same), refl)
+
+pub first_fails : (l : Leaf) (kind : EncodeErrorKind) → first_failure l ≡ Some kind → Fails (Primitive l) kind
+unfolding fails
+first_fails l kind e = first_leaf_fails l kind e
+
+pub leaf_refused : (l : Leaf) (kind : EncodeErrorKind) (e e' : state.Written) → state.RefusedLeaf l kind e e' → state.Refused (Primitive l) kind e e'
+leaf_refused l kind e e' h = record {
+  reason = elim h.reason [ inl m ↦ inl m | inr f ↦ inr (first_fails l kind f) ];
+  keeps = h.keeps;
+}
+
+pub by_law : (r : Result (Unit {0}) EncodeError) (l : Leaf) (e e' : state.Written) → IfErr r (λ x. state.RefusedLeaf l x.kind e e') → IfErr r (λ x. state.Refused (Primitive l) x.kind e e')
+by_law r l e e' h = IfErr-weaker r _ _ (λ x i. leaf_refused l x.kind e e' i) h
+
+pub integer_by_law : (r : Result (Unit {0}) EncodeError) (c : Constraints) (n : ℤ) (e e' : state.Written) → IfErr r (λ x. state.RefusedLeaf (Int (value_bounds c) n) x.kind e e') → IfErr r (λ x. state.Refused (integer c n) x.kind e e')
+unfolding integer
+integer_by_law r c n e e' h = by_law r (Int (value_bounds c) n) e e' h

@@ -1,0 +1,5 @@
+pub mod Written
+pub mod Seen
+pub mod Rows
+pub mod Scopes
+pub mod Rules

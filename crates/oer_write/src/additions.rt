@@ -1,0 +1,120 @@
+//! Extension additions of the open scope: each that is present is written as an open type.
+ghost use Rattle.std.specs.Prelude.{◌≡◌, true, false, List, [], ◌∷◌, ◌++◌, OnOk, IfErr, IfSome};
+ghost use Rattle.asn1_base.specs.declared.error.EncodeErrorKind.TheVariants.{OutOfMemory};
+ghost use Rattle.oer_forms.specs.Spelled.{IsConsistent};
+ghost use Rattle.oer_forms.specs.Tree.{NoRows, Present, Absent};
+ghost use Rattle.oer_forms.specs.Writing.{Appends};
+ghost use Rattle.oer_write.specs.Rows.{RowsDone, SetDone, RowsRefused, optional, defaulted, present_unless, slot_of, open_type};
+ghost use Rattle.oer_write.specs.Written.{Keeps};
+
+use crate::encode::Encode;
+use crate::encoder::Encoder;
+use crate::rows::content_of;
+use asn1_base::{Constraints, EncodeError, EncodeErrorKind, Tag};
+use oer_forms::leaf::write::write_content;
+
+/// Appends an open type (X.696, 30).
+#[tactic(auto, unfolding(crate::specs::Rows::open_type))]
+fn write_open_type(content: &[u8], out: &mut Vec<u8>) -> Result<(), EncodeErrorKind>
+    ensures { Appends result (open_type content.now) out.old.items out.new.items }
+{
+    write_content(content, out)
+}
+
+impl<'buffer> Encoder<'buffer> {
+    /// Writes an addition that is present as an open type, and records whether it is, under constraints that stand in
+    /// place of the type's own.
+    ///
+    /// Refused by what the value is refused by.
+    pub fn encode_extension_addition<E: Encode>(
+        &mut self,
+        tag: Tag,
+        constraints: Constraints,
+        value: Option<&E>,
+    ) -> Result<(), EncodeError>
+        requires { IsConsistent constraints }
+        ensures done { OnOk result (RowsDone NoRows (optional tag (slot_of (λ x. E.tree constraints x.now) value.entry)) self.old self.new) }
+        ensures in_set { self.old.frame.is_set ≡ true → OnOk result (SetDone NoRows (optional tag (slot_of (λ x. E.tree constraints x.now) value.entry)) self.old self.new) }
+        ensures value { OnOk result (IfSome value.entry (λ x. E.IsValue x.now)) }
+        ensures refused { IfErr result (λ x. RowsRefused NoRows (optional tag (slot_of (λ x. E.tree constraints x.now) value.entry)) x.kind self.old self.new) }
+    {
+        match value {
+            None => self.leave_addition(tag),
+            Some(value) => self.put_addition(tag, constraints, value),
+        }
+    }
+
+    /// Writes an addition group that is present as an open type, and records whether it is.
+    ///
+    /// Refused by what the group is refused by.
+    pub fn encode_extension_addition_group<E: Encode>(
+        &mut self,
+        value: Option<&E>,
+    ) -> Result<(), EncodeError>
+        ensures done { OnOk result (RowsDone NoRows (optional E.TAG (slot_of (λ x. E.tree E.CONSTRAINTS x.now) value.entry)) self.old self.new) }
+        ensures in_set { self.old.frame.is_set ≡ true → OnOk result (SetDone NoRows (optional E.TAG (slot_of (λ x. E.tree E.CONSTRAINTS x.now) value.entry)) self.old self.new) }
+        ensures value { OnOk result (IfSome value.entry (λ x. E.IsValue x.now)) }
+        ensures refused { IfErr result (λ x. RowsRefused NoRows (optional E.TAG (slot_of (λ x. E.tree E.CONSTRAINTS x.now) value.entry)) x.kind self.old self.new) }
+    {
+        self.encode_extension_addition(E::TAG, E::CONSTRAINTS, value)
+    }
+
+    /// Writes an addition as an open type, or nothing where it equals its default, and records which.
+    ///
+    /// Refused by what the value is refused by.
+    pub fn encode_extension_addition_default<E: Encode + PartialEq>(
+        &mut self,
+        tag: Tag,
+        constraints: Constraints,
+        value: &E,
+        default: &E,
+    ) -> Result<(), EncodeError>
+        requires { IsConsistent constraints }
+        ensures done { OnOk result (RowsDone NoRows (defaulted tag (E.tree constraints default.now) (present_unless (E.eq value.now default.now) (E.tree constraints value.now))) self.old self.new) }
+        ensures in_set { self.old.frame.is_set ≡ true → OnOk result (SetDone NoRows (defaulted tag (E.tree constraints default.now) (present_unless (E.eq value.now default.now) (E.tree constraints value.now))) self.old self.new) }
+        ensures value { E.eq value.now default.now ≡ false → OnOk result (E.IsValue value.now) }
+        ensures refused { IfErr result (λ x. RowsRefused NoRows (defaulted tag (E.tree constraints default.now) (present_unless (E.eq value.now default.now) (E.tree constraints value.now))) x.kind self.old self.new) }
+    {
+        if *value == *default {
+            self.leave_addition(tag)
+        } else {
+            self.put_addition(tag, constraints, value)
+        }
+    }
+
+    fn leave_addition(&mut self, _tag: Tag) -> Result<(), EncodeError>
+        ensures done { OnOk result (RowsDone NoRows (optional _tag Absent) self.old self.new) }
+        ensures in_set { self.old.frame.is_set ≡ true → OnOk result (SetDone NoRows (optional _tag Absent) self.old self.new) }
+        ensures refused { IfErr result (λ x. (x.kind ≡ OutOfMemory) × Keeps self.old self.new) }
+    {
+        self.note_addition(false)?;
+        Ok(())
+    }
+
+    fn put_addition<E: Encode>(
+        &mut self,
+        tag: Tag,
+        constraints: Constraints,
+        value: &E,
+    ) -> Result<(), EncodeError>
+        requires { IsConsistent constraints }
+        ensures done { OnOk result (RowsDone NoRows (optional tag (Present (E.tree constraints value.now))) self.old self.new) }
+        ensures in_set { self.old.frame.is_set ≡ true → OnOk result (SetDone NoRows (optional tag (Present (E.tree constraints value.now))) self.old self.new) }
+        ensures value { OnOk result (E.IsValue value.now) }
+        ensures refused { IfErr result (λ x. RowsRefused NoRows (optional tag (Present (E.tree constraints value.now))) x.kind self.old self.new) }
+    {
+        let content = content_of(self.alloc, tag, constraints, value)?;
+        write_open_type(&content, &mut self.scope.opens)?;
+        self.note_addition(true)?;
+        Ok(())
+    }
+
+    /// Records whether an addition is present.
+    fn note_addition(&mut self, bit: bool) -> Result<(), EncodeErrorKind>
+        ensures done { OnOk result (self.new ≡ record self.old { frame = record self.old.frame { bitmap = self.old.frame.bitmap ++ (bit ∷ []) } }) }
+        ensures refused { IfErr result (λ k. (k ≡ OutOfMemory) × Keeps self.old self.new) }
+    {
+        self.scope.bitmap.push(bit)?;
+        Ok(())
+    }
+}

@@ -1,0 +1,97 @@
+//! The encoder.
+ghost use Rattle.std.specs.Prelude.{◌≡◌, false, List, [], ◌++◌, length, cond};
+ghost use Rattle.asn1_base.specs.declared.codec.Codec.TheVariants.{Coer};
+ghost use Rattle.oer_write.specs.Seen.{frame_of};
+ghost use Rattle.oer_write.specs.Written.{Written, closed};
+
+use crate::enc::EncoderOptions;
+use crate::scope::Scope;
+use asn1_base::Codec;
+use std::alloc::Global;
+use std::marker::Model;
+
+/// Writes values by the canonical rules.
+///
+/// Contracts see the octets written so far, the innermost open scope with what was recorded in it, and the scopes around
+/// it. A value appends its octets; a scope gives its closure an encoder in which the scope is open, and appends the whole
+/// as the closure ends. After a refusal the octets still begin with those of before, and the same scopes are open.
+#[derive(Drop)]
+pub struct Encoder<'buffer> {
+    pub(crate) output: &'buffer mut Vec<u8>,
+    pub(crate) scope: Scope,
+    /// Lent for an element of a list or an alternative of a choice.
+    pub(crate) is_lent: bool,
+    pub(crate) alloc: Global,
+}
+
+impl<'buffer> Model for Encoder<'buffer> {
+    ghost use Rattle.oer_write.specs.Written.{Written};
+
+    ghost Value = { Written };
+
+    ghost use Rattle.oer_write.specs.Seen.{seen};
+
+    ghost view = { seen };
+}
+
+impl<'buffer> Encoder<'buffer> {
+    /// An encoder that appends to `output`.
+    ///
+    /// `worker` may hold anything, and is left as it is. Takes no memory.
+    pub fn from_buffer(
+        alloc: Global,
+        _options: EncoderOptions,
+        output: &'buffer mut Vec<u8>,
+        _worker: &'buffer mut Vec<u8>,
+    ) -> Encoder<'buffer>
+        ensures { result ≡ record { octets = output.old.items; frame = closed; outer = [] } }
+    {
+        Encoder {
+            output,
+            scope: Scope::none(alloc),
+            is_lent: false,
+            alloc,
+        }
+    }
+
+    /// Takes out the octets written, and leaves none.
+    ///
+    /// No scope may be open. Takes no memory.
+    pub fn output(&mut self) -> Vec<u8>
+        requires shut { self.old.frame.is_open ≡ false }
+        requires outermost { self.old.outer ≡ [] }
+        ensures taken { result.items ≡ self.old.octets }
+        ensures left { self.new ≡ record self.old { octets = [] } }
+    {
+        let empty = Vec::new(self.alloc);
+        std::mem::replace(&mut *self.output, empty)
+    }
+
+    /// The rules that are written by: always the canonical ones.
+    pub fn codec(&self) -> Codec
+        ensures { result ≡ Coer }
+    {
+        Codec::Coer
+    }
+
+    /// How many octets are written.
+    pub(crate) fn written(&self) -> usize
+        ensures { result ≡ length self.now.octets }
+    {
+        self.output.len()
+    }
+
+    /// The octets written, and the open scope.
+    pub(crate) fn into_parts(self) -> (Vec<u8>, Scope)
+        ensures octets { result.0.items ≡ self.entry.octets }
+        ensures frame { frame_of result.1 ≡ self.entry.frame }
+    {
+        let Encoder {
+            output,
+            scope,
+            is_lent: _,
+            alloc,
+        } = self;
+        (std::mem::replace(output, Vec::new(alloc)), scope)
+    }
+}

@@ -1,0 +1,71 @@
+//! Values without parts.
+ghost use Rattle.std.specs.Prelude.{◌≡◌, true, OnOk, IfErr};
+ghost use Rattle.asn1_base.specs.declared.error.EncodeErrorKind.TheVariants.{OutOfMemory};
+ghost use Rattle.asn1_base.specs.Bounds.{value_bounds};
+ghost use Rattle.oer_forms.specs.Tree.{Int};
+ghost use Rattle.oer_forms.specs.Spelled.{boolean, integer, null};
+ghost use Rattle.oer_write.specs.Written.{Encodes, Keeps, Refused, RefusedLeaf};
+
+use crate::encoder::Encoder;
+use crate::leaf::{write_bool, write_integer};
+use asn1_base::{Constraints, EncodeError, Tag};
+use asn1_ints::IntegerType;
+
+impl<'buffer> Encoder<'buffer> {
+    /// Writes a BOOLEAN (X.696, 9): FF for true, 00 for false.
+    ///
+    /// Refused for want of memory alone.
+    #[tactic(auto, unfolding(oer_forms::specs::Spelled::boolean, oer_forms::specs::Encoding::canonical_octets, oer_forms::specs::Encoding::fails))]
+    pub fn encode_bool(&mut self, _tag: Tag, value: bool) -> Result<(), EncodeError>
+        ensures done { OnOk result (Encodes (boolean value) self.old self.new) }
+        ensures refused { IfErr result (λ x. (x.kind ≡ OutOfMemory) × Keeps self.old self.new) }
+    {
+        write_bool(value, &mut *self.output)?;
+        Ok(())
+    }
+
+    /// Writes NULL (X.696, 15): no octets.
+    ///
+    /// Never refused.
+    #[tactic(auto, unfolding(oer_forms::specs::Spelled::null, oer_forms::specs::Encoding::canonical_octets, oer_forms::specs::Encoding::fails))]
+    pub fn encode_null(&mut self, _tag: Tag) -> Result<(), EncodeError>
+        ensures done { OnOk result (Encodes (null tt) self.old self.new) }
+        ensures refused { IfErr result (λ x. (x.kind ≡ OutOfMemory) × Keeps self.old self.new) }
+    {
+        Ok(())
+    }
+
+    /// Writes an INTEGER (X.696, 10) under the value constraint: in as many octets as a range asks for, or behind a length.
+    ///
+    /// A number outside a range that isn't extensible, or outside i128 under one, is refused by
+    /// `ValueConstraintNotSatisfied`.
+    #[tactic(auto, using(crate::proofs::Refusals::integer_by_law))]
+    pub fn encode_integer<I: IntegerType>(
+        &mut self,
+        _tag: Tag,
+        constraints: Constraints,
+        value: &I,
+    ) -> Result<(), EncodeError>
+        ensures done { OnOk result (Encodes (integer constraints (I.number value.now)) self.old self.new) }
+        ensures value { I.admits (I.number value.now) ≡ true }
+        ensures refused { IfErr result (λ x. RefusedLeaf (Int (value_bounds constraints) (I.number value.now)) x.kind self.old self.new) }
+        ensures law { IfErr result (λ x. Refused (integer constraints (I.number value.now)) x.kind self.old self.new) }
+    {
+        self.put_integer(constraints, value)
+    }
+
+    #[tactic(auto, unfolding(oer_forms::specs::Spelled::integer, oer_forms::specs::Encoding::canonical_octets, oer_forms::specs::Encoding::fails))]
+    fn put_integer<I: IntegerType>(
+        &mut self,
+        constraints: Constraints,
+        value: &I,
+    ) -> Result<(), EncodeError>
+        ensures done { OnOk result (Encodes (integer constraints (I.number value.now)) self.old self.new) }
+        ensures value { I.admits (I.number value.now) ≡ true }
+        ensures refused { IfErr result (λ x. RefusedLeaf (Int (value_bounds constraints) (I.number value.now)) x.kind self.old self.new) }
+    {
+        let _admitted = value.is_negative();
+        write_integer(constraints, value, &mut *self.output)?;
+        Ok(())
+    }
+}

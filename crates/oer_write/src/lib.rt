@@ -1,0 +1,17 @@
+//! Writing values as canonical octets (COER, X.696): the encoder, and the trait of the types that are written.
+#![tactic(auto)]
+
+mod additions;
+pub mod enc;
+pub mod encode;
+mod encoder;
+mod leaf;
+mod leaves;
+mod rows;
+mod rules;
+mod scope;
+mod scopes;
+
+pub use encode::Encode;
+pub use encoder::Encoder;
+pub use rules::EncodingRules;

@@ -1,0 +1,208 @@
+//! Components of the open scope: required, optional and default ones.
+ghost use Rattle.std.specs.Prelude.{◌≡◌, ◌^◌, ◌<◌, Bool, true, false, List, [], ◌∷◌, ◌++◌, ◌⊎◌, length, OnOk, IfOk, IfErr};
+ghost use Rattle.asn1_base.specs.declared.error.EncodeErrorKind.TheVariants.{OutOfMemory};
+ghost use Rattle.oer_forms.specs.Encoding.{IsEncodable, canonical_octets};
+ghost use Rattle.oer_forms.specs.Spelled.{IsConsistent};
+ghost use Rattle.oer_forms.specs.Tree.{NoRows, Present, Absent};
+ghost use Rattle.oer_forms.specs.Failures.{Fails};
+ghost use Rattle.oer_write.specs.Rows.{RowsDone, SetDone, RowsRefused, required, optional, defaulted, present_unless};
+ghost use Rattle.oer_write.specs.Written.{Keeps, Encodes, Refused};
+
+use crate::enc::EncoderOptions;
+use crate::encode::Encode;
+use crate::encoder::Encoder;
+use crate::scope::Component;
+use asn1_base::{Constraints, EncodeError, EncodeErrorKind, Tag};
+use std::alloc::Global;
+
+/// The octets of a value on its own.
+pub(crate) fn content_of<E: Encode>(
+    alloc: Global,
+    tag: Tag,
+    constraints: Constraints,
+    value: &E,
+) -> Result<Vec<u8>, EncodeError>
+    requires { IsConsistent constraints }
+    ensures done { IfOk result (λ v. IsEncodable (E.tree constraints value.now) × (v.items ≡ canonical_octets (E.tree constraints value.now)) × (length v.items < 2 ^ 64)) }
+    ensures value { OnOk result (E.IsValue value.now) }
+    ensures refused { IfErr result (λ x. (x.kind ≡ OutOfMemory) ⊎ Fails (E.tree constraints value.now) x.kind) }
+{
+    let mut output = Vec::new(alloc);
+    let mut worker = Vec::new(alloc);
+    let mut encoder = Encoder::from_buffer(alloc, EncoderOptions::coer(), &mut output, &mut worker);
+    value.encode_with_tag_and_constraints(&mut encoder, tag, constraints)?;
+    let octets = encoder.output();
+    let _size = octets.len();
+    Ok(octets)
+}
+
+impl<'buffer> Encoder<'buffer> {
+    /// Keeps a root component of a set apart.
+    fn keep(
+        &mut self,
+        tag: Tag,
+        marked: bool,
+        bit: bool,
+        octets: Vec<u8>,
+    ) -> Result<(), EncodeErrorKind>
+        ensures done { OnOk result (self.new ≡ record self.old { frame = record self.old.frame { components = self.old.frame.components ++ (record { tag = tag; marked = marked; bit = bit; octets = octets.items } ∷ []) } }) }
+        ensures refused { IfErr result (λ k. (k ≡ OutOfMemory) × Keeps self.old self.new) }
+    {
+        self.scope.components.push(Component {
+            tag,
+            marked,
+            bit,
+            octets,
+        })?;
+        Ok(())
+    }
+
+    /// Records a presence bit of a sequence.
+    fn mark(&mut self, bit: bool) -> Result<(), EncodeErrorKind>
+        ensures done { OnOk result (self.new ≡ record self.old { frame = record self.old.frame { presence = self.old.frame.presence ++ (bit ∷ []) } }) }
+        ensures refused { IfErr result (λ k. (k ≡ OutOfMemory) × Keeps self.old self.new) }
+    {
+        self.scope.presence.push(bit)?;
+        Ok(())
+    }
+
+    /// Writes a required component under constraints that stand in place of the type's own.
+    ///
+    /// In a set this is the only way to write one. Refused by what the value is refused by.
+    pub fn encode_component<E: Encode>(
+        &mut self,
+        tag: Tag,
+        constraints: Constraints,
+        value: &E,
+    ) -> Result<(), EncodeError>
+        requires { IsConsistent constraints }
+        ensures in_sequence { self.old.frame.is_set ≡ false → OnOk result (RowsDone (required tag (E.tree constraints value.now)) NoRows self.old self.new) }
+        ensures in_set { self.old.frame.is_set ≡ true → OnOk result (SetDone (required tag (E.tree constraints value.now)) NoRows self.old self.new) }
+        ensures value { OnOk result (E.IsValue value.now) }
+        ensures refused { IfErr result (λ x. RowsRefused (required tag (E.tree constraints value.now)) NoRows x.kind self.old self.new) }
+    {
+        if self.scope.is_set {
+            let octets = content_of(self.alloc, tag, constraints, value)?;
+            self.keep(tag, false, true, octets)?;
+            return Ok(());
+        }
+        value.encode_with_tag_and_constraints(self, tag, constraints)?;
+        Ok(())
+    }
+
+    /// Writes an optional component that is present, under constraints that stand in place of the type's own.
+    ///
+    /// Refused by what the value is refused by.
+    pub fn encode_some_with_tag_and_constraints<E: Encode>(
+        &mut self,
+        tag: Tag,
+        constraints: Constraints,
+        value: &E,
+    ) -> Result<(), EncodeError>
+        requires { IsConsistent constraints }
+        ensures in_sequence { self.old.frame.is_set ≡ false → OnOk result (RowsDone (optional tag (Present (E.tree constraints value.now))) NoRows self.old self.new) }
+        ensures in_set { self.old.frame.is_set ≡ true → OnOk result (SetDone (optional tag (Present (E.tree constraints value.now))) NoRows self.old self.new) }
+        ensures value { OnOk result (E.IsValue value.now) }
+        ensures refused { IfErr result (λ x. RowsRefused (optional tag (Present (E.tree constraints value.now))) NoRows x.kind self.old self.new) }
+    {
+        if self.scope.is_set {
+            let octets = content_of(self.alloc, tag, constraints, value)?;
+            self.keep(tag, true, true, octets)?;
+            return Ok(());
+        }
+        self.mark(true)?;
+        value.encode_with_tag_and_constraints(self, tag, constraints)?;
+        Ok(())
+    }
+
+    /// Writes an optional component that is present, with the type's own tag and constraints.
+    ///
+    /// Refused by what the value is refused by.
+    pub fn encode_some<E: Encode>(&mut self, value: &E) -> Result<(), EncodeError>
+        ensures in_sequence { self.old.frame.is_set ≡ false → OnOk result (RowsDone (optional E.TAG (Present (E.tree E.CONSTRAINTS value.now))) NoRows self.old self.new) }
+        ensures in_set { self.old.frame.is_set ≡ true → OnOk result (SetDone (optional E.TAG (Present (E.tree E.CONSTRAINTS value.now))) NoRows self.old self.new) }
+        ensures value { OnOk result (E.IsValue value.now) }
+        ensures refused { IfErr result (λ x. RowsRefused (optional E.TAG (Present (E.tree E.CONSTRAINTS value.now))) NoRows x.kind self.old self.new) }
+    {
+        self.encode_some_with_tag_and_constraints(E::TAG, E::CONSTRAINTS, value)
+    }
+
+    /// Records that an optional component is absent.
+    ///
+    /// Refused for want of memory alone.
+    pub fn encode_none_with_tag(&mut self, tag: Tag) -> Result<(), EncodeError>
+        ensures in_sequence { self.old.frame.is_set ≡ false → OnOk result (RowsDone (optional tag Absent) NoRows self.old self.new) }
+        ensures in_set { self.old.frame.is_set ≡ true → OnOk result (SetDone (optional tag Absent) NoRows self.old self.new) }
+        ensures refused { IfErr result (λ x. (x.kind ≡ OutOfMemory) × Keeps self.old self.new) }
+    {
+        if self.scope.is_set {
+            self.keep(tag, true, false, Vec::new(self.alloc))?;
+            return Ok(());
+        }
+        self.mark(false)?;
+        Ok(())
+    }
+
+    /// Records that an optional component with the type's own tag is absent.
+    ///
+    /// Refused for want of memory alone.
+    pub fn encode_none<E: Encode>(&mut self) -> Result<(), EncodeError>
+        ensures in_sequence { self.old.frame.is_set ≡ false → OnOk result (RowsDone (optional E.TAG Absent) NoRows self.old self.new) }
+        ensures in_set { self.old.frame.is_set ≡ true → OnOk result (SetDone (optional E.TAG Absent) NoRows self.old self.new) }
+        ensures refused { IfErr result (λ x. (x.kind ≡ OutOfMemory) × Keeps self.old self.new) }
+    {
+        self.encode_none_with_tag(E::TAG)
+    }
+
+    /// Writes a component, or nothing where it equals its default, under constraints that stand in place of the type's own.
+    ///
+    /// Refused by what the value is refused by.
+    pub fn encode_default_with_tag_and_constraints<E: Encode + PartialEq>(
+        &mut self,
+        tag: Tag,
+        constraints: Constraints,
+        value: &E,
+        default: &E,
+    ) -> Result<(), EncodeError>
+        requires { IsConsistent constraints }
+        ensures in_sequence { self.old.frame.is_set ≡ false → OnOk result (RowsDone (defaulted tag (E.tree constraints default.now) (present_unless (E.eq value.now default.now) (E.tree constraints value.now))) NoRows self.old self.new) }
+        ensures in_set { self.old.frame.is_set ≡ true → OnOk result (SetDone (defaulted tag (E.tree constraints default.now) (present_unless (E.eq value.now default.now) (E.tree constraints value.now))) NoRows self.old self.new) }
+        ensures value { E.eq value.now default.now ≡ false → OnOk result (E.IsValue value.now) }
+        ensures refused { IfErr result (λ x. RowsRefused (defaulted tag (E.tree constraints default.now) (present_unless (E.eq value.now default.now) (E.tree constraints value.now))) NoRows x.kind self.old self.new) }
+    {
+        if *value == *default {
+            self.encode_none_with_tag(tag)
+        } else {
+            self.encode_some_with_tag_and_constraints(tag, constraints, value)
+        }
+    }
+
+    /// Writes a component, or nothing where it equals its default, with the type's own tag and constraints.
+    ///
+    /// Refused by what the value is refused by.
+    pub fn encode_default<E: Encode + PartialEq>(
+        &mut self,
+        value: &E,
+        default: &E,
+    ) -> Result<(), EncodeError>
+        ensures in_sequence { self.old.frame.is_set ≡ false → OnOk result (RowsDone (defaulted E.TAG (E.tree E.CONSTRAINTS default.now) (present_unless (E.eq value.now default.now) (E.tree E.CONSTRAINTS value.now))) NoRows self.old self.new) }
+        ensures in_set { self.old.frame.is_set ≡ true → OnOk result (SetDone (defaulted E.TAG (E.tree E.CONSTRAINTS default.now) (present_unless (E.eq value.now default.now) (E.tree E.CONSTRAINTS value.now))) NoRows self.old self.new) }
+        ensures value { E.eq value.now default.now ≡ false → OnOk result (E.IsValue value.now) }
+        ensures refused { IfErr result (λ x. RowsRefused (defaulted E.TAG (E.tree E.CONSTRAINTS default.now) (present_unless (E.eq value.now default.now) (E.tree E.CONSTRAINTS value.now))) NoRows x.kind self.old self.new) }
+    {
+        self.encode_default_with_tag_and_constraints(E::TAG, E::CONSTRAINTS, value, default)
+    }
+
+    /// Writes a value behind an explicit tag, of which the octet encoding rules write nothing (X.696, 8.7).
+    pub fn encode_explicit_prefix<E: Encode>(
+        &mut self,
+        _tag: Tag,
+        value: &E,
+    ) -> Result<(), EncodeError>
+        ensures done { OnOk result (Encodes (E.tree E.CONSTRAINTS value.now) self.old self.new) }
+        ensures value { OnOk result (E.IsValue value.now) }
+        ensures refused { IfErr result (λ x. Refused (E.tree E.CONSTRAINTS value.now) x.kind self.old self.new) }
+    {
+        value.encode(self)
+    }
+}
