@@ -2,7 +2,7 @@
 use Rattle.std.proofs.Common.{◌≡◌, ℕ, ◌+◌, ◌<◌, Bool, true, false, ◌||◌, List, [], ◌∷◌, ◌++◌, length, nat_lt, nat_le, inl, refl, sym, ap, ◌∙◌, subst₂, arith, append_assoc, length-append}
 use Rattle.std.proofs.lemmas.Bool.{and_parts, or_parts, ltb-true, leb-true}
 use Rattle.asn1_base.specs.Octets.{Octets, AreOctets, bits_of}
-use Rattle.asn1_base.specs.Texts.{each_is}
+use Rattle.std.specs.List.{list_all}
 use Rattle.oer_forms.specs.Encoding.{IsTree, IsEncoding, canonical_octets, levels, fails}
 use Rattle.oer_forms.specs.Examples.{IsSpelled}
 use Rattle.oer_forms.specs.Leaves.{Failure, BadValue, BadSize, BadIdentifier, BadTime, TooManyEmpty, TooLong}
@@ -14,9 +14,9 @@ use Rattle.oer_forms.proofs.Unique.{cancel, length_unique, behind_unique}
 use Rattle.oer_forms.proofs.Within.{length_within, own_sized_within_canonical, canonical_within_lenient}
 use Rattle.oer_forms.proofs.WrittenTrees.{spelt}
 
-pub octets : (c : Octets) → each_is (λ x. nat_lt x 256) c ≡ true → AreOctets c
+pub octets : (c : Octets) → list_all (λ x. nat_lt x 256) c ≡ true → AreOctets c
 octets [] e = tt
-octets (x ∷ c) e = let b = and_parts (nat_lt x 256) (each_is (λ y. nat_lt y 256) c) e in (ltb-true x 256 b.0, octets c b.1)
+octets (x ∷ c) e = let b = and_parts (nat_lt x 256) (list_all (λ y. nat_lt y 256) c) e in (ltb-true x 256 b.0, octets c b.1)
 
 pub in_strict : (m : Mode) (P : Type 0) → P → InStrict m P
 in_strict Lenient P p = tt
