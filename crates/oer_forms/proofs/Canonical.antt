@@ -66,13 +66,13 @@ boolean_canonical : (o : Octets) (b : Bool) → IsBoolean OwnSized o b → o ≡
 boolean_canonical o b (x, f, l, v, inl e) = f ∙ ap (λ z. z ∷ []) (e ∙ sym (ap (λ z. cond z 255 0) (v ∙ ap (λ z. not (z == 0)) e)))
 boolean_canonical o b (x, f, l, v, inr e) = f ∙ ap (λ z. z ∷ []) (e ∙ sym (ap (λ z. cond z 255 0) (v ∙ ap (λ z. not (z == 0)) e)))
 
-tight : (c : Octets) → AreOctets c → IsShort true c → IsTight c
+pub tight : (c : Octets) → AreOctets c → IsShort true c → IsTight c
 tight [] f s = absurd s
 tight (x ∷ []) f s = tt
 tight (x ∷ y ∷ ys) f s = tight_from_short x y ys f s
 
 -- without a sign, a leading 0 would leave the value
-plain : (c : Octets) → IsShort false c → NoLeadingZero c
+pub plain : (c : Octets) → IsShort false c → NoLeadingZero c
 plain [] s = absurd s
 plain (x ∷ []) s = tt
 plain (x ∷ y ∷ ys) s = λ e. s (subst (λ z. pos (unsigned (y ∷ ys)) ≡ pos (unsigned (z ∷ y ∷ ys))) (sym e) refl)

@@ -5,6 +5,7 @@ pub mod ReadBooleans
 pub mod ReadTags
 pub mod ReadQuantities
 pub mod WriteTags
+pub mod ReadIntegers
 pub mod Lists
 pub mod Unique
 pub mod UniqueLeaves

@@ -228,7 +228,7 @@ holds_width (Some (Some low, Some high)) z f =
     (λ e. holds_unsigned_width low high z e a.0 b.0)
 
 -- ---- leaves
-plain_short : (c : Octets) → AreOctets c → NoLeadingZero c → IsShort false c
+pub plain_short : (c : Octets) → AreOctets c → NoLeadingZero c → IsShort false c
 plain_short [] f p = absurd p
 plain_short (x ∷ []) f p = tt
 plain_short (x ∷ y ∷ ys) f p = λ e. p (lead_zero x (256 ^ length (y ∷ ys)) (unsigned (y ∷ ys)) (power_pos (length (y ∷ ys))) (sym (unsigned_cons x (y ∷ ys)) ∙ cc e))

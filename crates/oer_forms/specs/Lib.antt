@@ -21,3 +21,5 @@ pub mod Examples
 pub mod WorkedRows
 pub mod NearMisses
 pub mod Premises
+pub mod Widths
+pub mod ReadingIntegers

@@ -1,4 +1,5 @@
 //! Readers and writers of leaves and their parts, over slices.
 
 pub mod read;
+mod widths;
 pub mod write;

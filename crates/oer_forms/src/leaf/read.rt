@@ -7,6 +7,7 @@
 mod bit_slice;
 mod bits;
 mod booleans;
+mod integers;
 mod lengths;
 mod parts;
 mod places;
@@ -17,6 +18,7 @@ mod texts;
 pub use bit_slice::BitSlice;
 pub(crate) use bits::{octets_for, unused_for};
 pub use booleans::read_bool;
+pub use integers::{read_integer, read_number_content};
 pub use lengths::{read_content, read_length};
 pub use parts::{read_octet, read_octets, require_canonical};
 pub use places::{read_bitmap, read_preamble, skip_additions};

@@ -2,6 +2,7 @@
 //! still there, perhaps with more behind them.
 
 mod booleans;
+mod integers;
 mod lengths;
 mod places;
 mod quantities;
@@ -9,6 +10,7 @@ mod tags;
 mod texts;
 
 pub use booleans::write_bool;
+pub use integers::write_integer;
 pub use lengths::{write_content, write_length};
 pub use places::{write_bitmap, write_preamble};
 pub use quantities::write_quantity;
