@@ -36,3 +36,5 @@ pub mod ExampleLeaves
 pub mod ExampleStructs
 pub mod ExampleLists
 pub mod ExamplePremises
+pub mod ReadBitStrings
+pub mod ReadMemory

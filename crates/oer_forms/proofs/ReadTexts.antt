@@ -12,15 +12,15 @@ use Rattle.oer_forms.specs.Leaves.{Failure, BadValue, BadSize, BadIdentifier, Ba
 use Rattle.oer_forms.specs.Lengths.{IsLength, IsBehindLength}
 use Rattle.oer_forms.specs.Mode.{mode_of}
 use Rattle.oer_forms.specs.Reading.{◌>>=◌, ◌>>◌, octets_at, length_at}
-use Rattle.oer_forms.specs.ReadingBits.{refuse_if}
-use Rattle.oer_forms.specs.ReadingTexts.{string_at, size_test, sized_octets_at, octet_string_at, text_at, sized_units_at, units_at}
+use Rattle.oer_forms.specs.ReadingBits.{refuse_if, size_test}
+use Rattle.oer_forms.specs.ReadingTexts.{string_at, sized_octets_at, octet_string_at, text_at, sized_units_at, units_at}
 use Rattle.oer_forms.specs.Tree.{Leaf, Text, Written}
 use Rattle.oer_forms.proofs.ReadLengths.{length_reads}
 use Rattle.oer_forms.proofs.ReadPlaces.{refuse_ok, octets_found, reads_like}
 use Rattle.oer_forms.proofs.Steps.{Reads, bind_ok, then_ok, ok_is, pair_is, octets_again, front_octets, rear_octets}
 
 -- ---- sizes
-not_not : (b : Bool) → not b ≡ false → b ≡ true
+pub not_not : (b : Bool) → not b ≡ false → b ≡ true
 not_not true e = refl
 not_not false e = absurd cc
 

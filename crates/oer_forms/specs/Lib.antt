@@ -21,3 +21,4 @@ pub mod Examples
 pub mod WorkedRows
 pub mod NearMisses
 pub mod Premises
+pub mod ReadingMemory

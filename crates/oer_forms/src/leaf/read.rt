@@ -5,6 +5,7 @@
 //! reader refuses, no front spells any value.
 
 mod bit_slice;
+mod bit_strings;
 mod bits;
 mod booleans;
 mod lengths;
@@ -15,6 +16,7 @@ mod tags;
 mod texts;
 
 pub use bit_slice::BitSlice;
+pub use bit_strings::read_bit_string;
 pub(crate) use bits::{octets_for, unused_for};
 pub use booleans::read_bool;
 pub use lengths::{read_content, read_length};
