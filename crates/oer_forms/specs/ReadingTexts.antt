@@ -4,7 +4,8 @@ use Rattle.asn1_base.specs.Bounds.{Size, fixed_size}
 use Rattle.asn1_base.specs.Octets.{Octets, usize_max}
 use Rattle.asn1_base.specs.declared.codec.Codec.{Codec}
 use Rattle.asn1_base.specs.declared.error.DecodeErrorKind.{DecodeErrorKind}
-use Rattle.asn1_base.specs.declared.error.DecodeErrorKind.TheVariants.{LengthExceedsPlatformWidth, PermittedAlphabetError}
+use Rattle.asn1_base.specs.declared.error.DecodeErrorKind.TheVariants.{LengthExceedsPlatformWidth, PermittedAlphabetError, StringConversionFailed}
+use Rattle.std.specs.Str.{is_utf8}
 use Rattle.oer_forms.specs.Reading.{◌>>=◌, ◌>>◌, octets_at, length_at}
 use Rattle.oer_forms.specs.ReadingBits.{refuse_if, size_test}
 
@@ -46,3 +47,7 @@ sized_units_at is_text None s codec input = do
 -- BMPString (27), whose size counts characters.
 unfoldable pub units_at : (Octets → Bool) → Size → Codec → Octets → Result (Octets × Octets) DecodeErrorKind
 units_at is_text s codec input = sized_units_at is_text (fixed_size s) s codec input
+
+-- octets that are UTF-8
+abbrev pub utf8_of : Octets → Result Octets DecodeErrorKind
+utf8_of octets = refuse_if (not (is_utf8 octets)) StringConversionFailed >> Ok octets
