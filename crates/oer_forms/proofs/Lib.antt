@@ -37,3 +37,5 @@ pub mod ExampleLeaves
 pub mod ExampleStructs
 pub mod ExampleLists
 pub mod ExamplePremises
+pub mod ReadBitStrings
+pub mod ReadMemory

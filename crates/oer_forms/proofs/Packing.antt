@@ -1,7 +1,11 @@
 -- Bits are packed octet by octet.
 use Rattle.std.proofs.Common.{◌≡◌, ℕ, zero, suc, ◌+◌, ◌*◌, ◌<◌, Bool, List, [], ◌∷◌, ◌++◌, length, drop, refl, sym, ap, ap₂, ◌∙◌, arith, append_assoc, length-drop, ◌-◌, Result, Ok, Err}
 use Rattle.asn1_base.specs.declared.error.EncodeErrorKind.{EncodeErrorKind}
-use Rattle.oer_forms.specs.Lengths.{length_octets, counted_bits}
+use Rattle.oer_forms.specs.Lengths.{length_octets, behind_length, counted_bits}
+use Rattle.asn1_base.specs.Bounds.{Size}
+use Rattle.oer_forms.specs.Failures.{first_failure}
+use Rattle.oer_forms.specs.Tree.{Bits}
+use Rattle.oer_forms.specs.WritingTexts.{string_failure}
 use Rattle.oer_forms.specs.Writing.{Appends}
 use Rattle.asn1_base.specs.Octets.{Octets, octet_of, pack_into, octets_for, pack}
 
@@ -38,3 +42,12 @@ length-counted b = omega (arith, length-pack_into (octets_for (length b)) b)
 pub counted_parts : (b : List Bool) (n u : ℕ) → n ≡ octets_for (length b) → u ≡ 8 * octets_for (length b) - length b → counted_bits b ≡ (length_octets (n + 1) ++ u ∷ []) ++ pack b
 counted_parts b n u e f =
     ap₂ (λ x y. length_octets x ++ (y ∷ pack b)) (length-counted b ∙ ap (λ z. z + 1) (sym e)) (sym f) ∙ sym (append_assoc (length_octets (n + 1)) (u ∷ []) (pack b))
+
+pub length_pack : (b : List Bool) (o : Octets) → o ≡ pack b → length o ≡ octets_for (length b)
+length_pack b o e = ap length e ∙ length-pack_into (octets_for (length b)) b
+
+pub behind_first : (x : ℕ) (o : Octets) → length_octets (length o + 1) ++ (x ∷ o) ≡ behind_length (x ∷ o)
+behind_first x o = let e : length o + 1 ≡ suc (length o) = omega arith in ap (λ n. length_octets n ++ (x ∷ o)) e
+
+pub bits_failure : (s : Size) (b : List Bool) (o : Octets) → o ≡ pack b → string_failure s (length b) (length o) ≡ first_failure (Bits s b)
+bits_failure s b o e = ap (string_failure s (length b)) (length_pack b o e)

@@ -96,13 +96,13 @@ pub record IsCounted (c : Octets) (b : List Bool) (unused : List Bool) : Type 0 
 abbrev pub IsBitmapContent : Codec → Octets → List Bool → Type 0
 IsBitmapContent codec c b = (unused : List Bool) × IsCounted c b unused × InStrict (mode_of codec) (AnyTrue b × AllFalse unused)
 
-pub overfull_not : (u : ℕ) (o : Octets) → is_overfull u o ≡ false → (u < 8) × (u ≤ 8 * length o)
-overfull_not u o e =
-    let tests = or_parts (ltb 7 u) (ltb (8 * length o) u) e in
-    (omega (arith, ltb-false 7 u tests.0), ltb-false (8 * length o) u tests.1)
+pub overfull_not : (u n : ℕ) → is_overfull u n ≡ false → (u < 8) × (u ≤ 8 * n)
+overfull_not u n e =
+    let tests = or_parts (ltb 7 u) (ltb (8 * n) u) e in
+    (omega (arith, ltb-false 7 u tests.0), ltb-false (8 * n) u tests.1)
 
-pub not_overfull : (u : ℕ) (o : Octets) → u < 8 → u ≤ 8 * length o → is_overfull u o ≡ false
-not_overfull u o few enough = or_from (ltb 7 u) (ltb (8 * length o) u) (le-ltb 7 u (omega arith)) (le-ltb (8 * length o) u enough)
+pub not_overfull : (u n : ℕ) → u < 8 → u ≤ 8 * n → is_overfull u n ≡ false
+not_overfull u n few enough = or_from (ltb 7 u) (ltb (8 * n) u) (le-ltb 7 u (omega arith)) (le-ltb (8 * n) u enough)
 
 -- octets with a count of unused bits that isn't above them
 pub counted_is : (u : ℕ) (o : Octets) → u < 8 → u ≤ 8 * length o → IsCounted (u ∷ o) (front_bits u o) (unused_bits u o)
@@ -114,10 +114,10 @@ bitmap_found : (codec : Codec) (c : Octets) (b : List Bool) → AreOctets c → 
 unfolding bitmap_of
 bitmap_found codec [] b fits e = absurd cc
 bitmap_found codec (u ∷ o) b (f, fits) e =
-    let s = then_ok (refuse_if (is_overfull u o) InvalidExtensionHeader) (canonical codec (has_set_fill u o) >> (canonical codec (not (any_set (front_bits u o))) >> Ok (front_bits u o))) b e in
+    let s = then_ok (refuse_if (is_overfull u (length o)) InvalidExtensionHeader) (canonical codec (has_set_fill u o) >> (canonical codec (not (any_set (front_bits u o))) >> Ok (front_bits u o))) b e in
     let t = then_ok (canonical codec (has_set_fill u o)) (canonical codec (not (any_set (front_bits u o))) >> Ok (front_bits u o)) b s.2 in
     let w = then_ok (canonical codec (not (any_set (front_bits u o)))) (Ok (front_bits u o)) b t.2 in
-    let n = overfull_not u o (refuse_ok (is_overfull u o) InvalidExtensionHeader s.0 s.1) in
+    let n = overfull_not u (length o) (refuse_ok (is_overfull u (length o)) InvalidExtensionHeader s.0 s.1) in
     let strict : is_coer codec ≡ true → AnyTrue (front_bits u o) × AllFalse (unused_bits u o) = λ z. (
       any_true (front_bits u o) (not_false (any_set (front_bits u o)) (canonical_ok codec (not (any_set (front_bits u o))) w.0 w.1 z)),
       all_unset u o n.0 n.1 fits (canonical_ok codec (has_set_fill u o) t.0 t.1 z),
@@ -133,7 +133,7 @@ bitmap_again codec c b fits (v, k, strict) = ap (bitmap_of codec) k.whole ∙ go
         let front : front_bits (length v) o ≡ b = front_is o b v split in
         let fill : is_coer codec ≡ true → has_set_fill (length v) o ≡ false = λ z. unset_again o b v octets k.few split (strict_has codec strict z).1 in
         let any : is_coer codec ≡ true → not (any_set b) ≡ false = λ z. ap not (true_any b (strict_has codec strict z).0) in
-        rw (not_overfull (length v) o k.few (unused_enough o b v split), canonical_again codec (has_set_fill (length v) o) fill, front, canonical_again codec (not (any_set b)) any) refl
+        rw (not_overfull (length v) (length o) k.few (unused_enough o b v split), canonical_again codec (has_set_fill (length v) o) fill, front, canonical_again codec (not (any_set b)) any) refl
 
 bitmap_decodes : (codec : Codec) → Decodes (bitmap_of codec) (IsBitmapContent codec)
 bitmap_decodes codec = record { found = bitmap_found codec; again = bitmap_again codec }

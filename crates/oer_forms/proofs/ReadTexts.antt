@@ -12,15 +12,15 @@ use Rattle.oer_forms.specs.Leaves.{Failure, BadValue, BadSize, BadIdentifier, Ba
 use Rattle.oer_forms.specs.Lengths.{IsLength, IsBehindLength}
 use Rattle.oer_forms.specs.Mode.{mode_of}
 use Rattle.oer_forms.specs.Reading.{◌>>=◌, ◌>>◌, octets_at, length_at}
-use Rattle.oer_forms.specs.ReadingBits.{refuse_if}
-use Rattle.oer_forms.specs.ReadingTexts.{string_at, size_test, sized_octets_at, octet_string_at, text_at, sized_units_at, units_at}
+use Rattle.oer_forms.specs.ReadingBits.{refuse_if, size_test}
+use Rattle.oer_forms.specs.ReadingTexts.{string_at, sized_octets_at, octet_string_at, text_at, sized_units_at, units_at}
 use Rattle.oer_forms.specs.Tree.{Leaf, Text, Written}
 use Rattle.oer_forms.proofs.ReadLengths.{length_reads}
 use Rattle.oer_forms.proofs.ReadPlaces.{refuse_ok, octets_found, reads_like}
 use Rattle.oer_forms.proofs.Steps.{Reads, bind_ok, then_ok, ok_is, pair_is, octets_again, front_octets, rear_octets}
 
 -- ---- sizes
-not_not : (b : Bool) → not b ≡ false → b ≡ true
+pub not_not : (b : Bool) → not b ≡ false → b ≡ true
 not_not true e = refl
 not_not false e = absurd cc
 
@@ -115,3 +115,26 @@ module _ (r : Rule) (one : unit_of r ≡ 1) (s : Size) (codec : Codec) where
   pub octet_string_reads : Reads (octet_string_at s codec) (λ o c. IsLeafEncoding (mode_of codec) o (Text r s (Written c)))
   unfolding octet_string_at
   octet_string_reads = record { found = sized_found (fixed_size s) refl; again = sized_again (fixed_size s) refl }
+
+-- ---- texts
+-- a test that tells the octets that obey a rule
+abbrev pub Tells : (Octets → Bool) → Rule → Type 0
+Tells is_text r = (c : Octets) → (is_text c ≡ true) ↔ Obeys r c
+
+module _ (is_text : Octets → Bool) (kind : DecodeErrorKind) (r : Rule) (one : unit_of r ≡ 1) (tells : Tells is_text r) (s : Size) (codec : Codec) where
+  text_found : (input rest c : Octets) → AreOctets input → text_at is_text kind s codec input ≡ Ok (c, rest) → (o : Octets) × (input ≡ o ++ rest) × (IsLeafEncoding (mode_of codec) o (Text r s (Written c)) × Obeys r c)
+  unfolding text_at
+  text_found input rest c fits e =
+      let a = bind_ok (octet_string_at s codec input) (λ octets. refuse_if (not (is_text octets.0)) kind >> Ok octets) (c, rest) e in
+      let t = then_ok (refuse_if (not (is_text a.0.0)) kind) (Ok a.0) (c, rest) a.2 in
+      let same = pair_is a.0.0 c a.0.1 rest t.2 in
+      let f = (octet_string_reads r one s codec).found input rest c fits (a.1 ∙ t.2) in
+      let passes : is_text a.0.0 ≡ true = not_not (is_text a.0.0) (refuse_ok (not (is_text a.0.0)) kind t.0 t.1) in
+      (f.0, f.1, (f.2, (tells c).0 (subst (λ z. is_text z ≡ true) same.0 passes)))
+
+  text_again : (o rest c : Octets) → (IsLeafEncoding (mode_of codec) o (Text r s (Written c)) × Obeys r c) → text_at is_text kind s codec (o ++ rest) ≡ Ok (c, rest)
+  unfolding text_at
+  text_again o rest c (spells, obeys) = rw ((octet_string_reads r one s codec).again o rest c spells, (tells c).1 obeys) refl
+
+  pub text_reads : Reads (text_at is_text kind s codec) (λ o c. IsLeafEncoding (mode_of codec) o (Text r s (Written c)) × Obeys r c)
+  text_reads = record { found = text_found; again = text_again }

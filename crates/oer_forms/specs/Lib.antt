@@ -23,3 +23,4 @@ pub mod NearMisses
 pub mod Premises
 pub mod Widths
 pub mod ReadingIntegers
+pub mod ReadingMemory

@@ -1,12 +1,13 @@
 -- Reading octet strings, character strings, object identifiers and times.
 use Rattle.std.specs.Prelude.{ℕ, ◌*◌, ◌/◌, Bool, not, nat_lt, length, Option, Some, None, Result, Ok, Err}
-use Rattle.asn1_base.specs.Bounds.{Size, fixed_size, size_fits}
+use Rattle.asn1_base.specs.Bounds.{Size, fixed_size}
 use Rattle.asn1_base.specs.Octets.{Octets, usize_max}
 use Rattle.asn1_base.specs.declared.codec.Codec.{Codec}
 use Rattle.asn1_base.specs.declared.error.DecodeErrorKind.{DecodeErrorKind}
-use Rattle.asn1_base.specs.declared.error.DecodeErrorKind.TheVariants.{LengthExceedsPlatformWidth, SizeConstraintNotSatisfied, PermittedAlphabetError}
+use Rattle.asn1_base.specs.declared.error.DecodeErrorKind.TheVariants.{LengthExceedsPlatformWidth, PermittedAlphabetError, StringConversionFailed}
+use Rattle.std.specs.Str.{is_utf8}
 use Rattle.oer_forms.specs.Reading.{◌>>=◌, ◌>>◌, octets_at, length_at}
-use Rattle.oer_forms.specs.ReadingBits.{refuse_if}
+use Rattle.oer_forms.specs.ReadingBits.{refuse_if, size_test}
 
 -- a length, not above usize::MAX / 8, and that many octets
 unfoldable pub string_at : Codec → Octets → Result (Octets × Octets) DecodeErrorKind
@@ -14,10 +15,6 @@ string_at codec input = do
   count ← length_at codec input
   refuse_if (nat_lt (usize_max / 8) count.0) LengthExceedsPlatformWidth
   octets_at count.0 count.1
-
--- a size that isn't allowed
-abbrev pub size_test : Size → ℕ → Result (Unit {0}) DecodeErrorKind
-size_test s n = refuse_if (not (size_fits s n)) (SizeConstraintNotSatisfied n)
 
 -- as many octets as the size has, where it is fixed; else octets behind a length, of a size that is allowed
 abbrev pub sized_octets_at : Option ℕ → Size → Codec → Octets → Result (Octets × Octets) DecodeErrorKind
@@ -50,3 +47,7 @@ sized_units_at is_text None s codec input = do
 -- BMPString (27), whose size counts characters.
 unfoldable pub units_at : (Octets → Bool) → Size → Codec → Octets → Result (Octets × Octets) DecodeErrorKind
 units_at is_text s codec input = sized_units_at is_text (fixed_size s) s codec input
+
+-- octets that are UTF-8
+abbrev pub utf8_of : Octets → Result Octets DecodeErrorKind
+utf8_of octets = refuse_if (not (is_utf8 octets)) StringConversionFailed >> Ok octets

@@ -5,6 +5,7 @@
 //! reader refuses, no front spells any value.
 
 mod bit_slice;
+mod bit_strings;
 mod bits;
 mod booleans;
 mod integers;
@@ -16,6 +17,7 @@ mod tags;
 mod texts;
 
 pub use bit_slice::BitSlice;
+pub use bit_strings::read_bit_string;
 pub(crate) use bits::{octets_for, unused_for};
 pub use booleans::read_bool;
 pub use integers::{read_integer, read_number_content};
@@ -24,4 +26,4 @@ pub use parts::{read_octet, read_octets, require_canonical};
 pub use places::{read_bitmap, read_preamble, skip_additions};
 pub use quantities::read_quantity;
 pub use tags::read_tag;
-pub use texts::read_octet_string;
+pub use texts::{read_octet_string, read_utf8};

@@ -1,6 +1,7 @@
 //! Writers: each appends the canonical octets to those of before, or refuses; after a refusal the octets of before are
 //! still there, perhaps with more behind them.
 
+mod bit_strings;
 mod booleans;
 mod integers;
 mod lengths;
@@ -9,6 +10,7 @@ mod quantities;
 mod tags;
 mod texts;
 
+pub use bit_strings::write_bit_string;
 pub use booleans::write_bool;
 pub use integers::write_integer;
 pub use lengths::{write_content, write_length};

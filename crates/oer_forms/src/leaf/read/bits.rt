@@ -30,9 +30,9 @@ pub(crate) fn has_set_fill(unused: u8, octets: &[u8]) -> bool
     }
 }
 
-/// Whether a count of unused bits is above 7, or above the bits that there are.
-pub(crate) fn is_overfull(unused: u8, octets: &[u8]) -> bool
-    ensures { result ≡ is_overfull unused octets.now }
+/// Whether a count of unused bits is above 7, or above the bits of so many octets.
+pub(crate) fn is_overfull(unused: u8, count: usize) -> bool
+    ensures { result ≡ is_overfull unused count }
 {
-    unused > 7 || octets.is_empty() && unused > 0
+    unused > 7 || count == 0 && unused > 0
 }

@@ -54,7 +54,7 @@ fn bitmap_of(codec: Codec, content: &[u8]) -> Result<BitSlice<'_>, DecodeErrorKi
         return Err(DecodeErrorKind::InvalidExtensionHeader);
     };
     refuse_if(
-        is_overfull(*unused, octets),
+        is_overfull(*unused, octets.len()),
         DecodeErrorKind::InvalidExtensionHeader,
     )?;
     require_canonical(codec, has_set_fill(*unused, octets))?;

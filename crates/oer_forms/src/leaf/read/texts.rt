@@ -1,16 +1,19 @@
 ghost use Rattle.std.specs.Prelude.{IfErr};
 ghost use Rattle.asn1_base.specs.Bounds.{size_bounds};
-ghost use Rattle.asn1_base.specs.Texts.{AnyOctets};
+ghost use Rattle.asn1_base.specs.Texts.{AnyOctets, Utf8, Obeys};
+ghost use Rattle.asn1_base.specs.declared.error.DecodeErrorKind.TheVariants.{StringConversionFailed};
 ghost use Rattle.oer_forms.specs.Leaves.{IsLeafEncoding};
 ghost use Rattle.oer_forms.specs.Mode.{mode_of};
 ghost use Rattle.oer_forms.specs.Reading.{Gives, seen, ReadsFront, IsNotForMemory};
-ghost use Rattle.oer_forms.specs.ReadingTexts.{string_at, octet_string_at};
+ghost use Rattle.oer_forms.specs.ReadingTexts.{string_at, octet_string_at, text_at, utf8_of};
+ghost use Rattle.std.specs.Str.{is_utf8};
 ghost use Rattle.oer_forms.specs.Tree.{Text, Written};
 
 use crate::leaf::read::lengths::read_length;
 use crate::leaf::read::parts::read_octets;
 use crate::leaf::read::places::refuse_if;
 use asn1_base::{Codec, Constraints, DecodeErrorKind};
+use std::str;
 
 /// A length, and that many octets of a string.
 #[tactic(auto, unfolding(crate::specs::ReadingTexts::string_at))]
@@ -64,4 +67,46 @@ pub fn read_octet_string(
     ensures memory { IfErr result IsNotForMemory }
 {
     octet_string(codec, constraints, input)
+}
+
+/// The octets as a text, where they are UTF-8.
+fn text_of(octets: &[u8]) -> Result<&str, DecodeErrorKind>
+    ensures { Gives (λ s. s.now) result (utf8_of octets.now) }
+{
+    match str::from_utf8(octets) {
+        Ok(text) => Ok(text),
+        Err(_) => Err(DecodeErrorKind::StringConversionFailed),
+    }
+}
+
+#[tactic(auto, unfolding(crate::specs::ReadingTexts::text_at))]
+fn utf8_text(
+    codec: Codec,
+    constraints: Constraints,
+    input: &[u8],
+) -> Result<(&str, &[u8]), DecodeErrorKind>
+    ensures function { Gives (λ x. (x.0.now, x.1.now)) result (text_at is_utf8 StringConversionFailed (size_bounds constraints) codec input.now) }
+    ensures memory { IfErr result IsNotForMemory }
+{
+    let (octets, rest) = octet_string(codec, constraints, input)?;
+    let text = text_of(octets)?;
+    Ok((text, rest))
+}
+
+/// The UTF8String at the front, borrowed from the input, and what is left (X.696, 27).
+///
+/// Sizes count octets. Refused as an octet string is (`read_octet_string`); then octets that are no UTF-8, as
+/// `StringConversionFailed`.
+pub fn read_utf8(
+    codec: Codec,
+    constraints: Constraints,
+    input: &[u8],
+) -> Result<(&str, &[u8]), DecodeErrorKind>
+    ensures function { Gives (λ x. (x.0.now, x.1.now)) result (text_at is_utf8 StringConversionFailed (size_bounds constraints) codec input.now) }
+    ensures relation { ReadsFront
+        (λ o c. IsLeafEncoding (mode_of codec) o (Text Utf8 (size_bounds constraints) (Written c)) × Obeys Utf8 c)
+        input.now (seen (λ x. (x.0.now, x.1.now)) result) }
+    ensures memory { IfErr result IsNotForMemory }
+{
+    utf8_text(codec, constraints, input)
 }
