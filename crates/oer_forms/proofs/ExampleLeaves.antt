@@ -14,7 +14,7 @@ use Rattle.oer_forms.specs.Lengths.{IsLength}
 use Rattle.oer_forms.specs.Mode.{Lenient, Canonical}
 use Rattle.oer_forms.specs.NearMisses.{PlainMisses, StringMisses}
 use Rattle.oer_forms.specs.Tree.{Boolean, Enum, Int, Bits, Text, Written}
-use Rattle.oer_forms.proofs.ExampleParts.{octets, behind, content, padded, counted_parts, none_fails, spelled}
+use Rattle.oer_forms.proofs.ExampleParts.{are_octets, behind, content, padded, counted_parts, none_fails, spelled}
 use Rattle.oer_forms.proofs.Lists.{head_same, not_nil, split_same}
 use Rattle.oer_forms.proofs.UniqueLeaves.{fixed_count}
 
@@ -72,32 +72,32 @@ plain_misses = record {
   enumerated_number = spelled (enumerated (negsuc 999)) refl refl refl;
   enumerated_below_128_in_long_form = record {
     is_tree = refl;
-    leniently = (none_fails (leaf_fails (Enum (pos 5))) refl, inr (omega arith, omega arith, refl, octets (0x05 ∷ []) refl, refl, tt));
+    leniently = (none_fails (leaf_fails (Enum (pos 5))) refl, inr (omega arith, omega arith, refl, are_octets (0x05 ∷ []) refl, refl, tt));
     canonically = λ d w i f. small_in_long_form d w f;
   };
   enumerated_with_a_superfluous_octet = record {
     is_tree = refl;
-    leniently = (none_fails (leaf_fails (Enum (pos 1000))) refl, inr (omega arith, omega arith, refl, octets (0x00 ∷ 0x03 ∷ 0xE8 ∷ []) refl, refl, tt));
+    leniently = (none_fails (leaf_fails (Enum (pos 1000))) refl, inr (omega arith, omega arith, refl, are_octets (0x00 ∷ 0x03 ∷ 0xE8 ∷ []) refl, refl, tt));
     canonically = λ d w i f. superfluous_octet d w f;
   };
   enumerated_without_octets = no_count;
   number = spelled (integer (negsuc 254)) tt refl refl;
   number_with_a_superfluous_octet = record {
     is_tree = tt;
-    leniently = (none_fails (leaf_fails (Int None (pos 0))) refl, (0x00 ∷ 0x00 ∷ [], behind Lenient (0x00 ∷ 0x00 ∷ []) (omega arith) (octets (0x00 ∷ 0x00 ∷ []) refl), omega arith, refl, tt));
-    canonically = λ d w i f. padded_integer true (0x00 ∷ 0x00 ∷ []) (omega arith) (octets (0x00 ∷ 0x00 ∷ []) refl) (λ short. short refl) w f.1;
+    leniently = (none_fails (leaf_fails (Int None (pos 0))) refl, (0x00 ∷ 0x00 ∷ [], behind Lenient (0x00 ∷ 0x00 ∷ []) (omega arith) (are_octets (0x00 ∷ 0x00 ∷ []) refl), omega arith, refl, tt));
+    canonically = λ d w i f. padded_integer true (0x00 ∷ 0x00 ∷ []) (omega arith) (are_octets (0x00 ∷ 0x00 ∷ []) refl) (λ short. short refl) w f.1;
   };
   number_with_a_superfluous_sign = record {
     is_tree = tt;
-    leniently = (none_fails (leaf_fails (Int None (negsuc 0))) refl, (0xFF ∷ 0xFF ∷ [], behind Lenient (0xFF ∷ 0xFF ∷ []) (omega arith) (octets (0xFF ∷ 0xFF ∷ []) refl), omega arith, refl, tt));
-    canonically = λ d w i f. padded_integer true (0xFF ∷ 0xFF ∷ []) (omega arith) (octets (0xFF ∷ 0xFF ∷ []) refl) (λ short. short refl) w f.1;
+    leniently = (none_fails (leaf_fails (Int None (negsuc 0))) refl, (0xFF ∷ 0xFF ∷ [], behind Lenient (0xFF ∷ 0xFF ∷ []) (omega arith) (are_octets (0xFF ∷ 0xFF ∷ []) refl), omega arith, refl, tt));
+    canonically = λ d w i f. padded_integer true (0xFF ∷ 0xFF ∷ []) (omega arith) (are_octets (0xFF ∷ 0xFF ∷ []) refl) (λ short. short refl) w f.1;
   };
   number_without_octets = no_integer;
   unsigned = spelled (integer_from (pos 0) (pos 255)) tt refl refl;
   unsigned_with_a_superfluous_octet = record {
     is_tree = tt;
-    leniently = (none_fails (leaf_fails (Int (Some (Some (pos 0), None)) (pos 255))) refl, (0x00 ∷ 0xFF ∷ [], behind Lenient (0x00 ∷ 0xFF ∷ []) (omega arith) (octets (0x00 ∷ 0xFF ∷ []) refl), omega arith, refl, tt));
-    canonically = λ d w i f. padded_integer false (0x00 ∷ 0xFF ∷ []) (omega arith) (octets (0x00 ∷ 0xFF ∷ []) refl) (λ short. short refl) w f.1;
+    leniently = (none_fails (leaf_fails (Int (Some (Some (pos 0), None)) (pos 255))) refl, (0x00 ∷ 0xFF ∷ [], behind Lenient (0x00 ∷ 0xFF ∷ []) (omega arith) (are_octets (0x00 ∷ 0xFF ∷ []) refl), omega arith, refl, tt));
+    canonically = λ d w i f. padded_integer false (0x00 ∷ 0xFF ∷ []) (omega arith) (are_octets (0x00 ∷ 0xFF ∷ []) refl) (λ short. short refl) w f.1;
   };
   in_two_octets = spelled (integer_in (pos 0) (pos 65535) (pos 255)) tt refl refl;
   one_octet_in_place_of_two = one_octet;
@@ -110,7 +110,7 @@ plain_misses = record {
 fill_bits : (d : ℕ) (w : List Bool) → IsEncoding Canonical d (0x02 ∷ 0x04 ∷ 0x1F ∷ []) (bit_string w) → ⊥
 unfolding IsEncoding
 fill_bits d w (_, inl (u, f, s)) =
-    let p = counted_parts Canonical (0x1F ∷ []) (false ∷ false ∷ false ∷ true ∷ []) (true ∷ true ∷ true ∷ true ∷ []) (omega arith) (octets (0x04 ∷ 0x1F ∷ []) refl) refl (0x02 ∷ 0x04 ∷ 0x1F ∷ []) [] [] w u f refl in
+    let p = counted_parts Canonical (0x1F ∷ []) (false ∷ false ∷ false ∷ true ∷ []) (true ∷ true ∷ true ∷ true ∷ []) (omega arith) (are_octets (0x04 ∷ 0x1F ∷ []) refl) refl (0x02 ∷ 0x04 ∷ 0x1F ∷ []) [] [] w u f refl in
     absurd (cc (subst AllFalse p.1 s).0)
 fill_bits d w (_, inr (never, _, _)) = absurd never
 
@@ -122,10 +122,10 @@ length_of_zero d w (_, inr (never, _, _)) = absurd never
 eight_unused : SpellNone bit_string (0x02 ∷ 0x08 ∷ 0x00 ∷ [])
 unfolding IsEncoding
 eight_unused m d w i (_, inl (u, (k, b, l, _), _)) =
-    let e : length u ≡ 8 = head_same (length u) 8 k (0x00 ∷ []) (content m (0x08 ∷ 0x00 ∷ []) (omega arith) (octets (0x08 ∷ 0x00 ∷ []) refl) (0x02 ∷ 0x08 ∷ 0x00 ∷ []) (length u ∷ k) [] [] b refl).0 in
+    let e : length u ≡ 8 = head_same (length u) 8 k (0x00 ∷ []) (content m (0x08 ∷ 0x00 ∷ []) (omega arith) (are_octets (0x08 ∷ 0x00 ∷ []) refl) (0x02 ∷ 0x08 ∷ 0x00 ∷ []) (length u ∷ k) [] [] b refl).0 in
     absurd (omega (arith, l, e))
 eight_unused m d w i (_, inr (_, b, _)) =
-    not_nil 0x08 (0x00 ∷ []) (sym (content m (0x08 ∷ 0x00 ∷ []) (omega arith) (octets (0x08 ∷ 0x00 ∷ []) refl) (0x02 ∷ 0x08 ∷ 0x00 ∷ []) [] [] [] b refl).0)
+    not_nil 0x08 (0x00 ∷ []) (sym (content m (0x08 ∷ 0x00 ∷ []) (omega arith) (are_octets (0x08 ∷ 0x00 ∷ []) refl) (0x02 ∷ 0x08 ∷ 0x00 ∷ []) [] [] [] b refl).0)
 
 fixed_fill_bits : (d : ℕ) (w : List Bool) → IsEncoding Canonical d (0x13 ∷ []) (bit_string_of 4 w) → ⊥
 unfolding IsEncoding
@@ -174,7 +174,7 @@ string_misses = record {
     is_tree = tt;
     leniently = (
       none_fails (leaf_fails (Bits None (false ∷ false ∷ false ∷ true ∷ []))) refl,
-      inl (true ∷ true ∷ true ∷ true ∷ [], (0x1F ∷ [], behind Lenient (0x04 ∷ 0x1F ∷ []) (omega arith) (octets (0x04 ∷ 0x1F ∷ []) refl), omega arith, refl), tt),
+      inl (true ∷ true ∷ true ∷ true ∷ [], (0x1F ∷ [], behind Lenient (0x04 ∷ 0x1F ∷ []) (omega arith) (are_octets (0x04 ∷ 0x1F ∷ []) refl), omega arith, refl), tt),
     );
     canonically = λ d w i f. fill_bits d w f;
   };
@@ -187,57 +187,57 @@ string_misses = record {
   four_bits = spelled (bit_string_of 4 (false ∷ false ∷ false ∷ true ∷ [])) tt refl refl;
   four_bits_with_fill_bits_set = record {
     is_tree = tt;
-    leniently = (none_fails (leaf_fails (Bits (Some (4, 4)) (false ∷ false ∷ false ∷ true ∷ []))) refl, (octets (0x13 ∷ []) refl, false ∷ false ∷ true ∷ true ∷ [], omega arith, refl, tt));
+    leniently = (none_fails (leaf_fails (Bits (Some (4, 4)) (false ∷ false ∷ false ∷ true ∷ []))) refl, (are_octets (0x13 ∷ []) refl, false ∷ false ∷ true ∷ true ∷ [], omega arith, refl, tt));
     canonically = λ d w i f. fixed_fill_bits d w f;
   };
-  octets = spelled (text AnyOctets (0xAA ∷ 0xBB ∷ [])) (octets (0xAA ∷ 0xBB ∷ []) refl, tt) refl refl;
+  octets = spelled (text AnyOctets (0xAA ∷ 0xBB ∷ [])) (are_octets (0xAA ∷ 0xBB ∷ []) refl, tt) refl refl;
   octets_with_a_length_in_long_form = record {
-    is_tree = (octets (0xAA ∷ 0xBB ∷ []) refl, tt);
-    leniently = (none_fails (leaf_fails (Text AnyOctets None (Written (0xAA ∷ 0xBB ∷ [])))) refl, (0x81 ∷ 0x02 ∷ [], refl, long_two, octets (0xAA ∷ 0xBB ∷ []) refl));
+    is_tree = (are_octets (0xAA ∷ 0xBB ∷ []) refl, tt);
+    leniently = (none_fails (leaf_fails (Text AnyOctets None (Written (0xAA ∷ 0xBB ∷ [])))) refl, (0x81 ∷ 0x02 ∷ [], refl, long_two, are_octets (0xAA ∷ 0xBB ∷ []) refl));
     canonically = λ d w i f. long_length (0x81 ∷ 0x02 ∷ []) long_two not_long_two d w f;
   };
   octets_with_a_superfluous_octet_in_the_length = record {
-    is_tree = (octets (0xAA ∷ 0xBB ∷ []) refl, tt);
-    leniently = (none_fails (leaf_fails (Text AnyOctets None (Written (0xAA ∷ 0xBB ∷ [])))) refl, (0x82 ∷ 0x00 ∷ 0x02 ∷ [], refl, longer_two, octets (0xAA ∷ 0xBB ∷ []) refl));
+    is_tree = (are_octets (0xAA ∷ 0xBB ∷ []) refl, tt);
+    leniently = (none_fails (leaf_fails (Text AnyOctets None (Written (0xAA ∷ 0xBB ∷ [])))) refl, (0x82 ∷ 0x00 ∷ 0x02 ∷ [], refl, longer_two, are_octets (0xAA ∷ 0xBB ∷ []) refl));
     canonically = λ d w i f. long_length (0x82 ∷ 0x00 ∷ 0x02 ∷ []) longer_two not_longer_two d w f;
   };
   octets_without_a_length = no_length;
-  two_octets = spelled (text_of AnyOctets 2 (0xAA ∷ 0xBB ∷ [])) (octets (0xAA ∷ 0xBB ∷ []) refl, tt) refl refl;
+  two_octets = spelled (text_of AnyOctets 2 (0xAA ∷ 0xBB ∷ [])) (are_octets (0xAA ∷ 0xBB ∷ []) refl, tt) refl refl;
   one_octet_in_place_of_two = one_octet_of_two;
-  utf8 = spelled (text Utf8 (0xC3 ∷ 0x84 ∷ [])) (octets (0xC3 ∷ 0x84 ∷ []) refl, a_umlaut) refl refl;
-  no_utf8 = disobeyed Utf8 (0xFF ∷ []) (omega arith) (octets (0xFF ∷ []) refl) no_utf8;
-  bmp = spelled (text Bmp (0x00 ∷ 0x41 ∷ [])) (octets (0x00 ∷ 0x41 ∷ []) refl, (1, refl)) refl refl;
-  half_a_bmp_character = disobeyed Bmp (0x00 ∷ 0x41 ∷ 0x00 ∷ []) (omega arith) (octets (0x00 ∷ 0x41 ∷ 0x00 ∷ []) refl) no_bmp;
-  numeric = spelled (text Numeric (codes "31")) (octets (codes "31") refl, refl) refl refl;
-  a_letter_in_a_numeric_string = disobeyed Numeric (codes "3A") (omega arith) (octets (codes "3A") refl) (λ e. absurd (cc e));
-  printable = spelled (text Printable (codes "A?")) (octets (codes "A?") refl, refl) refl refl;
-  an_asterisk_in_a_printable_string = disobeyed Printable (codes "A*") (omega arith) (octets (codes "A*") refl) (λ e. absurd (cc e));
-  visible = spelled (text Visible (codes "A*")) (octets (codes "A*") refl, refl) refl refl;
-  a_delete_in_a_visible_string = disobeyed Visible (0x41 ∷ 0x7F ∷ []) (omega arith) (octets (0x41 ∷ 0x7F ∷ []) refl) (λ e. absurd (cc e));
-  ia5 = spelled (text Ia5 (0x41 ∷ 0x7F ∷ [])) (octets (0x41 ∷ 0x7F ∷ []) refl, refl) refl refl;
-  a_high_octet_in_an_ia5_string = disobeyed Ia5 (0x41 ∷ 0x80 ∷ []) (omega arith) (octets (0x41 ∷ 0x80 ∷ []) refl) (λ e. absurd (cc e));
-  identifier = spelled (text Identifier (0x2A ∷ 0x99 ∷ 0x79 ∷ [])) (octets (0x2A ∷ 0x99 ∷ 0x79 ∷ []) refl, refl) refl refl;
-  identifier_with_a_superfluous_group = disobeyed Identifier (0x80 ∷ 0x01 ∷ []) (omega arith) (octets (0x80 ∷ 0x01 ∷ []) refl) (λ e. absurd (cc e));
-  identifier_with_an_unfinished_arc = disobeyed Identifier (0x2A ∷ 0x99 ∷ []) (omega arith) (octets (0x2A ∷ 0x99 ∷ []) refl) (λ e. absurd (cc e));
-  greatest_arc = spelled (text Identifier (0x90 ∷ 0x80 ∷ 0x80 ∷ 0x80 ∷ 0x4F ∷ [])) (octets (0x90 ∷ 0x80 ∷ 0x80 ∷ 0x80 ∷ 0x4F ∷ []) refl, refl) refl refl;
-  arc_past_the_greatest = disobeyed Identifier (0x90 ∷ 0x80 ∷ 0x80 ∷ 0x80 ∷ 0x50 ∷ []) (omega arith) (octets (0x90 ∷ 0x80 ∷ 0x80 ∷ 0x80 ∷ 0x50 ∷ []) refl) (λ e. absurd (cc e));
-  utc_time = spelled (text Utc (codes "191009130005Z")) (octets (codes "191009130005Z") refl, refl) refl refl;
-  utc_time_of_a_25th_hour = disobeyed Utc (codes "191009240005Z") (omega arith) (octets (codes "191009240005Z") refl) (λ e. absurd (cc e));
-  generalized_time = spelled (text Generalized (codes "20240229120000.05Z")) (octets (codes "20240229120000.05Z") refl, refl) refl refl;
-  generalized_time_with_a_superfluous_digit = disobeyed Generalized (codes "20240229120000.50Z") (omega arith) (octets (codes "20240229120000.50Z") refl) (λ e. absurd (cc e));
-  date = spelled (text Date (codes "20240229")) (octets (codes "20240229") refl, refl) refl refl;
-  date_of_no_leap_year = disobeyed Date (codes "20230229") (omega arith) (octets (codes "20230229") refl) (λ e. absurd (cc e));
+  utf8 = spelled (text Utf8 (0xC3 ∷ 0x84 ∷ [])) (are_octets (0xC3 ∷ 0x84 ∷ []) refl, a_umlaut) refl refl;
+  no_utf8 = disobeyed Utf8 (0xFF ∷ []) (omega arith) (are_octets (0xFF ∷ []) refl) no_utf8;
+  bmp = spelled (text Bmp (0x00 ∷ 0x41 ∷ [])) (are_octets (0x00 ∷ 0x41 ∷ []) refl, (1, refl)) refl refl;
+  half_a_bmp_character = disobeyed Bmp (0x00 ∷ 0x41 ∷ 0x00 ∷ []) (omega arith) (are_octets (0x00 ∷ 0x41 ∷ 0x00 ∷ []) refl) no_bmp;
+  numeric = spelled (text Numeric (codes "31")) (are_octets (codes "31") refl, refl) refl refl;
+  a_letter_in_a_numeric_string = disobeyed Numeric (codes "3A") (omega arith) (are_octets (codes "3A") refl) (λ e. absurd (cc e));
+  printable = spelled (text Printable (codes "A?")) (are_octets (codes "A?") refl, refl) refl refl;
+  an_asterisk_in_a_printable_string = disobeyed Printable (codes "A*") (omega arith) (are_octets (codes "A*") refl) (λ e. absurd (cc e));
+  visible = spelled (text Visible (codes "A*")) (are_octets (codes "A*") refl, refl) refl refl;
+  a_delete_in_a_visible_string = disobeyed Visible (0x41 ∷ 0x7F ∷ []) (omega arith) (are_octets (0x41 ∷ 0x7F ∷ []) refl) (λ e. absurd (cc e));
+  ia5 = spelled (text Ia5 (0x41 ∷ 0x7F ∷ [])) (are_octets (0x41 ∷ 0x7F ∷ []) refl, refl) refl refl;
+  a_high_octet_in_an_ia5_string = disobeyed Ia5 (0x41 ∷ 0x80 ∷ []) (omega arith) (are_octets (0x41 ∷ 0x80 ∷ []) refl) (λ e. absurd (cc e));
+  identifier = spelled (text Identifier (0x2A ∷ 0x99 ∷ 0x79 ∷ [])) (are_octets (0x2A ∷ 0x99 ∷ 0x79 ∷ []) refl, refl) refl refl;
+  identifier_with_a_superfluous_group = disobeyed Identifier (0x80 ∷ 0x01 ∷ []) (omega arith) (are_octets (0x80 ∷ 0x01 ∷ []) refl) (λ e. absurd (cc e));
+  identifier_with_an_unfinished_arc = disobeyed Identifier (0x2A ∷ 0x99 ∷ []) (omega arith) (are_octets (0x2A ∷ 0x99 ∷ []) refl) (λ e. absurd (cc e));
+  greatest_arc = spelled (text Identifier (0x90 ∷ 0x80 ∷ 0x80 ∷ 0x80 ∷ 0x4F ∷ [])) (are_octets (0x90 ∷ 0x80 ∷ 0x80 ∷ 0x80 ∷ 0x4F ∷ []) refl, refl) refl refl;
+  arc_past_the_greatest = disobeyed Identifier (0x90 ∷ 0x80 ∷ 0x80 ∷ 0x80 ∷ 0x50 ∷ []) (omega arith) (are_octets (0x90 ∷ 0x80 ∷ 0x80 ∷ 0x80 ∷ 0x50 ∷ []) refl) (λ e. absurd (cc e));
+  utc_time = spelled (text Utc (codes "191009130005Z")) (are_octets (codes "191009130005Z") refl, refl) refl refl;
+  utc_time_of_a_25th_hour = disobeyed Utc (codes "191009240005Z") (omega arith) (are_octets (codes "191009240005Z") refl) (λ e. absurd (cc e));
+  generalized_time = spelled (text Generalized (codes "20240229120000.05Z")) (are_octets (codes "20240229120000.05Z") refl, refl) refl refl;
+  generalized_time_with_a_superfluous_digit = disobeyed Generalized (codes "20240229120000.50Z") (omega arith) (are_octets (codes "20240229120000.50Z") refl) (λ e. absurd (cc e));
+  date = spelled (text Date (codes "20240229")) (are_octets (codes "20240229") refl, refl) refl refl;
+  date_of_no_leap_year = disobeyed Date (codes "20230229") (omega arith) (are_octets (codes "20230229") refl) (λ e. absurd (cc e));
 }
   where
     long_two : IsLength Lenient (0x81 ∷ 0x02 ∷ []) 2
-    long_two = inr (omega arith, omega arith, refl, octets (0x02 ∷ []) refl, refl, omega arith, tt)
+    long_two = inr (omega arith, omega arith, refl, are_octets (0x02 ∷ []) refl, refl, omega arith, tt)
 
     not_long_two : IsLength Canonical (0x81 ∷ 0x02 ∷ []) 2 → ⊥
     not_long_two (inl (l, _, _)) = absurd (omega (arith, l))
     not_long_two (inr (_, _, _, _, _, _, (l, _))) = absurd (omega (arith, l))
 
     longer_two : IsLength Lenient (0x82 ∷ 0x00 ∷ 0x02 ∷ []) 2
-    longer_two = inr (omega arith, omega arith, refl, octets (0x00 ∷ 0x02 ∷ []) refl, refl, omega arith, tt)
+    longer_two = inr (omega arith, omega arith, refl, are_octets (0x00 ∷ 0x02 ∷ []) refl, refl, omega arith, tt)
 
     not_longer_two : IsLength Canonical (0x82 ∷ 0x00 ∷ 0x02 ∷ []) 2 → ⊥
     not_longer_two (inl (l, _, _)) = absurd (omega (arith, l))

@@ -13,7 +13,7 @@ use Rattle.oer_forms.specs.NearMisses.{ListAndChoiceMisses}
 use Rattle.oer_forms.specs.Orders.{octets_le, Ascends}
 use Rattle.oer_forms.specs.Places.{IsAlternative}
 use Rattle.oer_forms.specs.Tree.{Int}
-use Rattle.oer_forms.proofs.ExampleParts.{octets, in_strict, behind, content, any_failure, none_fails, spelled}
+use Rattle.oer_forms.proofs.ExampleParts.{are_octets, in_strict, behind, content, any_failure, none_fails, spelled}
 use Rattle.oer_forms.proofs.Lists.{head_same, tail_same, not_nil, Reorders-refl, Reorders-length, Reorders-all}
 use Rattle.oer_forms.proofs.Unique.{cancel, tag_unique, quantity_unique}
 use Rattle.oer_forms.proofs.UniqueLeaves.{leaf_unique}
@@ -26,7 +26,7 @@ use Rattle.oer_forms.proofs.WrittenTrees.{spelt}
 padded_quantity : (d : ℕ) (v : List ℤ) → IsEncoding Canonical d (0x02 ∷ 0x00 ∷ 0x01 ∷ 0x01 ∷ 0x05 ∷ []) (list_of integer v) → ⊥
 unfolding IsEncoding
 padded_quantity d v (_, _, _, _, (q, read, e, (c, b, _, _, _, s), _)) =
-    subst NoLeadingZero (content Canonical (0x00 ∷ 0x01 ∷ []) (omega arith) (octets (0x00 ∷ 0x01 ∷ []) refl) q c (0x01 ∷ 0x05 ∷ []) (joined read) b (sym e)).0 s refl
+    subst NoLeadingZero (content Canonical (0x00 ∷ 0x01 ∷ []) (omega arith) (are_octets (0x00 ∷ 0x01 ∷ []) refl) q c (0x01 ∷ 0x05 ∷ []) (joined read) b (sym e)).0 s refl
 
 no_quantity : SpellNone (list_of integer) (0x00 ∷ [])
 unfolding IsEncoding
@@ -45,12 +45,12 @@ each_integer d (o ∷ os) (n ∷ v) (e, es) = ((n, e), each_integer d os v es)
 
 two_is : (d : ℕ) → IsEncoding Canonical d (0x01 ∷ 0x02 ∷ []) (integer (pos 2))
 unfolding IsEncoding
-two_is d = (none_fails (leaf_fails (Int None (pos 2))) refl, (0x02 ∷ [], behind Canonical (0x02 ∷ []) (omega arith) (octets (0x02 ∷ []) refl), omega arith, refl, tt))
+two_is d = (none_fails (leaf_fails (Int None (pos 2))) refl, (0x02 ∷ [], behind Canonical (0x02 ∷ []) (omega arith) (are_octets (0x02 ∷ []) refl), omega arith, refl, tt))
 
 descending : (d : ℕ) (v : List ℤ) → IsEncoding Canonical d (0x01 ∷ 0x02 ∷ 0x01 ∷ 0x02 ∷ 0x01 ∷ 0x01 ∷ []) (set_of integer v) → ⊥
 unfolding IsEncoding
 descending d v (_, _, own, f, (q, read, e, n, (o, s))) =
-    let two : IsQuantity Canonical (0x01 ∷ 0x02 ∷ []) 2 = (0x02 ∷ [], behind Canonical (0x02 ∷ []) (omega arith) (octets (0x02 ∷ []) refl), omega arith, refl, omega arith, tt) in
+    let two : IsQuantity Canonical (0x01 ∷ 0x02 ∷ []) 2 = (0x02 ∷ [], behind Canonical (0x02 ∷ []) (omega arith) (are_octets (0x02 ∷ []) refl), omega arith, refl, omega arith, tt) in
     let u : (0x01 ∷ 0x02 ∷ [] ≡ q) × (2 ≡ length own) = quantity_unique Canonical (0x01 ∷ 0x02 ∷ []) q (0x01 ∷ 0x02 ∷ 0x01 ∷ 0x01 ∷ []) (joined read) 2 (length own) two n e in
     at read (u.1 ∙ sym (Reorders-length read own o)) (Reorders-all (IsOne (d - 1)) read own o (each_integer (d - 1) own v f))
     (cancel (0x01 ∷ 0x02 ∷ []) q (0x01 ∷ 0x02 ∷ 0x01 ∷ 0x01 ∷ []) (joined read) u.0 e) s
@@ -82,8 +82,8 @@ left_over d (g, n) (_, f, (_, (c, b, _, _, _)), (q, r, e, t, a)) =
     let (k, rest, b', p, none) = subst (λ z. IsAlternative Canonical (holds (context 0 ∷ context 1 ∷ []) z) r f) (sym u.1) a in
     let after : 0x04 ∷ 0x02 ∷ 0x01 ∷ 0x4D ∷ 0x00 ∷ [] ≡ r = cancel (0x82 ∷ []) q (0x04 ∷ 0x02 ∷ 0x01 ∷ 0x4D ∷ 0x00 ∷ []) r u.0 e in
     let known : k ≡ 0x02 ∷ 0x01 ∷ 0x4D ∷ 0x00 ∷ [] =
-    (content Canonical (0x02 ∷ 0x01 ∷ 0x4D ∷ 0x00 ∷ []) (omega arith) (octets (0x02 ∷ 0x01 ∷ 0x4D ∷ 0x00 ∷ []) refl) r k [] [] b' (append-nil r ∙ sym after)).0 in
-    let more : rest ≡ 0x00 ∷ [] = (content Canonical (0x01 ∷ 0x4D ∷ []) (omega arith) (octets (0x01 ∷ 0x4D ∷ []) refl) f c (0x00 ∷ []) rest b (sym p ∙ known)).1 in
+    (content Canonical (0x02 ∷ 0x01 ∷ 0x4D ∷ 0x00 ∷ []) (omega arith) (are_octets (0x02 ∷ 0x01 ∷ 0x4D ∷ 0x00 ∷ []) refl) r k [] [] b' (append-nil r ∙ sym after)).0 in
+    let more : rest ≡ 0x00 ∷ [] = (content Canonical (0x01 ∷ 0x4D ∷ []) (omega arith) (are_octets (0x01 ∷ 0x4D ∷ []) refl) f c (0x00 ∷ []) rest b (sym p ∙ known)).1 in
     not_nil 0x00 [] (sym more ∙ none)
 
 small_in_groups : (d : ℕ) (v : Tag × ℤ) → IsEncoding Canonical d (0xBF ∷ 0x01 ∷ 0x02 ∷ 0x01 ∷ 0x4D ∷ []) (choice v) → ⊥
@@ -137,7 +137,7 @@ list_and_choice_misses = record {
       none_fails (list_fails ((0x01 ∷ 0x05 ∷ []) ∷ [])) refl,
       (0x01 ∷ 0x05 ∷ []) ∷ [],
       (number 5 (pos 5) (omega arith) refl refl, refl),
-      (0x02 ∷ 0x00 ∷ 0x01 ∷ [], (0x01 ∷ 0x05 ∷ []) ∷ [], refl, (0x00 ∷ 0x01 ∷ [], behind Lenient (0x00 ∷ 0x01 ∷ []) (omega arith) (octets (0x00 ∷ 0x01 ∷ []) refl), omega arith, refl, omega arith, tt), refl),
+      (0x02 ∷ 0x00 ∷ 0x01 ∷ [], (0x01 ∷ 0x05 ∷ []) ∷ [], refl, (0x00 ∷ 0x01 ∷ [], behind Lenient (0x00 ∷ 0x01 ∷ []) (omega arith) (are_octets (0x00 ∷ 0x01 ∷ []) refl), omega arith, refl, omega arith, tt), refl),
     );
     canonically = λ d v i f. padded_quantity d v f;
   };
@@ -154,7 +154,7 @@ list_and_choice_misses = record {
         0x01 ∷ 0x02 ∷ [],
         (0x01 ∷ 0x02 ∷ []) ∷ (0x01 ∷ 0x01 ∷ []) ∷ [],
         refl,
-        (0x02 ∷ [], behind Lenient (0x02 ∷ []) (omega arith) (octets (0x02 ∷ []) refl), omega arith, refl, omega arith, tt),
+        (0x02 ∷ [], behind Lenient (0x02 ∷ []) (omega arith) (are_octets (0x02 ∷ []) refl), omega arith, refl, omega arith, tt),
         (Reorders-refl ((0x01 ∷ 0x02 ∷ []) ∷ (0x01 ∷ 0x01 ∷ []) ∷ []), tt),
       ),
     );
@@ -181,7 +181,7 @@ list_and_choice_misses = record {
         0x04 ∷ 0x02 ∷ 0x01 ∷ 0x4D ∷ 0x00 ∷ [],
         refl,
         short_tag Lenient 2 (omega arith),
-        (0x02 ∷ 0x01 ∷ 0x4D ∷ 0x00 ∷ [], 0x00 ∷ [], behind Lenient (0x02 ∷ 0x01 ∷ 0x4D ∷ 0x00 ∷ []) (omega arith) (octets (0x02 ∷ 0x01 ∷ 0x4D ∷ 0x00 ∷ []) refl), refl, tt),
+        (0x02 ∷ 0x01 ∷ 0x4D ∷ 0x00 ∷ [], 0x00 ∷ [], behind Lenient (0x02 ∷ 0x01 ∷ 0x4D ∷ 0x00 ∷ []) (omega arith) (are_octets (0x02 ∷ 0x01 ∷ 0x4D ∷ 0x00 ∷ []) refl), refl, tt),
       ),
     );
     canonically = λ d v i f. left_over d v f;
@@ -196,4 +196,4 @@ list_and_choice_misses = record {
     number x n l f e = (none_fails (leaf_fails (Int None n)) f, (x ∷ [], behind Lenient (x ∷ []) (omega arith) (l, tt), omega arith, e, tt))
 
     large : IsEncoding Lenient 127 (0x02 ∷ 0x01 ∷ 0x4D ∷ []) (integer (pos 333))
-    large = (none_fails (leaf_fails (Int None (pos 333))) refl, (0x01 ∷ 0x4D ∷ [], behind Lenient (0x01 ∷ 0x4D ∷ []) (omega arith) (octets (0x01 ∷ 0x4D ∷ []) refl), omega arith, refl, tt))
+    large = (none_fails (leaf_fails (Int None (pos 333))) refl, (0x01 ∷ 0x4D ∷ [], behind Lenient (0x01 ∷ 0x4D ∷ []) (omega arith) (are_octets (0x01 ∷ 0x4D ∷ []) refl), omega arith, refl, tt))

@@ -14,9 +14,9 @@ use Rattle.oer_forms.proofs.Unique.{cancel, length_unique, behind_unique}
 use Rattle.oer_forms.proofs.Within.{length_within, own_sized_within_canonical, canonical_within_lenient}
 use Rattle.oer_forms.proofs.WrittenTrees.{spelt}
 
-pub octets : (c : Octets) → list_all (λ x. nat_lt x 256) c ≡ true → AreOctets c
-octets [] e = tt
-octets (x ∷ c) e = let b = and_parts (nat_lt x 256) (list_all (λ y. nat_lt y 256) c) e in (ltb-true x 256 b.0, octets c b.1)
+pub are_octets : (c : Octets) → list_all (λ x. nat_lt x 256) c ≡ true → AreOctets c
+are_octets [] e = tt
+are_octets (x ∷ c) e = let b = and_parts (nat_lt x 256) (list_all (λ y. nat_lt y 256) c) e in (ltb-true x 256 b.0, are_octets c b.1)
 
 pub in_strict : (m : Mode) (P : Type 0) → P → InStrict m P
 in_strict Lenient P p = tt

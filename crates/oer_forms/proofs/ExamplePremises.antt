@@ -13,7 +13,7 @@ use Rattle.oer_forms.specs.Same.{Same, Alike}
 use Rattle.oer_forms.specs.Tree.{Int, NoTrees, More}
 use Rattle.oer_forms.specs.Versions.{Drops, Lacks}
 use Rattle.oer_forms.proofs.Canonical.{own_is_canonical}
-use Rattle.oer_forms.proofs.ExampleParts.{octets, behind, any_failure, none_fails, spelled}
+use Rattle.oer_forms.proofs.ExampleParts.{are_octets, behind, any_failure, none_fails, spelled}
 use Rattle.oer_forms.proofs.ExampleStructs.{truth, six_unset, opened, plain_bitmap, skipping, first_is, second_is, no_default_spelled_out}
 use Rattle.oer_forms.proofs.Lists.{Reorders-refl}
 use Rattle.oer_forms.proofs.Skips.{skips_lenient}
@@ -54,24 +54,24 @@ descending v own fine each n order = (
     preamble = 0xC0 ∷ [];
     extension = 0x02 ∷ 0x07 ∷ 0x80 ∷ 0x01 ∷ 0xFF ∷ [];
     whole = refl;
-    bits = (octets (0xC0 ∷ []) refl, six_unset, omega arith, refl, (refl, (refl, (refl, (refl, (refl, (refl, tt)))))));
+    bits = (are_octets (0xC0 ∷ []) refl, six_unset, omega arith, refl, (refl, (refl, (refl, (refl, (refl, (refl, tt)))))));
     rest = (0x02 ∷ 0x07 ∷ 0x80 ∷ [], 0x01 ∷ 0xFF ∷ [], true ∷ [], refl, unused, (refl, [], (0x01 ∷ 0xFF ∷ [], refl, opened Lenient), refl), tt);
     only = λ z. refl;
   },
 )
   where
     zero : IsEncoding Lenient 127 (0x01 ∷ 0x00 ∷ []) (integer (pos 0))
-    zero = (none_fails (leaf_fails (Int None (pos 0))) refl, (0x00 ∷ [], behind Lenient (0x00 ∷ []) (omega arith) (octets (0x00 ∷ []) refl), omega arith, refl, tt))
+    zero = (none_fails (leaf_fails (Int None (pos 0))) refl, (0x00 ∷ [], behind Lenient (0x00 ∷ []) (omega arith) (are_octets (0x00 ∷ []) refl), omega arith, refl, tt))
 
     unused : IsBitmap Lenient (0x02 ∷ 0x07 ∷ 0x80 ∷ []) (true ∷ [])
-    unused = plain_bitmap Lenient (0x80 ∷ []) (true ∷ []) (false ∷ six_unset) (omega arith) (octets (0x07 ∷ 0x80 ∷ []) refl) (omega arith) refl tt (refl, (refl, (refl, (refl, (refl, (refl, (refl, tt)))))))
+    unused = plain_bitmap Lenient (0x80 ∷ []) (true ∷ []) (false ∷ six_unset) (omega arith) (are_octets (0x07 ∷ 0x80 ∷ []) refl) (omega arith) refl tt (refl, (refl, (refl, (refl, (refl, (refl, (refl, tt)))))))
 
 element : (n : ℤ) (x : ℕ) → any_failure (leaf_fails (Int None n)) ≡ false → x < 256 → n ≡ signed (x ∷ []) → IsEncoding Lenient 126 (0x01 ∷ x ∷ []) (integer n)
 unfolding IsEncoding
 element n x f l e = (none_fails (leaf_fails (Int None n)) f, (x ∷ [], behind Lenient (x ∷ []) (omega arith) (l, tt), omega arith, e, tt))
 
 two : IsQuantity Lenient (0x01 ∷ 0x02 ∷ []) 2
-two = (0x02 ∷ [], behind Lenient (0x02 ∷ []) (omega arith) (octets (0x02 ∷ []) refl), omega arith, refl, omega arith, tt)
+two = (0x02 ∷ [], behind Lenient (0x02 ∷ []) (omega arith) (are_octets (0x02 ∷ []) refl), omega arith, refl, omega arith, tt)
 
 one_descending : IsEncoding Lenient 128 lenient_octets one_order
 unfolding IsEncoding canonical_octets

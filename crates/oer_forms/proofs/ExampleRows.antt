@@ -13,7 +13,7 @@ use Rattle.oer_forms.specs.Mode.{OwnSized}
 use Rattle.oer_forms.specs.Tree.{Int, Tree, Primitive, Choice}
 use Rattle.oer_forms.specs.WorkedRows.{PlainRows, StringRows, StructRows, ListAndChoiceRows}
 use Rattle.oer_forms.proofs.Canonical.{int_canonical, tag_canonical}
-use Rattle.oer_forms.proofs.ExampleParts.{octets}
+use Rattle.oer_forms.proofs.ExampleParts.{are_octets}
 
 integer_row : (r : Range) (n : ℤ) (o : Octets) → IsInteger OwnSized o (width_of r) n → canonical_octets (Primitive (Int r n)) ≡ o
 unfolding canonical_octets
@@ -44,7 +44,7 @@ plain_rows = record {
   in_four_octets = refl;
   in_eight_octets = refl;
   past_eight_octets = integer_row (Some (Some (pos 0), Some (pos (2 ^ 64)))) (pos (2 ^ 64)) (0x09 ∷ 0x01 ∷ replicate 8 0x00)
-      (0x01 ∷ replicate 8 0x00, (0x09 ∷ [], refl, inl (omega arith, refl, refl), octets (0x01 ∷ replicate 8 0x00) refl), omega arith, refl, λ e. absurd (cc e));
+      (0x01 ∷ replicate 8 0x00, (0x09 ∷ [], refl, inl (omega arith, refl, refl), are_octets (0x01 ∷ replicate 8 0x00) refl), omega arith, refl, λ e. absurd (cc e));
   in_one_signed = refl;
   in_two_signed = refl;
   in_four_signed = refl;

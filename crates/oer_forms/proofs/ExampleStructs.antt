@@ -3,7 +3,7 @@ use Rattle.std.proofs.Common.{◌≡◌, ℕ, ◌-◌, ◌<◌, Bool, true, fals
 use Rattle.asn1_base.specs.Octets.{Octets, AreOctets, AllFalse, bits_of, pack}
 use Rattle.asn1_base.specs.declared.tag.Tag.{Tag}
 use Rattle.oer_forms.specs.Encoding.{IsTree, IsEncoding, AreItems, IsItem, AreSlot, canonical_octets, levels, fails}
-use Rattle.oer_forms.specs.Examples.{SpellNone, boolean, integer, context, slot, with_default, first_version, second_version, required_addition, set_of_two}
+use Rattle.oer_forms.specs.Examples.{SpellNone, boolean, integer, context, slot, with_default, first_version, second_version, required_addition, group, with_group, set_of_two}
 use Rattle.oer_forms.specs.Leaves.{leaf_fails}
 use Rattle.oer_forms.specs.Lengths.{IsLength, IsOpenType, IsBitmap, AnyTrue}
 use Rattle.oer_forms.specs.Mode.{Mode, Lenient, Canonical, InLenient, InStrict, InOwnSized}
@@ -12,7 +12,7 @@ use Rattle.oer_forms.specs.Places.{Item, needed, present, absent, presence, bodi
 use Rattle.oer_forms.specs.Same.{Same, Alike}
 use Rattle.oer_forms.specs.Tree.{Boolean, Int, Rows, NoRows, Required, Optional, Default, Slot, Absent, Present, Tree, Struct}
 use Rattle.oer_forms.proofs.Canonical.{preamble_canonical}
-use Rattle.oer_forms.proofs.ExampleParts.{octets, in_strict, behind, content, padded, counted_parts, none_fails, spelled}
+use Rattle.oer_forms.proofs.ExampleParts.{are_octets, in_strict, behind, content, padded, counted_parts, none_fails, spelled}
 use Rattle.oer_forms.proofs.Lists.{head_same, tail_same, not_nil}
 use Rattle.oer_forms.proofs.Unambiguous.{unique}
 use Rattle.oer_forms.proofs.Within.{canonical_within_lenient}
@@ -86,7 +86,7 @@ extended m o additions js a e = (
     preamble = 0x80 ∷ [];
     extension = o;
     whole = refl;
-    bits = (octets (0x80 ∷ []) refl, seven_unset, omega arith, refl, are_unset);
+    bits = (are_octets (0x80 ∷ []) refl, seven_unset, omega arith, refl, are_unset);
     rest = e;
     only = λ z. refl;
   },
@@ -104,14 +104,14 @@ spelled_out = (
   omega arith,
   present (context 0) (0x01 ∷ 0x00 ∷ []) ∷ [],
   [],
-  (inr (tt, refl, refl, (none_fails (leaf_fails (Int None (pos 0))) refl, (0x00 ∷ [], behind Lenient (0x00 ∷ []) (omega arith) (octets (0x00 ∷ []) refl), omega arith, refl, tt))), refl),
+  (inr (tt, refl, refl, (none_fails (leaf_fails (Int None (pos 0))) refl, (0x00 ∷ [], behind Lenient (0x00 ∷ []) (omega arith) (are_octets (0x00 ∷ []) refl), omega arith, refl, tt))), refl),
   refl,
   record {
     extended = false;
     preamble = 0x80 ∷ [];
     extension = [];
     whole = refl;
-    bits = (octets (0x80 ∷ []) refl, seven_unset, omega arith, refl, are_unset);
+    bits = (are_octets (0x80 ∷ []) refl, seven_unset, omega arith, refl, are_unset);
     rest = (refl, tt);
     only = λ e. absurd (cc e);
   },
@@ -168,12 +168,12 @@ two_additions b c = Optional (context 1) (slot boolean b) (Optional (context 2) 
 no_bit_set : (d : ℕ) (v : Bool × Option Bool × Option Bool) → IsEncoding Canonical d (0x80 ∷ 0xFF ∷ 0x02 ∷ 0x06 ∷ 0x00 ∷ []) (second_version v) → ⊥
 no_bit_set d (a, b, c) f =
     let r = after_root Canonical d true (0x02 ∷ 0x06 ∷ 0x00 ∷ []) a (two_additions b c) f in
-    (bitmap_then Canonical (0x00 ∷ []) (false ∷ false ∷ []) six_unset (omega arith) (octets (0x06 ∷ 0x00 ∷ []) refl) refl [] r.items r.extension).1.0
+    (bitmap_then Canonical (0x00 ∷ []) (false ∷ false ∷ []) six_unset (omega arith) (are_octets (0x06 ∷ 0x00 ∷ []) refl) refl [] r.items r.extension).1.0
 
 unused_bit_set : (d : ℕ) (v : Bool × Option Bool × Option Bool) → IsEncoding Canonical d (0x80 ∷ 0xFF ∷ 0x02 ∷ 0x06 ∷ 0xA0 ∷ 0x01 ∷ 0xFF ∷ []) (second_version v) → ⊥
 unused_bit_set d (a, b, c) f =
     let r = after_root Canonical d true (0x02 ∷ 0x06 ∷ 0xA0 ∷ 0x01 ∷ 0xFF ∷ []) a (two_additions b c) f in
-    absurd (cc (bitmap_then Canonical (0xA0 ∷ []) (true ∷ false ∷ []) (true ∷ false ∷ false ∷ false ∷ false ∷ false ∷ []) (omega arith) (octets (0x06 ∷ 0xA0 ∷ []) refl) refl (0x01 ∷ 0xFF ∷ []) r.items r.extension).1.1.0)
+    absurd (cc (bitmap_then Canonical (0xA0 ∷ []) (true ∷ false ∷ []) (true ∷ false ∷ false ∷ false ∷ false ∷ false ∷ []) (omega arith) (are_octets (0x06 ∷ 0xA0 ∷ []) refl) refl (0x01 ∷ 0xFF ∷ []) r.items r.extension).1.1.0)
 
 no_bitmap : SpellNone second_version (0x80 ∷ 0xFF ∷ 0x00 ∷ [])
 no_bitmap m d (a, b, c) i f = at (after_root m d true (0x00 ∷ []) a (two_additions b c) f).items (after_root m d true (0x00 ∷ []) a (two_additions b c) f).extension
@@ -185,14 +185,14 @@ left_over : (d : ℕ) (v : Bool × Option Bool × Option Bool) → IsEncoding Ca
 unfolding IsEncoding
 left_over d (a, b, c) f =
     let r = after_root Canonical d true (0x02 ∷ 0x06 ∷ 0x80 ∷ 0x02 ∷ 0xFF ∷ 0x00 ∷ []) a (two_additions b c) f in
-    at b r.items r.spelled (bitmap_then Canonical (0x80 ∷ []) (true ∷ false ∷ []) six_unset (omega arith) (octets (0x06 ∷ 0x80 ∷ []) refl) refl (0x02 ∷ 0xFF ∷ 0x00 ∷ []) r.items r.extension).0
+    at b r.items r.spelled (bitmap_then Canonical (0x80 ∷ []) (true ∷ false ∷ []) six_unset (omega arith) (are_octets (0x06 ∷ 0x80 ∷ []) refl) refl (0x02 ∷ 0xFF ∷ 0x00 ∷ []) r.items r.extension).0
   where
     boolean_and_more : (x : ℕ) (k more : Octets) → k ≡ 0xFF ∷ 0x00 ∷ [] → k ≡ (x ∷ []) ++ more → more ≡ [] → ⊥
     boolean_and_more x k more e g n = not_nil 0x00 [] (tail_same 0xFF x (0x00 ∷ []) more (sym e ∙ g) ∙ n)
 
     left : (o rest : Octets) (x : ℕ) → o ≡ x ∷ [] → IsAddition Canonical true o (0x02 ∷ 0xFF ∷ 0x00 ∷ []) rest → ⊥
     left o rest x e (g, h, (k, more, l, p, n)) =
-        boolean_and_more x k more (content Canonical (0xFF ∷ 0x00 ∷ []) (omega arith) (octets (0xFF ∷ 0x00 ∷ []) refl) g k [] rest l (sym h)).0 (p ∙ ap (λ z. z ++ more) e) n
+        boolean_and_more x k more (content Canonical (0xFF ∷ 0x00 ∷ []) (omega arith) (are_octets (0xFF ∷ 0x00 ∷ []) refl) g k [] rest l (sym h)).0 (p ∙ ap (λ z. z ++ more) e) n
 
     at : (b : Option Bool) (js : List Item) → AreItems Canonical (d - 1) js (two_additions b c) → AreAdditions Canonical (true ∷ false ∷ []) (0x02 ∷ 0xFF ∷ 0x00 ∷ []) js → ⊥
     at b [] s g = absurd s
@@ -204,14 +204,42 @@ unfolding IsEncoding
 padded_skip d a f =
     let r = after_root Canonical d true (0x02 ∷ 0x07 ∷ 0x80 ∷ 0x81 ∷ 0x01 ∷ 0xFF ∷ []) a NoRows f in
     at (subst (λ z. AreAdditions Canonical (true ∷ []) (0x81 ∷ 0x01 ∷ 0xFF ∷ []) z) r.spelled
-    (bitmap_then Canonical (0x80 ∷ []) (true ∷ []) seven_unset (omega arith) (octets (0x07 ∷ 0x80 ∷ []) refl) refl (0x81 ∷ 0x01 ∷ 0xFF ∷ []) r.items r.extension).0)
+    (bitmap_then Canonical (0x80 ∷ []) (true ∷ []) seven_unset (omega arith) (are_octets (0x07 ∷ 0x80 ∷ []) refl) refl (0x81 ∷ 0x01 ∷ 0xFF ∷ []) r.items r.extension).0)
   where
     not_short : IsLength Canonical (0x81 ∷ 0x01 ∷ []) 1 → ⊥
     not_short (inl (l, _, _)) = absurd (omega (arith, l))
     not_short (inr (_, _, _, _, _, _, (l, _))) = absurd (omega (arith, l))
 
     at : AreSkipped Canonical (true ∷ []) (0x81 ∷ 0x01 ∷ 0xFF ∷ []) → ⊥
-    at (g, rest, c, e, b, _) = padded (0x81 ∷ 0x01 ∷ []) 1 (inr (omega arith, omega arith, refl, octets (0x01 ∷ []) refl, refl, omega arith, tt)) not_short g c rest (0xFF ∷ []) b (sym e)
+    at (g, rest, c, e, b, _) = padded (0x81 ∷ 0x01 ∷ []) 1 (inr (omega arith, omega arith, refl, are_octets (0x01 ∷ []) refl, refl, omega arith, tt)) not_short g c rest (0xFF ∷ []) b (sym e)
+
+-- octets of a sequence of one optional boolean
+group_begins : (m : Mode) (d : ℕ) (o : Octets) (b : Option Bool) → IsEncoding m d o (group b) → (x : Bool) × (rest : Octets) × (o ≡ cond x 0x80 0x00 ∷ rest)
+unfolding IsEncoding
+group_begins m d o b (_, [], js, s, _, w) = absurd s
+group_begins m d o None (_, (p ∷ ps), js, (e, n), _, w) = (false, w.extension, whole m o false false (p ∷ ps) js w ∙ ap (λ z. pack (presence z) ++ (bodies z ++ w.extension)) (ap₂ ◌∷◌ e n))
+group_begins m d o (Some b) (_, (p ∷ ps), js, ((e, _), n), _, w) =
+    (true, (p.octets ++ []) ++ w.extension, whole m o false false (p ∷ ps) js w ∙ ap (λ z. pack (presence z) ++ (bodies z ++ w.extension)) (ap₂ ◌∷◌ e n))
+
+group_fill_bit_set : SpellNone with_group (0x80 ∷ 0xFF ∷ 0x02 ∷ 0x07 ∷ 0x80 ∷ 0x01 ∷ 0x01 ∷ [])
+unfolding IsEncoding
+group_fill_bit_set m d (a, b) i f =
+    let r = after_root m d true (0x02 ∷ 0x07 ∷ 0x80 ∷ 0x01 ∷ 0x01 ∷ []) a (Optional (context 1) (slot group b) NoRows) f in
+    at b r.items r.spelled (bitmap_then m (0x80 ∷ []) (true ∷ []) seven_unset (omega arith) (are_octets (0x07 ∷ 0x80 ∷ []) refl) refl (0x01 ∷ 0x01 ∷ []) r.items r.extension).0
+  where
+    begins : (x : Bool) (rest more : Octets) → 0x01 ∷ [] ≡ (cond x 0x80 0x00 ∷ rest) ++ more → ⊥
+    begins true rest more e = absurd (omega (arith, head_same 0x01 0x80 [] (rest ++ more) e))
+    begins false rest more e = absurd (omega (arith, head_same 0x01 0x00 [] (rest ++ more) e))
+
+    opens : (o rest : Octets) (x : Bool) (r : Octets) → o ≡ cond x 0x80 0x00 ∷ r → IsAddition m true o (0x01 ∷ 0x01 ∷ []) rest → ⊥
+    opens o rest x r e (g, h, (k, more, l, p, _)) =
+        begins x r more (sym (content m (0x01 ∷ []) (omega arith) (are_octets (0x01 ∷ []) refl) g k [] rest l (sym h)).0 ∙ p ∙ ap (λ z. z ++ more) e)
+
+    at : (b : Option (Option Bool)) (js : List Item) → AreItems m (d - 1) js (Optional (context 1) (slot group b) NoRows) → AreAdditions m (true ∷ []) (0x01 ∷ 0x01 ∷ []) js → ⊥
+    at b [] s g = absurd s
+    at None (j ∷ js) (e, _) (h, _, _, _) = absurd (cc (h ∙ ap (λ z. z.bit) e))
+    at (Some v) (j ∷ js) ((e, f), _) (h, rest, g, _) =
+        let (x, r, k) = group_begins m (d - 1) j.octets v f in opens j.octets rest x r k (subst (λ z. IsAddition m z j.octets (0x01 ∷ 0x01 ∷ []) rest) (sym h) g)
 
 missing_addition : SpellNone required_addition (0x00 ∷ 0xFF ∷ [])
 unfolding IsEncoding
@@ -245,7 +273,7 @@ table_order m d (a, b) i (_, (p ∷ q ∷ is), js, (e, _, (f, (_, (c, (k, g, l, 
 
 -- an open type of one octet
 pub opened : (m : Mode) → IsOpenType m (0x01 ∷ 0xFF ∷ []) (0xFF ∷ [])
-opened m = (0xFF ∷ [], [], behind m (0xFF ∷ []) (omega arith) (octets (0xFF ∷ []) refl), refl, in_strict m ([] ≡ []) refl)
+opened m = (0xFF ∷ [], [], behind m (0xFF ∷ []) (omega arith) (are_octets (0xFF ∷ []) refl), refl, in_strict m ([] ≡ []) refl)
 
 -- a bitmap without unused bits set
 pub plain_bitmap : (m : Mode) (c : Octets) (b u : List Bool) → length (length u ∷ c) < 128 → AreOctets (length u ∷ c) → length u < 8 → bits_of c ≡ b ++ u → AnyTrue b → AllFalse u
@@ -255,13 +283,13 @@ plain_bitmap m c b u l a k w x y = (u, (c, behind m (length u ∷ c) l a, k, w),
 pub skipping : (m : Mode) → ((P : Type 0) → InOwnSized m P) → IsEncoding m 128 (0x80 ∷ 0xFF ∷ 0x02 ∷ 0x06 ∷ 0xC0 ∷ 0x01 ∷ 0xFF ∷ 0x01 ∷ 0xFF ∷ []) (first_version true)
 unfolding IsEncoding
 skipping m own =
-    let one = behind m (0xFF ∷ []) (omega arith) (octets (0xFF ∷ []) refl) in
+    let one = behind m (0xFF ∷ []) (omega arith) (are_octets (0xFF ∷ []) refl) in
     extended m (0x02 ∷ 0x06 ∷ 0xC0 ∷ 0x01 ∷ 0xFF ∷ 0x01 ∷ 0xFF ∷ []) NoRows [] refl (
       0x02 ∷ 0x06 ∷ 0xC0 ∷ [],
       0x01 ∷ 0xFF ∷ 0x01 ∷ 0xFF ∷ [],
       true ∷ true ∷ [],
       refl,
-      plain_bitmap m (0xC0 ∷ []) (true ∷ true ∷ []) six_unset (omega arith) (octets (0x06 ∷ 0xC0 ∷ []) refl) (omega arith) refl tt are_unset.1,
+      plain_bitmap m (0xC0 ∷ []) (true ∷ true ∷ []) six_unset (omega arith) (are_octets (0x06 ∷ 0xC0 ∷ []) refl) (omega arith) refl tt are_unset.1,
       (0x01 ∷ 0xFF ∷ [], 0x01 ∷ 0xFF ∷ [], 0xFF ∷ [], refl, one, (0x01 ∷ 0xFF ∷ [], [], 0xFF ∷ [], refl, one, refl)),
       own (2 ≡ 0),
     )
@@ -274,7 +302,7 @@ lacking m own =
       0x01 ∷ 0xFF ∷ [],
       true ∷ [],
       refl,
-      plain_bitmap m (0x80 ∷ []) (true ∷ []) seven_unset (omega arith) (octets (0x07 ∷ 0x80 ∷ []) refl) (omega arith) refl tt are_unset,
+      plain_bitmap m (0x80 ∷ []) (true ∷ []) seven_unset (omega arith) (are_octets (0x07 ∷ 0x80 ∷ []) refl) (omega arith) refl tt are_unset,
       (refl, [], (0x01 ∷ 0xFF ∷ [], refl, opened m), (refl, [], refl, refl)),
       own (1 ≡ 2),
     )
@@ -304,7 +332,7 @@ struct_misses = record {
   bitmap_without_a_bit_set = record {
     is_tree = second_is true None None;
     leniently = extended Lenient (0x02 ∷ 0x06 ∷ 0x00 ∷ []) (two_additions None None) (absent (context 1) ∷ absent (context 2) ∷ []) (refl, (refl, refl))
-        (0x02 ∷ 0x06 ∷ 0x00 ∷ [], [], false ∷ false ∷ [], refl, bitmap (0x00 ∷ []) (false ∷ false ∷ []) six_unset (omega arith) (octets (0x06 ∷ 0x00 ∷ []) refl) (omega arith) refl, (refl, [], refl, (refl, [], refl, refl)), tt);
+        (0x02 ∷ 0x06 ∷ 0x00 ∷ [], [], false ∷ false ∷ [], refl, bitmap (0x00 ∷ []) (false ∷ false ∷ []) six_unset (omega arith) (are_octets (0x06 ∷ 0x00 ∷ []) refl) (omega arith) refl, (refl, [], refl, (refl, [], refl, refl)), tt);
     canonically = λ d v i f. no_bit_set d v f;
   };
   bitmap_with_an_unused_bit_set = record {
@@ -314,7 +342,7 @@ struct_misses = record {
       0x01 ∷ 0xFF ∷ [],
       true ∷ false ∷ [],
       refl,
-      bitmap (0xA0 ∷ []) (true ∷ false ∷ []) (true ∷ false ∷ false ∷ false ∷ false ∷ false ∷ []) (omega arith) (octets (0x06 ∷ 0xA0 ∷ []) refl) (omega arith) refl,
+      bitmap (0xA0 ∷ []) (true ∷ false ∷ []) (true ∷ false ∷ false ∷ false ∷ false ∷ false ∷ []) (omega arith) (are_octets (0x06 ∷ 0xA0 ∷ []) refl) (omega arith) refl,
       (refl, [], (0x01 ∷ 0xFF ∷ [], refl, opened Lenient), (refl, [], refl, refl)),
       tt,
     );
@@ -328,8 +356,8 @@ struct_misses = record {
       0x02 ∷ 0xFF ∷ 0x00 ∷ [],
       true ∷ false ∷ [],
       refl,
-      bitmap (0x80 ∷ []) (true ∷ false ∷ []) six_unset (omega arith) (octets (0x06 ∷ 0x80 ∷ []) refl) (omega arith) refl,
-      (refl, [], (0x02 ∷ 0xFF ∷ 0x00 ∷ [], refl, (0xFF ∷ 0x00 ∷ [], 0x00 ∷ [], behind Lenient (0xFF ∷ 0x00 ∷ []) (omega arith) (octets (0xFF ∷ 0x00 ∷ []) refl), refl, tt)), (refl, [], refl, refl)),
+      bitmap (0x80 ∷ []) (true ∷ false ∷ []) six_unset (omega arith) (are_octets (0x06 ∷ 0x80 ∷ []) refl) (omega arith) refl,
+      (refl, [], (0x02 ∷ 0xFF ∷ 0x00 ∷ [], refl, (0xFF ∷ 0x00 ∷ [], 0x00 ∷ [], behind Lenient (0xFF ∷ 0x00 ∷ []) (omega arith) (are_octets (0xFF ∷ 0x00 ∷ []) refl), refl, tt)), (refl, [], refl, refl)),
       tt,
     );
     canonically = λ d v i f. left_over d v f;
@@ -342,8 +370,8 @@ struct_misses = record {
       0x81 ∷ 0x01 ∷ 0xFF ∷ [],
       true ∷ [],
       refl,
-      bitmap (0x80 ∷ []) (true ∷ []) seven_unset (omega arith) (octets (0x07 ∷ 0x80 ∷ []) refl) (omega arith) refl,
-      (0x81 ∷ 0x01 ∷ 0xFF ∷ [], [], 0xFF ∷ [], refl, (0x81 ∷ 0x01 ∷ [], refl, inr (omega arith, omega arith, refl, octets (0x01 ∷ []) refl, refl, omega arith, tt), octets (0xFF ∷ []) refl), refl),
+      bitmap (0x80 ∷ []) (true ∷ []) seven_unset (omega arith) (are_octets (0x07 ∷ 0x80 ∷ []) refl) (omega arith) refl,
+      (0x81 ∷ 0x01 ∷ 0xFF ∷ [], [], 0xFF ∷ [], refl, (0x81 ∷ 0x01 ∷ [], refl, inr (omega arith, omega arith, refl, are_octets (0x01 ∷ []) refl, refl, omega arith, tt), are_octets (0xFF ∷ []) refl), refl),
       tt,
     );
     canonically = λ d v i f. padded_skip d v f;
@@ -351,6 +379,8 @@ struct_misses = record {
   lacking_additions = record { is_tree = second_is true (Some true) None; leniently = lacking Lenient (λ P. tt); canonically = lacking Canonical (λ P. tt) };
   with_the_required_addition = spelled (required_addition (true, pos 7)) ((tt, tt), (tt, tt), (λ e. absurd (cc e)), (λ e. absurd (cc e))) refl refl;
   without_the_required_addition = missing_addition;
+  group_with_nothing_in_it = spelled (with_group (true, Some None)) ((tt, tt), (((tt, tt), tt, (λ e. refl), (λ e. absurd (cc e))), tt), (λ e. absurd (cc e)), (λ e. absurd (cc e))) refl refl;
+  group_with_a_fill_bit_set = group_fill_bit_set;
   set_in_tag_order = spelled (set_of_two (true, pos 5)) ((tt, (tt, tt)), tt, (λ e. refl), (λ e. (refl, (refl, tt)))) refl refl;
   set_in_table_order = table_order;
 }

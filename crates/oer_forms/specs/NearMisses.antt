@@ -2,7 +2,7 @@
 use Rattle.std.specs.Prelude.{true, false, [], ◌∷◌, pos, negsuc, Some, None, codes}
 use Rattle.asn1_base.specs.Texts.{AnyOctets, Utf8, Numeric, Printable, Visible, Ia5, Bmp, Identifier, Utc, Generalized, Date}
 use Rattle.oer_forms.specs.Encoding.{IsEncoding}
-use Rattle.oer_forms.specs.Examples.{IsSpelled, IsSpelledLeniently, SpellNone, boolean, null, enumerated, integer, integer_from, integer_in, bit_string, bit_string_of, text, text_of, context, with_default, first_version, second_version, required_addition, set_of_two, list_of, set_of, choice, long_tags}
+use Rattle.oer_forms.specs.Examples.{IsSpelled, IsSpelledLeniently, SpellNone, boolean, null, enumerated, integer, integer_from, integer_in, bit_string, bit_string_of, text, text_of, context, with_default, first_version, second_version, required_addition, with_group, set_of_two, list_of, set_of, choice, long_tags}
 use Rattle.oer_forms.specs.Mode.{Mode, Canonical}
 
 -- BOOLEAN, NULL, ENUMERATED and INTEGER (X.696, 9 to 11, 15).
@@ -81,6 +81,8 @@ pub record StructMisses : Type 0 where
   pub lacking_additions : IsSpelled (0x80 ∷ 0xFF ∷ 0x02 ∷ 0x07 ∷ 0x80 ∷ 0x01 ∷ 0xFF ∷ []) (second_version (true, Some true, None))
   pub with_the_required_addition : IsSpelled (0x80 ∷ 0xFF ∷ 0x02 ∷ 0x07 ∷ 0x80 ∷ 0x02 ∷ 0x01 ∷ 0x07 ∷ []) (required_addition (true, pos 7))
   pub without_the_required_addition : SpellNone required_addition (0x00 ∷ 0xFF ∷ [])
+  pub group_with_nothing_in_it : IsSpelled (0x80 ∷ 0xFF ∷ 0x02 ∷ 0x07 ∷ 0x80 ∷ 0x01 ∷ 0x00 ∷ []) (with_group (true, Some None))
+  pub group_with_a_fill_bit_set : SpellNone with_group (0x80 ∷ 0xFF ∷ 0x02 ∷ 0x07 ∷ 0x80 ∷ 0x01 ∷ 0x01 ∷ [])
   pub set_in_tag_order : IsSpelled (0x01 ∷ 0x05 ∷ 0xFF ∷ []) (set_of_two (true, pos 5))
   pub set_in_table_order : SpellNone set_of_two (0xFF ∷ 0x01 ∷ 0x05 ∷ [])
 
