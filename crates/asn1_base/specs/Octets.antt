@@ -1,5 +1,5 @@
 -- Octets, the numbers that they write, and their bits.
-use Rattle.std.specs.Prelude.{◌≡◌, ℕ, zero, suc, ◌+◌, ◌-◌, ◌*◌, ◌/◌, ◌%◌, ◌^◌, ◌<◌, Bool, true, false, cond, List, [], ◌∷◌, ◌++◌, length, get_or, drop, ℤ, pos, negsuc, nat_lt, ◌==◌}
+use Rattle.std.specs.Prelude.{◌≡◌, ℕ, zero, suc, ◌+◌, ◌-◌, ◌*◌, ◌/◌, ◌%◌, ◌^◌, ◌<◌, Bool, true, false, cond, List, [], ◌∷◌, ◌++◌, length, get_or, drop, ℤ, pos, negsuc, nat_lt, ◌==◌, Result, MatchResult}
 use Rattle.std.specs.Int.Digits.{number_from_digits}
 use Rattle.std.specs.List.{AllByRecursion}
 
@@ -60,3 +60,7 @@ AllFalse b = AllByRecursion (λ x. x ≡ false) b
 abbrev pub joined : List Octets → Octets
 joined [] = []
 joined (p ∷ ps) = p ++ joined ps
+
+-- these octets were appended; or, where memory was refused, none or some others
+abbrev pub Appends : {T E : Type 0} → Result T E → Octets → Octets → Octets → Type 0
+Appends result octets old new = MatchResult result (λ _. new ≡ old ++ octets) (λ _. (more : Octets) × (new ≡ old ++ more))

@@ -1,6 +1,7 @@
 -- The numbers of octets, as they are read and written.
-use Rattle.std.specs.Prelude.{◌≡◌, ℕ, ℤ, pos, ◌-ℤ◌, ◌^◌, ◌<◌, Bool, true, false, cond, nat_lt, ◌++◌, length, Option, Some, None, Result, MatchResult}
+use Rattle.std.specs.Prelude.{◌≡◌, ℕ, ℤ, pos, ◌-ℤ◌, ◌^◌, ◌<◌, Bool, true, false, cond, nat_lt, length, Option, Some, None}
 use Rattle.asn1_base.specs.Octets.{Octets, AreOctets, unsigned, signed}
+pub use Rattle.asn1_base.specs.Octets.{Appends}
 
 -- the number of octets that stand behind a first bit which is set, or not
 abbrev pub in_complement : Bool → Octets → ℤ
@@ -21,7 +22,3 @@ pub record KeepsSigned (octets rest : Octets) : Type 0 where
   pub some : 0 < length rest
   pub octets_are : AreOctets rest
   pub value : signed rest ≡ signed octets
-
--- these octets were appended; or, where memory was refused, none or some others
-abbrev pub Appends : {T E : Type 0} → Result T E → Octets → Octets → Octets → Type 0
-Appends result octets old new = MatchResult result (λ _. new ≡ old ++ octets) (λ _. (more : Octets) × (new ≡ old ++ more))

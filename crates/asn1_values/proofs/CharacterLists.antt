@@ -1,6 +1,5 @@
 -- 16-bit units as octets.
 use Rattle.std.proofs.Common.{◌≡◌, ℕ, ◌+◌, ◌*◌, ◌<◌, List, [], ◌∷◌, ◌++◌, length, take, get_or, ap, sym, ◌∙◌, arith, length-append, refl}
-use Rattle.std.specs.List.{flat_map}
 use Rattle.std.specs.Int.{w16, to_be_bytes}
 use Rattle.std.proofs.lemmas.List.{take_more, flat_map_more}
 use Rattle.asn1_values.specs.Characters.{units_octets}

@@ -1,3 +1,5 @@
 pub mod BitLists
 pub mod OctetLists
 pub mod CharacterLists
+pub mod IdentifierLists
+pub mod IdentifierSpelling

@@ -1,2 +1,3 @@
 pub mod BitStrings
 pub mod Characters
+pub mod Identifiers

@@ -4,6 +4,8 @@
 mod bits;
 mod bmp;
 mod characters;
+mod identifiers;
+pub mod laws;
 mod octets;
 mod strings;
 
@@ -12,6 +14,9 @@ pub use characters::{
     BmpCharacters, BmpString, GeneralCharacters, GeneralString, GraphicCharacters, GraphicString,
     Ia5Characters, Ia5String, NumericCharacters, NumericString, PrintableCharacters,
     PrintableString, TeletexCharacters, TeletexString, VisibleCharacters, VisibleString,
+};
+pub use identifiers::{
+    ObjectIdentifier, is_identifier, object_identifier_as_bytes, object_identifier_from_bytes,
 };
 pub use octets::{Any, AnyType, OctetContent, OctetString, OctetStringType, OctetType};
 pub use strings::{CharacterSet, RestrictedString, StringError};

@@ -1,7 +1,4 @@
-use Rattle.std.proofs.Common.{◌≡◌, ◌*◌, ◌++◌, length, take, get_or, ap, ap₂, ◌∙◌, arith}
-use Rattle.std.specs.Int.{w16, to_be_bytes}
-use Rattle.std.proofs.lemmas.List.{length-take-le}
-use Rattle.asn1_values.specs.Characters.{units_octets}
+use Rattle.std.proofs.Common.{◌≡◌, ◌*◌, ◌++◌, length, take, ap, ap₂, ◌∙◌}
 use Rattle.asn1_values.proofs.CharacterLists.{one_more_unit, two_octets_a_unit}
 use Rattle.asn1_values.proofs.bmp.BmpString.from_units.Goals as goal
 
