@@ -6,6 +6,8 @@ pub mod ReadTags
 pub mod ReadQuantities
 pub mod WriteTags
 pub mod ReadIntegers
+pub mod ReadEnumerated
+pub mod WriteEnumerated
 pub mod Lists
 pub mod Unique
 pub mod UniqueLeaves

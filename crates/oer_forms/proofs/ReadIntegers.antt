@@ -1,21 +1,20 @@
 -- An integer is read exactly where a front of the octets spells it.
-use Rattle.std.proofs.Common.{◌≡◌, ◌≢◌, ℕ, zero, suc, ◌-◌, ◌^◌, ◌<◌, ◌≤◌, Bool, true, false, cond, ltb, eqb, List, [], ◌∷◌, ◌++◌, length, get_or, take, drop, Result, Ok, Err, refl, sym, ap, ◌∙◌, subst, arith, inl, inr, ℤ, pos, nat_lt, Fits, w8}
+use Rattle.std.proofs.Common.{◌≡◌, ◌≢◌, ℕ, ◌^◌, ◌≤◌, Bool, true, false, cond, eqb, [], ◌∷◌, ◌++◌, length, get_or, drop, Result, Ok, Err, refl, sym, ap, ◌∙◌, subst, arith, inl, inr, ℤ, pos, Fits, w8}
 use Rattle.std.specs.Prelude.{⊤, int_lt, not, Some, None}
 use Rattle.std.proofs.lemmas.Bool.{cases_lt, eqb-false, ne_eqb, lt-ltb, le-ltb, not-false}
 use Rattle.std.proofs.lemmas.List.{length-take-le, take-append-drop}
 use Rattle.asn1_base.proofs.Shortest.{tight_from_test}
 use Rattle.asn1_base.specs.Bounds.{Range, in_range}
 use Rattle.asn1_base.specs.Numbers.{has_superfluous_sign}
-use Rattle.asn1_base.specs.Octets.{Octets, AreOctets, usize_max}
+use Rattle.asn1_base.specs.Octets.{Octets, AreOctets}
 use Rattle.asn1_base.specs.declared.codec.Codec.{Codec}
 use Rattle.asn1_base.specs.declared.error.DecodeErrorKind.{DecodeErrorKind}
 use Rattle.asn1_base.specs.declared.error.DecodeErrorKind.TheVariants.{EmptyInteger, IntegerOverflow, ValueConstraintNotSatisfied, OutOfMemory}
 use Rattle.asn1_ints.specs.Reading.{number_in}
-use Rattle.oer_forms.specs.Leaves.{Failure, BadValue, BadSize, BadIdentifier, BadTime, TooManyEmpty, TooLong, Width, Fixed, Counted, signed_width, unsigned_width, width_of, value_of, IsShort, IsInteger, IsLeafEncoding, leaf_fails, count_too_long, counted_octets, holds_signed}
-use Rattle.oer_forms.specs.Lengths.{IsBehindLength}
-use Rattle.oer_forms.specs.Mode.{Mode, mode_of, InStrict}
-use Rattle.oer_forms.specs.Reading.{◌>>=◌, ◌>>◌, seen, ReadsFront, octets_at, canonical}
-use Rattle.oer_forms.specs.ReadingIntegers.{RefusesBy, GivesOrMemory, is_superfluous, is_signed, number_content_in, number_content_at, number_octets_at, IsNumberContent, in_range_only, integer_at, IsIntegerOf}
+use Rattle.oer_forms.specs.Leaves.{Failure, BadValue, BadSize, BadIdentifier, BadTime, TooManyEmpty, TooLong, Width, Fixed, Counted, signed_width, unsigned_width, width_of, value_of, IsShort, IsInteger, leaf_fails, count_too_long, holds_signed}
+use Rattle.oer_forms.specs.Mode.{mode_of, InStrict}
+use Rattle.oer_forms.specs.Reading.{◌>>=◌, ◌>>◌, seen, ReadsFront, canonical}
+use Rattle.oer_forms.specs.ReadingIntegers.{GivesOrMemory, is_superfluous, is_signed, number_content_in, number_content_at, number_octets_at, IsNumberContent, in_range_only, integer_at, IsIntegerOf}
 use Rattle.oer_forms.specs.Tree.{Int}
 use Rattle.oer_forms.proofs.Canonical.{tight, plain}
 use Rattle.oer_forms.proofs.Numbers.{IsTight}
@@ -58,10 +57,10 @@ pub short_only : (signed : Bool) (c : Octets) → AreOctets c → IsShort signed
 short_only false c f h = no_superfluous_zero c (plain c h)
 short_only true c f h = tight_test c (tight c f h)
 
-IsNumberIn : Bool → Codec → Octets → Octets → Type 0
+unfoldable pub IsNumberIn : Bool → Codec → Octets → Octets → Type 0
 IsNumberIn signed codec content c = (c ≡ content) × (1 ≤ length content) × InStrict (mode_of codec) (IsShort signed content)
 
-number_decodes : (signed : Bool) (codec : Codec) → Decodes (number_content_in signed codec) (IsNumberIn signed codec)
+pub number_decodes : (signed : Bool) (codec : Codec) → Decodes (number_content_in signed codec) (IsNumberIn signed codec)
 unfolding IsNumberIn
 number_decodes signed codec = record {
   found = λ content c fits e.

@@ -1,16 +1,15 @@
 -- A quantity is read exactly where a front of the octets spells it.
-use Rattle.std.proofs.Common.{◌≡◌, ◌≢◌, ℕ, zero, suc, ◌^◌, ◌<◌, ◌≤◌, Bool, true, false, ltb, eqb, [], ◌∷◌, ◌++◌, length, get_or, Result, Ok, refl, sym, ap, ◌∙◌, subst, arith}
-use Rattle.std.specs.Prelude.{◌&&◌}
+use Rattle.std.proofs.Common.{◌≡◌, ◌≢◌, ℕ, ◌^◌, ◌<◌, ◌≤◌, false, eqb, [], ◌∷◌, length, refl, sym, subst, arith}
 use Rattle.std.specs.Option.{ok_or}
 use Rattle.std.proofs.lemmas.Bool.{eqb-false, ne_eqb, lt-ltb}
 use Rattle.asn1_base.specs.Numbers.{has_superfluous_zero}
-use Rattle.asn1_base.specs.Octets.{Octets, AreOctets, unsigned, usize_max}
+use Rattle.asn1_base.specs.Octets.{Octets, unsigned, usize_max}
 use Rattle.asn1_base.specs.declared.codec.Codec.{Codec}
 use Rattle.asn1_base.specs.declared.error.DecodeErrorKind.TheVariants.{EmptyInteger, LengthExceedsPlatformWidth}
-use Rattle.oer_forms.specs.Lengths.{NoLeadingZero, IsBehindLength, IsQuantity}
+use Rattle.oer_forms.specs.Lengths.{NoLeadingZero, IsQuantity}
 use Rattle.oer_forms.specs.Mode.{mode_of, InStrict}
-use Rattle.oer_forms.specs.Reading.{◌>>=◌, ◌>>◌, canonical, if_below, content_at, quantity_in, quantity_at}
-use Rattle.oer_forms.proofs.ReadLengths.{Decodes, decoded_at, behind_reads}
+use Rattle.oer_forms.specs.Reading.{◌>>◌, canonical, if_below, quantity_in, quantity_at}
+use Rattle.oer_forms.proofs.ReadLengths.{Decodes, behind_reads}
 use Rattle.oer_forms.proofs.Steps.{Reads, then_ok, guard_ok, canonical_ok, canonical_again, strict_is, strict_has, if_below_ok, if_below_again}
 
 -- what the octets behind the length spell

@@ -1,5 +1,5 @@
 -- A tag is read exactly where a front of the octets spells it.
-use Rattle.std.proofs.Common.{◌≡◌, ◌≢◌, ℕ, zero, suc, ◌+◌, ◌*◌, ◌/◌, ◌%◌, ◌^◌, ◌<◌, ◌≤◌, false, true, ltb, eqb, List, [], ◌∷◌, ◌++◌, get_or, Ok, refl, sym, ap, subst, ◌∙◌, arith, inl, inr}
+use Rattle.std.proofs.Common.{◌≡◌, ◌≢◌, ℕ, zero, suc, ◌+◌, ◌*◌, ◌/◌, ◌%◌, ◌^◌, ◌<◌, ◌≤◌, ltb, eqb, [], ◌∷◌, ◌++◌, get_or, Ok, refl, sym, ap, subst, ◌∙◌, arith, inl, inr}
 use Rattle.std.proofs.lemmas.Bool.{cases_lt, ltb-false, lt-ltb, le-ltb, eqb-false, ne_eqb}
 use Rattle.asn1_base.specs.Octets.{Octets, AreOctets}
 use Rattle.asn1_base.specs.Tags.{class_number}
@@ -8,9 +8,9 @@ use Rattle.asn1_base.specs.declared.error.DecodeErrorKind.TheVariants.{InvalidTa
 use Rattle.asn1_base.specs.declared.tag.Class.{Class}
 use Rattle.asn1_base.specs.declared.tag.Class.TheVariants.{Universal, Application, Context, Private}
 use Rattle.asn1_base.specs.declared.tag.Tag.{Tag}
-use Rattle.oer_forms.specs.Lengths.{AreGroups, groups_number, IsTag}
+use Rattle.oer_forms.specs.Lengths.{AreGroups, groups_number}
 use Rattle.oer_forms.specs.Mode.{mode_of}
-use Rattle.oer_forms.specs.Reading.{◌>>=◌, ◌>>◌, canonical, class_of, with_group, more_groups_at, groups_at, long_tag_at, tag_at, IsTag32}
+use Rattle.oer_forms.specs.Reading.{◌>>◌, canonical, class_of, with_group, more_groups_at, groups_at, long_tag_at, tag_at, IsTag32}
 use Rattle.oer_forms.proofs.Steps.{Reads, bind_ok, then_ok, pair_is, guard_ok, canonical_ok, canonical_again, strict_is, strict_has}
 
 -- ---- groups

@@ -250,7 +250,7 @@ int_form : (w : Width) (z : ℤ) → Holds w z → count_too_long w z ≡ false 
 int_form (Fixed sign k) z h l = let r = fixed_value sign k z h in ((r.0, r.1, r.2), r.1)
 int_form (Counted sign) z h l = counted_form sign z h l
 
-small_magnitude : (h : ℕ) (z : ℤ) → (int_le (negsuc h) z && int_lt z (pos (suc h))) ≡ true → magnitude z < suc h
+pub small_magnitude : (h : ℕ) (z : ℤ) → (int_le (negsuc h) z && int_lt z (pos (suc h))) ≡ true → magnitude z < suc h
 small_magnitude h z f = grind (arith, ints)
 
 pub length-with_sign : (c : Octets) → length (with_sign c) ≤ length c + 1
@@ -260,7 +260,7 @@ length-with_sign c = go (nat_lt (get_or c 0 255) 128)
     go true = omega arith
     go false = omega arith
 
-signed_few : (z : ℤ) → magnitude z < 2 ^ 63 → length (signed_octets z) ≤ 9
+pub signed_few : (z : ℤ) → magnitude z < 2 ^ 63 → length (signed_octets z) ≤ 9
 signed_few (pos n) h = let a : length (digits_of 256 n) ≤ 8 = few_digits n (omega arith) in omega (arith, length-with_sign (digits_of 256 n), a)
 signed_few (negsuc n) h =
     let a : length (digits_of 256 n) ≤ 8 = few_digits n (omega arith) in

@@ -23,4 +23,5 @@ pub mod NearMisses
 pub mod Premises
 pub mod Widths
 pub mod ReadingIntegers
+pub mod ReadingEnumerated
 pub mod ReadingMemory

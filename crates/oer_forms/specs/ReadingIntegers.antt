@@ -1,5 +1,5 @@
 -- Reading integers (X.696, 10): the number and what is left, or the first refusal.
-use Rattle.std.specs.Prelude.{◌≡◌, ◌≢◌, ℕ, ◌≤◌, ℤ, Bool, true, false, cond, ◌==◌, IsTrue, length, Result, Ok, Err}
+use Rattle.std.specs.Prelude.{◌≡◌, ◌≤◌, ℤ, Bool, true, false, cond, ◌==◌, IsTrue, length, Result, Ok, Err}
 use Rattle.asn1_base.specs.Bounds.{Range, in_range}
 use Rattle.asn1_base.specs.Numbers.{has_superfluous_sign, has_superfluous_zero}
 use Rattle.asn1_base.specs.Octets.{Octets}
@@ -9,7 +9,7 @@ use Rattle.asn1_base.specs.declared.error.DecodeErrorKind.TheVariants.{EmptyInte
 use Rattle.asn1_ints.specs.Reading.{number_in}
 use Rattle.oer_forms.specs.Leaves.{Width, Fixed, Counted, width_of, value_of, IsShort, IsLeafEncoding}
 use Rattle.oer_forms.specs.Lengths.{IsBehindLength}
-use Rattle.oer_forms.specs.Mode.{Mode, mode_of, InStrict}
+use Rattle.oer_forms.specs.Mode.{Mode, InStrict}
 use Rattle.oer_forms.specs.Reading.{◌>>=◌, ◌>>◌, octets_at, canonical, content_at}
 use Rattle.oer_forms.specs.Tree.{Int}
 

@@ -3,6 +3,7 @@
 
 mod bit_strings;
 mod booleans;
+mod enums;
 mod integers;
 mod lengths;
 mod places;
@@ -12,6 +13,7 @@ mod texts;
 
 pub use bit_strings::write_bit_string;
 pub use booleans::write_bool;
+pub use enums::write_enumerated;
 pub use integers::write_integer;
 pub use lengths::{write_content, write_length};
 pub use places::{write_bitmap, write_preamble};

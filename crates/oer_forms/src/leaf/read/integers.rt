@@ -27,7 +27,11 @@ fn is_superfluous(signed: bool, content: &[u8]) -> bool
 }
 
 /// The octets of a number, of which there is at least one, and in canonical reading none that could be left out.
-fn number_content_in(signed: bool, codec: Codec, content: &[u8]) -> Result<&[u8], DecodeErrorKind>
+pub(super) fn number_content_in(
+    signed: bool,
+    codec: Codec,
+    content: &[u8],
+) -> Result<&[u8], DecodeErrorKind>
     ensures function { Gives (λ x. x.now) result (number_content_in signed codec content.now) }
     ensures memory { IfErr result IsNotForMemory }
 {

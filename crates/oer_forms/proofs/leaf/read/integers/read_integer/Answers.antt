@@ -2,7 +2,7 @@ use Rattle.std.proofs.Common.{rules}
 use Rattle.asn1_base.specs.Bounds.{value_bounds}
 use Rattle.oer_forms.specs.ReadingIntegers.{integer_at}
 use Rattle.oer_forms.proofs.ReadIntegers.{front_or_memory, integer_reads}
-use Rattle.oer_forms.proofs.Steps.{front_of, front_ok}
+use Rattle.oer_forms.proofs.Steps.{front_ok}
 use Rattle.oer_forms.proofs.leaf.read.integers.read_integer.Goals as goal
 
 pub returns-in_err-octets-clause-relation : goal.returns-in_err-octets-clause-relation
