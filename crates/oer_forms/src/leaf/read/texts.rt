@@ -1,4 +1,4 @@
-ghost use Rattle.std.specs.Prelude.{IfErr};
+ghost use Rattle.std.specs.Prelude.{IfErr, None};
 ghost use Rattle.asn1_base.specs.Bounds.{size_bounds};
 ghost use Rattle.asn1_base.specs.Texts.{AnyOctets, Utf8, Obeys, unit_of};
 ghost use Rattle.asn1_values.specs.Characters.{are_characters};
@@ -69,6 +69,19 @@ pub fn read_octet_string(
     ensures memory { IfErr result IsNotForMemory }
 {
     octet_string(codec, constraints, input)
+}
+
+/// The octets of an open type's content at the front, borrowed from the input, and what is left (X.696, 30).
+///
+/// A length and that many octets. Refused as an octet string without constraints is (`read_octet_string`).
+pub fn read_any(codec: Codec, input: &[u8]) -> Result<(&[u8], &[u8]), DecodeErrorKind>
+    ensures function { Gives (λ x. (x.0.now, x.1.now)) result (octet_string_at None codec input.now) }
+    ensures relation { ReadsFront
+        (λ o c. IsLeafEncoding (mode_of codec) o (Text AnyOctets None (Written c)))
+        input.now (seen (λ x. (x.0.now, x.1.now)) result) }
+    ensures memory { IfErr result IsNotForMemory }
+{
+    read_octet_string(codec, Constraints::NONE, input)
 }
 
 /// The octets as a text, where they are UTF-8.
