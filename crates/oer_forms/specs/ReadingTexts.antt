@@ -1,5 +1,5 @@
 -- Reading octet strings, character strings, object identifiers and times.
-use Rattle.std.specs.Prelude.{ℕ, ◌*◌, ◌/◌, Bool, not, nat_lt, length, Option, Some, None, Result, Ok, Err}
+use Rattle.std.specs.Prelude.{ℕ, ◌*◌, ◌/◌, ◌==◌, Bool, cond, not, nat_lt, length, Option, Some, None, Result, Ok, Err}
 use Rattle.asn1_base.specs.Bounds.{Size, fixed_size}
 use Rattle.asn1_base.specs.Octets.{Octets, usize_max}
 use Rattle.asn1_base.specs.declared.codec.Codec.{Codec}
@@ -35,9 +35,13 @@ text_at is_text kind s codec input = do
   refuse_if (not (is_text octets.0)) kind
   Ok octets
 
--- two octets for each of so many characters; else octets behind a length, an even count, of a size that is allowed
+-- two octets for each of so many characters
+abbrev pub many_units_at : ℕ → Octets → Result (Octets × Octets) DecodeErrorKind
+many_units_at n input = refuse_if (nat_lt usize_max (2 * n)) LengthExceedsPlatformWidth >> octets_at (2 * n) input
+
+-- so many, where the size is fixed; else octets behind a length, an even count, of a size that is allowed
 abbrev pub sized_units_at : (Octets → Bool) → Option ℕ → Size → Codec → Octets → Result (Octets × Octets) DecodeErrorKind
-sized_units_at is_text (Some n) s codec input = refuse_if (nat_lt usize_max (2 * n)) LengthExceedsPlatformWidth >> octets_at (2 * n) input
+sized_units_at is_text (Some n) s codec input = many_units_at n input
 sized_units_at is_text None s codec input = do
   octets ← string_at codec input
   refuse_if (not (is_text octets.0)) PermittedAlphabetError
@@ -47,6 +51,10 @@ sized_units_at is_text None s codec input = do
 -- BMPString (27), whose size counts characters.
 unfoldable pub units_at : (Octets → Bool) → Size → Codec → Octets → Result (Octets × Octets) DecodeErrorKind
 units_at is_text s codec input = sized_units_at is_text (fixed_size s) s codec input
+
+-- A text of characters of one octet or of two.
+unfoldable pub characters_at : ℕ → (Octets → Bool) → Size → Codec → Octets → Result (Octets × Octets) DecodeErrorKind
+characters_at unit is_text s codec input = cond (unit == 1) (text_at is_text PermittedAlphabetError s codec input) (units_at is_text s codec input)
 
 -- octets that are UTF-8
 abbrev pub utf8_of : Octets → Result Octets DecodeErrorKind

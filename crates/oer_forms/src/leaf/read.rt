@@ -28,4 +28,4 @@ pub use parts::{read_octet, read_octets, require_canonical};
 pub use places::{read_bitmap, read_preamble, skip_additions};
 pub use quantities::read_quantity;
 pub use tags::read_tag;
-pub use texts::{read_octet_string, read_utf8};
+pub use texts::{read_any, read_octet_string, read_text, read_utf8};

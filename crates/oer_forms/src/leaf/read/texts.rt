@@ -1,11 +1,12 @@
-ghost use Rattle.std.specs.Prelude.{IfErr};
+ghost use Rattle.std.specs.Prelude.{IfErr, None};
 ghost use Rattle.asn1_base.specs.Bounds.{size_bounds};
-ghost use Rattle.asn1_base.specs.Texts.{AnyOctets, Utf8, Obeys};
-ghost use Rattle.asn1_base.specs.declared.error.DecodeErrorKind.TheVariants.{StringConversionFailed};
+ghost use Rattle.asn1_base.specs.Texts.{AnyOctets, Utf8, Obeys, unit_of};
+ghost use Rattle.asn1_values.specs.Characters.{are_characters};
+ghost use Rattle.asn1_base.specs.declared.error.DecodeErrorKind.TheVariants.{StringConversionFailed, PermittedAlphabetError};
 ghost use Rattle.oer_forms.specs.Leaves.{IsLeafEncoding};
 ghost use Rattle.oer_forms.specs.Mode.{mode_of};
 ghost use Rattle.oer_forms.specs.Reading.{Gives, seen, ReadsFront, IsNotForMemory};
-ghost use Rattle.oer_forms.specs.ReadingTexts.{string_at, octet_string_at, text_at, utf8_of};
+ghost use Rattle.oer_forms.specs.ReadingTexts.{string_at, octet_string_at, text_at, many_units_at, units_at, characters_at, utf8_of};
 ghost use Rattle.std.specs.Str.{is_utf8};
 ghost use Rattle.oer_forms.specs.Tree.{Text, Written};
 
@@ -13,6 +14,7 @@ use crate::leaf::read::lengths::read_length;
 use crate::leaf::read::parts::read_octets;
 use crate::leaf::read::places::refuse_if;
 use asn1_base::{Codec, Constraints, DecodeErrorKind};
+use asn1_values::{CharacterSet, RestrictedString};
 use std::str;
 
 /// A length, and that many octets of a string.
@@ -69,6 +71,19 @@ pub fn read_octet_string(
     octet_string(codec, constraints, input)
 }
 
+/// The octets of an open type's content at the front, borrowed from the input, and what is left (X.696, 30).
+///
+/// A length and that many octets. Refused as an octet string without constraints is (`read_octet_string`).
+pub fn read_any(codec: Codec, input: &[u8]) -> Result<(&[u8], &[u8]), DecodeErrorKind>
+    ensures function { Gives (λ x. (x.0.now, x.1.now)) result (octet_string_at None codec input.now) }
+    ensures relation { ReadsFront
+        (λ o c. IsLeafEncoding (mode_of codec) o (Text AnyOctets None (Written c)))
+        input.now (seen (λ x. (x.0.now, x.1.now)) result) }
+    ensures memory { IfErr result IsNotForMemory }
+{
+    read_octet_string(codec, Constraints::NONE, input)
+}
+
 /// The octets as a text, where they are UTF-8.
 fn text_of(octets: &[u8]) -> Result<&str, DecodeErrorKind>
     ensures { Gives (λ s. s.now) result (utf8_of octets.now) }
@@ -109,4 +124,100 @@ pub fn read_utf8(
     ensures memory { IfErr result IsNotForMemory }
 {
     utf8_text(codec, constraints, input)
+}
+
+#[tactic(auto, unfolding(crate::specs::ReadingTexts::text_at))]
+fn text<C: CharacterSet>(
+    codec: Codec,
+    constraints: Constraints,
+    input: &[u8],
+) -> Result<(&[u8], &[u8]), DecodeErrorKind>
+    ensures function { Gives (λ x. (x.0.now, x.1.now)) result
+        (text_at (are_characters (unit_of C.rule) C.permitted) PermittedAlphabetError (size_bounds constraints) codec input.now) }
+    ensures memory { IfErr result IsNotForMemory }
+{
+    let (octets, rest) = octet_string(codec, constraints, input)?;
+    refuse_if(
+        !RestrictedString::<C>::is_text(octets),
+        DecodeErrorKind::PermittedAlphabetError,
+    )?;
+    Ok((octets, rest))
+}
+
+/// The octets of so many characters of two octets each.
+fn read_units(size: usize, input: &[u8]) -> Result<(&[u8], &[u8]), DecodeErrorKind>
+    ensures function { Gives (λ x. (x.0.now, x.1.now)) result (many_units_at size input.now) }
+    ensures memory { IfErr result IsNotForMemory }
+{
+    refuse_if(
+        size > usize::MAX / 2,
+        DecodeErrorKind::LengthExceedsPlatformWidth,
+    )?;
+    read_octets(2 * size, input)
+}
+
+#[tactic(auto, unfolding(crate::specs::ReadingTexts::units_at))]
+fn units<C: CharacterSet>(
+    codec: Codec,
+    constraints: Constraints,
+    input: &[u8],
+) -> Result<(&[u8], &[u8]), DecodeErrorKind>
+    ensures function { Gives (λ x. (x.0.now, x.1.now)) result
+        (units_at (are_characters (unit_of C.rule) C.permitted) (size_bounds constraints) codec input.now) }
+    ensures memory { IfErr result IsNotForMemory }
+{
+    if let Some(size) = constraints.fixed_size() {
+        return read_units(size, input);
+    }
+    let (octets, rest) = read_string(codec, input)?;
+    refuse_if(
+        !RestrictedString::<C>::is_text(octets),
+        DecodeErrorKind::PermittedAlphabetError,
+    )?;
+    let size = octets.len() / 2;
+    refuse_if(
+        !constraints.allows_size(size),
+        DecodeErrorKind::SizeConstraintNotSatisfied { size },
+    )?;
+    Ok((octets, rest))
+}
+
+#[tactic(auto, unfolding(crate::specs::ReadingTexts::characters_at))]
+fn characters<C: CharacterSet>(
+    codec: Codec,
+    constraints: Constraints,
+    input: &[u8],
+) -> Result<(&[u8], &[u8]), DecodeErrorKind>
+    ensures function { Gives (λ x. (x.0.now, x.1.now)) result
+        (characters_at (unit_of C.rule) (are_characters (unit_of C.rule) C.permitted) (size_bounds constraints) codec input.now) }
+    ensures memory { IfErr result IsNotForMemory }
+{
+    if C::OCTETS_PER_CHARACTER == 1 {
+        text::<C>(codec, constraints, input)
+    } else {
+        units::<C>(codec, constraints, input)
+    }
+}
+
+/// The octets of a restricted character string at the front, borrowed from the input, and what is left (X.696, 27).
+///
+/// Sizes count characters: octets, or in a BMPString two octets each. Refused, of one octet a character: as an octet
+/// string is (`read_octet_string`); then a character outside the alphabet, as `PermittedAlphabetError`. Refused, of a
+/// BMPString: under a fixed size twice the size past `usize::MAX`, as `LengthExceedsPlatformWidth`, then `Incomplete` by
+/// as many octets as are missing; else as the length is, a length above `usize::MAX / 8` as `LengthExceedsPlatformWidth`,
+/// `Incomplete`, an odd count of octets as `PermittedAlphabetError`, and a size that the constraint doesn't allow as
+/// `SizeConstraintNotSatisfied` with the size in characters.
+pub fn read_text<C: CharacterSet>(
+    codec: Codec,
+    constraints: Constraints,
+    input: &[u8],
+) -> Result<(&[u8], &[u8]), DecodeErrorKind>
+    ensures function { Gives (λ x. (x.0.now, x.1.now)) result
+        (characters_at (unit_of C.rule) (are_characters (unit_of C.rule) C.permitted) (size_bounds constraints) codec input.now) }
+    ensures relation { ReadsFront
+        (λ o c. IsLeafEncoding (mode_of codec) o (Text C.rule (size_bounds constraints) (Written c)) × Obeys C.rule c)
+        input.now (seen (λ x. (x.0.now, x.1.now)) result) }
+    ensures memory { IfErr result IsNotForMemory }
+{
+    characters::<C>(codec, constraints, input)
 }

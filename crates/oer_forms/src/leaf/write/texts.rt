@@ -1,6 +1,6 @@
 ghost use Rattle.std.specs.Prelude.{◌≡◌, ◌/◌, length, MatchResult, Some, None};
 ghost use Rattle.asn1_base.specs.Bounds.{size_bounds};
-ghost use Rattle.asn1_base.specs.Texts.{Rule, AnyOctets};
+ghost use Rattle.asn1_base.specs.Texts.{Rule, AnyOctets, Utf8};
 ghost use Rattle.oer_forms.specs.Leaves.{unit_of};
 ghost use Rattle.oer_forms.specs.Tree.{Text, Written};
 ghost use Rattle.oer_forms.specs.Writing.{AppendsLeaf};
@@ -8,6 +8,7 @@ ghost use Rattle.oer_forms.specs.WritingTexts.{string_failure};
 
 use crate::leaf::write::lengths::write_content;
 use asn1_base::{Constraints, EncodeErrorKind};
+use asn1_values::{CharacterSet, RestrictedString};
 
 /// Whether a string of that size can be written in `count` octets.
 pub(super) fn check_string(
@@ -58,4 +59,39 @@ pub fn write_octet_string(
     ensures { AppendsLeaf result (Text AnyOctets (size_bounds constraints) (Written octets.now)) out.old.items out.new.items }
 {
     write_string(octets, octets.len(), constraints, out)
+}
+
+/// Appends the octets of an open type's content, behind their length (X.696, 30).
+///
+/// Refused above `usize::MAX / 8` octets, as `LengthExceedsPlatformSize`.
+pub fn write_any(octets: &[u8], out: &mut Vec<u8>) -> Result<(), EncodeErrorKind>
+    ensures { AppendsLeaf result (Text AnyOctets None (Written octets.now)) out.old.items out.new.items }
+{
+    write_octet_string(octets, Constraints::NONE, out)
+}
+
+/// Appends a UTF8String, whose size counts octets (X.696, 27).
+///
+/// Refused as an octet string is (`write_octet_string`).
+pub fn write_utf8(
+    text: &str,
+    constraints: Constraints,
+    out: &mut Vec<u8>,
+) -> Result<(), EncodeErrorKind>
+    ensures { AppendsLeaf result (Text Utf8 (size_bounds constraints) (Written text.now)) out.old.items out.new.items }
+{
+    write_string(text.as_bytes(), text.len(), constraints, out)
+}
+
+/// Appends a restricted character string, whose size counts characters (X.696, 27).
+///
+/// Refused as an octet string is (`write_octet_string`), with the size in characters.
+pub fn write_text<C: CharacterSet>(
+    text: &RestrictedString<C>,
+    constraints: Constraints,
+    out: &mut Vec<u8>,
+) -> Result<(), EncodeErrorKind>
+    ensures { AppendsLeaf result (Text C.rule (size_bounds constraints) (Written text.now)) out.old.items out.new.items }
+{
+    write_string(text.as_bytes(), text.len(), constraints, out)
 }
