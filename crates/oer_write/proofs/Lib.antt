@@ -1,3 +1,5 @@
 pub mod Items
 pub mod Sequences
 pub mod Refusals
+pub mod Elements
+pub mod Keeping

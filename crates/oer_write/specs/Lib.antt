@@ -3,3 +3,4 @@ pub mod Seen
 pub mod Rows
 pub mod Scopes
 pub mod Rules
+pub mod Lists
