@@ -3,3 +3,4 @@ pub mod Sequences
 pub mod Refusals
 pub mod Elements
 pub mod Keeping
+pub mod Chosen

@@ -4,3 +4,4 @@ pub mod Rows
 pub mod Scopes
 pub mod Rules
 pub mod Lists
+pub mod Choices

@@ -2,6 +2,7 @@
 #![tactic(auto)]
 
 mod additions;
+mod choices;
 pub mod enc;
 pub mod encode;
 mod encoder;

@@ -11,9 +11,9 @@ ghost use Rattle.oer_write.specs.Written.{append, closed, Keeps, Encodes, Refuse
 
 use crate::encode::Encode;
 use crate::encoder::Encoder;
-use crate::leaf::write_quantity;
 use crate::scope::Scope;
 use asn1_base::{Constraints, EncodeError, EncodeErrorKind, Tag};
+use oer_forms::leaf::write::write_quantity;
 
 /// At most so many elements of one list may take no octets (the project's own choice).
 const MAX_EMPTY_ELEMENTS: u32 = 65536;
