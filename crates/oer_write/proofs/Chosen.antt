@@ -60,9 +60,9 @@ choice_done picks roots additions tag t old new known h =
 pub choice_refused : (picks : Picks) (roots additions : List Tag) (tag : Tag) (t : Tree) (old new : Written) (x : EncodeError) → IsKnownToPick picks tag t → ChoiceBroken picks x old new → Refused (Choice roots additions tag t) x.kind old new
 choice_refused picks roots additions tag t old new x known h = record {
   reason = elim h.reason [
-      inl m ↦ inl m
+    | inl m ↦ inl m
     | inr c ↦ elim (known _ _ _ c.ran).reason [ inl m ↦ inl m | inr f ↦ inr (alternative_fails roots additions tag t x.kind f) ]
-    ];
+  ];
   keeps = h.keeps;
 }
 
@@ -81,5 +81,5 @@ root_done picks is_root tag old middle new root first rest h = record {
   done = h.done;
   short = λ e. absurd cc;
   appended = subst (λ (b : Bool). new ≡ append (tag_octets tag ++ alternative_octets b h.content) old) (sym root)
-    (rest ∙ ap (λ (o : Octets). record middle { octets = o }) h.appended ∙ ap (λ (e : Written). record e { octets = e.octets ++ h.content }) first ∙ ap (λ (o : Octets). record old { octets = o }) (append_assoc old.octets _ _));
+      (rest ∙ ap (λ (o : Octets). record middle { octets = o }) h.appended ∙ ap (λ (e : Written). record e { octets = e.octets ++ h.content }) first ∙ ap (λ (o : Octets). record old { octets = o }) (append_assoc old.octets _ _));
 }

@@ -67,8 +67,8 @@ one_too_many runs xs i x old new count y short there h w = record {
   contents = h.contents ++ w.content ∷ [];
   each = rw (take_more xs i x short, ← there) (each_push runs _ x _ w.content h.each w.wrote);
   many =
-    let more : empties (h.contents ++ w.content ∷ []) ≡ empties h.contents + 1 = subst (λ (b : Bool). empties (h.contents ++ w.content ∷ []) ≡ empties h.contents + cond b 1 0) w.empty (empties_push h.contents w.content) in
-    omega (arith, more, h.counted, w.full);
+      let more : empties (h.contents ++ w.content ∷ []) ≡ empties h.contents + 1 = subst (λ (b : Bool). empties (h.contents ++ w.content ∷ []) ≡ empties h.contents + cond b 1 0) w.empty (empties_push h.contents w.content) in
+      omega (arith, more, h.counted, w.full);
 }
 
 -- the closure refused at an element, or that element was too many
@@ -191,13 +191,13 @@ module _ {E : Type 0} (runs : E → Runs) (tree : E → Tree) where
   unfolding list_of
   list_refused xs old new x known h = record {
     reason = elim h.reason [
-        inl m ↦ inl m
+      | inl m ↦ inl m
       | inr f ↦ elim f [
-          inl r ↦ elim (known r.element _ _ _ r.there r.ran).reason [ inl m ↦ inl m | inr g ↦ inr (element_fails true xs r.element x.kind r.there g) ]
+        | inl r ↦ elim (known r.element _ _ _ r.there r.ran).reason [ inl m ↦ inl m | inr g ↦ inr (element_fails true xs r.element x.kind r.there g) ]
         | inr m ↦ inr (many_fail true xs x.kind m.kind (let same : m.contents ≡ canonical_elements (trees_of tree (take m.front xs)) = contents_are (take m.front xs) m.contents (λ y e e' s there p. known y e e' s (contains_front m.front xs y there) p) m.each in
             let many : 65536 < empties (canonical_elements (trees_of tree (take m.front xs))) = rw same at m.many in
             omega (arith, many, empties_front m.front xs)))
-        ]
-      ];
+      ]
+    ];
     keeps = h.keeps;
   }

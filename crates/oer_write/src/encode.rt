@@ -101,7 +101,12 @@ impl<T: Encode> Encode for Box<T> {
 }
 
 impl<T: Encode> Encode for Vec<T> {
-    fn encode_with_tag_and_constraints(&self, encoder: &mut Encoder<'_>, tag: Tag, constraints: Constraints) -> Result<(), EncodeError> {
+    fn encode_with_tag_and_constraints(
+        &self,
+        encoder: &mut Encoder<'_>,
+        tag: Tag,
+        constraints: Constraints,
+    ) -> Result<(), EncodeError> {
         encoder.encode_sequence_of(tag, constraints, self)
     }
 }

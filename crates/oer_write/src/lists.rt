@@ -19,7 +19,11 @@ use oer_forms::leaf::write::write_quantity;
 const MAX_EMPTY_ELEMENTS: u32 = 65536;
 
 /// Lends an encoder and an element to a closure.
-fn lend_at<E, F: Fn(&mut Encoder<'_>, &E) -> Result<(), EncodeError>>(encoder: &mut Encoder<'_>, f: &F, x: &E) -> Result<(), EncodeError>
+fn lend_at<E, F: Fn(&mut Encoder<'_>, &E) -> Result<(), EncodeError>>(
+    encoder: &mut Encoder<'_>,
+    f: &F,
+    x: &E,
+) -> Result<(), EncodeError>
     requires callable { TakesElement F.Fn f.now x.now }
     ensures { PromiseAt F.Fn f.now x.now encoder.old result encoder.new }
 {
@@ -27,7 +31,11 @@ fn lend_at<E, F: Fn(&mut Encoder<'_>, &E) -> Result<(), EncodeError>>(encoder: &
 }
 
 /// Writes one element, and says whether it took no octets.
-fn put_alone<E, F: Fn(&mut Encoder<'_>, &E) -> Result<(), EncodeError>>(encoder: &mut Encoder<'_>, f: &F, x: &E) -> Result<bool, EncodeError>
+fn put_alone<E, F: Fn(&mut Encoder<'_>, &E) -> Result<(), EncodeError>>(
+    encoder: &mut Encoder<'_>,
+    f: &F,
+    x: &E,
+) -> Result<bool, EncodeError>
     requires callable { TakesElement F.Fn f.now x.now }
     requires shut { encoder.old.frame.is_open ≡ false }
     requires orderly { IsOrderlyHere (PromiseAt F.Fn f.now x.now) }
@@ -41,7 +49,12 @@ fn put_alone<E, F: Fn(&mut Encoder<'_>, &E) -> Result<(), EncodeError>>(encoder:
 }
 
 /// Writes one element, and counts those that take no octets.
-fn put_element<E, F: Fn(&mut Encoder<'_>, &E) -> Result<(), EncodeError>>(encoder: &mut Encoder<'_>, f: &F, x: &E, count: u32) -> Result<u32, EncodeError>
+fn put_element<E, F: Fn(&mut Encoder<'_>, &E) -> Result<(), EncodeError>>(
+    encoder: &mut Encoder<'_>,
+    f: &F,
+    x: &E,
+    count: u32,
+) -> Result<u32, EncodeError>
     requires callable { TakesElement F.Fn f.now x.now }
     requires shut { encoder.old.frame.is_open ≡ false }
     requires orderly { IsOrderlyHere (PromiseAt F.Fn f.now x.now) }
@@ -60,7 +73,11 @@ fn put_element<E, F: Fn(&mut Encoder<'_>, &E) -> Result<(), EncodeError>>(encode
 }
 
 /// Writes the elements in turn.
-fn put_elements<E, F: Fn(&mut Encoder<'_>, &E) -> Result<(), EncodeError>>(encoder: &mut Encoder<'_>, elements: &[E], f: &F) -> Result<(), EncodeError>
+fn put_elements<E, F: Fn(&mut Encoder<'_>, &E) -> Result<(), EncodeError>>(
+    encoder: &mut Encoder<'_>,
+    elements: &[E],
+    f: &F,
+) -> Result<(), EncodeError>
     requires callable { (x : E) → Contains elements.now x → TakesElement F.Fn f.now x }
     requires shut { encoder.old.frame.is_open ≡ false }
     requires orderly { IsOrderlyAt (PromiseAt F.Fn f.now) elements.now }
@@ -80,7 +97,13 @@ impl<'buffer> Encoder<'buffer> {
     ///
     /// What the closure appends at each element, in an encoder with no scope open, is what is appended. Refused by what the
     /// closure refused, at the 65,537th element without octets by `TooManyEmptyElements`, or for want of memory.
-    pub fn encode_sequence_of_with<E, F: Fn(&mut Encoder<'_>, &E) -> Result<(), EncodeError>>(&mut self, _tag: Tag, _constraints: Constraints, value: &[E], f: F) -> Result<(), EncodeError>
+    pub fn encode_sequence_of_with<E, F: Fn(&mut Encoder<'_>, &E) -> Result<(), EncodeError>>(
+        &mut self,
+        _tag: Tag,
+        _constraints: Constraints,
+        value: &[E],
+        f: F,
+    ) -> Result<(), EncodeError>
         requires callable { (x : E) → Contains value.now x → TakesElement F.Fn f x }
         requires orderly { IsOrderlyAt (PromiseAt F.Fn f) value.now }
         ensures done { OnOk result (ListDone (PromiseAt F.Fn f) value.now self.old self.new) }
@@ -91,7 +114,11 @@ impl<'buffer> Encoder<'buffer> {
         self.list(value, &f)
     }
 
-    fn list<E, F: Fn(&mut Encoder<'_>, &E) -> Result<(), EncodeError>>(&mut self, value: &[E], f: &F) -> Result<(), EncodeError>
+    fn list<E, F: Fn(&mut Encoder<'_>, &E) -> Result<(), EncodeError>>(
+        &mut self,
+        value: &[E],
+        f: &F,
+    ) -> Result<(), EncodeError>
         requires callable { (x : E) → Contains value.now x → TakesElement F.Fn f.now x }
         requires orderly { IsOrderlyAt (PromiseAt F.Fn f.now) value.now }
         ensures done { OnOk result (ListDone (PromiseAt F.Fn f.now) value.now self.old self.new) }
@@ -111,7 +138,11 @@ impl<'buffer> Encoder<'buffer> {
     }
 
     /// Lends an encoder with no scope open, for each element.
-    fn put_all<E, F: Fn(&mut Encoder<'_>, &E) -> Result<(), EncodeError>>(&mut self, value: &[E], f: &F) -> Result<(), EncodeError>
+    fn put_all<E, F: Fn(&mut Encoder<'_>, &E) -> Result<(), EncodeError>>(
+        &mut self,
+        value: &[E],
+        f: &F,
+    ) -> Result<(), EncodeError>
         requires callable { (x : E) → Contains value.now x → TakesElement F.Fn f.now x }
         requires orderly { IsOrderlyAt (PromiseAt F.Fn f.now) value.now }
         ensures done { OnOk result (ElementsDone (PromiseAt F.Fn f.now) value.now self.old.octets self.new.octets) }
@@ -137,14 +168,24 @@ impl<'buffer> Encoder<'buffer> {
     ///
     /// Refused by what an element is refused by, at the 65,537th element without octets by `TooManyEmptyElements`, or for
     /// want of memory.
-    pub fn encode_sequence_of<E: Encode>(&mut self, tag: Tag, constraints: Constraints, value: &[E]) -> Result<(), EncodeError>
+    pub fn encode_sequence_of<E: Encode>(
+        &mut self,
+        tag: Tag,
+        constraints: Constraints,
+        value: &[E],
+    ) -> Result<(), EncodeError>
         ensures done { OnOk result (Encodes (list_of true (E.tree E.CONSTRAINTS) value.now) self.old self.new) }
         ensures value { OnOk result (EachValue E.IsValue value.now) }
         ensures refused { IfErr result (λ x. Refused (list_of true (E.tree E.CONSTRAINTS) value.now) x.kind self.old self.new) }
     {
-        self.encode_sequence_of_with(tag, constraints, value, |encoder: &mut Encoder<'_>, x: &E| -> Result<(), EncodeError>
-            ensures written { WritesTree (E.tree E.CONSTRAINTS x.now) encoder.old result encoder.new }
-            ensures value { OnOk result (E.IsValue x.now) }
-        { x.encode(encoder) })
+        self.encode_sequence_of_with(
+            tag,
+            constraints,
+            value,
+            |encoder: &mut Encoder<'_>, x: &E| -> Result<(), EncodeError>
+                ensures written { WritesTree (E.tree E.CONSTRAINTS x.now) encoder.old result encoder.new }
+                ensures value { OnOk result (E.IsValue x.now) }
+            { x.encode(encoder) },
+        )
     }
 }

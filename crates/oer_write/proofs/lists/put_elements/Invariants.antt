@@ -7,5 +7,5 @@ abbrev pub invariant-loop-x : goal.invariant-loop-x
 invariant-loop-x g l = record {
   shut : l.encoder.frame.is_open ≡ false;
   keeps : Keeps l.initial.encoder l.encoder;
-  so_far : SoFar (PromiseAt g.F.Fn l.f) (take l.x-index l.elements) l.initial.encoder.octets l.encoder.octets l.empty_count
+  so_far : SoFar (PromiseAt g.F.Fn l.f) (take l.x-index l.elements) l.initial.encoder.octets l.encoder.octets l.empty_count;
 }
