@@ -7,7 +7,6 @@ pub mod enc;
 pub mod encode;
 mod encoder;
 mod integers;
-mod leaf;
 mod leaves;
 mod lists;
 mod rows;
