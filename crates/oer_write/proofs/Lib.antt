@@ -4,3 +4,6 @@ pub mod Refusals
 pub mod Elements
 pub mod Keeping
 pub mod Chosen
+pub mod Arranging
+pub mod TagOrder
+pub mod SetRows

@@ -7,7 +7,6 @@ ghost use Rattle.oer_forms.specs.Spelled.{boolean, integer, null};
 ghost use Rattle.oer_write.specs.Written.{Encodes, Keeps, Refused, RefusedLeaf};
 
 use crate::encoder::Encoder;
-
 use asn1_base::{Constraints, EncodeError, Tag};
 use asn1_ints::IntegerType;
 use oer_forms::leaf::write::{write_bool, write_integer};

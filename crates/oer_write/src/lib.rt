@@ -3,6 +3,7 @@
 
 mod additions;
 mod choices;
+mod component;
 pub mod enc;
 pub mod encode;
 mod encoder;
@@ -13,6 +14,7 @@ mod rows;
 mod rules;
 mod scope;
 mod scopes;
+mod sets;
 
 pub use encode::Encode;
 pub use encoder::Encoder;
