@@ -10,7 +10,7 @@ pub enum FieldPresence {
 
 /// One row of a table of components.
 #[derive(Debug, Clone, Copy, PartialEq, Eq)]
-pub struct Field {
+pub struct Field<'a> {
     /// The row's place in its table, from 0.
     pub index: usize,
     /// The component's tag.
@@ -18,12 +18,12 @@ pub struct Field {
     /// Whether the component has to be there.
     pub presence: FieldPresence,
     /// The component's name.
-    pub name: &'static str,
+    pub name: &'a str,
 }
 
 /// A table of `N` components.
 #[derive(Debug, Clone, Copy)]
 pub struct Fields<const N: usize> {
     /// The rows, in the order of the type's text.
-    pub fields: &'static [Field],
+    pub fields: &'static [Field<'static>],
 }

@@ -110,11 +110,11 @@ pub trait Constructed<const RC: usize, const EC: usize> {
     const EXTENDED_FIELDS: Option<Fields<EC>>;
 
     /// The rows of `FIELDS`, as clauses see them.
-    fn root_fields() -> &'static [Field]
+    fn root_fields() -> &'static [Field<'static>]
         ensures { map row result.now ≡ root_rows };
 
     /// The rows of `EXTENDED_FIELDS`, none where it is absent, as clauses see them.
-    fn addition_fields() -> &'static [Field]
+    fn addition_fields() -> &'static [Field<'static>]
         ensures { map row result.now ≡ addition_rows };
 
     /// As many rows as stated, indexes counted from 0, additions only where extensible, a set's root tags distinct.

@@ -8,7 +8,7 @@ ghost use Rattle.asn1_ints.specs.Reading.{ReadsNumber};
 use asn1_base::{AsnType, Codec, DecodeError};
 use std::alloc::{AllocError, Global};
 
-/// A type that an INTEGER is held in.
+/// A type that an INTEGER (X.696, 10) is held in.
 pub trait IntegerType: AsnType + Drop {
     /// The number of a value, and the numbers of the type.
     ghost number: { Self → ℤ };

@@ -1,3 +1,9 @@
 pub mod Items
 pub mod Sequences
 pub mod Refusals
+pub mod Elements
+pub mod Keeping
+pub mod Chosen
+pub mod Arranging
+pub mod TagOrder
+pub mod SetRows

@@ -3,3 +3,5 @@ pub mod Seen
 pub mod Rows
 pub mod Scopes
 pub mod Rules
+pub mod Lists
+pub mod Choices

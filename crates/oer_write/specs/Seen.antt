@@ -2,7 +2,7 @@
 use Rattle.std.specs.Prelude.{Bool, cond, map, List, [], ◌∷◌}
 use Rattle.oer_forms.specs.Places.{Item}
 use Rattle.oer_write.specs.Written.{Written, Frame, closed}
-use Rattle.oer_write.specs.declared.scope.Component.{Component}
+use Rattle.oer_write.specs.declared.component.Component.{Component}
 use Rattle.oer_write.specs.declared.scope.Scope.{Scope}
 use Rattle.oer_write.specs.declared.encoder.Encoder.TheInside.{Inside}
 

@@ -5,7 +5,6 @@ ghost use Rattle.oer_write.specs.Written.{Encodes, Refused};
 
 use crate::encoder::Encoder;
 use asn1_base::{Constraints, EncodeError, Tag};
-use asn1_ints::Integer;
 use oer_forms::Spelled;
 
 /// A type whose values are written.
@@ -89,17 +88,6 @@ impl Encode for () {
     }
 }
 
-impl Encode for Integer {
-    fn encode_with_tag_and_constraints(
-        &self,
-        encoder: &mut Encoder<'_>,
-        tag: Tag,
-        constraints: Constraints,
-    ) -> Result<(), EncodeError> {
-        encoder.encode_integer(tag, constraints, self)
-    }
-}
-
 /// A box is written as its content.
 impl<T: Encode> Encode for Box<T> {
     fn encode_with_tag_and_constraints(
@@ -109,5 +97,16 @@ impl<T: Encode> Encode for Box<T> {
         constraints: Constraints,
     ) -> Result<(), EncodeError> {
         (**self).encode_with_tag_and_constraints(encoder, tag, constraints)
+    }
+}
+
+impl<T: Encode> Encode for Vec<T> {
+    fn encode_with_tag_and_constraints(
+        &self,
+        encoder: &mut Encoder<'_>,
+        tag: Tag,
+        constraints: Constraints,
+    ) -> Result<(), EncodeError> {
+        encoder.encode_sequence_of(tag, constraints, self)
     }
 }

@@ -7,9 +7,9 @@ ghost use Rattle.oer_forms.specs.Spelled.{boolean, integer, null};
 ghost use Rattle.oer_write.specs.Written.{Encodes, Keeps, Refused, RefusedLeaf};
 
 use crate::encoder::Encoder;
-use crate::leaf::{write_bool, write_integer};
 use asn1_base::{Constraints, EncodeError, Tag};
 use asn1_ints::IntegerType;
+use oer_forms::leaf::write::{write_bool, write_integer};
 
 impl<'buffer> Encoder<'buffer> {
     /// Writes a BOOLEAN (X.696, 9): FF for true, 00 for false.

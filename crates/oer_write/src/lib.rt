@@ -2,15 +2,19 @@
 #![tactic(auto)]
 
 mod additions;
+mod choices;
+mod component;
 pub mod enc;
 pub mod encode;
 mod encoder;
-mod leaf;
+mod integers;
 mod leaves;
+mod lists;
 mod rows;
 mod rules;
 mod scope;
 mod scopes;
+mod sets;
 
 pub use encode::Encode;
 pub use encoder::Encoder;

@@ -8,10 +8,10 @@ ghost use Rattle.oer_forms.specs.Failures.{Fails};
 ghost use Rattle.oer_write.specs.Rows.{RowsDone, SetDone, RowsRefused, required, optional, defaulted, present_unless};
 ghost use Rattle.oer_write.specs.Written.{Keeps, Encodes, Refused};
 
+use crate::component::Component;
 use crate::enc::EncoderOptions;
 use crate::encode::Encode;
 use crate::encoder::Encoder;
-use crate::scope::Component;
 use asn1_base::{Constraints, EncodeError, EncodeErrorKind, Tag};
 use std::alloc::Global;
 
@@ -48,12 +48,9 @@ impl<'buffer> Encoder<'buffer> {
         ensures done { OnOk result (self.new ≡ record self.old { frame = record self.old.frame { components = self.old.frame.components ++ (record { tag = tag; marked = marked; bit = bit; octets = octets.items } ∷ []) } }) }
         ensures refused { IfErr result (λ k. (k ≡ OutOfMemory) × Keeps self.old self.new) }
     {
-        self.scope.components.push(Component {
-            tag,
-            marked,
-            bit,
-            octets,
-        })?;
+        self.scope
+            .components
+            .push(Component::new(tag, marked, bit, octets))?;
         Ok(())
     }
 

@@ -7,20 +7,10 @@ ghost use Rattle.oer_write.specs.Scopes.{any_true, extension_of, sequence_octets
 ghost use Rattle.oer_write.specs.Seen.{frame_of, item};
 ghost use Rattle.oer_write.specs.Written.{fresh, closed};
 
-use asn1_base::{EncodeErrorKind, Tag};
+use crate::component::Component;
+use asn1_base::EncodeErrorKind;
 use oer_forms::leaf::write::{write_bitmap, write_preamble};
 use std::alloc::Global;
-
-/// A root component of a set.
-#[derive(Drop)]
-pub(crate) struct Component {
-    pub(crate) tag: Tag,
-    /// Whether the preamble has a bit for it.
-    pub(crate) marked: bool,
-    /// Whether it is present.
-    pub(crate) bit: bool,
-    pub(crate) octets: Vec<u8>,
-}
 
 /// What was recorded in a scope so far.
 #[derive(Drop)]

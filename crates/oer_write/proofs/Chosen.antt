@@ -1,0 +1,85 @@
+-- From what the closure of a choice writes to what the choice writes.
+use Rattle.std.proofs.Common.{◌≡◌, ℕ, suc, ◌^◌, ◌<◌, Bool, true, false, cond, not, ◌&&◌, ◌||◌, List, ◌++◌, length, refl, ap, sym, ◌∙◌, subst, arith, append_assoc, Ok, Err, Result, ◌⊎◌, inl, inr}
+use Rattle.std.specs.Prelude.{nat_lt}
+use Rattle.std.proofs.lemmas.List.{append_cancel_left}
+use Rattle.asn1_base.specs.Octets.{Octets, usize_max}
+use Rattle.asn1_base.specs.Tags.{holds}
+use Rattle.asn1_base.specs.declared.error.EncodeError.{EncodeError}
+use Rattle.asn1_base.specs.declared.error.EncodeErrorKind.{EncodeErrorKind}
+use Rattle.asn1_base.specs.declared.tag.Tag.{Tag}
+use Rattle.oer_forms.specs.Encoding.{fails, open_fails, canonical_octets, IsEncodable}
+use Rattle.oer_forms.specs.Failures.{Fails}
+use Rattle.oer_forms.specs.Leaves.{Failure, BadValue, BadSize, BadIdentifier, BadTime, TooManyEmpty, TooLong}
+use Rattle.oer_forms.specs.Lengths.{tag_octets}
+use Rattle.oer_forms.specs.Places.{choice_octets}
+use Rattle.oer_forms.specs.Tree.{Tree, Choice}
+use Rattle.oer_forms.specs.Writing.{BeginsWith}
+use Rattle.oer_write.specs.Choices.{Picks, ContentDone, ContentRefused, Appended, ChoiceDone, ChoiceBroken, alternative_octets, WritesAlternative, IsKnownToPick}
+use Rattle.oer_write.specs.Written.{Written, append, Keeps, Encodes, Refused}
+use Rattle.oer_write.proofs.Items.{or_false, or_left}
+use Rattle.oer_write.proofs.Keeping.{keeps_then}
+
+not_above : (a b : ℕ) → a < suc b → nat_lt b a ≡ false
+not_above a b h = grind arith
+
+short_open : (o : Octets) (k : Failure) → length o < 2 ^ 64 → open_fails o k ≡ false
+short_open o TooLong h = not_above (length o) usize_max (omega arith)
+short_open o BadValue h = refl
+short_open o BadSize h = refl
+short_open o BadIdentifier h = refl
+short_open o BadTime h = refl
+short_open o TooManyEmpty h = refl
+
+short_addition : (is_root : Bool) (o : Octets) (k : Failure) → (is_root ≡ false → length o < 2 ^ 64) → (not is_root && open_fails o k) ≡ false
+short_addition true o k h = refl
+short_addition false o k h = short_open o k (h refl)
+
+choice_encodable : (roots additions : List Tag) (tag : Tag) (t : Tree) → IsEncodable t → (holds roots tag ≡ false → length (canonical_octets t) < 2 ^ 64) → IsEncodable (Choice roots additions tag t)
+unfolding fails
+choice_encodable roots additions tag t h short k = or_false _ _ (h k) (short_addition (holds roots tag) (canonical_octets t) k short)
+
+choice_octets_are : (roots additions : List Tag) (tag : Tag) (t : Tree) (content : Octets) → content ≡ canonical_octets t → tag_octets tag ++ alternative_octets (holds roots tag) content ≡ canonical_octets (Choice roots additions tag t)
+unfolding canonical_octets
+choice_octets_are roots additions tag t content same = ap (λ (o : Octets). choice_octets roots tag o) same
+
+alternative_fails : (roots additions : List Tag) (tag : Tag) (t : Tree) (k : EncodeErrorKind) → Fails t k → Fails (Choice roots additions tag t) k
+unfolding fails
+alternative_fails roots additions tag t k f = (f.0, f.1, or_left _ _ f.2)
+
+-- a closure that writes the alternative's tree: the choice is written
+pub choice_done : (picks : Picks) (roots additions : List Tag) (tag : Tag) (t : Tree) (old new : Written) → IsKnownToPick picks tag t → ChoiceDone picks (holds roots tag) tag old new → Encodes (Choice roots additions tag t) old new
+choice_done picks roots additions tag t old new known h =
+    let w : Encodes t h.done.entered h.done.left = (known _ _ _ h.done.ran).1 in
+    let same : h.content ≡ canonical_octets t = append_cancel_left h.done.entered.octets _ _ (sym h.done.wrote ∙ ap (λ (e : Written). e.octets) w.written) in
+    record {
+      encodable = choice_encodable roots additions tag t w.encodable (rw same at h.short);
+      written = h.appended ∙ ap (λ (o : Octets). append o old) (choice_octets_are roots additions tag t h.content same);
+    }
+
+-- and where the choice refuses, it does so by the law
+pub choice_refused : (picks : Picks) (roots additions : List Tag) (tag : Tag) (t : Tree) (old new : Written) (x : EncodeError) → IsKnownToPick picks tag t → ChoiceBroken picks x old new → Refused (Choice roots additions tag t) x.kind old new
+choice_refused picks roots additions tag t old new x known h = record {
+  reason = elim h.reason [
+    | inl m ↦ inl m
+    | inr c ↦ elim (known _ _ _ c.ran).reason [ inl m ↦ inl m | inr f ↦ inr (alternative_fails roots additions tag t x.kind f) ]
+  ];
+  keeps = h.keeps;
+}
+
+-- behind the tag
+tag_keeps : (old middle new : Written) (octets : Octets) → middle ≡ append octets old → new ≡ record middle { octets = new.octets } → BeginsWith middle.octets new.octets → Keeps old new
+tag_keeps old middle new octets first rest begins = keeps_then old middle new
+    (subst (λ (e : Written). Keeps old e) (sym first) (record { octets = (octets, refl); is_open = refl; is_set = refl; extensible = refl; start = refl; outer = refl }))
+    (record { octets = begins; is_open = ap (λ (e : Written). e.frame.is_open) rest; is_set = ap (λ (e : Written). e.frame.is_set) rest; extensible = ap (λ (e : Written). e.frame.extensible) rest; start = ap (λ (e : Written). e.frame.start) rest; outer = ap (λ (e : Written). e.outer) rest })
+
+pub root_broken : (picks : Picks) (x : EncodeError) (old middle new : Written) (octets : Octets) → middle ≡ append octets old → new ≡ record middle { octets = new.octets } → BeginsWith middle.octets new.octets → ContentRefused picks x → ChoiceBroken picks x old new
+root_broken picks x old middle new octets first rest begins h = record { keeps = tag_keeps old middle new octets first rest begins; reason = inr h }
+
+pub root_done : (picks : Picks) (is_root : Bool) (tag : Tag) (old middle new : Written) → is_root ≡ true → middle ≡ append (tag_octets tag) old → new ≡ record middle { octets = new.octets } → Appended picks middle.octets new.octets → ChoiceDone picks is_root tag old new
+root_done picks is_root tag old middle new root first rest h = record {
+  content = h.content;
+  done = h.done;
+  short = λ e. absurd cc;
+  appended = subst (λ (b : Bool). new ≡ append (tag_octets tag ++ alternative_octets b h.content) old) (sym root)
+      (rest ∙ ap (λ (o : Octets). record middle { octets = o }) h.appended ∙ ap (λ (e : Written). record e { octets = e.octets ++ h.content }) first ∙ ap (λ (o : Octets). record old { octets = o }) (append_assoc old.octets _ _));
+}

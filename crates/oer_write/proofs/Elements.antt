@@ -1,0 +1,203 @@
+-- The elements of a list, one after the other, and the tree of the whole.
+use Rattle.std.proofs.Common.{◌≡◌, ℕ, zero, suc, ◌+◌, ◌^◌, ◌<◌, ◌≤◌, Bool, true, false, cond, ◌||◌, List, [], ◌∷◌, ◌++◌, length, take, drop, get_or, refl, ap, ap₂, sym, ◌∙◌, subst, rules, arith, append_assoc, Ok, Err, Result, ◌⊎◌, inl, inr}
+use Rattle.std.specs.Prelude.{Contains, nat_lt}
+use Rattle.std.proofs.lemmas.List.{take_more, append_cancel_left, take-append-drop}
+use Rattle.std.proofs.lemmas.List.Elements.{Contains-append_left}
+use Rattle.asn1_base.specs.Octets.{Octets, joined, usize_max}
+use Rattle.asn1_base.specs.declared.error.EncodeError.{EncodeError}
+use Rattle.asn1_base.specs.declared.error.EncodeErrorKind.{EncodeErrorKind}
+use Rattle.asn1_base.specs.declared.error.EncodeErrorKind.TheVariants.{TooManyEmptyElements}
+use Rattle.oer_forms.specs.Encoding.{fails, trees_fail, list_fails, empties, canonical_octets, canonical_elements, IsEncodable}
+use Rattle.oer_forms.specs.Failures.{Fails, failure_of}
+use Rattle.oer_forms.specs.Leaves.{Failure, BadValue, BadSize, BadIdentifier, BadTime, TooManyEmpty, TooLong}
+use Rattle.oer_forms.specs.Lengths.{quantity_octets}
+use Rattle.oer_forms.specs.Places.{list_octets}
+use Rattle.oer_forms.specs.Spelled.{trees_of, list_of, EachValue}
+use Rattle.oer_forms.specs.Tree.{Tree, ListOf, Trees, NoTrees, More}
+use Rattle.oer_forms.specs.Writing.{BeginsWith}
+use Rattle.oer_write.specs.Scopes.{Runs}
+use Rattle.oer_write.specs.Lists.{is_nil, WroteElement, WroteEach, SoFar, ListDone, ListBroken, ElementDone, ElementTooMany, ElementsDone, ElementsBroken, ElementRefused, IsKnownToWriteAt}
+use Rattle.oer_write.specs.Lists as lists
+use Rattle.oer_write.specs.Written.{Written, Frame, append, Keeps, Encodes, Refused, WritesTree}
+use Rattle.oer_write.proofs.Keeping.{keeps_then}
+use Rattle.oer_write.proofs.Items.{or_false, or_left, or_right}
+
+each_push : {E : Type 0} (runs : E → Runs) (xs : List E) (x : E) (os : List Octets) (o : Octets) → WroteEach runs xs os → WroteElement (runs x) o → WroteEach runs (xs ++ x ∷ []) (os ++ o ∷ [])
+each_push runs [] x [] o h i = (i, tt)
+each_push runs [] x (p ∷ os) o h i = absurd h
+each_push runs (y ∷ xs) x [] o h i = absurd h
+each_push runs (y ∷ xs) x (p ∷ os) o h i = (h.0, each_push runs xs x os o h.1 i)
+
+joined_push : (os : List Octets) (o : Octets) → joined (os ++ o ∷ []) ≡ joined os ++ o
+joined_push [] o = search rules
+joined_push (p ∷ os) o = ap (λ (r : Octets). p ++ r) (joined_push os o) ∙ sym (append_assoc p _ _)
+
+pub empties_one : (o : Octets) (os : List Octets) → empties (o ∷ os) ≡ cond (is_nil o) 1 0 + empties os
+empties_one [] os = omega arith
+empties_one (x ∷ o) os = omega arith
+
+pub empties_push : (os : List Octets) (o : Octets) → empties (os ++ o ∷ []) ≡ empties os + cond (is_nil o) 1 0
+empties_push [] [] = refl
+empties_push [] (x ∷ o) = refl
+empties_push (p ∷ os) o = let more = empties_push os o in rw (empties_one p (os ++ o ∷ []), empties_one p os) (omega (arith, more))
+
+pub each_length : {E : Type 0} (runs : E → Runs) (xs : List E) (os : List Octets) → WroteEach runs xs os → length os ≡ length xs
+each_length runs [] [] h = refl
+each_length runs [] (p ∷ os) h = absurd h
+each_length runs (y ∷ xs) [] h = absurd h
+each_length runs (y ∷ xs) (p ∷ os) h = ap (λ (n : ℕ). suc n) (each_length runs xs os h.1)
+
+-- one more element
+pub one_more : {E : Type 0} (runs : E → Runs) (xs : List E) (i : ℕ) (x : E) (old new newer : Octets) (count next : ℕ) → i < length xs → x ≡ get_or xs i x → SoFar runs (take i xs) old new count → ElementDone (runs x) new newer count next → SoFar runs (take (i + 1) xs) old newer next
+one_more runs xs i x old new newer count next short there h w =
+    rw (take_more xs i x short, ← there)
+    (record {
+      contents = h.contents ++ w.content ∷ [];
+      each = each_push runs _ x _ w.content h.each w.wrote;
+      few = w.few;
+      counted = w.counted ∙ ap (λ (n : ℕ). n + cond (is_nil w.content) 1 0) h.counted ∙ sym (empties_push h.contents w.content);
+      appended = w.appended ∙ ap (λ (l : Octets). l ++ w.content) h.appended ∙ append_assoc old _ _ ∙ ap (λ (l : Octets). old ++ l) (sym (joined_push h.contents w.content));
+    })
+
+-- one more element without octets is too many
+one_too_many : {E : Type 0} (runs : E → Runs) (xs : List E) (i : ℕ) (x : E) (old new : Octets) (count : ℕ) (y : EncodeError) → i < length xs → x ≡ get_or xs i x → SoFar runs (take i xs) old new count → ElementTooMany (runs x) count y → lists.TooManyEmpty runs xs y
+one_too_many runs xs i x old new count y short there h w = record {
+  kind = w.kind;
+  front = i + 1;
+  contents = h.contents ++ w.content ∷ [];
+  each = rw (take_more xs i x short, ← there) (each_push runs _ x _ w.content h.each w.wrote);
+  many =
+      let more : empties (h.contents ++ w.content ∷ []) ≡ empties h.contents + 1 = subst (λ (b : Bool). empties (h.contents ++ w.content ∷ []) ≡ empties h.contents + cond b 1 0) w.empty (empties_push h.contents w.content) in
+      omega (arith, more, h.counted, w.full);
+}
+
+-- the closure refused at an element, or that element was too many
+pub broken_at : {E : Type 0} (runs : E → Runs) (xs : List E) (i : ℕ) (x : E) (old : Octets) (count : ℕ) (y : EncodeError) (e e' : Written) → i < length xs → x ≡ get_or xs i x → SoFar runs (take i xs) old e.octets count → e.frame.is_open ≡ false → runs x e (Err y) e' ⊎ ElementTooMany (runs x) count y → ElementsBroken runs xs y
+broken_at runs xs i x old count y e e' short there h shut (inl ran) = inr (inl (record { element = x; there = (i, short, sym there); entered = e; left = e'; opened = shut; ran = ran }))
+broken_at runs xs i x old count y e e' short there h shut (inr many) = inr (inr (one_too_many runs xs i x old _ count y short there h many))
+
+-- behind the quantity
+pub list_appended : {E : Type 0} {runs : E → Runs} {xs : List E} (old middle new : Written) → length xs < 2 ^ 64 → middle ≡ append (quantity_octets (length xs)) old → new ≡ record middle { octets = new.octets } → ElementsDone runs xs middle.octets new.octets → ListDone runs xs old new
+list_appended {E} {runs} {xs} old middle new short quantity rest h =
+    let count = each_length runs xs h.contents h.each in
+    record {
+      contents = h.contents;
+      each = h.each;
+      few = h.few;
+      counted = rw count short;
+      appended = rw count (rest ∙ ap (λ (o : Octets). record middle { octets = o }) h.appended ∙ ap (λ (e : Written). record e { octets = e.octets ++ joined h.contents }) quantity ∙ ap (λ (o : Octets). record old { octets = o }) (append_assoc old.octets _ _));
+    }
+
+list_keeps : (old middle new : Written) (quantity : Octets) → middle ≡ append quantity old → new ≡ record middle { octets = new.octets } → BeginsWith middle.octets new.octets → Keeps old new
+list_keeps old middle new quantity first rest begins = keeps_then old middle new
+    (subst (λ (e : Written). Keeps old e) (sym first) (record { octets = (quantity, refl); is_open = refl; is_set = refl; extensible = refl; start = refl; outer = refl }))
+    (record { octets = begins; is_open = ap (λ (e : Written). e.frame.is_open) rest; is_set = ap (λ (e : Written). e.frame.is_set) rest; extensible = ap (λ (e : Written). e.frame.extensible) rest; start = ap (λ (e : Written). e.frame.start) rest; outer = ap (λ (e : Written). e.outer) rest })
+
+pub list_broken : {E : Type 0} {runs : E → Runs} {xs : List E} (old middle new : Written) (quantity : Octets) (x : EncodeError) → middle ≡ append quantity old → new ≡ record middle { octets = new.octets } → BeginsWith middle.octets new.octets → ElementsBroken runs xs x → ListBroken runs xs x old new
+list_broken old middle new quantity x first rest begins broken = record { keeps = list_keeps old middle new quantity first rest begins; reason = broken }
+
+contains_first : {E : Type 0} (x : E) (xs : List E) → Contains (x ∷ xs) x
+contains_first x xs = (0, omega arith, refl)
+
+contains_more : {E : Type 0} (y x : E) (xs : List E) → Contains xs x → Contains (y ∷ xs) x
+contains_more y x xs h = (suc h.0, omega (arith, h.1), h.2)
+
+-- what holds of each element that was written
+pub each_value : {E : Type 0} (runs : E → Runs) (IsValue : E → Type 0) (xs : List E) (os : List Octets) → ((x : E) (e e' : Written) → runs x e (Ok tt) e' → IsValue x) → WroteEach runs xs os → EachValue IsValue xs
+each_value runs IsValue [] os known w = tt
+each_value runs IsValue (x ∷ xs) [] known w = absurd w
+each_value runs IsValue (x ∷ xs) (o ∷ os) known w = (known x _ _ w.0.ran, each_value runs IsValue xs os known w.1)
+
+not_above : (a b : ℕ) → a < suc b → nat_lt b a ≡ false
+not_above a b h = grind arith
+
+above : (a b : ℕ) → b < a → nat_lt b a ≡ true
+above a b h = grind arith
+
+list_fits : (own : List Octets) (k : Failure) → empties own < 65537 → length own < 2 ^ 64 → list_fails own k ≡ false
+list_fits own TooManyEmpty few short = not_above (empties own) 65536 few
+list_fits own TooLong few short = not_above (length own) usize_max (omega arith)
+list_fits own BadValue few short = refl
+list_fits own BadSize few short = refl
+list_fits own BadIdentifier few short = refl
+list_fits own BadTime few short = refl
+
+module _ {E : Type 0} (runs : E → Runs) (tree : E → Tree) where
+  -- an element that was written has the octets of its tree
+  element_octets : (x : E) (o : Octets) → ((e e' : Written) (r : Result (Unit {0}) EncodeError) → runs x e r e' → WritesTree (tree x) e r e') → WroteElement (runs x) o → (o ≡ canonical_octets (tree x)) × IsEncodable (tree x)
+  element_octets x o known w =
+      let h : Encodes (tree x) w.entered w.left = known _ _ _ w.ran in
+      (append_cancel_left w.entered.octets _ _ (sym w.wrote ∙ ap (λ (e : Written). e.octets) h.written), h.encodable)
+
+  contents_are : (xs : List E) (os : List Octets) → IsKnownToWriteAt runs xs tree → WroteEach runs xs os → os ≡ canonical_elements (trees_of tree xs)
+  unfolding canonical_octets
+  contents_are [] [] known w = refl
+  contents_are [] (o ∷ os) known w = absurd w
+  contents_are (x ∷ xs) [] known w = absurd w
+  contents_are (x ∷ xs) (o ∷ os) known w =
+      let here : o ≡ canonical_octets (tree x) = (element_octets x o (λ e e' r p. known x e e' r (contains_first x xs) p) w.0).0 in
+      let rest : os ≡ canonical_elements (trees_of tree xs) = contents_are xs os (λ y e e' r there p. known y e e' r (contains_more x y xs there) p) w.1 in
+      ap₂ (λ (a : Octets) (b : List Octets). a ∷ b) here rest
+
+  none_fails : (xs : List E) (os : List Octets) → IsKnownToWriteAt runs xs tree → WroteEach runs xs os → (k : Failure) → trees_fail (trees_of tree xs) k ≡ false
+  unfolding fails
+  none_fails [] os known w k = refl
+  none_fails (x ∷ xs) [] known w k = absurd w
+  none_fails (x ∷ xs) (o ∷ os) known w k = or_false _ _ ((element_octets x o (λ e e' r p. known x e e' r (contains_first x xs) p) w.0).1 k) (none_fails xs os (λ y e e' r there p. known y e e' r (contains_more x y xs there) p) w.1 k)
+
+  list_encodable : (ordered : Bool) (xs : List E) (own : List Octets) → own ≡ canonical_elements (trees_of tree xs) → ((k : Failure) → trees_fail (trees_of tree xs) k ≡ false) → empties own < 65537 → length own < 2 ^ 64 → IsEncodable (ListOf ordered (trees_of tree xs))
+  unfolding fails
+  list_encodable ordered xs own same fine few short k = or_false _ _ (fine k) (rw (← same) (list_fits own k few short))
+
+  written_octets : (xs : List E) (own : List Octets) → own ≡ canonical_elements (trees_of tree xs) → quantity_octets (length own) ++ joined own ≡ canonical_octets (ListOf true (trees_of tree xs))
+  unfolding canonical_octets
+  written_octets xs own same = ap (λ (o : List Octets). list_octets true o) same
+
+  -- a closure that writes each element by its tree: the list is written
+  pub list_done : (xs : List E) (old new : Written) → IsKnownToWriteAt runs xs tree → ListDone runs xs old new → Encodes (list_of true tree xs) old new
+  unfolding list_of
+  list_done xs old new known h =
+      let same : h.contents ≡ canonical_elements (trees_of tree xs) = contents_are xs h.contents known h.each in
+      record {
+        encodable = list_encodable true xs h.contents same (none_fails xs h.contents known h.each) h.few h.counted;
+        written = h.appended ∙ ap (λ (o : Octets). append o old) (written_octets xs h.contents same);
+      }
+
+  fails_there : (k : Failure) (xs : List E) (i : ℕ) (x : E) → i < length xs → get_or xs i x ≡ x → fails (tree x) k ≡ true → trees_fail (trees_of tree xs) k ≡ true
+  unfolding fails
+  fails_there k [] i x short there f = absurd (omega arith)
+  fails_there k (y ∷ xs) zero x short there f = or_left _ _ (subst (λ (z : E). fails (tree z) k ≡ true) (sym there) f)
+  fails_there k (y ∷ xs) (suc i) x short there f = or_right (fails (tree y) k) _ (fails_there k xs i x (omega arith) there f)
+
+  empties_front : (n : ℕ) (xs : List E) → empties (canonical_elements (trees_of tree (take n xs))) ≤ empties (canonical_elements (trees_of tree xs))
+  unfolding canonical_octets
+  empties_front zero xs = omega arith
+  empties_front (suc n) [] = omega arith
+  empties_front (suc n) (x ∷ xs) = let rest = empties_front n xs in rw (empties_one (canonical_octets (tree x)) (canonical_elements (trees_of tree (take n xs))), empties_one (canonical_octets (tree x)) (canonical_elements (trees_of tree xs))) (omega (arith, rest))
+
+  contains_front : (n : ℕ) (xs : List E) (x : E) → Contains (take n xs) x → Contains xs x
+  contains_front n xs x h = subst (λ (ys : List E). Contains ys x) (take-append-drop n xs) (Contains-append_left (take n xs) (drop n xs) x h)
+
+  element_fails : (ordered : Bool) (xs : List E) (x : E) (k : EncodeErrorKind) → Contains xs x → Fails (tree x) k → Fails (ListOf ordered (trees_of tree xs)) k
+  unfolding fails
+  element_fails ordered xs x k there f = (f.0, f.1, or_left _ _ (fails_there f.0 xs there.0 x there.1 there.2 f.2))
+
+  many_fail : (ordered : Bool) (xs : List E) (k : EncodeErrorKind) → k ≡ TooManyEmptyElements → 65536 < empties (canonical_elements (trees_of tree xs)) → Fails (ListOf ordered (trees_of tree xs)) k
+  unfolding fails
+  many_fail ordered xs k is many = (TooManyEmpty, ap failure_of is, or_right (trees_fail (trees_of tree xs) TooManyEmpty) _ (above _ _ many))
+
+  -- and where the list refuses, it does so by the law
+  pub list_refused : (xs : List E) (old new : Written) (x : EncodeError) → IsKnownToWriteAt runs xs tree → ListBroken runs xs x old new → Refused (list_of true tree xs) x.kind old new
+  unfolding list_of
+  list_refused xs old new x known h = record {
+    reason = elim h.reason [
+      | inl m ↦ inl m
+      | inr f ↦ elim f [
+        | inl r ↦ elim (known r.element _ _ _ r.there r.ran).reason [ inl m ↦ inl m | inr g ↦ inr (element_fails true xs r.element x.kind r.there g) ]
+        | inr m ↦ inr (many_fail true xs x.kind m.kind (let same : m.contents ≡ canonical_elements (trees_of tree (take m.front xs)) = contents_are (take m.front xs) m.contents (λ y e e' s there p. known y e e' s (contains_front m.front xs y there) p) m.each in
+            let many : 65536 < empties (canonical_elements (trees_of tree (take m.front xs))) = rw same at m.many in
+            omega (arith, many, empties_front m.front xs)))
+      ]
+    ];
+    keeps = h.keeps;
+  }

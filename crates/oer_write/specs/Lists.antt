@@ -1,0 +1,122 @@
+-- What a list asks of the closure that writes its elements, and what it does with what that wrote.
+use Rattle.std.specs.Prelude.{◌≡◌, ℕ, ◌+◌, ◌^◌, ◌<◌, Bool, true, false, cond, List, [], ◌∷◌, ◌++◌, ◌⊎◌, ⊤, length, take, Result, Ok, Err, Contains}
+use Rattle.std.specs.Borrow.{Bor, MutBor}
+use Rattle.std.specs.Fn.{Shared}
+use Rattle.asn1_base.specs.Octets.{Octets, joined}
+use Rattle.asn1_base.specs.declared.error.EncodeError.{EncodeError}
+use Rattle.asn1_base.specs.declared.error.EncodeErrorKind.TheVariants.{OutOfMemory, TooManyEmptyElements}
+use Rattle.oer_forms.specs.Encoding.{empties}
+use Rattle.oer_forms.specs.Lengths.{quantity_octets}
+use Rattle.oer_forms.specs.Tree.{Tree}
+use Rattle.oer_write.specs.Scopes.{Runs}
+use Rattle.oer_write.specs.Written.{Written, append, Keeps, WritesTree}
+
+-- the closure may be called at this element
+abbrev pub TakesElement : {F E : Type 0} → Shared F (MutBor Written × (Bor E × Unit {0})) (Result (Unit {0}) EncodeError × (MutBor Written × Unit {0})) → F → E → Type 0
+TakesElement {F} {E} g f x = (shown : MutBor Written) (element : Bor E) → element.now ≡ x → g.pre f (shown, (element, tt))
+
+-- what the closure may do at an element
+pub record PromiseAt {F E : Type 0} (g : Shared F (MutBor Written × (Bor E × Unit {0})) (Result (Unit {0}) EncodeError × (MutBor Written × Unit {0}))) (f : F) (x : E) (e : Written) (r : Result (Unit {0}) EncodeError) (e' : Written) : Type 0 where
+  pub shown : MutBor Written
+  pub element : Bor E
+  pub left : MutBor Written
+  pub shows : shown.now ≡ e
+  pub is : element.now ≡ x
+  pub met : g.post f (shown, (element, tt)) (r, (left, tt))
+  pub leaves : left.now ≡ e'
+
+-- the octets of an element: what the closure appended in some encoder with no scope open
+pub record WroteElement (runs : Runs) (octets : Octets) : Type 0 where
+  pub entered : Written
+  pub left : Written
+  pub opened : entered.frame.is_open ≡ false
+  pub ran : runs entered (Ok tt) left
+  pub wrote : left.octets ≡ entered.octets ++ octets
+
+-- the octets of each element in turn
+abbrev pub WroteEach : {E : Type 0} → (E → Runs) → List E → List Octets → Type 0
+WroteEach runs [] [] = ⊤
+WroteEach runs [] (o ∷ os) = ⊥
+WroteEach runs (x ∷ xs) [] = ⊥
+WroteEach runs (x ∷ xs) (o ∷ os) = WroteElement (runs x) o × WroteEach runs xs os
+
+-- whatever encoder with no scope open the closure is lent, the octets before and the open scopes stay
+abbrev pub IsOrderlyAt : {E : Type 0} → (E → Runs) → List E → Type 0
+IsOrderlyAt {E} runs xs = (x : E) (e e' : Written) (r : Result (Unit {0}) EncodeError) → Contains xs x → e.frame.is_open ≡ false → runs x e r e' → Keeps e e'
+
+abbrev pub IsOrderlyHere : Runs → Type 0
+IsOrderlyHere runs = (e e' : Written) (r : Result (Unit {0}) EncodeError) → e.frame.is_open ≡ false → runs e r e' → Keeps e e'
+
+-- a list was written: a quantity, and the elements' octets (X.696, 17)
+pub record ListDone {E : Type 0} (runs : E → Runs) (xs : List E) (old new : Written) : Type 0 where
+  pub contents : List Octets
+  pub each : WroteEach runs xs contents
+  pub few : empties contents < 65537
+  pub counted : length contents < 2 ^ 64
+  pub appended : new ≡ append (quantity_octets (length contents) ++ joined contents) old
+
+-- the closure refused at an element
+pub record ElementRefused {E : Type 0} (runs : E → Runs) (xs : List E) (x : EncodeError) : Type 0 where
+  pub element : E
+  pub there : Contains xs element
+  pub entered : Written
+  pub left : Written
+  pub opened : entered.frame.is_open ≡ false
+  pub ran : runs element entered (Err x) left
+
+-- the elements so far have too many among them that take no octets
+pub record TooManyEmpty {E : Type 0} (runs : E → Runs) (xs : List E) (x : EncodeError) : Type 0 where
+  pub kind : x.kind ≡ TooManyEmptyElements
+  pub front : ℕ
+  pub contents : List Octets
+  pub each : WroteEach runs (take front xs) contents
+  pub many : 65536 < empties contents
+
+abbrev pub ElementsBroken : {E : Type 0} → (E → Runs) → List E → EncodeError → Type 0
+ElementsBroken runs xs x = (x.kind ≡ OutOfMemory) ⊎ (ElementRefused runs xs x ⊎ TooManyEmpty runs xs x)
+
+-- The list refuses what its closure refused, the 65,537th element without octets, or for want of memory.
+pub record ListBroken {E : Type 0} (runs : E → Runs) (xs : List E) (x : EncodeError) (old new : Written) : Type 0 where
+  pub keeps : Keeps old new
+  pub reason : ElementsBroken runs xs x
+
+-- whatever encoder with no scope open the closure is lent, it writes the element by its tree
+abbrev pub IsKnownToWriteAt : {E : Type 0} → (E → Runs) → List E → (E → Tree) → Type 0
+IsKnownToWriteAt {E} runs xs tree = (x : E) (e e' : Written) (r : Result (Unit {0}) EncodeError) → Contains xs x → runs x e r e' → WritesTree (tree x) e r e'
+
+-- ---- within the loop
+
+abbrev pub is_nil : Octets → Bool
+is_nil [] = true
+is_nil (x ∷ o) = false
+
+-- an element was appended, with the count of those without octets before and after it
+pub record ElementDone (runs : Runs) (old new : Octets) (count next : ℕ) : Type 0 where
+  pub content : Octets
+  pub wrote : WroteElement runs content
+  pub appended : new ≡ old ++ content
+  pub counted : next ≡ count + cond (is_nil content) 1 0
+  pub few : next < 65537
+
+-- an element without octets after 65,536 such
+pub record ElementTooMany (runs : Runs) (count : ℕ) (x : EncodeError) : Type 0 where
+  pub kind : x.kind ≡ TooManyEmptyElements
+  pub content : Octets
+  pub wrote : WroteElement runs content
+  pub empty : is_nil content ≡ true
+  pub full : count ≡ 65536
+
+-- the octets of the elements were appended
+pub record ElementsDone {E : Type 0} (runs : E → Runs) (xs : List E) (old new : Octets) : Type 0 where
+  pub contents : List Octets
+  pub each : WroteEach runs xs contents
+  pub few : empties contents < 65537
+  pub appended : new ≡ old ++ joined contents
+
+-- these elements were appended, so many of them without octets
+pub record SoFar {E : Type 0} (runs : E → Runs) (xs : List E) (old new : Octets) (count : ℕ) : Type 0 where
+  pub contents : List Octets
+  pub each : WroteEach runs xs contents
+  pub few : count < 65537
+  pub counted : count ≡ empties contents
+  pub appended : new ≡ old ++ joined contents

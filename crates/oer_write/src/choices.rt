@@ -1,0 +1,181 @@
+//! Choices: a tag, and the alternative that the closure writes.
+ghost use Rattle.std.specs.Prelude.{◌≡◌, ◌^◌, ◌<◌, Bool, true, false, ◌++◌, length, OnOk, IfOk, IfErr};
+ghost use Rattle.asn1_base.specs.Tags.{holds};
+ghost use Rattle.asn1_base.specs.declared.error.EncodeErrorKind.TheVariants.{OutOfMemory};
+ghost use Rattle.oer_forms.specs.Lengths.{behind_length, tag_octets};
+ghost use Rattle.oer_forms.specs.Tree.{Tree, Choice};
+ghost use Rattle.oer_forms.specs.Writing.{Appends, BeginsWith};
+ghost use Rattle.oer_write.specs.Choices.{PromisePick, PicksTag, ContentDone, ContentRefused, Appended, ChoiceDone, ChoiceBroken, IsKnownToPick};
+ghost use Rattle.oer_write.specs.Written.{append, Keeps, Encodes, Refused};
+
+use crate::enc::EncoderOptions;
+use crate::encoder::Encoder;
+use crate::scope::Scope;
+use asn1_base::{Choice, Constraints, EncodeError, EncodeErrorKind, Tag};
+use oer_forms::leaf::write::{write_content, write_tag};
+use std::alloc::Global;
+
+/// Whether the tag is one of those.
+fn is_among(tags: &[Tag], tag: Tag) -> bool
+    ensures { result ≡ holds tags.now tag }
+{
+    for known in tags {
+        if *known == tag {
+            return true;
+        }
+    }
+    false
+}
+
+/// Appends a tag and an open type.
+fn write_addition(tag: Tag, content: &[u8], out: &mut Vec<u8>) -> Result<(), EncodeErrorKind>
+    ensures { Appends result (tag_octets tag ++ behind_length content.now) out.old.items out.new.items }
+{
+    write_tag(tag, out)?;
+    write_content(content, out)
+}
+
+/// Lends an encoder to a closure that answers a tag.
+fn lend_pick<F: FnOnce(&mut Encoder<'_>) -> Result<Tag, EncodeError>>(
+    encoder: &mut Encoder<'_>,
+    f: F,
+) -> Result<Tag, EncodeError>
+    requires callable { F.IsAlwaysCallable f }
+    ensures { PromisePick F.FnOnce f encoder.old result encoder.new }
+{
+    f(encoder)
+}
+
+/// Lends an encoder with no scope open to a closure that answers a tag.
+fn pick<F: FnOnce(&mut Encoder<'_>) -> Result<Tag, EncodeError>>(
+    encoder: &mut Encoder<'_>,
+    tag: Tag,
+    f: F,
+) -> Result<(), EncodeError>
+    requires callable { F.IsAlwaysCallable f }
+    requires picks { PicksTag (PromisePick F.FnOnce f) tag }
+    requires shut { encoder.old.frame.is_open ≡ false }
+    ensures done { OnOk result (Appended (PromisePick F.FnOnce f) encoder.old.octets encoder.new.octets) }
+    ensures refused { IfErr result (λ x. ContentRefused (PromisePick F.FnOnce f) x) }
+    ensures keeps { Keeps encoder.old encoder.new }
+{
+    lend_pick(encoder, f)?;
+    Ok(())
+}
+
+/// What a closure writes on its own.
+fn content_by<F: FnOnce(&mut Encoder<'_>) -> Result<Tag, EncodeError>>(
+    alloc: Global,
+    tag: Tag,
+    f: F,
+) -> Result<Vec<u8>, EncodeError>
+    requires callable { F.IsAlwaysCallable f }
+    requires picks { PicksTag (PromisePick F.FnOnce f) tag }
+    ensures done { IfOk result (λ v. ContentDone (PromisePick F.FnOnce f) v.items × (length v.items < 2 ^ 64)) }
+    ensures refused { IfErr result (λ x. ContentRefused (PromisePick F.FnOnce f) x) }
+{
+    let mut output = Vec::new(alloc);
+    let mut worker = Vec::new(alloc);
+    let mut encoder = Encoder::from_buffer(alloc, EncoderOptions::coer(), &mut output, &mut worker);
+    pick(&mut encoder, tag, f)?;
+    let (octets, _scope) = encoder.into_parts();
+    let _size = octets.len();
+    Ok(octets)
+}
+
+impl<'buffer> Encoder<'buffer> {
+    /// Writes a CHOICE (X.696, 20): the tag, and the alternative that the closure writes, which answers that tag.
+    ///
+    /// What the closure appends in an encoder with no scope open is what stands behind the tag: as it is where the tag is
+    /// one of the root alternatives, else as an open type. Refused by what the closure refused, or for want of memory.
+    pub fn encode_choice<E: Choice, F: FnOnce(&mut Encoder<'_>) -> Result<Tag, EncodeError>>(
+        &mut self,
+        _constraints: Constraints,
+        tag: Tag,
+        f: F,
+    ) -> Result<(), EncodeError>
+        requires callable { F.IsAlwaysCallable f }
+        requires picks { PicksTag (PromisePick F.FnOnce f) tag }
+        ensures done { OnOk result (ChoiceDone (PromisePick F.FnOnce f) (holds E.root_tags tag) tag self.old self.new) }
+        ensures refused { IfErr result (λ x. ChoiceBroken (PromisePick F.FnOnce f) x self.old self.new) }
+        ensures tree { (t : Tree) → IsKnownToPick (PromisePick F.FnOnce f) tag t → OnOk result (Encodes (Choice E.root_tags E.addition_tags tag t) self.old self.new) }
+        ensures tree_refused { (t : Tree) → IsKnownToPick (PromisePick F.FnOnce f) tag t → IfErr result (λ x. Refused (Choice E.root_tags E.addition_tags tag t) x.kind self.old self.new) }
+    {
+        self.choice(tag, is_among(E::root_tags(), tag), f)
+    }
+
+    fn choice<F: FnOnce(&mut Encoder<'_>) -> Result<Tag, EncodeError>>(
+        &mut self,
+        tag: Tag,
+        is_root: bool,
+        f: F,
+    ) -> Result<(), EncodeError>
+        requires callable { F.IsAlwaysCallable f }
+        requires picks { PicksTag (PromisePick F.FnOnce f) tag }
+        ensures done { OnOk result (ChoiceDone (PromisePick F.FnOnce f) is_root tag self.old self.new) }
+        ensures refused { IfErr result (λ x. ChoiceBroken (PromisePick F.FnOnce f) x self.old self.new) }
+    {
+        if is_root {
+            return self.root_choice(tag, f);
+        }
+        let content = content_by(self.alloc, tag, f)?;
+        self.put_addition_choice(tag, &content)?;
+        Ok(())
+    }
+
+    fn put_addition_choice(&mut self, tag: Tag, content: &[u8]) -> Result<(), EncodeErrorKind>
+        ensures done { OnOk result (self.new ≡ append (tag_octets tag ++ behind_length content.now) self.old) }
+        ensures refused { IfErr result (λ k. (k ≡ OutOfMemory) × Keeps self.old self.new) }
+    {
+        write_addition(tag, content, &mut *self.output)?;
+        Ok(())
+    }
+
+    fn put_tag(&mut self, tag: Tag) -> Result<(), EncodeErrorKind>
+        ensures done { OnOk result (self.new ≡ append (tag_octets tag) self.old) }
+        ensures refused { IfErr result (λ k. (k ≡ OutOfMemory) × Keeps self.old self.new) }
+    {
+        write_tag(tag, &mut *self.output)?;
+        Ok(())
+    }
+
+    /// Writes a root alternative straight behind the tag.
+    fn root_choice<F: FnOnce(&mut Encoder<'_>) -> Result<Tag, EncodeError>>(
+        &mut self,
+        tag: Tag,
+        f: F,
+    ) -> Result<(), EncodeError>
+        requires callable { F.IsAlwaysCallable f }
+        requires picks { PicksTag (PromisePick F.FnOnce f) tag }
+        ensures done { OnOk result (ChoiceDone (PromisePick F.FnOnce f) true tag self.old self.new) }
+        ensures refused { IfErr result (λ x. ChoiceBroken (PromisePick F.FnOnce f) x self.old self.new) }
+    {
+        self.put_tag(tag)?;
+        self.lend_inside(tag, f)
+    }
+
+    /// Lends an encoder with no scope open, over the same output.
+    fn lend_inside<F: FnOnce(&mut Encoder<'_>) -> Result<Tag, EncodeError>>(
+        &mut self,
+        tag: Tag,
+        f: F,
+    ) -> Result<(), EncodeError>
+        requires callable { F.IsAlwaysCallable f }
+        requires picks { PicksTag (PromisePick F.FnOnce f) tag }
+        ensures done { OnOk result (Appended (PromisePick F.FnOnce f) self.old.octets self.new.octets) }
+        ensures refused { IfErr result (λ x. ContentRefused (PromisePick F.FnOnce f) x) }
+        ensures begins { BeginsWith self.old.octets self.new.octets }
+        ensures left { self.new ≡ record self.old { octets = self.new.octets } }
+    {
+        let mut inner = Encoder {
+            output: &mut *self.output,
+            scope: Scope::none(self.alloc),
+            is_lent: true,
+            alloc: self.alloc,
+        };
+        let answer = pick(&mut inner, tag, f);
+        let (octets, _scope) = inner.into_parts();
+        *self.output = octets;
+        answer
+    }
+}

@@ -1,0 +1,191 @@
+//! Lists: a quantity and the elements, written straight behind the octets of before.
+ghost use Rattle.std.specs.Prelude.{◌≡◌, ◌+◌, ◌<◌, ◌⊎◌, Bool, true, false, List, ◌++◌, length, Contains, Err, OnOk, IfOk, IfErr};
+ghost use Rattle.asn1_base.specs.Octets.{Octets};
+ghost use Rattle.asn1_base.specs.declared.error.EncodeErrorKind.TheVariants.{OutOfMemory};
+ghost use Rattle.oer_forms.specs.Lengths.{quantity_octets};
+ghost use Rattle.oer_forms.specs.Spelled.{list_of, EachValue};
+ghost use Rattle.oer_forms.specs.Tree.{Tree};
+ghost use Rattle.oer_forms.specs.Writing.{BeginsWith};
+ghost use Rattle.oer_write.specs.Lists.{is_nil, TakesElement, PromiseAt, WroteElement, IsOrderlyAt, IsOrderlyHere, ElementDone, ElementTooMany, ElementsDone, ElementsBroken, ListDone, ListBroken, IsKnownToWriteAt};
+ghost use Rattle.oer_write.specs.Written.{append, closed, Keeps, Encodes, Refused, WritesTree};
+
+use crate::encode::Encode;
+use crate::encoder::Encoder;
+use crate::scope::Scope;
+use asn1_base::{Constraints, EncodeError, EncodeErrorKind, Tag};
+use oer_forms::leaf::write::write_quantity;
+
+/// At most so many elements of one list may take no octets (the project's own choice).
+const MAX_EMPTY_ELEMENTS: u32 = 65536;
+
+/// Lends an encoder and an element to a closure.
+fn lend_at<E, F: Fn(&mut Encoder<'_>, &E) -> Result<(), EncodeError>>(
+    encoder: &mut Encoder<'_>,
+    f: &F,
+    x: &E,
+) -> Result<(), EncodeError>
+    requires callable { TakesElement F.Fn f.now x.now }
+    ensures { PromiseAt F.Fn f.now x.now encoder.old result encoder.new }
+{
+    f(encoder, x)
+}
+
+/// Writes one element, and says whether it took no octets.
+fn put_alone<E, F: Fn(&mut Encoder<'_>, &E) -> Result<(), EncodeError>>(
+    encoder: &mut Encoder<'_>,
+    f: &F,
+    x: &E,
+) -> Result<bool, EncodeError>
+    requires callable { TakesElement F.Fn f.now x.now }
+    requires shut { encoder.old.frame.is_open ≡ false }
+    requires orderly { IsOrderlyHere (PromiseAt F.Fn f.now x.now) }
+    ensures done { IfOk result (λ empty. (o : Octets) × WroteElement (PromiseAt F.Fn f.now x.now) o × (encoder.new.octets ≡ encoder.old.octets ++ o) × (empty ≡ is_nil o)) }
+    ensures refused { IfErr result (λ y. PromiseAt F.Fn f.now x.now encoder.old (Err y) encoder.new) }
+    ensures keeps { Keeps encoder.old encoder.new }
+{
+    let before = encoder.written();
+    lend_at(encoder, f, x)?;
+    Ok(encoder.written() == before)
+}
+
+/// Writes one element, and counts those that take no octets.
+fn put_element<E, F: Fn(&mut Encoder<'_>, &E) -> Result<(), EncodeError>>(
+    encoder: &mut Encoder<'_>,
+    f: &F,
+    x: &E,
+    count: u32,
+) -> Result<u32, EncodeError>
+    requires callable { TakesElement F.Fn f.now x.now }
+    requires shut { encoder.old.frame.is_open ≡ false }
+    requires orderly { IsOrderlyHere (PromiseAt F.Fn f.now x.now) }
+    requires few { count < 65537 }
+    ensures done { IfOk result (λ n. ElementDone (PromiseAt F.Fn f.now x.now) encoder.old.octets encoder.new.octets count n) }
+    ensures refused { IfErr result (λ y. PromiseAt F.Fn f.now x.now encoder.old (Err y) encoder.new ⊎ ElementTooMany (PromiseAt F.Fn f.now x.now) count y) }
+    ensures keeps { Keeps encoder.old encoder.new }
+{
+    if !put_alone(encoder, f, x)? {
+        return Ok(count);
+    }
+    if count == MAX_EMPTY_ELEMENTS {
+        return Err(EncodeError::from(EncodeErrorKind::TooManyEmptyElements));
+    }
+    Ok(count + 1)
+}
+
+/// Writes the elements in turn.
+fn put_elements<E, F: Fn(&mut Encoder<'_>, &E) -> Result<(), EncodeError>>(
+    encoder: &mut Encoder<'_>,
+    elements: &[E],
+    f: &F,
+) -> Result<(), EncodeError>
+    requires callable { (x : E) → Contains elements.now x → TakesElement F.Fn f.now x }
+    requires shut { encoder.old.frame.is_open ≡ false }
+    requires orderly { IsOrderlyAt (PromiseAt F.Fn f.now) elements.now }
+    ensures done { OnOk result (ElementsDone (PromiseAt F.Fn f.now) elements.now encoder.old.octets encoder.new.octets) }
+    ensures refused { IfErr result (λ x. ElementsBroken (PromiseAt F.Fn f.now) elements.now x) }
+    ensures keeps { Keeps encoder.old encoder.new }
+{
+    let mut empty_count: u32 = 0;
+    for x in elements {
+        empty_count = put_element(encoder, f, x, empty_count)?;
+    }
+    Ok(())
+}
+
+impl<'buffer> Encoder<'buffer> {
+    /// Writes a list (X.696, 17): its quantity, and each element by the closure.
+    ///
+    /// What the closure appends at each element, in an encoder with no scope open, is what is appended. Refused by what the
+    /// closure refused, at the 65,537th element without octets by `TooManyEmptyElements`, or for want of memory.
+    pub fn encode_sequence_of_with<E, F: Fn(&mut Encoder<'_>, &E) -> Result<(), EncodeError>>(
+        &mut self,
+        _tag: Tag,
+        _constraints: Constraints,
+        value: &[E],
+        f: F,
+    ) -> Result<(), EncodeError>
+        requires callable { (x : E) → Contains value.now x → TakesElement F.Fn f x }
+        requires orderly { IsOrderlyAt (PromiseAt F.Fn f) value.now }
+        ensures done { OnOk result (ListDone (PromiseAt F.Fn f) value.now self.old self.new) }
+        ensures refused { IfErr result (λ x. ListBroken (PromiseAt F.Fn f) value.now x self.old self.new) }
+        ensures tree { (tree : E → Tree) → IsKnownToWriteAt (PromiseAt F.Fn f) value.now tree → OnOk result (Encodes (list_of true tree value.now) self.old self.new) }
+        ensures tree_refused { (tree : E → Tree) → IsKnownToWriteAt (PromiseAt F.Fn f) value.now tree → IfErr result (λ x. Refused (list_of true tree value.now) x.kind self.old self.new) }
+    {
+        self.list(value, &f)
+    }
+
+    fn list<E, F: Fn(&mut Encoder<'_>, &E) -> Result<(), EncodeError>>(
+        &mut self,
+        value: &[E],
+        f: &F,
+    ) -> Result<(), EncodeError>
+        requires callable { (x : E) → Contains value.now x → TakesElement F.Fn f.now x }
+        requires orderly { IsOrderlyAt (PromiseAt F.Fn f.now) value.now }
+        ensures done { OnOk result (ListDone (PromiseAt F.Fn f.now) value.now self.old self.new) }
+        ensures refused { IfErr result (λ x. ListBroken (PromiseAt F.Fn f.now) value.now x self.old self.new) }
+    {
+        self.put_quantity(value.len())?;
+        self.put_all(value, f)
+    }
+
+    /// Writes a quantity.
+    fn put_quantity(&mut self, count: usize) -> Result<(), EncodeErrorKind>
+        ensures done { OnOk result (self.new ≡ append (quantity_octets count) self.old) }
+        ensures refused { IfErr result (λ k. (k ≡ OutOfMemory) × Keeps self.old self.new) }
+    {
+        write_quantity(count, &mut *self.output)?;
+        Ok(())
+    }
+
+    /// Lends an encoder with no scope open, for each element.
+    fn put_all<E, F: Fn(&mut Encoder<'_>, &E) -> Result<(), EncodeError>>(
+        &mut self,
+        value: &[E],
+        f: &F,
+    ) -> Result<(), EncodeError>
+        requires callable { (x : E) → Contains value.now x → TakesElement F.Fn f.now x }
+        requires orderly { IsOrderlyAt (PromiseAt F.Fn f.now) value.now }
+        ensures done { OnOk result (ElementsDone (PromiseAt F.Fn f.now) value.now self.old.octets self.new.octets) }
+        ensures refused { IfErr result (λ x. ElementsBroken (PromiseAt F.Fn f.now) value.now x) }
+        ensures begins { BeginsWith self.old.octets self.new.octets }
+        ensures left { self.new ≡ record self.old { octets = self.new.octets } }
+    {
+        let mut inner = Encoder {
+            output: &mut *self.output,
+            scope: Scope::none(self.alloc),
+            is_lent: true,
+            alloc: self.alloc,
+        };
+        let answer = put_elements(&mut inner, value, f);
+        let (octets, _scope) = inner.into_parts();
+        *self.output = octets;
+        answer
+    }
+}
+
+impl<'buffer> Encoder<'buffer> {
+    /// Writes a SEQUENCE OF (X.696, 17): its quantity, and each element under its type's own constraints.
+    ///
+    /// Refused by what an element is refused by, at the 65,537th element without octets by `TooManyEmptyElements`, or for
+    /// want of memory.
+    pub fn encode_sequence_of<E: Encode>(
+        &mut self,
+        tag: Tag,
+        constraints: Constraints,
+        value: &[E],
+    ) -> Result<(), EncodeError>
+        ensures done { OnOk result (Encodes (list_of true (E.tree E.CONSTRAINTS) value.now) self.old self.new) }
+        ensures value { OnOk result (EachValue E.IsValue value.now) }
+        ensures refused { IfErr result (λ x. Refused (list_of true (E.tree E.CONSTRAINTS) value.now) x.kind self.old self.new) }
+    {
+        self.encode_sequence_of_with(
+            tag,
+            constraints,
+            value,
+            |encoder: &mut Encoder<'_>, x: &E| -> Result<(), EncodeError>
+                ensures written { WritesTree (E.tree E.CONSTRAINTS x.now) encoder.old result encoder.new }
+                ensures value { OnOk result (E.IsValue x.now) }
+            { x.encode(encoder) },
+        )
+    }
+}

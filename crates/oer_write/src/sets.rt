@@ -1,0 +1,107 @@
+//! Sets: root components in the order of their tags, whatever the order in which they are handed in.
+ghost use Rattle.std.specs.Prelude.{◌≡◌, ◌++◌, true, map, OnOk, IfErr};
+ghost use Rattle.asn1_base.specs.declared.error.EncodeErrorKind.TheVariants.{OutOfMemory};
+ghost use Rattle.oer_forms.specs.Places.{bodies, by_tag, presence};
+ghost use Rattle.oer_forms.specs.Tree.{Rows, Struct};
+ghost use Rattle.oer_forms.specs.Writing.{Appends, BeginsWith};
+ghost use Rattle.oer_write.specs.Rows.{IsKnownToWriteSet};
+ghost use Rattle.oer_write.specs.Scopes.{Promise, IsOrderly, SetClosed, Broken, set_octets};
+ghost use Rattle.oer_write.specs.Seen.{frame_of, item};
+ghost use Rattle.oer_write.specs.Written.{Encodes, Refused};
+
+use crate::component::Component;
+use crate::encoder::Encoder;
+use crate::scope::Scope;
+use crate::scopes::run;
+use asn1_base::{Constructed, EncodeError, EncodeErrorKind, Tag};
+use std::alloc::Global;
+
+/// Sorts components by their tags.
+fn arrange(components: &mut Vec<Component>) -> Result<(), EncodeErrorKind>
+    ensures done { OnOk result (map item components.new.items ≡ by_tag (map item components.old.items)) }
+    ensures refused { IfErr result (λ k. k ≡ OutOfMemory) }
+{
+    components.sort_by_key(|component| component.key)?;
+    Ok(())
+}
+
+/// Appends the presence bits of components.
+fn put_presence(components: &[Component], bits: &mut Vec<bool>) -> Result<(), EncodeErrorKind>
+    ensures done { OnOk result (bits.new.items ≡ bits.old.items ++ presence (map item components.now)) }
+    ensures refused { IfErr result (λ k. k ≡ OutOfMemory) }
+{
+    for component in components {
+        if component.marked {
+            bits.push(component.bit)?;
+        }
+    }
+    Ok(())
+}
+
+/// Appends the octets of components.
+fn put_bodies(components: &[Component], out: &mut Vec<u8>) -> Result<(), EncodeErrorKind>
+    ensures done { OnOk result (out.new.items ≡ out.old.items ++ bodies (map item components.now)) }
+    ensures refused { IfErr result (λ k. k ≡ OutOfMemory) }
+    ensures begins { BeginsWith out.old.items out.new.items }
+{
+    for component in components {
+        out.extend_from_slice(&component.octets)?;
+    }
+    Ok(())
+}
+
+impl Scope {
+    /// Writes a set, its components and their presence bits in the order of their tags (X.696, 18).
+    pub(crate) fn write_set(
+        &mut self,
+        alloc: Global,
+        out: &mut Vec<u8>,
+    ) -> Result<(), EncodeErrorKind>
+        ensures { Appends result (set_octets (frame_of self.old)) out.old.items out.new.items }
+    {
+        arrange(&mut self.components)?;
+        let mut presence = Vec::new(alloc);
+        put_presence(&self.components, &mut presence)?;
+        self.write_preamble(alloc, &presence, out)?;
+        put_bodies(&self.components, out)?;
+        self.write_extension(out)
+    }
+}
+
+impl<'buffer> Encoder<'buffer> {
+    /// Writes a SET (X.696, 18), whose components the closure writes in a scope of its own.
+    ///
+    /// Each root component is kept apart; as the closure ends they are written in the order of their tags, and so are
+    /// their presence bits, whatever the order in which they were handed in. Refused by what the closure refused, or for
+    /// want of memory.
+    pub fn encode_set<
+        const RL: usize,
+        const EL: usize,
+        C: Constructed<RL, EL>,
+        F: FnOnce(&mut Encoder<'_>) -> Result<(), EncodeError>,
+    >(&mut self, _tag: Tag, f: F) -> Result<(), EncodeError>
+        requires callable { F.IsAlwaysCallable f }
+        requires orderly { IsOrderly true (Promise F.FnOnce f) }
+        ensures done { OnOk result (SetClosed (Promise F.FnOnce f) C.IS_EXTENSIBLE self.old self.new) }
+        ensures refused { IfErr result (λ x. Broken (Promise F.FnOnce f) true C.IS_EXTENSIBLE x self.old self.new) }
+        ensures tree { (roots additions : Rows) → IsKnownToWriteSet (Promise F.FnOnce f) roots additions → OnOk result (Encodes (Struct true C.IS_EXTENSIBLE roots additions) self.old self.new) }
+        ensures tree_refused { (roots additions : Rows) → IsKnownToWriteSet (Promise F.FnOnce f) roots additions → IfErr result (λ x. Refused (Struct true C.IS_EXTENSIBLE roots additions) x.kind self.old self.new) }
+    {
+        self.set(C::IS_EXTENSIBLE, f)
+    }
+
+    fn set<F: FnOnce(&mut Encoder<'_>) -> Result<(), EncodeError>>(
+        &mut self,
+        extensible: bool,
+        f: F,
+    ) -> Result<(), EncodeError>
+        requires callable { F.IsAlwaysCallable f }
+        requires orderly { IsOrderly true (Promise F.FnOnce f) }
+        ensures done { OnOk result (SetClosed (Promise F.FnOnce f) extensible self.old self.new) }
+        ensures refused { IfErr result (λ x. Broken (Promise F.FnOnce f) true extensible x self.old self.new) }
+    {
+        let mut ran = run(self.alloc, true, extensible, f)?;
+        ran.scope.write_set(self.alloc, &mut *self.output)?;
+        Ok(())
+    }
+}

@@ -1,0 +1,79 @@
+-- From what a leaf's reader promises to the law of reading.
+use Rattle.std.proofs.Common.{◌≡◌, List, ◌++◌, Result, Ok, Err, refl, sym, ap, ◌∙◌, subst}
+use Rattle.std.specs.Borrow.{Bor}
+use Rattle.std.specs.Prelude.{ℕ, Bool, []}
+use Rattle.asn1_base.specs.Octets.{Octets}
+use Rattle.asn1_base.specs.declared.error.DecodeError.{DecodeError}
+use Rattle.asn1_base.specs.declared.error.DecodeErrorKind.{DecodeErrorKind}
+use Rattle.asn1_base.specs.declared.error.DecodeErrorKind.TheVariants.{OutOfMemory}
+use Rattle.oer_forms.proofs.Unambiguous.{unique}
+use Rattle.oer_forms.specs.Encoding.{IsTree, IsEncoding}
+use Rattle.oer_forms.specs.Leaves.{IsLeafEncoding}
+use Rattle.oer_forms.specs.Mode.{mode_of}
+use Rattle.oer_forms.specs.Same.{Alike}
+use Rattle.oer_forms.specs.Spelled.{boolean, boolean_is, booleans_alike, null, null_is, nulls_alike, IsAny}
+use Rattle.oer_forms.specs.Tree.{Tree, Boolean, Null}
+use Rattle.rasn_oer.specs.Answers.{Took}
+use Rattle.rasn_oer.specs.Law.{Reads, NoFront, Decodes, Fronts, IsForMemory}
+use Rattle.oer_forms.specs.Reading.{ReadsFront, seen}
+use Rattle.rasn_oer.specs.State.{State}
+
+module _ {A : Type 0} (tree : A → Tree) (IsValue : A → Type 0) where
+  -- what is promised of the trees of values
+  pub record AreSettled : Type 0 where
+    pub is_tree : (v : A) → IsValue v → IsTree (tree v)
+    pub alike : (v w : A) → IsValue v → IsValue w → Alike (tree v) (tree w)
+
+  -- an encoding of a value that begins what is left is the only one
+  pub only_one : AreSettled → (old : State) (v : A) (o rest : Octets) → IsValue v → old.input ≡ o ++ rest → IsEncoding (mode_of old.codec) old.levels o (tree v)
+      → (w : A) (p : Octets) → IsValue w → Fronts old p (tree w) → p ≡ o
+  only_one k old v o rest i e f w p j g =
+      (unique (tree w) (tree v) (mode_of old.codec) old.levels old.levels p o g.rest rest (k.is_tree w j) (k.is_tree v i) (k.alike w v j i) g.encoding f (sym g.split ∙ e)).0
+
+  pub reads_front : AreSettled → (old : State) (v : A) (new : State) (o rest : Octets) → IsValue v → old.input ≡ o ++ rest → IsEncoding (mode_of old.codec) old.levels o (tree v) → new ≡ record old { input = rest } → Reads tree IsValue old v new
+  reads_front k old v new o rest i e f n =
+      let at : new.input ≡ rest = ap (λ (s : State). s.input) n in
+      record {
+        taken = o;
+        split = e ∙ ap (λ (r : Octets). o ++ r) (sym at);
+        encoding = f;
+        value = i;
+        only = only_one k old v o rest i e f;
+        rest = n ∙ ap (λ (r : Octets). record old { input = r }) (sym at);
+      }
+
+  -- what a reader answers of a leaf is read by the law
+  pub leaf_law : (Spells : Octets → A → Type 0) (old : State) → AreSettled
+      → ((o : Octets) (v : A) → Spells o v → IsValue v × IsEncoding (mode_of old.codec) old.levels o (tree v))
+      → ((o : Octets) (v : A) → IsValue v → IsEncoding (mode_of old.codec) old.levels o (tree v) → Spells o v)
+      → (answer : Result (A × Bor (List ℕ)) DecodeErrorKind) (result : Result A DecodeError) (new : State)
+      → ReadsFront Spells old.input (seen (λ (x : A × Bor (List ℕ)). (x.0, x.1.now)) answer) → Took answer old result new → Decodes tree IsValue old result new
+  leaf_law Spells old k to from (Ok x) result new (o, e, s) (a, n) =
+      subst (λ (r : Result A DecodeError). Decodes tree IsValue old r new) (sym a) (record { read = reads_front k old x.0 new o x.1.now (to o x.0 s).0 e (to o x.0 s).1 n; refused = tt })
+  leaf_law Spells old k to from (Err kind) result new none (a, n) =
+      subst (λ (r : Result A DecodeError). Decodes tree IsValue old r new) (sym a) (record { read = tt; refused = record { same = n; none = λ m w o j f. none m o f.rest w f.split (from o w j f.encoding) } })
+
+boolean_to : (old : State) (o : Octets) (v : Bool) → IsLeafEncoding (mode_of old.codec) o (Boolean v) → IsAny v × IsEncoding (mode_of old.codec) old.levels o (boolean v)
+unfolding boolean IsEncoding
+boolean_to old o v s = (tt, s)
+
+boolean_from : (old : State) (o : Octets) (v : Bool) → IsAny v → IsEncoding (mode_of old.codec) old.levels o (boolean v) → IsLeafEncoding (mode_of old.codec) o (Boolean v)
+unfolding boolean IsEncoding
+boolean_from old o v i f = f
+
+pub boolean_law : (old : State) (answer : Result (Bool × Bor (List ℕ)) DecodeErrorKind) (result : Result Bool DecodeError) (new : State)
+    → ReadsFront (λ o v. IsLeafEncoding (mode_of old.codec) o (Boolean v)) old.input (seen (λ (x : Bool × Bor (List ℕ)). (x.0, x.1.now)) answer)
+    → Took answer old result new → Decodes boolean IsAny old result new
+boolean_law old answer result new f t =
+    leaf_law boolean IsAny (λ o v. IsLeafEncoding (mode_of old.codec) o (Boolean v)) old
+    (record { is_tree = λ v i. boolean_is v; alike = λ v w i j. booleans_alike v w }) (boolean_to old) (boolean_from old) answer result new f t
+
+null_is_empty : (old : State) → IsEncoding (mode_of old.codec) old.levels [] (null tt)
+unfolding null IsEncoding
+null_is_empty old = (λ k. refl, refl)
+
+pub null_law : (old : State) → Decodes null IsAny old (Ok tt) old
+null_law old = record {
+  read = reads_front null IsAny (record { is_tree = λ v i. null_is v; alike = λ v w i j. nulls_alike v w }) old tt old [] old.input tt refl (null_is_empty old) refl;
+  refused = tt;
+}

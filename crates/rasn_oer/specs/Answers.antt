@@ -1,0 +1,24 @@
+-- What a method that reads a leaf answers and leaves.
+use Rattle.std.specs.Prelude.{◌≡◌, List, ℕ, Result, Ok, Err}
+use Rattle.std.specs.Borrow.{Bor}
+use Rattle.asn1_base.specs.Octets.{Octets}
+use Rattle.asn1_base.specs.declared.codec.Codec.{Codec}
+use Rattle.asn1_base.specs.declared.error.DecodeError.{DecodeError}
+use Rattle.asn1_base.specs.declared.error.DecodeErrorKind.{DecodeErrorKind}
+use Rattle.asn1_base.specs.declared.error.DecodeErrorKind.TheVariants.{OutOfMemory}
+use Rattle.rasn_oer.specs.State.{State}
+
+-- A reader's answer is taken over: the value and what is left, or the refusal with the mode, and nothing else changed.
+abbrev pub Took : {V : Type 0} → Result (V × Bor (List ℕ)) DecodeErrorKind → State → Result V DecodeError → State → Type 0
+Took (Ok x) old result new = (result ≡ Ok x.0) × (new ≡ record old { input = x.1.now })
+Took (Err e) old result new = (result ≡ Err (record { kind = e; codec = old.codec })) × (new ≡ old)
+
+-- The answer is what the reading function gives, save that memory may be refused.
+abbrev pub Answers : {V W : Type 0} → (V → W) → State → Result V DecodeError → State → Result (W × Octets) DecodeErrorKind → Type 0
+Answers show old (Ok v) new read = (read ≡ Ok (show v, new.input)) × (new ≡ record old { input = new.input })
+Answers show old (Err e) new read = ((e.kind ≡ OutOfMemory → ⊥) → read ≡ Err e.kind) × (e.codec ≡ old.codec) × (new ≡ old)
+
+-- What a function answered, seen by view, is what the reading gives, its refusal in that mode.
+abbrev pub Refuses : {X Y : Type 0} → (X → Y) → Codec → Result X DecodeError → Result Y DecodeErrorKind → Type 0
+Refuses view codec (Ok x) read = read ≡ Ok (view x)
+Refuses view codec (Err e) read = (read ≡ Err e.kind) × (e.codec ≡ codec)

@@ -1,0 +1,7 @@
+pub mod State
+pub mod Law
+pub mod Parts
+pub mod Scopes
+pub mod Components
+pub mod Seen
+pub mod Answers

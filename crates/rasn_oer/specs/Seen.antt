@@ -1,0 +1,17 @@
+-- What contracts see of a decoder's private fields.
+use Rattle.std.specs.Prelude.{List, map, Option}
+use Rattle.std.specs.Option.{option_map}
+use Rattle.asn1_base.specs.Rows.{row}
+use Rattle.rasn_oer.specs.declared.decoder.OpenScope.{OpenScope}
+use Rattle.oer_forms.specs.Views.{bits_left}
+use Rattle.rasn_oer.specs.State.{Frame, asks_of, places_of}
+
+abbrev pub frame_of : OpenScope → Frame
+frame_of s = record {
+  is_set = s.is_set;
+  asks = asks_of (map row s.roots.now) (bits_left s.presence);
+  extensible = s.extensible;
+  extended = s.extended;
+  additions = places_of (map row s.additions.now);
+  bitmap = option_map bits_left s.bitmap;
+}

@@ -1,0 +1,13 @@
+//! Reading by the octet encoding rules (X.696): the decoder, its scopes, and the trait of types that are read.
+#![tactic(auto)]
+
+mod de;
+mod decode;
+mod decoder;
+mod leaves;
+mod rows;
+mod scopes;
+
+pub use de::DecoderOptions;
+pub use decode::Decode;
+pub use decoder::Decoder;
