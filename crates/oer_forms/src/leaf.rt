@@ -3,3 +3,6 @@
 pub mod read;
 mod widths;
 pub mod write;
+
+#[cfg(test)]
+mod tests;
