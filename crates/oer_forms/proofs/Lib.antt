@@ -41,3 +41,4 @@ pub mod ExampleLists
 pub mod ExamplePremises
 pub mod ReadBitStrings
 pub mod ReadMemory
+pub mod ReadValues

@@ -1,5 +1,5 @@
 -- Bits are packed octet by octet.
-use Rattle.std.proofs.Common.{◌≡◌, ℕ, zero, suc, ◌+◌, ◌*◌, ◌<◌, Bool, List, [], ◌∷◌, ◌++◌, length, drop, refl, sym, ap, ap₂, ◌∙◌, arith, append_assoc, length-drop, ◌-◌, Result, Ok, Err}
+use Rattle.std.proofs.Common.{◌≡◌, ℕ, zero, suc, ◌+◌, ◌*◌, ◌<◌, Bool, List, [], ◌∷◌, ◌++◌, length, drop, refl, sym, ap, ap₂, ◌∙◌, arith, append_assoc, length-drop, ◌≤◌, take, ◌-◌, Result, Ok, Err}
 use Rattle.asn1_base.specs.declared.error.EncodeErrorKind.{EncodeErrorKind}
 use Rattle.oer_forms.specs.Lengths.{length_octets, behind_length, counted_bits}
 use Rattle.asn1_base.specs.Bounds.{Size}
@@ -7,6 +7,7 @@ use Rattle.oer_forms.specs.Failures.{first_failure}
 use Rattle.oer_forms.specs.Tree.{Bits}
 use Rattle.oer_forms.specs.WritingTexts.{string_failure}
 use Rattle.oer_forms.specs.Writing.{Appends}
+use Rattle.std.proofs.lemmas.List.{take-append-drop, length-take-le, take_at, drop_at}
 use Rattle.asn1_base.specs.Octets.{Octets, octet_of, pack_into, octets_for, pack}
 
 pub pack_more : (b : List Bool) → 0 < length b → pack b ≡ octet_of b ∷ pack (drop 8 b)
@@ -51,3 +52,19 @@ behind_first x o = let e : length o + 1 ≡ suc (length o) = omega arith in ap (
 
 pub bits_failure : (s : Size) (b : List Bool) (o : Octets) → o ≡ pack b → string_failure s (length b) (length o) ≡ first_failure (Bits s b)
 bits_failure s b o e = ap (string_failure s (length b)) (length_pack b o e)
+
+-- a length written behind octets, and the two exchanged
+pub length_in_front : (old : Octets) (start : ℕ) (mid : Octets) → start ≤ length old → mid ≡ old ++ length_octets (length old - start)
+    → take start mid ++ (drop (length old - start) (drop start mid) ++ take (length old - start) (drop start mid)) ≡ take start old ++ behind_length (drop start old)
+length_in_front old start mid h e =
+    let front : List ℕ = take start old in
+    let content : List ℕ = drop start old in
+    let count : length content ≡ length old - start = length-drop start old in
+    let len : List ℕ = length_octets (length old - start) in
+    let first : length front ≡ start = length-take-le start old h in
+    let whole : mid ≡ front ++ (content ++ len) = e ∙ ap (λ z. z ++ len) (sym (take-append-drop start old)) ∙ append_assoc front content len in
+    let a : take start mid ≡ front = ap (take start) whole ∙ take_at front (content ++ len) start first in
+    let b : drop start mid ≡ content ++ len = ap (drop start) whole ∙ drop_at front (content ++ len) start first in
+    let c : drop (length old - start) (content ++ len) ≡ len = drop_at content len (length old - start) count in
+    let d : take (length old - start) (content ++ len) ≡ content = take_at content len (length old - start) count in
+    rw (a, b, c, d) (ap (λ n. front ++ (length_octets n ++ content)) (sym count))

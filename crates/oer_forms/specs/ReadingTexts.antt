@@ -1,11 +1,11 @@
 -- Reading octet strings, character strings, object identifiers and times.
-use Rattle.std.specs.Prelude.{ℕ, ◌*◌, ◌/◌, ◌==◌, Bool, cond, not, nat_lt, length, Option, Some, None, Result, Ok, Err}
+use Rattle.std.specs.Prelude.{ℕ, ◌*◌, ◌/◌, ◌==◌, Bool, false, cond, not, nat_lt, length, Option, Some, None, Result, Ok, Err}
 use Rattle.asn1_base.specs.Bounds.{Size, fixed_size}
 use Rattle.asn1_base.specs.Octets.{Octets, usize_max}
+use Rattle.asn1_base.specs.Texts.{are_parts, parts_from}
 use Rattle.asn1_base.specs.declared.codec.Codec.{Codec}
 use Rattle.asn1_base.specs.declared.error.DecodeErrorKind.{DecodeErrorKind}
-use Rattle.asn1_base.specs.declared.error.DecodeErrorKind.TheVariants.{LengthExceedsPlatformWidth, PermittedAlphabetError, StringConversionFailed}
-use Rattle.std.specs.Str.{is_utf8}
+use Rattle.asn1_base.specs.declared.error.DecodeErrorKind.TheVariants.{LengthExceedsPlatformWidth, PermittedAlphabetError}
 use Rattle.oer_forms.specs.Reading.{◌>>=◌, ◌>>◌, octets_at, length_at}
 use Rattle.oer_forms.specs.ReadingBits.{refuse_if, size_test}
 
@@ -56,6 +56,10 @@ units_at is_text s codec input = sized_units_at is_text (fixed_size s) s codec i
 unfoldable pub characters_at : ℕ → (Octets → Bool) → Size → Codec → Octets → Result (Octets × Octets) DecodeErrorKind
 characters_at unit is_text s codec input = cond (unit == 1) (text_at is_text PermittedAlphabetError s codec input) (units_at is_text s codec input)
 
--- octets that are UTF-8
-abbrev pub utf8_of : Octets → Result Octets DecodeErrorKind
-utf8_of octets = refuse_if (not (is_utf8 octets)) StringConversionFailed >> Ok octets
+-- octets that pass a test
+abbrev pub tested : (Octets → Bool) → DecodeErrorKind → Octets → Result Octets DecodeErrorKind
+tested is_text kind octets = refuse_if (not (is_text octets)) kind >> Ok octets
+
+-- the contents octets of an object identifier (X.690, 8.19)
+abbrev pub are_contents : Octets → Bool
+are_contents o = are_parts (parts_from false 0 o)

@@ -5,3 +5,6 @@ mod number_tests;
 pub mod read;
 mod widths;
 pub mod write;
+
+#[cfg(test)]
+mod tests;

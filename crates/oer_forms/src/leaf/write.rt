@@ -4,6 +4,7 @@
 mod bit_strings;
 mod booleans;
 mod enums;
+mod identifiers;
 mod integers;
 mod lengths;
 mod places;
@@ -14,6 +15,7 @@ mod texts;
 pub use bit_strings::write_bit_string;
 pub use booleans::write_bool;
 pub use enums::write_enumerated;
+pub use identifiers::write_object_identifier;
 pub use integers::write_integer;
 pub use lengths::{write_content, write_length};
 pub use places::{write_bitmap, write_preamble};

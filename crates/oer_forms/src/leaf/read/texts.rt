@@ -6,7 +6,7 @@ ghost use Rattle.asn1_base.specs.declared.error.DecodeErrorKind.TheVariants.{Str
 ghost use Rattle.oer_forms.specs.Leaves.{IsLeafEncoding};
 ghost use Rattle.oer_forms.specs.Mode.{mode_of};
 ghost use Rattle.oer_forms.specs.Reading.{Gives, seen, ReadsFront, IsNotForMemory};
-ghost use Rattle.oer_forms.specs.ReadingTexts.{string_at, octet_string_at, text_at, many_units_at, units_at, characters_at, utf8_of};
+ghost use Rattle.oer_forms.specs.ReadingTexts.{string_at, octet_string_at, text_at, many_units_at, units_at, characters_at, tested};
 ghost use Rattle.std.specs.Str.{is_utf8};
 ghost use Rattle.oer_forms.specs.Tree.{Text, Written};
 
@@ -86,7 +86,7 @@ pub fn read_any(codec: Codec, input: &[u8]) -> Result<(&[u8], &[u8]), DecodeErro
 
 /// The octets as a text, where they are UTF-8.
 fn text_of(octets: &[u8]) -> Result<&str, DecodeErrorKind>
-    ensures { Gives (λ s. s.now) result (utf8_of octets.now) }
+    ensures { Gives (λ s. s.now) result (tested is_utf8 StringConversionFailed octets.now) }
 {
     match str::from_utf8(octets) {
         Ok(text) => Ok(text),

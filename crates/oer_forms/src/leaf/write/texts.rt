@@ -93,5 +93,6 @@ pub fn write_text<C: CharacterSet>(
 ) -> Result<(), EncodeErrorKind>
     ensures { AppendsLeaf result (Text C.rule (size_bounds constraints) (Written text.now)) out.old.items out.new.items }
 {
-    write_string(text.as_bytes(), text.len(), constraints, out)
+    let octets = text.as_bytes();
+    write_string(octets, text.len(), constraints, out)
 }
