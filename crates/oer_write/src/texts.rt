@@ -1,7 +1,7 @@
 //! Strings: bit strings, octet strings, open types' octets and character strings.
 ghost use Rattle.std.specs.Prelude.{◌≡◌, None, OnOk, IfErr};
 ghost use Rattle.asn1_base.specs.Bounds.{size_bounds};
-ghost use Rattle.asn1_base.specs.Texts.{AnyOctets, Utf8, Visible, General, Graphic, Ia5, Printable, Numeric, Teletex};
+ghost use Rattle.asn1_base.specs.Texts.{AnyOctets, Utf8, Visible, General, Graphic, Ia5, Printable, Numeric, Teletex, Bmp};
 ghost use Rattle.oer_forms.specs.Spelled.{bit_string, text, unsized_text};
 ghost use Rattle.oer_forms.specs.Tree.{Bits, Text, Written};
 ghost use Rattle.oer_write.specs.Written.{Encodes, Refused, RefusedLeaf};
@@ -9,8 +9,10 @@ ghost use Rattle.oer_write.specs.Written.{Encodes, Refused, RefusedLeaf};
 use crate::encoder::Encoder;
 use asn1_base::{Constraints, EncodeError, Tag};
 use asn1_values::{
-    Any, BitString, CharacterSet, GeneralString, GraphicString, Ia5String, NumericString,
-    PrintableString, RestrictedString, TeletexString, VisibleString,
+    Any, BitString, BmpCharacters, BmpString, CharacterSet, GeneralCharacters, GeneralString,
+    GraphicCharacters, GraphicString, Ia5Characters, Ia5String, NumericCharacters, NumericString,
+    PrintableCharacters, PrintableString, RestrictedString, TeletexCharacters, TeletexString,
+    VisibleCharacters, VisibleString,
 };
 use oer_forms::leaf::write::{
     write_any, write_bit_string, write_octet_string, write_text, write_utf8,
@@ -138,7 +140,7 @@ impl<'buffer> Encoder<'buffer> {
         ensures refused { IfErr result (λ x. RefusedLeaf (Text Visible (size_bounds constraints) (Written value.now)) x.kind self.old self.new) }
         ensures law { IfErr result (λ x. Refused (text Visible constraints value.now) x.kind self.old self.new) }
     {
-        self.put_text(constraints, value)
+        self.put_text::<VisibleCharacters>(constraints, value)
     }
 
     /// Writes a GeneralString (X.696, 27).
@@ -157,7 +159,7 @@ impl<'buffer> Encoder<'buffer> {
         ensures refused { IfErr result (λ x. RefusedLeaf (Text General (size_bounds constraints) (Written value.now)) x.kind self.old self.new) }
         ensures law { IfErr result (λ x. Refused (text General constraints value.now) x.kind self.old self.new) }
     {
-        self.put_text(constraints, value)
+        self.put_text::<GeneralCharacters>(constraints, value)
     }
 
     /// Writes a GraphicString (X.696, 27).
@@ -176,7 +178,7 @@ impl<'buffer> Encoder<'buffer> {
         ensures refused { IfErr result (λ x. RefusedLeaf (Text Graphic (size_bounds constraints) (Written value.now)) x.kind self.old self.new) }
         ensures law { IfErr result (λ x. Refused (text Graphic constraints value.now) x.kind self.old self.new) }
     {
-        self.put_text(constraints, value)
+        self.put_text::<GraphicCharacters>(constraints, value)
     }
 
     /// Writes an Ia5String (X.696, 27).
@@ -195,7 +197,7 @@ impl<'buffer> Encoder<'buffer> {
         ensures refused { IfErr result (λ x. RefusedLeaf (Text Ia5 (size_bounds constraints) (Written value.now)) x.kind self.old self.new) }
         ensures law { IfErr result (λ x. Refused (text Ia5 constraints value.now) x.kind self.old self.new) }
     {
-        self.put_text(constraints, value)
+        self.put_text::<Ia5Characters>(constraints, value)
     }
 
     /// Writes a PrintableString (X.696, 27).
@@ -214,7 +216,7 @@ impl<'buffer> Encoder<'buffer> {
         ensures refused { IfErr result (λ x. RefusedLeaf (Text Printable (size_bounds constraints) (Written value.now)) x.kind self.old self.new) }
         ensures law { IfErr result (λ x. Refused (text Printable constraints value.now) x.kind self.old self.new) }
     {
-        self.put_text(constraints, value)
+        self.put_text::<PrintableCharacters>(constraints, value)
     }
 
     /// Writes a NumericString (X.696, 27).
@@ -233,7 +235,7 @@ impl<'buffer> Encoder<'buffer> {
         ensures refused { IfErr result (λ x. RefusedLeaf (Text Numeric (size_bounds constraints) (Written value.now)) x.kind self.old self.new) }
         ensures law { IfErr result (λ x. Refused (text Numeric constraints value.now) x.kind self.old self.new) }
     {
-        self.put_text(constraints, value)
+        self.put_text::<NumericCharacters>(constraints, value)
     }
 
     /// Writes a TeletexString (X.696, 27).
@@ -252,7 +254,26 @@ impl<'buffer> Encoder<'buffer> {
         ensures refused { IfErr result (λ x. RefusedLeaf (Text Teletex (size_bounds constraints) (Written value.now)) x.kind self.old self.new) }
         ensures law { IfErr result (λ x. Refused (text Teletex constraints value.now) x.kind self.old self.new) }
     {
-        self.put_text(constraints, value)
+        self.put_text::<TeletexCharacters>(constraints, value)
+    }
+
+    /// Writes a BMPString (X.696, 27), whose size counts characters of two octets.
+    ///
+    /// Refused, the first that applies: a size that a constraint that isn't extensible doesn't allow, by
+    /// `SizeConstraintNotSatisfied` with the size; more than `usize::MAX / 8` octets behind a length, by
+    /// `LengthExceedsPlatformSize`.
+    #[tactic(auto, using(crate::proofs::Refusals::text_by_law))]
+    pub fn encode_bmp_string(
+        &mut self,
+        _tag: Tag,
+        constraints: Constraints,
+        value: &BmpString,
+    ) -> Result<(), EncodeError>
+        ensures done { OnOk result (Encodes (text Bmp constraints value.now) self.old self.new) }
+        ensures refused { IfErr result (λ x. RefusedLeaf (Text Bmp (size_bounds constraints) (Written value.now)) x.kind self.old self.new) }
+        ensures law { IfErr result (λ x. Refused (text Bmp constraints value.now) x.kind self.old self.new) }
+    {
+        self.put_text::<BmpCharacters>(constraints, value)
     }
 
     #[tactic(auto, unfolding(oer_forms::specs::Spelled::text, oer_forms::specs::Encoding::canonical_octets, oer_forms::specs::Encoding::fails))]
