@@ -6,3 +6,4 @@ pub mod Numbers
 pub mod Texts
 pub mod Bounds
 pub mod Narrowing
+pub mod TagOrder

@@ -1,7 +1,17 @@
 //! What the definitions mean, as contracts of functions that do nothing.
 ghost use Rattle.std.specs.Prelude.{ℕ};
+ghost use Rattle.asn1_base.specs.TagOrder.{IsTagOrder};
 ghost use Rattle.asn1_base.specs.declared.constraints.Constraints.{Constraints};
 ghost use Rattle.asn1_base.specs.Narrowing.{AllowsAlike, IsFixedWhereAlone, KeepsNone, Narrows};
+
+use crate::tag::{Class, Tag};
+
+/// Tags are ordered by class, universal, application, context, private, and then by number (X.680, 8.6): a total order
+/// that agrees with equality.
+pub fn tag_order()
+    ensures { IsTagOrder ⟦<Class as Ord>⟧.cmp ⟦<Tag as Ord>⟧.cmp ⟦<Tag as PartialOrd>⟧.partial_cmp ⟦<Tag as PartialEq>⟧.eq }
+{
+}
 
 /// `Constraints::narrowed` keeps consistency, allows exactly what both allow where that is something, else what its
 /// own constraints allow, and leaves constraints as they are where the other ones are absent.
