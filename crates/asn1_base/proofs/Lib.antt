@@ -5,3 +5,5 @@ pub mod Complement
 pub mod Shortest
 pub mod Superfluous
 pub mod Fixed
+pub mod TagFacts
+pub mod InTagOrder

@@ -7,3 +7,5 @@ pub mod Texts
 pub mod Bounds
 pub mod Narrowing
 pub mod TagOrder
+pub mod Places
+pub mod Tables

@@ -10,8 +10,7 @@ use crate::tag::{Class, Tag};
 /// that agrees with equality.
 pub fn tag_order()
     ensures { IsTagOrder ⟦<Class as Ord>⟧.cmp ⟦<Tag as Ord>⟧.cmp ⟦<Tag as PartialOrd>⟧.partial_cmp ⟦<Tag as PartialEq>⟧.eq }
-{
-}
+{}
 
 /// `Constraints::narrowed` keeps consistency, allows exactly what both allow where that is something, else what its
 /// own constraints allow, and leaves constraints as they are where the other ones are absent.

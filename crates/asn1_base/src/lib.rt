@@ -13,7 +13,7 @@ mod types;
 pub use codec::Codec;
 pub use constraints::{Bounded, Constraints, Limits};
 pub use error::{DecodeError, DecodeErrorKind, EncodeError, EncodeErrorKind};
-pub use fields::{Field, FieldPresence, Fields};
+pub use fields::{Canonised, Field, FieldPresence, Fields, OptionalAndDefaultFields};
 pub use tag::{Class, Tag};
 pub use traits::{AsnType, Choice, Constructed, Enumerated};
 pub use types::{SequenceOf, Utf8String};
