@@ -17,7 +17,7 @@ left_after-none n (row ∷ rows) = ap (λ xs. row ∷ xs) (left_after-none (suc 
 AreFrom : Field → List Field → Type 0
 AreFrom m = AllByRecursion (λ r. tag_le m.tag r.tag ≡ true)
 
-put-from : (m x : Field) (b : Bool) (ys : List Field) → tag_le m.tag x.tag ≡ true → AllByRecursion (λ r. tag_le m.tag r.tag ≡ true) ys → AllByRecursion (λ r. tag_le m.tag r.tag ≡ true) (put_by_tag (λ f. f.tag) x ys)
+pub put-from : (m x : Field) (b : Bool) (ys : List Field) → tag_le m.tag x.tag ≡ true → AllByRecursion (λ r. tag_le m.tag r.tag ≡ true) ys → AllByRecursion (λ r. tag_le m.tag r.tag ≡ true) (put_by_tag (λ f. f.tag) x ys)
 put-from m x b [] p q = (p, tt)
 put-from m x b (y ∷ ys) p q =
     elim (tag_le x.tag y.tag) as (λ s. AllByRecursion (λ r. tag_le m.tag r.tag ≡ true) (cond s (x ∷ y ∷ ys) (y ∷ put_by_tag (λ f. f.tag) x ys))) [ true ↦ (p, q) | false ↦ (q.0, put-from m x b ys p q.1) ]

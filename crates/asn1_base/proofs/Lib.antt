@@ -7,3 +7,4 @@ pub mod Superfluous
 pub mod Fixed
 pub mod TagFacts
 pub mod InTagOrder
+pub mod SortedByTag

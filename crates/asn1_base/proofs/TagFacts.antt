@@ -44,3 +44,6 @@ tag_le-above a b c p q = grind (arith, nat_tests)
 
 pub tag_le-between : (a b c : Tag) → not (tag_le a b) ≡ false → tag_le a c ≡ false → tag_le b c ≡ false
 tag_le-between a b c p q = grind (arith, nat_tests)
+
+pub same_tag-le : (a b t : Tag) → same_tag a t ≡ true → same_tag b t ≡ true → tag_le a b ≡ true
+same_tag-le a b t p q = grind (arith, nat_tests)

@@ -1,10 +1,12 @@
 -- The order of tags (X.680, 8.6): by class, then by number.
-use Rattle.std.specs.Prelude.{◌≡◌, Bool, true, false, nat_le, Option, Some}
+use Rattle.std.specs.Prelude.{◌≡◌, Bool, true, false, nat_le, Option, Some, List, [], ◌∷◌, filter, ⊤}
 use Rattle.std.specs.declared.cmp.Ordering.{Ordering}
 use Rattle.std.specs.Ordering.{is_le, is_eq}
 use Rattle.asn1_base.specs.declared.tag.Class.{Class}
 use Rattle.asn1_base.specs.declared.tag.Tag.{Tag}
-use Rattle.asn1_base.specs.Tags.{class_number, tag_le, same_tag}
+use Rattle.std.specs.List.{AllByRecursion}
+use Rattle.asn1_base.specs.declared.fields.Field.{Field}
+use Rattle.asn1_base.specs.Tags.{class_number, tag_le, same_tag, by_tag}
 
 pub record IsTagOrder (class_cmp : Class → Class → Ordering) (cmp : Tag → Tag → Ordering) (partial_cmp : Tag → Tag → Option Ordering) (eq : Tag → Tag → Bool) : Type 0 where
   -- what the code's comparisons answer
@@ -18,3 +20,13 @@ pub record IsTagOrder (class_cmp : Class → Class → Ordering) (cmp : Tag → 
   pub total : (a b : Tag) → tag_le a b ≡ false → tag_le b a ≡ true
   pub trans : (a b c : Tag) → tag_le a b ≡ true → tag_le b c ≡ true → tag_le a c ≡ true
   pub antisymm : (a b : Tag) → tag_le a b ≡ true → tag_le b a ≡ true → a ≡ b
+
+-- each tag is at most those behind it
+abbrev pub AreInTagOrder : List Field → Type 0
+AreInTagOrder [] = ⊤
+AreInTagOrder (f ∷ fs) = AllByRecursion (λ g. tag_le f.tag g.tag ≡ true) fs × AreInTagOrder fs
+
+-- the rows in tag order, those of each tag as they stood
+pub record IsSortedByTag (fields : List Field) : Type 0 where
+  pub order : AreInTagOrder (by_tag (λ f. f.tag) fields)
+  pub kept : (t : Tag) → filter (λ f. same_tag f.tag t) (by_tag (λ f. f.tag) fields) ≡ filter (λ f. same_tag f.tag t) fields

@@ -128,7 +128,8 @@ impl<const N: usize> Fields<N> {
 
     /// The rows in tag order (X.680, 8.6), those of one tag in the order of the type's text.
     pub fn canonised(&self) -> Canonised
-        ensures { canonised_rest result ≡ by_tag (λ f. f.tag) self.now.fields.now }
+        ensures fields { canonised_rest result ≡ by_tag (λ f. f.tag) self.now.fields.now }
+        ensures rows { map row (canonised_rest result) ≡ by_tag (λ r. r.tag) (map row self.now.fields.now) }
     {
         Canonised {
             rows: self.fields,

@@ -1,6 +1,7 @@
 //! What the definitions mean, as contracts of functions that do nothing.
-ghost use Rattle.std.specs.Prelude.{ℕ};
-ghost use Rattle.asn1_base.specs.TagOrder.{IsTagOrder};
+ghost use Rattle.std.specs.Prelude.{ℕ, List};
+ghost use Rattle.asn1_base.specs.TagOrder.{IsSortedByTag, IsTagOrder};
+ghost use Rattle.asn1_base.specs.declared.fields.Field.{Field};
 ghost use Rattle.asn1_base.specs.declared.constraints.Constraints.{Constraints};
 ghost use Rattle.asn1_base.specs.Narrowing.{AllowsAlike, IsFixedWhereAlone, KeepsNone, Narrows};
 
@@ -10,6 +11,11 @@ use crate::tag::{Class, Tag};
 /// that agrees with equality.
 pub fn tag_order()
     ensures { IsTagOrder ⟦<Class as Ord>⟧.cmp ⟦<Tag as Ord>⟧.cmp ⟦<Tag as PartialOrd>⟧.partial_cmp ⟦<Tag as PartialEq>⟧.eq }
+{}
+
+/// `Fields::canonised` gives the rows in tag order, those of one tag in the order of the table.
+pub fn canonised_rows()
+    ensures { (fields : List Field) → IsSortedByTag fields }
 {}
 
 /// `Constraints::narrowed` keeps consistency, allows exactly what both allow where that is something, else what its
