@@ -1,11 +1,22 @@
 //! What the definitions mean, as contracts of functions that do nothing.
-ghost use Rattle.std.specs.Prelude.{ℕ, List};
+ghost use Rattle.std.specs.Prelude.{◌≡◌, ◌∷◌, [], ℕ, List, map};
 ghost use Rattle.asn1_base.specs.TagOrder.{IsSortedByTag, IsTagOrder};
 ghost use Rattle.asn1_base.specs.declared.fields.Field.{Field};
 ghost use Rattle.asn1_base.specs.declared.constraints.Constraints.{Constraints};
-ghost use Rattle.asn1_base.specs.Narrowing.{AllowsAlike, IsFixedWhereAlone, KeepsNone, Narrows};
+ghost use Rattle.asn1_base.specs.Narrowing.{AllowsAlike, IsFixedWhereAlone, KeepsItself, KeepsNone, Narrows};
 
 use crate::tag::{Class, Tag};
+
+/// The universal tags and their numbers (X.680, 8.4). `Tag::EOC` stands for no tag of its own.
+pub fn universal_tags()
+    ensures { Tag.EOC ∷ Tag.BOOL ∷ Tag.INTEGER ∷ Tag.BIT_STRING ∷ Tag.OCTET_STRING ∷ Tag.NULL ∷
+        Tag.OBJECT_IDENTIFIER ∷ Tag.ENUMERATED ∷ Tag.UTF8_STRING ∷ Tag.SEQUENCE ∷ Tag.SET ∷
+        Tag.NUMERIC_STRING ∷ Tag.PRINTABLE_STRING ∷ Tag.TELETEX_STRING ∷ Tag.IA5_STRING ∷
+        Tag.UTC_TIME ∷ Tag.GENERALIZED_TIME ∷ Tag.GRAPHIC_STRING ∷ Tag.VISIBLE_STRING ∷
+        Tag.GENERAL_STRING ∷ Tag.BMP_STRING ∷ Tag.DATE ∷ []
+        ≡ map (λ n. record { class = Class.Universal; value = n })
+        (0 ∷ 1 ∷ 2 ∷ 3 ∷ 4 ∷ 5 ∷ 6 ∷ 10 ∷ 12 ∷ 16 ∷ 17 ∷ 18 ∷ 19 ∷ 20 ∷ 22 ∷ 23 ∷ 24 ∷ 25 ∷ 26 ∷ 27 ∷ 30 ∷ 31 ∷ []) }
+{}
 
 /// Tags are ordered by class, universal, application, context, private, and then by number (X.680, 8.6): a total order
 /// that agrees with equality.
@@ -19,10 +30,11 @@ pub fn canonised_rows()
 {}
 
 /// `Constraints::narrowed` keeps consistency, allows exactly what both allow where that is something, else what its
-/// own constraints allow, and leaves constraints as they are where the other ones are absent.
+/// own constraints allow, and leaves constraints as they are where the other ones are absent or the same.
 pub fn narrowing()
     ensures narrows { (own other : Constraints) → Narrows own other }
     ensures none { (own : Constraints) → KeepsNone own }
+    ensures itself { (own : Constraints) → KeepsItself own }
 {}
 
 /// The ranges that trees have of constraints allow what the constraints do.
