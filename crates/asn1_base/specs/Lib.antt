@@ -9,3 +9,5 @@ pub mod Narrowing
 pub mod TagOrder
 pub mod Places
 pub mod Tables
+pub mod Multisets
+pub mod MultisetLaws

@@ -4,6 +4,8 @@ ghost use Rattle.asn1_base.specs.TagOrder.{IsSortedByTag, IsTagOrder};
 ghost use Rattle.asn1_base.specs.declared.fields.Field.{Field};
 ghost use Rattle.asn1_base.specs.declared.constraints.Constraints.{Constraints};
 ghost use Rattle.asn1_base.specs.Narrowing.{AllowsAlike, IsFixedWhereAlone, KeepsItself, KeepsNone, Narrows};
+ghost use Rattle.asn1_base.specs.Multisets.{AreSameItems, same_items};
+ghost use Rattle.std.specs.Bool.{Decides};
 
 use crate::tag::{Class, Tag};
 
@@ -45,4 +47,9 @@ pub fn ranges()
 /// `Constraints::fixed_size` is the size that is allowed where no other is.
 pub fn fixed_sizes()
     ensures { (c : Constraints) (n : ℕ) → IsFixedWhereAlone c n }
+{}
+
+/// `==` of a `SetOf` is equality as multisets: whatever is counted stands in both as often.
+pub fn equal_sets<T: Eq>()
+    ensures { (xs ys : List T) → Decides (same_items T.eq xs ys) (AreSameItems T.eq xs ys) }
 {}
