@@ -3,7 +3,8 @@ use Rattle.std.proofs.Common.{◌≡◌, Bool, true, false, cond, List, [], ◌�
 use Rattle.std.specs.List.{AllByRecursion}
 use Rattle.asn1_base.specs.declared.tag.Tag.{Tag}
 use Rattle.asn1_base.specs.declared.fields.Field.{Field}
-use Rattle.asn1_base.specs.Rows.{Row, row}
+use Rattle.asn1_base.specs.Rows.{row, may_be_absent, optional_rows}
+use Rattle.asn1_base.specs.Tables.{optional_fields}
 use Rattle.asn1_base.specs.Tags.{tag_le, same_tag, put_by_tag, by_tag}
 use Rattle.asn1_base.specs.TagOrder.{AreInTagOrder}
 use Rattle.asn1_base.proofs.TagFacts.{tag_le-total, tag_le-trans, same_tag-le}
@@ -64,3 +65,13 @@ map-put x (y ∷ ys) =
 pub map-by_tag : (fields : List Field) → map row (by_tag (λ f. f.tag) fields) ≡ by_tag (λ r. r.tag) (map row fields)
 map-by_tag [] = refl
 map-by_tag (f ∷ fs) = map-put f (by_tag (λ f. f.tag) fs) ∙ ap (put_by_tag (λ r. r.tag) (row f)) (map-by_tag fs)
+
+map-cond : (f : Field) (fs : List Field) (s : Bool) → map row (cond s (f ∷ fs) fs) ≡ cond s (row f ∷ map row fs) (map row fs)
+map-cond f fs true = refl
+map-cond f fs false = refl
+
+pub map-optional_fields : (fields : List Field) → map row (optional_fields fields) ≡ optional_rows (map row fields)
+map-optional_fields [] = refl
+map-optional_fields (f ∷ fs) =
+    map-cond f (optional_fields fs) (may_be_absent f.presence)
+    ∙ (λ i. cond (may_be_absent f.presence) (row f ∷ map-optional_fields fs i) (map-optional_fields fs i))

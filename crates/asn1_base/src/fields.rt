@@ -3,7 +3,7 @@ ghost use Rattle.std.specs.Option.{option_copied};
 ghost use Rattle.std.specs.Prelude.{◌≡◌, ◌==◌, length, map, not, Option};
 ghost use Rattle.std.specs.Slice.Iter.{iter_rest};
 ghost use Rattle.asn1_base.specs.Places.{first_after, is_after};
-ghost use Rattle.asn1_base.specs.Rows.{may_be_absent, row};
+ghost use Rattle.asn1_base.specs.Rows.{may_be_absent, optional_rows, row};
 ghost use Rattle.asn1_base.specs.Tables.{canonised_rest, optional_fields, optional_rest};
 ghost use Rattle.asn1_base.specs.Tags.{by_tag, tag_le};
 
@@ -139,7 +139,8 @@ impl<const N: usize> Fields<N> {
 
     /// The rows whose components may be absent, in the order of the type's text.
     pub fn optional_and_default_fields(&self) -> OptionalAndDefaultFields
-        ensures { optional_rest result ≡ optional_fields self.now.fields.now }
+        ensures fields { optional_rest result ≡ optional_fields self.now.fields.now }
+        ensures rows { map row (optional_rest result) ≡ optional_rows (map row self.now.fields.now) }
     {
         OptionalAndDefaultFields { rows: self.fields }
     }
