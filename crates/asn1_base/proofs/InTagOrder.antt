@@ -1,11 +1,11 @@
 -- The first row of the lowest tag, among those that are left, is the first of them in tag order.
-use Rattle.std.proofs.Common.{◌≡◌, ℕ, suc, ◌<◌, ◌≤◌, Bool, true, false, cond, not, ◌&&◌, ◌||◌, ◌⊎◌, inl, inr, List, [], ◌∷◌, Option, Some, None, refl, sym, ap, ◌∙◌, arith}
+use Rattle.std.proofs.Common.{◌≡◌, ℕ, suc, ◌<◌, ◌≤◌, Bool, true, false, cond, not, ◌&&◌, ◌⊎◌, inl, inr, List, [], ◌∷◌, Option, Some, None, refl, sym, ap, ◌∙◌, arith}
 use Rattle.std.specs.List.{AllByRecursion}
 use Rattle.asn1_base.specs.declared.tag.Tag.{Tag}
 use Rattle.asn1_base.specs.declared.fields.Field.{Field}
 use Rattle.asn1_base.specs.Tags.{tag_le, put_by_tag, by_tag}
-use Rattle.asn1_base.specs.Places.{is_after, is_lower, first_after, left_after}
-use Rattle.asn1_base.proofs.TagFacts.{tag_le-refl, tag_le-total, tag_le-trans, is_after-front, is_after-back, is_after-front_first, is_after-back_first, is_after-itself, tag_le-above, tag_le-between, not-false, not-true}
+use Rattle.asn1_base.specs.NextRow.{is_after, is_lower, first_after, left_after}
+use Rattle.asn1_base.proofs.TagFacts.{is_after-front, is_after-back, is_after-front_first, is_after-back_first, is_after-itself, tag_le-above, tag_le-between, not-false, not-true}
 
 -- before the first call each row is left
 pub left_after-none : (n : ℕ) (rows : List Field) → left_after None n rows ≡ rows
@@ -14,19 +14,20 @@ left_after-none n (row ∷ rows) = ap (λ xs. row ∷ xs) (left_after-none (suc 
 
 -- ---- a row of no higher tag than the others goes first
 
-AreFrom : Field → List Field → Type 0
-AreFrom m = AllByRecursion (λ r. tag_le m.tag r.tag ≡ true)
+-- none has a lower tag than m
+abbrev pub AreFrom : Field → List Field → Type 0
+AreFrom m rows = AllByRecursion (λ r. tag_le m.tag r.tag ≡ true) rows
 
-pub put-from : (m x : Field) (b : Bool) (ys : List Field) → tag_le m.tag x.tag ≡ true → AllByRecursion (λ r. tag_le m.tag r.tag ≡ true) ys → AllByRecursion (λ r. tag_le m.tag r.tag ≡ true) (put_by_tag (λ f. f.tag) x ys)
-put-from m x b [] p q = (p, tt)
-put-from m x b (y ∷ ys) p q =
-    elim (tag_le x.tag y.tag) as (λ s. AllByRecursion (λ r. tag_le m.tag r.tag ≡ true) (cond s (x ∷ y ∷ ys) (y ∷ put_by_tag (λ f. f.tag) x ys))) [ true ↦ (p, q) | false ↦ (q.0, put-from m x b ys p q.1) ]
+pub put-from : (m x : Field) (ys : List Field) → tag_le m.tag x.tag ≡ true → AreFrom m ys → AreFrom m (put_by_tag (λ f. f.tag) x ys)
+put-from m x [] p q = (p, tt)
+put-from m x (y ∷ ys) p q =
+    elim (tag_le x.tag y.tag) as (λ s. AreFrom m (cond s (x ∷ y ∷ ys) (y ∷ put_by_tag (λ f. f.tag) x ys))) [ true ↦ (p, q) | false ↦ (q.0, put-from m x ys p q.1) ]
 
-by_tag-from : (m : Field) (xs : List Field) → AllByRecursion (λ r. tag_le m.tag r.tag ≡ true) xs → AllByRecursion (λ r. tag_le m.tag r.tag ≡ true) (by_tag (λ f. f.tag) xs)
+by_tag-from : (m : Field) (xs : List Field) → AreFrom m xs → AreFrom m (by_tag (λ f. f.tag) xs)
 by_tag-from m [] h = tt
-by_tag-from m (x ∷ xs) h = put-from m x true (by_tag (λ f. f.tag) xs) h.0 (by_tag-from m xs h.1)
+by_tag-from m (x ∷ xs) h = put-from m x (by_tag (λ f. f.tag) xs) h.0 (by_tag-from m xs h.1)
 
-put-first : (m : Field) (ys : List Field) → AllByRecursion (λ r. tag_le m.tag r.tag ≡ true) ys → put_by_tag (λ f. f.tag) m ys ≡ m ∷ ys
+put-first : (m : Field) (ys : List Field) → AreFrom m ys → put_by_tag (λ f. f.tag) m ys ≡ m ∷ ys
 put-first m [] h = refl
 put-first m (y ∷ ys) h = λ i. cond (h.0 i) (m ∷ y ∷ ys) (y ∷ put_by_tag (λ f. f.tag) m ys)
 
@@ -69,11 +70,11 @@ left-back last m k n (r ∷ rs) after lt h =
     let f = left-back last m k (suc n) rs after (omega arith) h.1 in
     λ i. cond (e i) (r ∷ f i) (f i)
 
-left-from : (last : Option (Tag × ℕ)) (m : Field) (n : ℕ) (rows : List Field) → FromAll last m n rows → AllByRecursion (λ r. tag_le m.tag r.tag ≡ true) (left_after last n rows)
+left-from : (last : Option (Tag × ℕ)) (m : Field) (n : ℕ) (rows : List Field) → FromAll last m n rows → AreFrom m (left_after last n rows)
 left-from last m n [] h = tt
 left-from last m n (r ∷ rs) h =
     let rest = left-from last m (suc n) rs h.1 in
-    let P : Bool → Type 0 = λ s. AllByRecursion (λ r. tag_le m.tag r.tag ≡ true) (cond s (r ∷ left_after last (suc n) rs) (left_after last (suc n) rs)) in
+    let P : Bool → Type 0 = λ s. AreFrom m (cond s (r ∷ left_after last (suc n) rs) (left_after last (suc n) rs)) in
     let pick : (s : Bool) → is_after last r.tag n ≡ s → P s = elim [ true ↦ λ e. (h.0 e, rest) | false ↦ λ e. rest ] in
     pick (is_after last r.tag n) refl
 

@@ -1,6 +1,5 @@
 -- Sorting by tag: the order, what it keeps, and that a list of rows without their names is sorted alike.
-use Rattle.std.proofs.Common.{◌≡◌, Bool, true, false, cond, List, [], ◌∷◌, map, refl, sym, ◌∙◌, ap, filter}
-use Rattle.std.specs.List.{AllByRecursion}
+use Rattle.std.proofs.Common.{◌≡◌, Bool, true, false, cond, List, [], ◌∷◌, map, refl, ◌∙◌, ap, filter}
 use Rattle.asn1_base.specs.declared.tag.Tag.{Tag}
 use Rattle.asn1_base.specs.declared.fields.Field.{Field}
 use Rattle.asn1_base.specs.Rows.{row, may_be_absent, optional_rows}
@@ -8,9 +7,9 @@ use Rattle.asn1_base.specs.Tables.{optional_fields}
 use Rattle.asn1_base.specs.Tags.{tag_le, same_tag, put_by_tag, by_tag}
 use Rattle.asn1_base.specs.TagOrder.{AreInTagOrder}
 use Rattle.asn1_base.proofs.TagFacts.{tag_le-total, tag_le-trans, same_tag-le}
-use Rattle.asn1_base.proofs.InTagOrder.{put-from}
+use Rattle.asn1_base.proofs.InTagOrder.{AreFrom, put-from}
 
-from-lower : (x y : Field) (ys : List Field) → tag_le x.tag y.tag ≡ true → AllByRecursion (λ g. tag_le y.tag g.tag ≡ true) ys → AllByRecursion (λ g. tag_le x.tag g.tag ≡ true) ys
+from-lower : (x y : Field) (ys : List Field) → tag_le x.tag y.tag ≡ true → AreFrom y ys → AreFrom x ys
 from-lower x y [] p h = tt
 from-lower x y (z ∷ zs) p h = (tag_le-trans x.tag y.tag z.tag p h.0, from-lower x y zs p h.1)
 
@@ -20,7 +19,7 @@ put-order x (y ∷ ys) h =
     let P : Bool → Type 0 = λ s. AreInTagOrder (cond s (x ∷ y ∷ ys) (y ∷ put_by_tag (λ f. f.tag) x ys)) in
     let pick : (s : Bool) → tag_le x.tag y.tag ≡ s → P s = elim [
       | true ↦ λ e. ((e, from-lower x y ys e h.0), h)
-      | false ↦ λ e. (put-from y x true ys (tag_le-total x.tag y.tag e) h.0, put-order x ys h.1)
+      | false ↦ λ e. (put-from y x ys (tag_le-total x.tag y.tag e) h.0, put-order x ys h.1)
     ] in
     pick (tag_le x.tag y.tag) refl
 

@@ -1,12 +1,9 @@
 -- The order of tags, from that of their numbers.
-use Rattle.std.proofs.Common.{◌≡◌, ℕ, ◌<◌, Bool, true, false, not, ◌&&◌, ◌||◌, nat_lt, Some, refl, sym, ap, arith}
+use Rattle.std.proofs.Common.{◌≡◌, ℕ, ◌<◌, Bool, true, false, not, Some, refl, sym, ap, arith}
 use Rattle.std.proofs.lemmas.Bool.Decides.{nat_tests}
 use Rattle.asn1_base.specs.declared.tag.Tag.{Tag}
-use Rattle.asn1_base.specs.Tags.{class_number, tag_le, same_tag}
-use Rattle.asn1_base.specs.Places.{is_after}
-
-pub tag_le-refl : (a : Tag) → tag_le a a ≡ true
-tag_le-refl a = grind (arith, nat_tests)
+use Rattle.asn1_base.specs.Tags.{tag_le, same_tag}
+use Rattle.asn1_base.specs.NextRow.{is_after}
 
 pub tag_le-total : (a b : Tag) → tag_le a b ≡ false → tag_le b a ≡ true
 tag_le-total a b h = grind (arith, nat_tests)

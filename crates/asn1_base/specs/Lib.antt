@@ -7,7 +7,7 @@ pub mod Texts
 pub mod Bounds
 pub mod Narrowing
 pub mod TagOrder
-pub mod Places
+pub mod NextRow
 pub mod Tables
 pub mod Multisets
 pub mod MultisetLaws

@@ -1,5 +1,5 @@
 -- Lists as multisets, by an equality of their items: which item stands where doesn't count.
-use Rattle.std.specs.Prelude.{◌≡◌, ℕ, Bool, ◌&&◌, ◌==◌, List, count_by}
+use Rattle.std.specs.Prelude.{◌≡◌, Bool, ◌&&◌, ◌==◌, List, count_by}
 use Rattle.std.specs.List.{list_all}
 
 -- each of the items equals as many of ys as of xs

@@ -3,7 +3,7 @@ use Rattle.std.specs.Prelude.{List, filter}
 use Rattle.asn1_base.specs.declared.fields.Field.{Field}
 use Rattle.asn1_base.specs.declared.fields.Canonised.{Canonised}
 use Rattle.asn1_base.specs.declared.fields.OptionalAndDefaultFields.{OptionalAndDefaultFields}
-use Rattle.asn1_base.specs.Places.{left_after}
+use Rattle.asn1_base.specs.NextRow.{left_after}
 use Rattle.asn1_base.specs.Rows.{may_be_absent}
 use Rattle.asn1_base.specs.Tags.{by_tag}
 

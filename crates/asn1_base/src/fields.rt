@@ -2,7 +2,7 @@ ghost use Rattle.std.specs.Iterator.{YieldsFirst, item_count};
 ghost use Rattle.std.specs.Option.{option_copied};
 ghost use Rattle.std.specs.Prelude.{◌≡◌, ◌==◌, length, map, not, Option};
 ghost use Rattle.std.specs.Slice.Iter.{iter_rest};
-ghost use Rattle.asn1_base.specs.Places.{first_after, is_after};
+ghost use Rattle.asn1_base.specs.NextRow.{first_after, is_after};
 ghost use Rattle.asn1_base.specs.Rows.{may_be_absent, optional_rows, row};
 ghost use Rattle.asn1_base.specs.Tables.{canonised_rest, optional_fields, optional_rest};
 ghost use Rattle.asn1_base.specs.Tags.{by_tag, tag_le};

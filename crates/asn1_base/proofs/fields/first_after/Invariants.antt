@@ -1,5 +1,5 @@
 use Rattle.std.proofs.Common.{◌≡◌, ◌+◌, length, None}
-use Rattle.asn1_base.specs.Places.{first_after}
+use Rattle.asn1_base.specs.NextRow.{first_after}
 use Rattle.asn1_base.proofs.fields.first_after.Given as goal
 
 abbrev pub invariant-loop-left : goal.invariant-loop-left
