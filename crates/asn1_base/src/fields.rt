@@ -31,9 +31,9 @@ pub struct Field<'a> {
     pub name: &'a str,
 }
 
-impl Field {
+impl<'a> Field<'a> {
     /// The row of a component that has to be there.
-    pub const fn new_required(index: usize, tag: Tag, name: &'static str) -> Field
+    pub const fn new_required(index: usize, tag: Tag, name: &'a str) -> Field<'a>
         ensures row { row result ≡ record { index = index; tag = tag; presence = FieldPresence.Required } }
         ensures name { result.name.now ≡ name.now }
     {
@@ -46,7 +46,7 @@ impl Field {
     }
 
     /// The row of an OPTIONAL component.
-    pub const fn new_optional(index: usize, tag: Tag, name: &'static str) -> Field
+    pub const fn new_optional(index: usize, tag: Tag, name: &'a str) -> Field<'a>
         ensures row { row result ≡ record { index = index; tag = tag; presence = FieldPresence.Optional } }
         ensures name { result.name.now ≡ name.now }
     {
@@ -59,7 +59,7 @@ impl Field {
     }
 
     /// The row of a component with a DEFAULT.
-    pub const fn new_default(index: usize, tag: Tag, name: &'static str) -> Field
+    pub const fn new_default(index: usize, tag: Tag, name: &'a str) -> Field<'a>
         ensures row { row result ≡ record { index = index; tag = tag; presence = FieldPresence.Default } }
         ensures name { result.name.now ≡ name.now }
     {
@@ -98,7 +98,7 @@ pub struct Fields<const N: usize> {
 
 impl<const N: usize> Fields<N> {
     /// The table of these rows.
-    pub const fn from_static(fields: &'static [Field]) -> Fields<N>
+    pub const fn from_static(fields: &'static [Field<'static>]) -> Fields<N>
         requires { length fields.now ≡ N }
         ensures { result.fields.now ≡ fields.now }
     {
@@ -120,7 +120,7 @@ impl<const N: usize> Fields<N> {
     }
 
     /// The rows, in the order of the type's text.
-    pub fn iter(&self) -> Iter<'static, Field>
+    pub fn iter(&self) -> Iter<'static, Field<'static>>
         ensures { iter_rest result ≡ self.now.fields.now }
     {
         self.fields.iter()
@@ -159,17 +159,17 @@ impl<const N: usize> Fields<N> {
 /// The rows of a table whose components may be absent, in the order of the table.
 #[derive(Debug, Clone, Copy)]
 pub struct OptionalAndDefaultFields {
-    rows: &'static [Field],
+    rows: &'static [Field<'static>],
 }
 
 impl Iterator for OptionalAndDefaultFields {
-    type Item = Field;
+    type Item = Field<'static>;
 
     ghost next_gives = { YieldsFirst optional_rest };
 
     ghost remaining = { item_count optional_rest };
 
-    fn next(&mut self) -> Option<Field> {
+    fn next(&mut self) -> Option<Field<'static>> {
         let mut rows = self.rows;
         while let [first, rest @ ..] = rows {
             rows = rest;
@@ -186,19 +186,19 @@ impl Iterator for OptionalAndDefaultFields {
 /// The rows of a table in tag order, those of one tag in the order of the table.
 #[derive(Debug, Clone, Copy)]
 pub struct Canonised {
-    rows: &'static [Field],
+    rows: &'static [Field<'static>],
     /// The tag and the place in the table of the row that was answered last.
     last: Option<(Tag, usize)>,
 }
 
 impl Iterator for Canonised {
-    type Item = Field;
+    type Item = Field<'static>;
 
     ghost next_gives = { YieldsFirst canonised_rest };
 
     ghost remaining = { item_count canonised_rest };
 
-    fn next(&mut self) -> Option<Field> {
+    fn next(&mut self) -> Option<Field<'static>> {
         let (place, row) = first_after(self.rows, self.last)?;
         self.last = Some((row.tag, place));
         Some(row)
@@ -206,10 +206,10 @@ impl Iterator for Canonised {
 }
 
 /// Of the rows that come after the last answered one the row of the lowest tag, and its place; of several the first.
-fn first_after(rows: &[Field], last: Option<(Tag, usize)>) -> Option<(usize, Field)>
+fn first_after<'a>(rows: &[Field<'a>], last: Option<(Tag, usize)>) -> Option<(usize, Field<'a>)>
     ensures { result ≡ first_after last 0 rows.now Option.None }
 {
-    let mut found: Option<(usize, Field)> = None;
+    let mut found: Option<(usize, Field<'a>)> = None;
     let mut place = 0;
     let mut left = rows;
     while let [row, rest @ ..] = left {

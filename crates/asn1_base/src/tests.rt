@@ -39,7 +39,7 @@ fn narrows_to_the_common_part(rt: HostRuntime) {
     assert_eq!(rt; size.fixed_size(), Some(3));
 }
 
-static SET_ROWS: [Field; 3] = [
+static SET_ROWS: [Field<'static>; 3] = [
     Field {
         index: 0,
         tag: Tag {
