@@ -5,3 +5,6 @@ pub mod Complement
 pub mod Shortest
 pub mod Superfluous
 pub mod Fixed
+pub mod TagFacts
+pub mod InTagOrder
+pub mod SortedByTag

@@ -118,3 +118,21 @@ module _ {T : Type 0} (le : T → T → Bool) (o : IsOrder le) where
   narrowed_part-consistent (Some (a, true)) (Some (b, false)) p q = q
   narrowed_part-consistent (Some (a, false)) (Some (b, true)) p q = p
   narrowed_part-consistent (Some (a, false)) (Some (b, false)) p q = narrowed-holds a b p
+
+  -- ---- a range narrowed by itself
+
+  later-itself : (s : Option T) → later le s s ≡ s
+  later-itself None = refl
+  later-itself (Some a) = elim (le a a) as (λ t. cond t (Some a) (Some a) ≡ Some a) [ true ↦ refl | false ↦ refl ]
+
+  earlier-itself : (s : Option T) → earlier le s s ≡ s
+  earlier-itself None = refl
+  earlier-itself (Some a) = elim (le a a) as (λ t. cond t (Some a) (Some a) ≡ Some a) [ true ↦ refl | false ↦ refl ]
+
+  pub start_of-itself : (a : Bounded T) → start_of (narrowed_bounds_by le a a) ≡ start_of a
+  start_of-itself a =
+      elim (holds_number_by le (common_by le a a)) as (λ t. start_of (cond t (common_by le a a) a) ≡ start_of a) [ true ↦ later-itself (start_of a) | false ↦ refl ]
+
+  pub end_of-itself : (a : Bounded T) → end_of (narrowed_bounds_by le a a) ≡ end_of a
+  end_of-itself a =
+      elim (holds_number_by le (common_by le a a)) as (λ t. end_of (cond t (common_by le a a) a) ≡ end_of a) [ true ↦ earlier-itself (end_of a) | false ↦ refl ]

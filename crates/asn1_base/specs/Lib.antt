@@ -6,3 +6,8 @@ pub mod Numbers
 pub mod Texts
 pub mod Bounds
 pub mod Narrowing
+pub mod TagOrder
+pub mod NextRow
+pub mod Tables
+pub mod Multisets
+pub mod MultisetLaws

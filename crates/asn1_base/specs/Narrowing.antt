@@ -22,6 +22,11 @@ pub record KeepsNone (own : Constraints) : Type 0 where
   pub by_none : narrowed own NONE ≡ own
   pub of_none : narrowed NONE own ≡ own
 
+-- narrowing by itself changes no range
+pub record KeepsItself (own : Constraints) : Type 0 where
+  pub values : value_bounds (narrowed own own) ≡ value_bounds own
+  pub sizes : size_bounds (narrowed own own) ≡ size_bounds own
+
 -- a range of values and one of sizes allow what the constraint does, which allows everything where it is extensible
 pub record AllowsAlike (c : Constraints) : Type 0 where
   pub values : (b : Bounded ℤ) (n : ℤ) → c.value ≡ Some (b, false) → in_i128 n ≡ true → in_range (value_bounds c) n ≡ allows b n

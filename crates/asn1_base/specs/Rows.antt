@@ -1,5 +1,5 @@
 -- What clauses see of a table of components: its rows, without their names.
-use Rattle.std.specs.Prelude.{◌≡◌, ℕ, suc, List, [], ◌∷◌, length, map, Bool, true, false, ⊤}
+use Rattle.std.specs.Prelude.{◌≡◌, ℕ, suc, List, [], ◌∷◌, length, map, filter, Bool, true, false, ⊤}
 use Rattle.asn1_base.specs.declared.tag.Tag.{Tag}
 use Rattle.asn1_base.specs.declared.fields.Field.{Field}
 use Rattle.asn1_base.specs.declared.fields.FieldPresence.{FieldPresence}
@@ -19,6 +19,10 @@ abbrev pub may_be_absent : FieldPresence → Bool
 may_be_absent Required = false
 may_be_absent Optional = true
 may_be_absent Default = true
+
+-- the rows whose components may be absent
+abbrev pub optional_rows : List Row → List Row
+optional_rows rows = filter (λ r. may_be_absent r.presence) rows
 
 abbrev pub tags : List Row → List Tag
 tags rows = map (λ r. r.tag) rows

@@ -29,3 +29,13 @@ times_held (h ∷ hs) g = cond (same_tag h g) 1 0 + times_held hs g
 abbrev pub AreDistinct : List Tag → Type 0
 AreDistinct [] = ⊤
 AreDistinct (g ∷ gs) = (holds gs g ≡ false) × AreDistinct gs
+
+-- in front of the first of no lower tag
+abbrev pub put_by_tag : {X : Type 0} → (X → Tag) → X → List X → List X
+put_by_tag tag x [] = x ∷ []
+put_by_tag tag x (y ∷ ys) = cond (tag_le (tag x) (tag y)) (x ∷ y ∷ ys) (y ∷ put_by_tag tag x ys)
+
+-- in tag order, those of one tag as they stood
+abbrev pub by_tag : {X : Type 0} → (X → Tag) → List X → List X
+by_tag tag [] = []
+by_tag tag (x ∷ xs) = put_by_tag tag x (by_tag tag xs)

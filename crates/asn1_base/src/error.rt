@@ -137,6 +137,13 @@ pub struct EncodeError {
 }
 
 impl DecodeErrorKind {
+    /// The refusal of this kind in that mode.
+    pub fn with_codec(self, codec: Codec) -> DecodeError
+        ensures { result ≡ record { kind = self; codec = codec } }
+    {
+        DecodeError { kind: self, codec }
+    }
+
     /// The kind's name: its variant's, without fields.
     pub fn name(&self) -> &'static str
         ensures { result.now ≡ decode_kind_name self.now }

@@ -6,14 +6,18 @@ mod constraints;
 mod error;
 mod fields;
 pub mod laws;
+mod sets;
 mod tag;
+#[cfg(test)]
+mod tests;
 mod traits;
 mod types;
 
 pub use codec::Codec;
 pub use constraints::{Bounded, Constraints, Limits};
 pub use error::{DecodeError, DecodeErrorKind, EncodeError, EncodeErrorKind};
-pub use fields::{Field, FieldPresence, Fields};
+pub use fields::{Canonised, Field, FieldPresence, Fields, OptionalAndDefaultFields};
+pub use sets::SetOf;
 pub use tag::{Class, Tag};
 pub use traits::{AsnType, Choice, Constructed, Enumerated};
 pub use types::{SequenceOf, Utf8String};

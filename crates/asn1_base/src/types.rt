@@ -1,4 +1,10 @@
+ghost use Rattle.std.specs.Prelude.{false, refl, pos, negsuc, ◌^◌, ◌-◌};
+ghost use Rattle.asn1_base.specs.Bounds.{values_between};
+ghost use Rattle.asn1_base.specs.declared.constraints.TheConstants.Constraints.{NONE};
+ghost use Rattle.asn1_base.specs.declared.tag.TheConstants.Tag.{BOOL, INTEGER, NULL, SEQUENCE, SET, UTF8_STRING};
+
 use crate::constraints::{Bounded, Constraints};
+use crate::sets::SetOf;
 use crate::tag::Tag;
 use crate::traits::AsnType;
 
@@ -9,10 +15,6 @@ pub type Utf8String = String;
 pub type SequenceOf<T> = Vec<T>;
 
 impl AsnType for bool {
-    ghost use Rattle.std.specs.Prelude.{false, refl};
-    ghost use Rattle.asn1_base.specs.declared.tag.TheConstants.Tag.{BOOL};
-    ghost use Rattle.asn1_base.specs.declared.constraints.TheConstants.Constraints.{NONE};
-
     ghost TAG = { BOOL };
 
     const TAG: Tag = Tag::BOOL;
@@ -29,10 +31,6 @@ impl AsnType for bool {
 }
 
 impl AsnType for () {
-    ghost use Rattle.std.specs.Prelude.{false, refl};
-    ghost use Rattle.asn1_base.specs.declared.tag.TheConstants.Tag.{NULL};
-    ghost use Rattle.asn1_base.specs.declared.constraints.TheConstants.Constraints.{NONE};
-
     ghost TAG = { NULL };
 
     const TAG: Tag = Tag::NULL;
@@ -49,10 +47,6 @@ impl AsnType for () {
 }
 
 impl AsnType for Utf8String {
-    ghost use Rattle.std.specs.Prelude.{false, refl};
-    ghost use Rattle.asn1_base.specs.declared.tag.TheConstants.Tag.{UTF8_STRING};
-    ghost use Rattle.asn1_base.specs.declared.constraints.TheConstants.Constraints.{NONE};
-
     ghost TAG = { UTF8_STRING };
 
     const TAG: Tag = Tag::UTF8_STRING;
@@ -69,13 +63,25 @@ impl AsnType for Utf8String {
 }
 
 impl<T> AsnType for SequenceOf<T> {
-    ghost use Rattle.std.specs.Prelude.{false, refl};
-    ghost use Rattle.asn1_base.specs.declared.tag.TheConstants.Tag.{SEQUENCE};
-    ghost use Rattle.asn1_base.specs.declared.constraints.TheConstants.Constraints.{NONE};
-
     ghost TAG = { SEQUENCE };
 
     const TAG: Tag = Tag::SEQUENCE;
+
+    ghost CONSTRAINTS = { NONE };
+
+    const CONSTRAINTS: Constraints = Constraints::NONE;
+
+    ghost consistent = { refl };
+
+    ghost IS_CHOICE = { false };
+
+    const IS_CHOICE: bool = false;
+}
+
+impl<T> AsnType for SetOf<T> {
+    ghost TAG = { SET };
+
+    const TAG: Tag = Tag::SET;
 
     ghost CONSTRAINTS = { NONE };
 
@@ -106,10 +112,6 @@ impl<T: AsnType> AsnType for Box<T> {
 }
 
 impl AsnType for i128 {
-    ghost use Rattle.std.specs.Prelude.{false, refl};
-    ghost use Rattle.asn1_base.specs.declared.tag.TheConstants.Tag.{INTEGER};
-    ghost use Rattle.asn1_base.specs.declared.constraints.TheConstants.Constraints.{NONE};
-
     ghost TAG = { INTEGER };
 
     const TAG: Tag = Tag::INTEGER;
@@ -126,10 +128,6 @@ impl AsnType for i128 {
 }
 
 impl AsnType for u128 {
-    ghost use Rattle.std.specs.Prelude.{false, refl};
-    ghost use Rattle.asn1_base.specs.declared.tag.TheConstants.Tag.{INTEGER};
-    ghost use Rattle.asn1_base.specs.declared.constraints.TheConstants.Constraints.{NONE};
-
     ghost TAG = { INTEGER };
 
     const TAG: Tag = Tag::INTEGER;
@@ -146,10 +144,6 @@ impl AsnType for u128 {
 }
 
 impl AsnType for isize {
-    ghost use Rattle.std.specs.Prelude.{false, refl};
-    ghost use Rattle.asn1_base.specs.declared.tag.TheConstants.Tag.{INTEGER};
-    ghost use Rattle.asn1_base.specs.declared.constraints.TheConstants.Constraints.{NONE};
-
     ghost TAG = { INTEGER };
 
     const TAG: Tag = Tag::INTEGER;
@@ -166,10 +160,6 @@ impl AsnType for isize {
 }
 
 impl AsnType for usize {
-    ghost use Rattle.std.specs.Prelude.{false, refl};
-    ghost use Rattle.asn1_base.specs.declared.tag.TheConstants.Tag.{INTEGER};
-    ghost use Rattle.asn1_base.specs.declared.constraints.TheConstants.Constraints.{NONE};
-
     ghost TAG = { INTEGER };
 
     const TAG: Tag = Tag::INTEGER;
@@ -186,10 +176,6 @@ impl AsnType for usize {
 }
 
 impl AsnType for i8 {
-    ghost use Rattle.std.specs.Prelude.{false, pos, negsuc, ◌^◌, ◌-◌, refl};
-    ghost use Rattle.asn1_base.specs.declared.tag.TheConstants.Tag.{INTEGER};
-    ghost use Rattle.asn1_base.specs.Bounds.{values_between};
-
     ghost TAG = { INTEGER };
 
     const TAG: Tag = Tag::INTEGER;
@@ -215,10 +201,6 @@ impl AsnType for i8 {
 }
 
 impl AsnType for i16 {
-    ghost use Rattle.std.specs.Prelude.{false, pos, negsuc, ◌^◌, ◌-◌, refl};
-    ghost use Rattle.asn1_base.specs.declared.tag.TheConstants.Tag.{INTEGER};
-    ghost use Rattle.asn1_base.specs.Bounds.{values_between};
-
     ghost TAG = { INTEGER };
 
     const TAG: Tag = Tag::INTEGER;
@@ -244,10 +226,6 @@ impl AsnType for i16 {
 }
 
 impl AsnType for i32 {
-    ghost use Rattle.std.specs.Prelude.{false, pos, negsuc, ◌^◌, ◌-◌, refl};
-    ghost use Rattle.asn1_base.specs.declared.tag.TheConstants.Tag.{INTEGER};
-    ghost use Rattle.asn1_base.specs.Bounds.{values_between};
-
     ghost TAG = { INTEGER };
 
     const TAG: Tag = Tag::INTEGER;
@@ -273,10 +251,6 @@ impl AsnType for i32 {
 }
 
 impl AsnType for i64 {
-    ghost use Rattle.std.specs.Prelude.{false, pos, negsuc, ◌^◌, ◌-◌, refl};
-    ghost use Rattle.asn1_base.specs.declared.tag.TheConstants.Tag.{INTEGER};
-    ghost use Rattle.asn1_base.specs.Bounds.{values_between};
-
     ghost TAG = { INTEGER };
 
     const TAG: Tag = Tag::INTEGER;
@@ -302,10 +276,6 @@ impl AsnType for i64 {
 }
 
 impl AsnType for u8 {
-    ghost use Rattle.std.specs.Prelude.{false, pos, ◌^◌, ◌-◌, refl};
-    ghost use Rattle.asn1_base.specs.declared.tag.TheConstants.Tag.{INTEGER};
-    ghost use Rattle.asn1_base.specs.Bounds.{values_between};
-
     ghost TAG = { INTEGER };
 
     const TAG: Tag = Tag::INTEGER;
@@ -331,10 +301,6 @@ impl AsnType for u8 {
 }
 
 impl AsnType for u16 {
-    ghost use Rattle.std.specs.Prelude.{false, pos, ◌^◌, ◌-◌, refl};
-    ghost use Rattle.asn1_base.specs.declared.tag.TheConstants.Tag.{INTEGER};
-    ghost use Rattle.asn1_base.specs.Bounds.{values_between};
-
     ghost TAG = { INTEGER };
 
     const TAG: Tag = Tag::INTEGER;
@@ -360,10 +326,6 @@ impl AsnType for u16 {
 }
 
 impl AsnType for u32 {
-    ghost use Rattle.std.specs.Prelude.{false, pos, ◌^◌, ◌-◌, refl};
-    ghost use Rattle.asn1_base.specs.declared.tag.TheConstants.Tag.{INTEGER};
-    ghost use Rattle.asn1_base.specs.Bounds.{values_between};
-
     ghost TAG = { INTEGER };
 
     const TAG: Tag = Tag::INTEGER;
@@ -389,10 +351,6 @@ impl AsnType for u32 {
 }
 
 impl AsnType for u64 {
-    ghost use Rattle.std.specs.Prelude.{false, pos, ◌^◌, ◌-◌, refl};
-    ghost use Rattle.asn1_base.specs.declared.tag.TheConstants.Tag.{INTEGER};
-    ghost use Rattle.asn1_base.specs.Bounds.{values_between};
-
     ghost TAG = { INTEGER };
 
     const TAG: Tag = Tag::INTEGER;

@@ -1,7 +1,8 @@
-use Rattle.std.proofs.Common.{◌≡◌, Bool, true, false, ◌&&◌, pos, int_le, nat_le, Option, Some, sym, ◌∙◌}
+use Rattle.std.proofs.Common.{◌≡◌, ℕ, ℤ, Bool, true, false, ◌&&◌, pos, int_le, nat_le, Option, Some, None, unwrap_or, refl, sym, ◌∙◌}
 use Rattle.asn1_base.specs.declared.constraints.Bounded.{Bounded}
-use Rattle.asn1_base.specs.Bounds.{allows_by, common_by, narrowed_part_by}
-use Rattle.asn1_base.proofs.Narrowed.{IsOrder, and-first, and-second, common-allows, narrowed-common, narrowed-own, narrowed_part-consistent}
+use Rattle.asn1_base.specs.Bounds.{allows_by, common_by, narrowed_part_by, range_of, size_of}
+use Rattle.asn1_base.specs.Octets.{usize_max}
+use Rattle.asn1_base.proofs.Narrowed.{IsOrder, and-first, and-second, common-allows, narrowed-common, narrowed-own, narrowed_part-consistent, start_of-itself, end_of-itself}
 use Rattle.asn1_base.proofs.Orders.{nat_le-order, int_le-order}
 use Rattle.asn1_base.proofs.laws.narrowing.Goals as goal
 
@@ -27,3 +28,17 @@ returns-clause-narrows c = λ own other. record {
   own_values = λ a b p q. kept int_le int_le-order a b own.value other.value p q (pos 0);
   own_sizes = λ a b p q. kept nat_le nat_le-order a b own.size other.size p q 0;
 }
+
+same-range : (own : Option (Bounded ℤ × Bool)) → range_of (narrowed_part_by int_le own own) ≡ range_of own
+same-range None = refl
+same-range (Some (a, true)) = refl
+same-range (Some (a, false)) = λ i. Some (start_of-itself int_le int_le-order a i, end_of-itself int_le int_le-order a i)
+
+same-size : (own : Option (Bounded ℕ × Bool)) → size_of (narrowed_part_by nat_le own own) ≡ size_of own
+same-size None = refl
+same-size (Some (a, true)) = refl
+same-size (Some (a, false)) =
+    λ i. Some (unwrap_or (start_of-itself nat_le nat_le-order a i) 0, unwrap_or (end_of-itself nat_le nat_le-order a i) usize_max)
+
+pub returns-clause-itself : goal.returns-clause-itself
+returns-clause-itself c = λ own. record { values = same-range own.value; sizes = same-size own.size }
