@@ -25,3 +25,4 @@ pub mod Widths
 pub mod ReadingIntegers
 pub mod ReadingEnumerated
 pub mod ReadingMemory
+pub mod TimeTexts

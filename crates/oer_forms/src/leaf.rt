@@ -1,8 +1,11 @@
 //! Readers and writers of leaves and their parts, over slices.
 
 pub mod read;
+mod time_type;
 mod widths;
 pub mod write;
+
+pub use time_type::TimeType;
 
 #[cfg(test)]
 mod tests;
