@@ -2,8 +2,9 @@
 use Rattle.std.proofs.Common.{◌≡◌, ◌/◌, ℤ, List, length, Bool, true, false, cond, ◌⊎◌, inl, inr, refl, sym, ap, ◌∙◌, Option, Some, None}
 use Rattle.std.specs.Prelude.{Result, IfErr}
 use Rattle.std.proofs.lemmas.Result.{IfErr-weaker}
-use Rattle.asn1_base.specs.Bounds.{value_bounds}
+use Rattle.asn1_base.specs.Bounds.{size_bounds, value_bounds}
 use Rattle.asn1_base.specs.Octets.{Octets}
+use Rattle.asn1_base.specs.Texts.{Rule}
 use Rattle.asn1_base.specs.declared.constraints.Constraints.{Constraints}
 use Rattle.asn1_base.specs.declared.error.EncodeError.{EncodeError}
 use Rattle.asn1_base.specs.declared.error.EncodeErrorKind.{EncodeErrorKind}
@@ -11,7 +12,7 @@ use Rattle.asn1_base.specs.declared.error.EncodeErrorKind.TheVariants.{ValueCons
 use Rattle.oer_forms.specs.Encoding.{fails}
 use Rattle.oer_forms.specs.Failures.{Fails, failure_of, first_failure}
 use Rattle.oer_forms.specs.Leaves.{Failure, BadValue, BadSize, BadTime, TooLong, leaf_fails, unit_of}
-use Rattle.oer_forms.specs.Spelled.{integer}
+use Rattle.oer_forms.specs.Spelled.{bit_string, integer, text, unsized_text}
 use Rattle.oer_forms.specs.Tree.{Leaf, Boolean, Null, Enum, Int, Bits, Text, Content, Written, Civil, Primitive}
 use Rattle.oer_write.specs.Written as state
 
@@ -49,3 +50,15 @@ by_law r l e e' h = IfErr-weaker r _ _ (λ x i. leaf_refused l x.kind e e' i) h
 pub integer_by_law : (r : Result (Unit {0}) EncodeError) (c : Constraints) (n : ℤ) (e e' : state.Written) → IfErr r (λ x. state.RefusedLeaf (Int (value_bounds c) n) x.kind e e') → IfErr r (λ x. state.Refused (integer c n) x.kind e e')
 unfolding integer
 integer_by_law r c n e e' h = by_law r (Int (value_bounds c) n) e e' h
+
+pub bit_string_by_law : (r : Result (Unit {0}) EncodeError) (c : Constraints) (b : List Bool) (e e' : state.Written) → IfErr r (λ x. state.RefusedLeaf (Bits (size_bounds c) b) x.kind e e') → IfErr r (λ x. state.Refused (bit_string c b) x.kind e e')
+unfolding bit_string
+bit_string_by_law r c b e e' h = by_law r (Bits (size_bounds c) b) e e' h
+
+pub text_by_law : (r : Result (Unit {0}) EncodeError) (rule : Rule) (c : Constraints) (o : Octets) (e e' : state.Written) → IfErr r (λ x. state.RefusedLeaf (Text rule (size_bounds c) (Written o)) x.kind e e') → IfErr r (λ x. state.Refused (text rule c o) x.kind e e')
+unfolding text
+text_by_law r rule c o e e' h = by_law r (Text rule (size_bounds c) (Written o)) e e' h
+
+pub unsized_by_law : (r : Result (Unit {0}) EncodeError) (rule : Rule) (o : Octets) (e e' : state.Written) → IfErr r (λ x. state.RefusedLeaf (Text rule None (Written o)) x.kind e e') → IfErr r (λ x. state.Refused (unsized_text rule o) x.kind e e')
+unfolding unsized_text
+unsized_by_law r rule o e e' h = by_law r (Text rule None (Written o)) e e' h

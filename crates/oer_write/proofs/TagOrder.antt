@@ -1,12 +1,13 @@
 -- Components in the order of their tags, by one number for each tag.
-use Rattle.std.proofs.Common.{◌≡◌, ℕ, ◌+◌, ◌*◌, ◌^◌, ◌<◌, ◌≤◌, ◌==◌, Bool, true, false, cond, ◌&&◌, ◌||◌, List, [], ◌∷◌, map, refl, ap, ap₂, sym, ◌∙◌, arith, ◌⊎◌, inl, inr}
+use Rattle.std.proofs.Common.{◌≡◌, ℕ, ◌+◌, ◌*◌, ◌^◌, ◌<◌, ◌≤◌, ◌==◌, Bool, true, false, cond, not, ◌&&◌, ◌||◌, List, [], ◌∷◌, map, refl, ap, ap₂, sym, ◌∙◌, arith, ◌⊎◌, inl, inr}
 use Rattle.std.specs.Prelude.{nat_le, nat_lt}
-use Rattle.std.proofs.lemmas.Bool.{cases_order, cond-true, cond-false, eq-eqb, ne_eqb, lt-ltb, le-ltb, le-leb, lt-leb}
+use Rattle.std.specs.Ordering.{is_lt, nat_cmp}
+use Rattle.std.proofs.lemmas.Bool.{cases_order, cond-true, cond-false, eq-eqb, ne_eqb, lt-ltb, le-ltb, le-leb, lt-leb, leb-true, leb-false}
 use Rattle.asn1_base.specs.Tags.{class_number, tag_le}
 use Rattle.oer_forms.specs.Places.{Item, put_by_tag, by_tag}
 use Rattle.oer_write.specs.Seen.{item}
 use Rattle.oer_write.specs.declared.component.Component.{Component}
-use Rattle.oer_write.proofs.Arranging.{put, arranged}
+use Rattle.oer_write.proofs.Arranging.{IsOrderTest, put, arranged}
 
 order_is : (c d v w : ℕ) → v < 2 ^ 32 → w < 2 ^ 32 → nat_le (c * 2 ^ 32 + v) (d * 2 ^ 32 + w) ≡ (nat_lt c d || ((c == d) && nat_le v w))
 order_is c d v w small_v small_w = go (cases_order c d) (cases_order v w)
@@ -24,14 +25,35 @@ order_is c d v w small_v small_w = go (cases_order c d) (cases_order v w)
 le_is : (a b : Component) → nat_le a.key b.key ≡ tag_le a.tag b.tag
 le_is a b = ap₂ nat_le a.keyed b.keyed ∙ order_is (class_number a.tag.class) (class_number b.tag.class) a.tag.value b.tag.value a.small b.small
 
-put_is : (c : Component) (cs : List Component) → map item (put (λ x. x.key) c cs) ≡ put_by_tag (item c) (map item cs)
+-- the order of numbers, as a sort by them tests it
+pub less_is : (x y : ℕ) → is_lt (nat_cmp y x) ≡ not (nat_le x y)
+less_is x y = go (cases_order x y)
+  where
+    not_less : y ≡ x → is_lt (nat_cmp y x) ≡ false
+    not_less e = ap is_lt (cond-false (nat_lt y x) _ _ (le-ltb y x (omega (arith, e))) ∙ cond-true (y == x) _ _ (eq-eqb y x e))
+
+    go : (x ≡ y) ⊎ ((x < y) ⊎ (y < x)) → is_lt (nat_cmp y x) ≡ not (nat_le x y)
+    go (inl e) = not_less (sym e) ∙ sym (ap not (le-leb x y (omega (arith, e))))
+    go (inr (inl l)) = ap is_lt (cond-false (nat_lt y x) _ _ (le-ltb y x (omega arith)) ∙ cond-false (y == x) _ _ (ne_eqb y x (λ e. omega (arith, e, l)))) ∙ sym (ap not (le-leb x y (omega arith)))
+    go (inr (inr l)) = ap is_lt (cond-true (nat_lt y x) _ _ (lt-ltb y x l)) ∙ sym (ap not (lt-leb x y l))
+
+abbrev pub by_key : Component → Component → Bool
+by_key a b = nat_le a.key b.key
+
+pub key_order : IsOrderTest by_key
+key_order = record {
+  total = λ a b h. le-leb b.key a.key (let l = leb-false a.key b.key h in omega (arith, l));
+  trans = λ a b c h i. le-leb a.key c.key (let l = leb-true a.key b.key h in let m = leb-true b.key c.key i in omega (arith, l, m));
+}
+
+put_is : (c : Component) (cs : List Component) → map item (put by_key c cs) ≡ put_by_tag (item c) (map item cs)
 put_is c [] = refl
 put_is c (d ∷ ds) = go (nat_le c.key d.key) (put_is c ds) ∙ ap (λ (b : Bool). cond b (item c ∷ item d ∷ map item ds) (item d ∷ put_by_tag (item c) (map item ds))) (le_is c d)
   where
-    go : (b : Bool) → map item (put (λ x. x.key) c ds) ≡ put_by_tag (item c) (map item ds) → map item (cond b (c ∷ d ∷ ds) (d ∷ put (λ x. x.key) c ds)) ≡ cond b (item c ∷ item d ∷ map item ds) (item d ∷ put_by_tag (item c) (map item ds))
+    go : (b : Bool) → map item (put by_key c ds) ≡ put_by_tag (item c) (map item ds) → map item (cond b (c ∷ d ∷ ds) (d ∷ put by_key c ds)) ≡ cond b (item c ∷ item d ∷ map item ds) (item d ∷ put_by_tag (item c) (map item ds))
     go true more = refl
     go false more = ap (λ (is : List Item). item d ∷ is) more
 
-pub arranged_items : (cs : List Component) → map item (arranged (λ x. x.key) cs) ≡ by_tag (map item cs)
+pub arranged_items : (cs : List Component) → map item (arranged by_key cs) ≡ by_tag (map item cs)
 arranged_items [] = refl
-arranged_items (c ∷ cs) = put_is c (arranged (λ x. x.key) cs) ∙ ap (put_by_tag (item c)) (arranged_items cs)
+arranged_items (c ∷ cs) = put_is c (arranged by_key cs) ∙ ap (put_by_tag (item c)) (arranged_items cs)

@@ -27,6 +27,11 @@ impl EncoderOptions {
 }
 
 impl Default for EncoderOptions {
+    ghost use Rattle.std.specs.Prelude.{◌≡◌};
+    ghost use Rattle.oer_write.specs.declared.rules.EncodingRules.TheVariants.{Coer};
+
+    ghost is_default = { λ o. o.encoding_rules ≡ Coer };
+
     fn default() -> EncoderOptions {
         EncoderOptions::coer()
     }

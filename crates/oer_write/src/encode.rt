@@ -5,6 +5,7 @@ ghost use Rattle.oer_write.specs.Written.{Encodes, Refused};
 
 use crate::encoder::Encoder;
 use asn1_base::{Constraints, EncodeError, Tag};
+use asn1_values::{Any, BitString, OctetString};
 use oer_forms::Spelled;
 
 /// A type whose values are written.
@@ -108,5 +109,39 @@ impl<T: Encode> Encode for Vec<T> {
         constraints: Constraints,
     ) -> Result<(), EncodeError> {
         encoder.encode_sequence_of(tag, constraints, self)
+    }
+}
+
+impl Encode for BitString {
+    fn encode_with_tag_and_constraints(
+        &self,
+        encoder: &mut Encoder<'_>,
+        tag: Tag,
+        constraints: Constraints,
+    ) -> Result<(), EncodeError> {
+        encoder.encode_bit_string(tag, constraints, self)
+    }
+}
+
+impl Encode for OctetString {
+    fn encode_with_tag_and_constraints(
+        &self,
+        encoder: &mut Encoder<'_>,
+        tag: Tag,
+        constraints: Constraints,
+    ) -> Result<(), EncodeError> {
+        encoder.encode_octet_string(tag, constraints, self.as_bytes())
+    }
+}
+
+impl Encode for Any {
+    fn encode_with_tag_and_constraints(
+        &self,
+        encoder: &mut Encoder<'_>,
+        tag: Tag,
+        _constraints: Constraints,
+    ) -> Result<(), EncodeError> {
+        let _octets = self.as_bytes();
+        encoder.encode_any(tag, self)
     }
 }

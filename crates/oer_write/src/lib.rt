@@ -15,6 +15,7 @@ mod rules;
 mod scope;
 mod scopes;
 mod sets;
+mod texts;
 
 pub use encode::Encode;
 pub use encoder::Encoder;

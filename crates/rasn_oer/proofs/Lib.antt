@@ -6,3 +6,4 @@ pub mod Steps
 pub mod OptionalSteps
 pub mod Reading
 pub mod LeafLaws
+pub mod Entries

@@ -5,3 +5,4 @@ pub mod Scopes
 pub mod Components
 pub mod Seen
 pub mod Answers
+pub mod Headline

@@ -1,10 +1,13 @@
 //! Reading by the octet encoding rules (X.696): the decoder, its scopes, and the trait of types that are read.
 #![tactic(auto)]
 
+pub mod coer;
 mod de;
 mod decode;
 mod decoder;
+mod entry;
 mod leaves;
+pub mod oer;
 mod rows;
 mod scopes;
 

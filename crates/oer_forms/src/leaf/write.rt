@@ -21,6 +21,6 @@ pub use integers::write_integer;
 pub use lengths::{write_content, write_length};
 pub use places::{write_bitmap, write_preamble};
 pub use quantities::write_quantity;
-pub use tags::{write_groups, write_tag};
+pub use tags::write_tag;
 pub use texts::{write_any, write_octet_string, write_text, write_utf8};
 pub use times::write_time;

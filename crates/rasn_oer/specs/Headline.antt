@@ -1,0 +1,79 @@
+-- What the entry calls promise.
+use Rattle.std.specs.Prelude.{◌≡◌, ℕ, ◌≤◌, Bool, true, false, List, [], ◌++◌, ◌⊎◌, ⊤, Result, Ok, Err, Option, Some, None}
+use Rattle.asn1_base.specs.Octets.{Octets}
+use Rattle.asn1_base.specs.declared.codec.Codec.{Codec}
+use Rattle.asn1_base.specs.declared.error.DecodeError.{DecodeError}
+use Rattle.asn1_base.specs.declared.error.EncodeError.{EncodeError}
+use Rattle.asn1_base.specs.declared.error.DecodeErrorKind.TheVariants as decode
+use Rattle.asn1_base.specs.declared.error.EncodeErrorKind.TheVariants as encode
+use Rattle.asn1_base.specs.declared.codec.Codec.TheVariants.{Oer, Coer}
+use Rattle.oer_forms.specs.Encoding.{IsTree, IsEncodable, IsEncoding, canonical_octets, levels}
+use Rattle.oer_forms.specs.Failures.{Fails}
+use Rattle.oer_forms.specs.Mode.{Mode, Canonical, OwnSized, mode_of}
+use Rattle.oer_forms.specs.Same.{Same}
+use Rattle.oer_forms.specs.Tree.{Tree}
+use Rattle.oer_forms.specs.Versions.{Drops}
+use Rattle.std.specs.Borrow.{Bor}
+use Rattle.std.specs.Prelude.{Vec}
+use Rattle.std.specs.declared.alloc.Global.{Global}
+
+-- canonical reading takes a newer sender's octets where the pair is settled
+abbrev pub is_settled : Codec → Bool
+is_settled Oer = false
+is_settled Coer = true
+
+module _ {A : Type 0} (tree : A → Tree) (IsValue : A → Type 0) where
+  -- an encoding of w's tree begins the input, and r follows
+  pub record Begins (m : Codec) (d : ℕ) (input : Octets) (w : A) (o r : Octets) : Type 0 where
+    pub value : IsValue w
+    pub split : input ≡ o ++ r
+    pub spells : IsEncoding (mode_of m) d o (tree w)
+
+  -- The value was read: an encoding of its tree begins the input and was consumed.
+  pub record Decoded (m : Codec) (d : ℕ) (input : Octets) (v : A) (rest : Octets) : Type 0 where
+    pub taken : Octets
+    pub begins : Begins m d input v taken rest
+    -- every encoding of a value that begins the input is that one, and its tree is same
+    pub only : (w : A) (o r : Octets) → Begins m d input w o r → (o ≡ taken) × (r ≡ rest) × Same (tree v) (tree w)
+    -- canonical octets with bitmaps of the own size are those that are written of the tree
+    pub one : IsEncoding OwnSized d taken (tree v) → taken ≡ canonical_octets (tree v)
+    -- such octets of an equal tree are equal octets
+    pub equal : (w : A) (e : ℕ) (o : Octets) → IsValue w → Same (tree v) (tree w) → IsEncoding OwnSized d taken (tree v) → IsEncoding OwnSized e o (tree w) → o ≡ taken
+    -- what a newer sender wrote was read as the value less the additions that the type doesn't know
+    pub older : (n : Tree) (w : A) (o r : Octets) → IsTree n → IsValue w → Drops (is_settled m) n (tree w) → input ≡ o ++ r → IsEncoding (mode_of m) d o n → (o ≡ taken) × (r ≡ rest) × Same (tree v) (tree w)
+    -- what was written of a value within the levels is read as that value
+    pub again : (w : A) (r : Octets) → IsValue w → IsEncodable (tree w) → levels (tree w) ≤ d → input ≡ canonical_octets (tree w) ++ r → (taken ≡ canonical_octets (tree w)) × (rest ≡ r) × Same (tree v) (tree w)
+
+  -- No encoding of a value begins the input; nor do octets that a newer sender wrote of a value of the type, nor such as
+  -- are written of one within the levels.
+  pub record HasNone (m : Codec) (d : ℕ) (input : Octets) : Type 0 where
+    pub none : (w : A) (o r : Octets) → Begins m d input w o r → ⊥
+    pub newer : (n : Tree) (w : A) (o r : Octets) → IsTree n → IsValue w → Drops (is_settled m) n (tree w) → input ≡ o ++ r → IsEncoding (mode_of m) d o n → ⊥
+    pub written : (w : A) (r : Octets) → IsValue w → IsEncodable (tree w) → levels (tree w) ≤ d → input ≡ canonical_octets (tree w) ++ r → ⊥
+
+  -- Writing answers exactly the canonical octets of a tree that can be written, of a value that the type admits; it
+  -- refuses for want of memory, or by a kind whose condition the tree breaks.
+  pub record Written (v : A) (octets : Octets) : Type 0 where
+    pub value : IsValue v
+    pub encodable : IsEncodable (tree v)
+    pub octets_are : octets ≡ canonical_octets (tree v)
+
+  abbrev pub IsWritten : A → Result (Vec ℕ Global) EncodeError → Type 0
+  IsWritten v (Ok octets) = Written v octets.items
+  IsWritten v (Err e) = (e.kind ≡ encode.OutOfMemory) ⊎ Fails (tree v) e.kind
+
+  -- Reading answers a value exactly where the input begins with an encoding of one, and refuses exactly where it
+  -- doesn't, want of memory aside.
+  abbrev pub IsRead : Codec → ℕ → Octets → Result (A × Bor Octets) DecodeError → Type 0
+  IsRead m d input (Ok read) = Decoded m d input read.0 read.1.now
+  IsRead m d input (Err e) = (e.kind ≡ decode.OutOfMemory → ⊥) → HasNone m d input
+
+  -- the same, where the octets behind the encoding aren't answered
+  abbrev pub IsReadAlone : Codec → ℕ → Octets → Result A DecodeError → Type 0
+  IsReadAlone m d input (Ok v) = (rest : Octets) × Decoded m d input v rest
+  IsReadAlone m d input (Err e) = (e.kind ≡ decode.OutOfMemory → ⊥) → HasNone m d input
+
+  -- Written behind what the buffer holds; after a refusal the buffer is as before.
+  abbrev pub IsAppended : A → Octets → Result (Unit {0}) EncodeError → Octets → Type 0
+  IsAppended v old (Ok u) new = (octets : Octets) × (new ≡ old ++ octets) × Written v octets
+  IsAppended v old (Err e) new = (new ≡ old) × ((e.kind ≡ encode.OutOfMemory) ⊎ Fails (tree v) e.kind)

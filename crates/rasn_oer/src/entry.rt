@@ -1,0 +1,73 @@
+//! What both modules' calls come down to: one function for each direction.
+ghost use Rattle.asn1_base.specs.declared.codec.Codec.{Codec};
+ghost use Rattle.oer_forms.specs.Spelled.{IsConsistent};
+ghost use Rattle.rasn_oer.specs.Headline.{IsAppended, IsWritten, IsRead};
+
+use crate::de::DecoderOptions;
+use crate::decode::Decode;
+use crate::decoder::Decoder;
+use asn1_base::{Constraints, DecodeError, EncodeError};
+use oer_write::enc::EncoderOptions;
+use oer_write::{Encode, Encoder};
+use std::alloc::Global;
+
+/// The canonical octets of a value, under constraints in place of its type's own.
+pub(crate) fn encode_value<T: Encode>(
+    alloc: Global,
+    constraints: Constraints,
+    value: &T,
+) -> Result<Vec<u8>, EncodeError>
+    requires { IsConsistent constraints }
+    ensures { IsWritten (T.tree constraints) T.IsValue value.now result }
+{
+    let mut output = Vec::new(alloc);
+    let mut worker = Vec::new(alloc);
+    let mut encoder = Encoder::from_buffer(alloc, EncoderOptions::coer(), &mut output, &mut worker);
+    value.encode_with_constraints(&mut encoder, constraints)?;
+    Ok(encoder.output())
+}
+
+/// The value whose encoding begins the input, under constraints in place of its type's own, and the octets behind it.
+pub(crate) fn decode_value<'a, T: Decode>(
+    alloc: Global,
+    options: DecoderOptions,
+    constraints: Constraints,
+    input: &'a [u8],
+) -> Result<(T, &'a [u8]), DecodeError>
+    requires { IsConsistent constraints }
+    ensures { IsRead (T.tree constraints) T.IsValue options.codec options.levels input.entry.now result }
+{
+    let mut decoder = Decoder::new(input, options);
+    match T::decode_with_constraints(alloc, &mut decoder, constraints) {
+        Ok(value) => Ok((value, decoder.remaining())),
+        Err(e) => Err(e),
+    }
+}
+
+/// The canonical octets of a value behind what the buffer holds; after a refusal the buffer is as before.
+pub(crate) fn append_value<T: Encode>(
+    alloc: Global,
+    constraints: Constraints,
+    value: &T,
+    buffer: &mut Vec<u8>,
+) -> Result<(), EncodeError>
+    requires { IsConsistent constraints }
+    ensures { IsAppended (T.tree constraints) T.IsValue value.now buffer.old.items result buffer.new.items }
+{
+    let mark = buffer.len();
+    let mut worker = Vec::new(alloc);
+    let mut encoder = Encoder::from_buffer(
+        alloc,
+        EncoderOptions::coer(),
+        &mut *buffer,
+        &mut worker,
+    );
+    let answer = value.encode_with_constraints(&mut encoder, constraints);
+    let octets = encoder.output();
+    drop(encoder);
+    *buffer = octets;
+    if answer.is_err() {
+        buffer.truncate(mark);
+    }
+    answer
+}

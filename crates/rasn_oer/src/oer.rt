@@ -1,0 +1,82 @@
+//! Basic octet encoding rules (X.696): lenient reading, and canonical writing.
+ghost use Rattle.asn1_base.specs.declared.codec.Codec.TheVariants.{Oer};
+ghost use Rattle.oer_forms.specs.Spelled.{IsConsistent};
+ghost use Rattle.rasn_oer.specs.Headline.{IsAppended, IsRead, IsReadAlone, IsWritten};
+
+use crate::de::DecoderOptions;
+use crate::decode::Decode;
+use crate::entry::{append_value, decode_value, encode_value};
+use asn1_base::{Constraints, DecodeError, EncodeError};
+use oer_write::Encode;
+use std::alloc::Global;
+
+/// The canonical octets of a value's tree (docs/ENCODING.md).
+///
+/// Refused exactly where the tree can't be written, by a kind whose condition it breaks (docs/REFUSALS.md), or for want
+/// of memory.
+pub fn encode<T: Encode>(alloc: Global, value: &T) -> Result<Vec<u8>, EncodeError>
+    ensures { IsWritten (T.tree T.CONSTRAINTS) T.IsValue value.now result }
+{
+    encode_value(alloc, T::CONSTRAINTS, value)
+}
+
+/// The same under these constraints, which are consistent and stand in place of the type's own.
+pub fn encode_with_constraints<T: Encode>(
+    alloc: Global,
+    constraints: Constraints,
+    value: &T,
+) -> Result<Vec<u8>, EncodeError>
+    requires { IsConsistent constraints }
+    ensures { IsWritten (T.tree constraints) T.IsValue value.now result }
+{
+    encode_value(alloc, constraints, value)
+}
+
+/// The canonical octets of a value's tree, behind what the buffer holds.
+///
+/// Refused as `encode` is; the buffer is then as before.
+pub fn encode_buf<T: Encode>(
+    alloc: Global,
+    value: &T,
+    buffer: &mut Vec<u8>,
+) -> Result<(), EncodeError>
+    ensures { IsAppended (T.tree T.CONSTRAINTS) T.IsValue value.now buffer.old.items result buffer.new.items }
+{
+    append_value(alloc, T::CONSTRAINTS, value, buffer)
+}
+
+/// The value whose lenient encoding begins the input, within 128 levels; what follows it is ignored.
+///
+/// Refused exactly where no such encoding begins the input (docs/REFUSALS.md has the kinds and their order), or for want
+/// of memory.
+pub fn decode<T: Decode>(alloc: Global, input: &[u8]) -> Result<T, DecodeError>
+    ensures { IsReadAlone (T.tree T.CONSTRAINTS) T.IsValue Oer 128 input.now result }
+{
+    let (value, _rest) = decode_value(alloc, DecoderOptions::oer(), T::CONSTRAINTS, input)?;
+    Ok(value)
+}
+
+/// The value whose lenient encoding begins the input, within 128 levels, and the octets behind it.
+///
+/// Refused as `decode` is.
+pub fn decode_with_remainder<'a, T: Decode>(
+    alloc: Global,
+    input: &'a [u8],
+) -> Result<(T, &'a [u8]), DecodeError>
+    ensures { IsRead (T.tree T.CONSTRAINTS) T.IsValue Oer 128 input.entry.now result }
+{
+    decode_value(alloc, DecoderOptions::oer(), T::CONSTRAINTS, input)
+}
+
+/// The same as `decode` under these constraints, which are consistent and stand in place of the type's own.
+pub fn decode_with_constraints<T: Decode>(
+    alloc: Global,
+    constraints: Constraints,
+    input: &[u8],
+) -> Result<T, DecodeError>
+    requires { IsConsistent constraints }
+    ensures { IsReadAlone (T.tree constraints) T.IsValue Oer 128 input.now result }
+{
+    let (value, _rest) = decode_value(alloc, DecoderOptions::oer(), constraints, input)?;
+    Ok(value)
+}
