@@ -70,7 +70,7 @@ abbrev pub is_leap : ℕ → Bool
 is_leap year = ((year % 4) == 0) && (not ((year % 100) == 0) || ((year % 400) == 0))
 
 abbrev pub days_of : ℕ → ℕ → ℕ
-days_of year month = cond (month == 2) (cond (is_leap year) 29 28) (cond (is_one_of (4 ∷ 6 ∷ 9 ∷ 11 ∷ []) month) 30 31)
+days_of year month = cond (month == 2) (cond (is_leap year) 29 28) (cond ((month == 4) || (month == 6) || (month == 9) || (month == 11)) 30 31)
 
 abbrev pub is_day : ℕ → ℕ → ℕ → Bool
 is_day year month day = from_to 1 12 month && from_to 1 (days_of year month) day
@@ -88,12 +88,14 @@ is_utc c =
     (length c == 13) && (list_all is_digit (take 12 c) && ((get_or c 12 0 == 0x5A)
     && (is_day (full_year (digits_at c 0 2)) (digits_at c 2 2) (digits_at c 4 2) && is_clock (digits_at c 6 2) (digits_at c 8 2) (digits_at c 10 2))))
 
--- Z; or a point, 1 to 9 digits of which the last is no 0, and Z
+-- 1 to 9 digits, the last of which is no 0
+abbrev pub is_fraction : Octets → Bool
+is_fraction c = from_to 1 9 (length c) && (list_all is_digit c && not (get_or c (length c - 1) 0 == 0x30))
+
+-- Z; or a point, a fraction and Z
 abbrev pub is_ending : Octets → Bool
 is_ending [] = false
-is_ending (x ∷ xs) =
-    ((x == 0x5A) && (length xs == 0))
-    || ((x == 0x2E) && (from_to 2 10 (length xs) && (list_all is_digit (take (length xs - 1) xs) && (not (get_or xs (length xs - 2) 0 == 0x30) && (get_or xs (length xs - 1) 0 == 0x5A)))))
+is_ending (x ∷ xs) = cond (length xs == 0) (x == 0x5A) ((x == 0x2E) && (is_fraction (take (length xs - 1) xs) && (get_or xs (length xs - 1) 0 == 0x5A)))
 
 -- YYYYMMDDhhmmss and an ending
 abbrev pub is_generalized : Octets → Bool

@@ -1,4 +1,4 @@
-//! The values of ASN.1 types that hold octets, bits, text, object identifiers and times.
+//! The values of ASN.1 types that hold octets, bits, text and object identifiers.
 #![tactic(auto)]
 
 mod bits;
