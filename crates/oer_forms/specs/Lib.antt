@@ -26,3 +26,4 @@ pub mod ReadingIntegers
 pub mod ReadingEnumerated
 pub mod ReadingMemory
 pub mod TimeTexts
+pub mod TimeLaws

@@ -1,7 +1,6 @@
 -- Times and days: their contents, and how they are read.
-use Rattle.std.specs.Prelude.{◌≡◌, ◌↔◌, ℕ, Bool, true, List, Option, Some, None, Result, Ok}
+use Rattle.std.specs.Prelude.{ℕ, Bool, List, Option, Some, None, Result, Ok}
 use Rattle.asn1_base.specs.Octets.{Octets}
-use Rattle.asn1_base.specs.Texts.{is_utc, is_generalized, is_date}
 use Rattle.asn1_base.specs.declared.codec.Codec.{Codec}
 use Rattle.asn1_base.specs.declared.error.DecodeErrorKind.{DecodeErrorKind}
 use Rattle.asn1_base.specs.declared.error.DecodeErrorKind.TheVariants.{InvalidTime}
@@ -17,7 +16,3 @@ time_content None fields = Civil fields
 -- A time or a day (X.696, 29), by its text.
 unfoldable pub time_at : (Octets → Bool) → Codec → Octets → Result (Option Octets × Octets) DecodeErrorKind
 time_at is_text codec input = text_at is_text InvalidTime None codec input >>= λ text. Ok (Some text.0, text.1)
-
--- a rule that is a test
-pub same_test : (is_text : Octets → Bool) (o : Octets) → (is_text o ≡ true) ↔ (is_text o ≡ true)
-same_test is_text o = (λ h. h, λ h. h)

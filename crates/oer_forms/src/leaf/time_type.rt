@@ -33,7 +33,7 @@ impl TimeType for UtcTime {
     ghost use Rattle.std.specs.Prelude.{refl};
     ghost use Rattle.asn1_base.specs.Texts.{Utc, is_utc};
     ghost use Rattle.asn1_times.specs.Times.{utc_text};
-    ghost use Rattle.oer_forms.specs.TimeTexts.{same_test, utc_obeys};
+    ghost use Rattle.oer_forms.specs.TimeLaws.{same_test, utc_obeys};
 
     ghost rule = { Utc };
 
@@ -60,7 +60,7 @@ impl TimeType for GeneralizedTime {
     ghost use Rattle.std.specs.Prelude.{refl};
     ghost use Rattle.asn1_base.specs.Texts.{Generalized, is_generalized};
     ghost use Rattle.asn1_times.specs.Times.{generalized_text};
-    ghost use Rattle.oer_forms.specs.TimeTexts.{same_test, generalized_obeys};
+    ghost use Rattle.oer_forms.specs.TimeLaws.{same_test, generalized_obeys};
 
     ghost rule = { Generalized };
 
@@ -87,7 +87,7 @@ impl TimeType for Date {
     ghost use Rattle.std.specs.Prelude.{refl};
     ghost use Rattle.asn1_base.specs.Texts.{Date as DateRule, is_date};
     ghost use Rattle.asn1_times.specs.Times.{date_text};
-    ghost use Rattle.oer_forms.specs.TimeTexts.{same_test, date_obeys};
+    ghost use Rattle.oer_forms.specs.TimeLaws.{same_test, date_obeys};
 
     ghost rule = { DateRule };
 

@@ -23,10 +23,7 @@ fn time<T: TimeType>(codec: Codec, input: &[u8]) -> Result<(T, &[u8]), DecodeErr
 ///
 /// Refused as an octet string without constraints is (`read_octet_string`); then octets that are no text of the type, as
 /// `InvalidTime`.
-pub fn read_time<T: TimeType>(
-    codec: Codec,
-    input: &[u8],
-) -> Result<(T, &[u8]), DecodeErrorKind>
+pub fn read_time<T: TimeType>(codec: Codec, input: &[u8]) -> Result<(T, &[u8]), DecodeErrorKind>
     ensures function { Gives (λ x. (T.text x.0, x.1.now)) result (time_at T.is_text codec input.now) }
     ensures relation { (fields : T → List ℕ) → ReadsFront
         (λ o t. IsLeafEncoding (mode_of codec) o (Text T.rule None (time_content (T.text t) (fields t))))
