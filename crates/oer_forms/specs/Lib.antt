@@ -25,3 +25,5 @@ pub mod Widths
 pub mod ReadingIntegers
 pub mod ReadingEnumerated
 pub mod ReadingMemory
+pub mod TimeTexts
+pub mod TimeLaws

@@ -3,8 +3,10 @@
 #[cfg(test)]
 mod number_tests;
 pub mod read;
+#[cfg(test)]
+mod string_tests;
+mod time_type;
 mod widths;
 pub mod write;
 
-#[cfg(test)]
-mod tests;
+pub use time_type::TimeType;

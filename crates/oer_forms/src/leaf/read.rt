@@ -17,6 +17,7 @@ mod places;
 mod quantities;
 mod tags;
 mod texts;
+mod times;
 
 pub use bit_slice::BitSlice;
 pub use bit_strings::read_bit_string;
@@ -31,3 +32,4 @@ pub use places::{read_bitmap, read_preamble, skip_additions};
 pub use quantities::read_quantity;
 pub use tags::read_tag;
 pub use texts::{read_any, read_octet_string, read_text, read_utf8};
+pub use times::read_time;

@@ -11,6 +11,7 @@ mod places;
 mod quantities;
 mod tags;
 mod texts;
+mod times;
 
 pub use bit_strings::write_bit_string;
 pub use booleans::write_bool;
@@ -22,3 +23,4 @@ pub use places::{write_bitmap, write_preamble};
 pub use quantities::write_quantity;
 pub use tags::write_tag;
 pub use texts::{write_any, write_octet_string, write_text, write_utf8};
+pub use times::write_time;

@@ -1,12 +1,13 @@
 use crate::leaf::read::{
     read_any, read_bit_string, read_bitmap, read_object_identifier, read_octet_string,
-    read_preamble, read_text, read_utf8, skip_additions,
+    read_preamble, read_text, read_time, read_utf8, skip_additions,
 };
 use crate::leaf::write::{
     write_any, write_bit_string, write_bitmap, write_object_identifier, write_octet_string,
-    write_preamble, write_text, write_utf8,
+    write_preamble, write_text, write_time, write_utf8,
 };
 use asn1_base::{Bounded, Codec, Constraints, DecodeErrorKind, EncodeErrorKind};
+use asn1_times::{Date, GeneralizedTime, UtcTime};
 use asn1_values::{BitString, BmpCharacters, BmpString, Ia5Characters};
 use std::test::Fail;
 
@@ -107,8 +108,8 @@ fn writes(rt: HostRuntime) -> Result<(), Fail> {
     assert_eq!(rt;
         out.as_slice(),
         [
-            5, 1, 2, 3, 4, 5, 0, 0x66, 0x6F, 0x6F, 0, 0x41, 0, 0x42, 0x80, 2, 6, 0xC0, 3, 0x2A, 0x99,
-            0x79
+            5, 1, 2, 3, 4, 5, 0, 0x66, 0x6F, 0x6F, 0, 0x41, 0, 0x42, 0x80, 2, 6, 0xC0, 3, 0x2A,
+            0x99, 0x79
         ]
         .as_slice()
     );
@@ -117,8 +118,11 @@ fn writes(rt: HostRuntime) -> Result<(), Fail> {
 
 #[test]
 fn identifiers(rt: HostRuntime) -> Result<(), Fail> {
-    let (identifier, _) =
-        read_object_identifier(rt.alloc(), Codec::Coer, &[5, 0x90, 0x80, 0x80, 0x80, 0x4F])?;
+    let (identifier, _) = read_object_identifier(
+        rt.alloc(),
+        Codec::Coer,
+        &[5, 0x90, 0x80, 0x80, 0x80, 0x4F],
+    )?;
     assert_eq!(rt; identifier.arcs(), [2, 4294967295].as_slice());
     for octets in [[5, 0x90, 0x80, 0x80, 0x80, 0x50], [2, 0x80, 1, 0, 0, 0]] {
         assert_eq!(rt;
@@ -126,5 +130,25 @@ fn identifiers(rt: HostRuntime) -> Result<(), Fail> {
             Err(DecodeErrorKind::InvalidObjectIdentifier)
         );
     }
+    Ok(())
+}
+
+#[test]
+fn times(rt: HostRuntime) -> Result<(), Fail> {
+    let mut out = Vec::new(rt.alloc());
+    let (time, _) = read_time::<UtcTime>(Codec::Coer, b"\x0D191009130005Z")?;
+    write_time(&time, &mut out)?;
+    let (time, _) = read_time::<GeneralizedTime>(Codec::Coer, b"\x1320801009130005.342Z")?;
+    write_time(&time, &mut out)?;
+    let (day, _) = read_time::<Date>(Codec::Coer, b"\x0820240229")?;
+    write_time(&day, &mut out)?;
+    assert_eq!(rt;
+        out.as_slice(),
+        b"\x0D191009130005Z\x1320801009130005.342Z\x0820240229".as_slice()
+    );
+    assert_eq!(rt;
+        read_time::<Date>(Codec::Oer, b"\x0820230229").err(),
+        Some(DecodeErrorKind::InvalidTime)
+    );
     Ok(())
 }
