@@ -9,3 +9,4 @@ pub mod TagOrder
 pub mod SetRows
 pub mod OctetOrder
 pub mod Gathering
+pub mod AnyOrder
