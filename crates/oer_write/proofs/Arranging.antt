@@ -15,15 +15,15 @@ filter_same : {X : Type 0} (p q : X → Bool) → ((x : X) → p x ≡ q x) → 
 filter_same p q e [] = refl
 filter_same {X} p q e (x ∷ xs) = ap₂ (λ (b : Bool) (r : List X). cond b (x ∷ r) r) (e x) (filter_same p q e xs)
 
-both_true : (a b : Bool) → a ≡ true → b ≡ true → (a && b) ≡ true
+pub both_true : (a b : Bool) → a ≡ true → b ≡ true → (a && b) ≡ true
 both_true true b h i = i
 both_true false b h i = absurd cc
 
-left_true : (a b : Bool) → (a && b) ≡ true → a ≡ true
+pub left_true : (a b : Bool) → (a && b) ≡ true → a ≡ true
 left_true true b h = refl
 left_true false b h = absurd cc
 
-right_true : (a b : Bool) → (a && b) ≡ true → b ≡ true
+pub right_true : (a b : Bool) → (a && b) ≡ true → b ≡ true
 right_true true b h = h
 right_true false b h = absurd cc
 
@@ -37,7 +37,7 @@ twice_not true true = refl
 twice_not true false = refl
 twice_not false b = refl
 
-true_false : (a : Bool) → a ≡ true → a ≡ false → ⊥
+pub true_false : (a : Bool) → a ≡ true → a ≡ false → ⊥
 true_false a h i = absurd cc
 
 -- a total order of list elements, as a test
@@ -55,18 +55,18 @@ module _ {X : Type 0} (le : X → X → Bool) where
   arranged [] = []
   arranged (x ∷ xs) = put x (arranged xs)
 
-  abbrev tied : X → X → Bool
+  abbrev pub tied : X → X → Bool
   tied w y = le y w && le w y
 
   -- those that tie with w
-  abbrev of : X → List X → List X
+  abbrev pub of : X → List X → List X
   of w xs = filter (tied w) xs
 
-  abbrev Above : X → List X → Type 0
+  abbrev pub Above : X → List X → Type 0
   Above w xs = AllByRecursion (λ y. le w y ≡ true) xs
 
   -- none is less than an earlier one
-  abbrev Rises : List X → Type 0
+  abbrev pub Rises : List X → Type 0
   Rises [] = ⊤
   Rises (x ∷ xs) = Above x xs × Rises xs
 
@@ -97,7 +97,7 @@ module _ {X : Type 0} (le : X → X → Bool) (o : IsOrderTest le) where
   tied_both x y h i = both_true (le y x) (le x y) i h
 
   -- lists that rise and agree on what ties are equal
-  unique : (xs ys : List X) → Rises le xs → Rises le ys → ((w : X) → of le w xs ≡ of le w ys) → xs ≡ ys
+  pub unique : (xs ys : List X) → Rises le xs → Rises le ys → ((w : X) → of le w xs ≡ of le w ys) → xs ≡ ys
   unique [] [] r s e = refl
   unique [] (b ∷ ys) r s e = absurd (let here = of_here b b ys (tied_both b b (itself b) (itself b)) in let both = e b in cc)
   unique (a ∷ xs) [] r s e = absurd (let here = of_here a a xs (tied_both a a (itself a) (itself a)) in let both = e a in cc)
@@ -144,7 +144,7 @@ module _ {X : Type 0} (le : X → X → Bool) (o : IsOrderTest le) where
       go (inl l) more = ap (of le w) (put_low x y ys l)
       go (inr l) more = ap (of le w) (put_high x y ys l) ∙ past l (cases_Bool (tied le w y)) more
 
-  of_arranged : (w : X) (xs : List X) → of le w (arranged le xs) ≡ of le w xs
+  pub of_arranged : (w : X) (xs : List X) → of le w (arranged le xs) ≡ of le w xs
   of_arranged w [] = refl
   of_arranged w (x ∷ xs) = of_put w x (arranged le xs) ∙ ap (λ (r : List X). cond (tied le w x) (x ∷ r) r) (of_arranged w xs)
 
@@ -168,7 +168,7 @@ module _ {X : Type 0} (le : X → X → Bool) (o : IsOrderTest le) where
       go (inl l) more = subst (Rises le) (sym (put_low x y ys l)) ((l, above_lower x y ys l r.0), r)
       go (inr l) more = subst (Rises le) (sym (put_high x y ys l)) (above_put y x ys (o.total x y l) r.0, more)
 
-  rises_arranged : (xs : List X) → Rises le (arranged le xs)
+  pub rises_arranged : (xs : List X) → Rises le (arranged le xs)
   rises_arranged [] = tt
   rises_arranged (x ∷ xs) = rises_put x (arranged le xs) (rises_arranged xs)
 

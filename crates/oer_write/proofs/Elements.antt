@@ -114,7 +114,7 @@ not_above a b h = grind arith
 above : (a b : ℕ) → b < a → nat_lt b a ≡ true
 above a b h = grind arith
 
-list_fits : (own : List Octets) (k : Failure) → empties own < 65537 → length own < 2 ^ 64 → list_fails own k ≡ false
+pub list_fits : (own : List Octets) (k : Failure) → empties own < 65537 → length own < 2 ^ 64 → list_fails own k ≡ false
 list_fits own TooManyEmpty few short = not_above (empties own) 65536 few
 list_fits own TooLong few short = not_above (length own) usize_max (omega arith)
 list_fits own BadValue few short = refl
@@ -145,7 +145,7 @@ module _ {E : Type 0} (runs : E → Runs) (tree : E → Tree) where
   none_fails (x ∷ xs) [] known w k = absurd w
   none_fails (x ∷ xs) (o ∷ os) known w k = or_false _ _ ((element_octets x o (λ e e' r p. known x e e' r (contains_first x xs) p) w.0).1 k) (none_fails xs os (λ y e e' r there p. known y e e' r (contains_more x y xs there) p) w.1 k)
 
-  list_encodable : (ordered : Bool) (xs : List E) (own : List Octets) → own ≡ canonical_elements (trees_of tree xs) → ((k : Failure) → trees_fail (trees_of tree xs) k ≡ false) → empties own < 65537 → length own < 2 ^ 64 → IsEncodable (ListOf ordered (trees_of tree xs))
+  pub list_encodable : (ordered : Bool) (xs : List E) (own : List Octets) → own ≡ canonical_elements (trees_of tree xs) → ((k : Failure) → trees_fail (trees_of tree xs) k ≡ false) → empties own < 65537 → length own < 2 ^ 64 → IsEncodable (ListOf ordered (trees_of tree xs))
   unfolding fails
   list_encodable ordered xs own same fine few short k = or_false _ _ (fine k) (rw (← same) (list_fits own k few short))
 
@@ -163,13 +163,13 @@ module _ {E : Type 0} (runs : E → Runs) (tree : E → Tree) where
         written = h.appended ∙ ap (λ (o : Octets). append o old) (written_octets xs h.contents same);
       }
 
-  fails_there : (k : Failure) (xs : List E) (i : ℕ) (x : E) → i < length xs → get_or xs i x ≡ x → fails (tree x) k ≡ true → trees_fail (trees_of tree xs) k ≡ true
+  pub fails_there : (k : Failure) (xs : List E) (i : ℕ) (x : E) → i < length xs → get_or xs i x ≡ x → fails (tree x) k ≡ true → trees_fail (trees_of tree xs) k ≡ true
   unfolding fails
   fails_there k [] i x short there f = absurd (omega arith)
   fails_there k (y ∷ xs) zero x short there f = or_left _ _ (subst (λ (z : E). fails (tree z) k ≡ true) (sym there) f)
   fails_there k (y ∷ xs) (suc i) x short there f = or_right (fails (tree y) k) _ (fails_there k xs i x (omega arith) there f)
 
-  empties_front : (n : ℕ) (xs : List E) → empties (canonical_elements (trees_of tree (take n xs))) ≤ empties (canonical_elements (trees_of tree xs))
+  pub empties_front : (n : ℕ) (xs : List E) → empties (canonical_elements (trees_of tree (take n xs))) ≤ empties (canonical_elements (trees_of tree xs))
   unfolding canonical_octets
   empties_front zero xs = omega arith
   empties_front (suc n) [] = omega arith
@@ -178,11 +178,11 @@ module _ {E : Type 0} (runs : E → Runs) (tree : E → Tree) where
   contains_front : (n : ℕ) (xs : List E) (x : E) → Contains (take n xs) x → Contains xs x
   contains_front n xs x h = subst (λ (ys : List E). Contains ys x) (take-append-drop n xs) (Contains-append_left (take n xs) (drop n xs) x h)
 
-  element_fails : (ordered : Bool) (xs : List E) (x : E) (k : EncodeErrorKind) → Contains xs x → Fails (tree x) k → Fails (ListOf ordered (trees_of tree xs)) k
+  pub element_fails : (ordered : Bool) (xs : List E) (x : E) (k : EncodeErrorKind) → Contains xs x → Fails (tree x) k → Fails (ListOf ordered (trees_of tree xs)) k
   unfolding fails
   element_fails ordered xs x k there f = (f.0, f.1, or_left _ _ (fails_there f.0 xs there.0 x there.1 there.2 f.2))
 
-  many_fail : (ordered : Bool) (xs : List E) (k : EncodeErrorKind) → k ≡ TooManyEmptyElements → 65536 < empties (canonical_elements (trees_of tree xs)) → Fails (ListOf ordered (trees_of tree xs)) k
+  pub many_fail : (ordered : Bool) (xs : List E) (k : EncodeErrorKind) → k ≡ TooManyEmptyElements → 65536 < empties (canonical_elements (trees_of tree xs)) → Fails (ListOf ordered (trees_of tree xs)) k
   unfolding fails
   many_fail ordered xs k is many = (TooManyEmpty, ap failure_of is, or_right (trees_fail (trees_of tree xs) TooManyEmpty) _ (above _ _ many))
 

@@ -7,3 +7,6 @@ pub mod Chosen
 pub mod Arranging
 pub mod TagOrder
 pub mod SetRows
+pub mod OctetOrder
+pub mod Gathering
+pub mod AnyOrder

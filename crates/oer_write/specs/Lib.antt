@@ -5,3 +5,4 @@ pub mod Scopes
 pub mod Rules
 pub mod Lists
 pub mod Choices
+pub mod Unordered

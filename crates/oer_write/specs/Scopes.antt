@@ -1,12 +1,15 @@
 -- What a scope asks of its closure, and what it does with what the closure did.
-use Rattle.std.specs.Prelude.{◌≡◌, ℕ, ◌^◌, ◌<◌, Bool, true, false, cond, ◌||◌, List, [], ◌∷◌, ◌++◌, ◌⊎◌, length, Result, Ok, Err}
+use Rattle.std.specs.Prelude.{◌≡◌, ℕ, ◌^◌, ◌<◌, Bool, true, false, cond, ◌||◌, List, [], ◌∷◌, ◌++◌, ◌⊎◌, length, map, Result, Ok, Err}
 use Rattle.std.specs.Borrow.{MutBor}
 use Rattle.std.specs.Fn.{Once, FnOnceReturnsAtMut}
 use Rattle.asn1_base.specs.Octets.{Octets, pack}
 use Rattle.asn1_base.specs.declared.error.EncodeError.{EncodeError}
 use Rattle.asn1_base.specs.declared.error.EncodeErrorKind.TheVariants.{OutOfMemory}
+use Rattle.asn1_base.specs.Tags.{AreDistinct}
+use Rattle.asn1_base.specs.declared.tag.Tag.{Tag}
 use Rattle.oer_forms.specs.Lengths.{counted_bits}
-use Rattle.oer_forms.specs.Places.{extension_bit, presence, bodies, by_tag}
+use Rattle.oer_forms.specs.Orders.{Reorders}
+use Rattle.oer_forms.specs.Places.{Item, extension_bit, presence, bodies, by_tag}
 use Rattle.oer_write.specs.Written.{Written, Frame, fresh, append, Keeps}
 
 -- how a closure may leave an encoder that it was lent
@@ -36,6 +39,13 @@ sequence_octets f components = pack (extension_bit f.extensible (any_true f.bitm
 -- the octets of a set whose closure left the frame: components and presence bits in tag order
 abbrev pub set_octets : Frame → Octets
 set_octets f = pack (extension_bit f.extensible (any_true f.bitmap) ++ presence (by_tag f.components)) ++ (bodies (by_tag f.components) ++ extension_of f.bitmap f.opens)
+
+abbrev pub item_tags : List Item → List Tag
+item_tags is = map (λ i. i.tag) is
+
+-- Components of distinct tags give the same octets in whatever order they are handed in.
+abbrev pub IsSameInAnyOrder : Type 0
+IsSameInAnyOrder = (f : Frame) (handed : List Item) → AreDistinct (item_tags f.components) → Reorders f.components handed → set_octets (record f { components = handed }) ≡ set_octets f
 
 -- a closure ran in a new scope of some encoder, wrote the components there, and left the frame
 pub record RanInScope (runs : Runs) (is_set extensible : Bool) (frame : Frame) (components : Octets) : Type 0 where

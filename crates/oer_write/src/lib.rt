@@ -16,6 +16,7 @@ mod scope;
 mod scopes;
 mod sets;
 mod texts;
+mod unordered;
 
 pub use encode::Encode;
 pub use encoder::Encoder;

@@ -16,7 +16,7 @@ use asn1_base::{Constraints, EncodeError, EncodeErrorKind, Tag};
 use oer_forms::leaf::write::write_quantity;
 
 /// At most so many elements of one list may take no octets (the project's own choice).
-const MAX_EMPTY_ELEMENTS: u32 = 65536;
+pub(crate) const MAX_EMPTY_ELEMENTS: u32 = 65536;
 
 /// Lends an encoder and an element to a closure.
 fn lend_at<E, F: Fn(&mut Encoder<'_>, &E) -> Result<(), EncodeError>>(

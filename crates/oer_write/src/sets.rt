@@ -5,7 +5,7 @@ ghost use Rattle.oer_forms.specs.Places.{bodies, by_tag, presence};
 ghost use Rattle.oer_forms.specs.Tree.{Rows, Struct};
 ghost use Rattle.oer_forms.specs.Writing.{Appends, BeginsWith};
 ghost use Rattle.oer_write.specs.Rows.{IsKnownToWriteSet};
-ghost use Rattle.oer_write.specs.Scopes.{Promise, IsOrderly, SetClosed, Broken, set_octets};
+ghost use Rattle.oer_write.specs.Scopes.{Promise, IsOrderly, IsSameInAnyOrder, SetClosed, Broken, set_octets};
 ghost use Rattle.oer_write.specs.Seen.{frame_of, item};
 ghost use Rattle.oer_write.specs.Written.{Encodes, Refused};
 
@@ -86,6 +86,7 @@ impl<'buffer> Encoder<'buffer> {
         ensures refused { IfErr result (λ x. Broken (Promise F.FnOnce f) true C.IS_EXTENSIBLE x self.old self.new) }
         ensures tree { (roots additions : Rows) → IsKnownToWriteSet (Promise F.FnOnce f) roots additions → OnOk result (Encodes (Struct true C.IS_EXTENSIBLE roots additions) self.old self.new) }
         ensures tree_refused { (roots additions : Rows) → IsKnownToWriteSet (Promise F.FnOnce f) roots additions → IfErr result (λ x. Refused (Struct true C.IS_EXTENSIBLE roots additions) x.kind self.old self.new) }
+        ensures any_order { IsSameInAnyOrder }
     {
         self.set(C::IS_EXTENSIBLE, f)
     }

@@ -1,0 +1,92 @@
+-- The elements of an unordered list, one after the other, and the tree of the whole.
+use Rattle.std.proofs.Common.{◌≡◌, ℕ, zero, suc, ◌+◌, ◌^◌, ◌<◌, ◌≤◌, Bool, true, false, cond, List, [], ◌∷◌, ◌++◌, length, take, get_or, map, refl, ap, ap₂, sym, ◌∙◌, subst, arith, ◌⊎◌, inl, inr}
+use Rattle.std.proofs.lemmas.List.{take_more}
+use Rattle.asn1_base.specs.Octets.{Octets, joined}
+use Rattle.asn1_base.specs.declared.error.EncodeErrorKind.{EncodeErrorKind}
+use Rattle.asn1_base.specs.declared.error.EncodeErrorKind.TheVariants.{OutOfMemory, TooManyEmptyElements}
+use Rattle.oer_forms.specs.Encoding.{IsEncodable, canonical_octets, canonical_elements, empties, fails, trees_fail}
+use Rattle.oer_forms.specs.Failures.{Fails}
+use Rattle.oer_forms.specs.Leaves.{Failure}
+use Rattle.oer_forms.specs.Lengths.{quantity_octets}
+use Rattle.oer_forms.specs.Places.{sorted, list_octets}
+use Rattle.oer_forms.specs.Spelled.{EachValue, trees_of, list_of}
+use Rattle.oer_forms.specs.Tree.{Tree, ListOf}
+use Rattle.oer_write.specs.Lists.{is_nil}
+use Rattle.oer_write.specs.Scopes.{Runs}
+use Rattle.oer_write.specs.Unordered.{Gathered, OneMore, OneRefused}
+use Rattle.oer_write.specs.Written.{Written, append, Encodes}
+use Rattle.oer_write.proofs.Elements.{element_fails, many_fail, empties_front, empties_push, list_encodable}
+use Rattle.oer_write.proofs.Items.{or_false}
+
+each_push : {E : Type 0} (P : E → Type 0) (xs : List E) (x : E) → EachValue P xs → P x → EachValue P (xs ++ x ∷ [])
+each_push P [] x h i = (i, tt)
+each_push P (y ∷ xs) x h i = (h.0, each_push P xs x h.1 i)
+
+module _ {E : Type 0} (tree : E → Tree) where
+  abbrev octets_at : E → Octets
+  octets_at x = canonical_octets (tree x)
+
+  abbrev no_runs : E → Runs
+  no_runs x e r e' = ⊥
+
+  elements_are : (xs : List E) → canonical_elements (trees_of tree xs) ≡ map octets_at xs
+  unfolding canonical_octets
+  elements_are [] = refl
+  elements_are (x ∷ xs) = ap (λ (os : List Octets). octets_at x ∷ os) (elements_are xs)
+
+  map_push : (xs : List E) (x : E) → map octets_at (xs ++ x ∷ []) ≡ map octets_at xs ++ octets_at x ∷ []
+  map_push [] x = refl
+  map_push (y ∷ xs) x = ap (λ (os : List Octets). octets_at y ∷ os) (map_push xs x)
+
+  pub gathered_more : (IsValue : E → Type 0) (xs : List E) (i : ℕ) (x : E) (contents newer : List Octets) (count next : ℕ) → i < length xs → x ≡ get_or xs i x → Gathered tree IsValue (take i xs) contents count → OneMore tree IsValue x contents newer count next → Gathered tree IsValue (take (i + 1) xs) newer next
+  gathered_more IsValue xs i x contents newer count next short there h w =
+      rw (take_more xs i x short, ← there)
+      (record {
+        octets = w.octets ∙ ap (λ (os : List Octets). os ++ octets_at x ∷ []) h.octets ∙ sym (map_push (take i xs) x);
+        encodable = each_push (λ y. IsEncodable (tree y)) (take i xs) x h.encodable w.encodable;
+        values = each_push IsValue (take i xs) x h.values w.value;
+        counted = w.counted ∙ ap (λ (n : ℕ). n + cond (is_nil (octets_at x)) 1 0) h.counted ∙ sym (empties_push contents (octets_at x)) ∙ ap (λ (os : List Octets). empties os) (sym w.octets);
+        few = w.few;
+      })
+
+  full : (xs : List E) (i : ℕ) (x : E) (contents : List Octets) (count : ℕ) → i < length xs → x ≡ get_or xs i x → contents ≡ map octets_at (take i xs) → count ≡ empties contents → is_nil (octets_at x) ≡ true → count ≡ 65536 → 65536 < empties (canonical_elements (trees_of tree (take (i + 1) xs)))
+  full xs i x contents count short there same counted empty at =
+      let more : empties (contents ++ octets_at x ∷ []) ≡ empties contents + 1 = subst (λ (b : Bool). empties (contents ++ octets_at x ∷ []) ≡ empties contents + cond b 1 0) empty (empties_push contents (octets_at x)) in
+      let all : canonical_elements (trees_of tree (take (i + 1) xs)) ≡ contents ++ octets_at x ∷ [] =
+      rw (take_more xs i x short, ← there) (elements_are (take i xs ++ x ∷ []) ∙ map_push (take i xs) x ∙ ap (λ (os : List Octets). os ++ octets_at x ∷ []) (sym same)) in
+      let count_all : empties (canonical_elements (trees_of tree (take (i + 1) xs))) ≡ empties contents + 1 = ap (λ (os : List Octets). empties os) all ∙ more in
+      omega (arith, count_all, counted, at)
+
+  pub gathered_broken : (IsValue : E → Type 0) (xs : List E) (i : ℕ) (x : E) (contents : List Octets) (count : ℕ) (k : EncodeErrorKind) → i < length xs → x ≡ get_or xs i x → Gathered tree IsValue (take i xs) contents count → OneRefused (tree x) count k → (k ≡ OutOfMemory) ⊎ Fails (list_of false tree xs) k
+  unfolding list_of
+  gathered_broken IsValue xs i x contents count k short there h (inl m) = inl m
+  gathered_broken IsValue xs i x contents count k short there h (inr (inl f)) = inr (element_fails no_runs tree false xs x k (i, short, sym there) f)
+  gathered_broken IsValue xs i x contents count k short there h (inr (inr m)) =
+      let many = full xs i x contents count short there h.octets h.counted m.1 m.2 in
+      let front = empties_front no_runs tree (i + 1) xs in
+      inr (many_fail no_runs tree false xs k m.0 (omega (arith, many, front)))
+
+  none_fails : (xs : List E) → EachValue (λ x. IsEncodable (tree x)) xs → (k : Failure) → trees_fail (trees_of tree xs) k ≡ false
+  unfolding fails
+  none_fails [] h k = refl
+  none_fails (x ∷ xs) h k = or_false _ _ (h.0 k) (none_fails xs h.1 k)
+
+  unordered_octets : (xs : List E) (own : List Octets) → own ≡ canonical_elements (trees_of tree xs) → quantity_octets (length own) ++ joined (sorted own) ≡ canonical_octets (ListOf false (trees_of tree xs))
+  unfolding canonical_octets
+  unordered_octets xs own same = ap (λ (o : List Octets). list_octets false o) same
+
+  map_length : (xs : List E) → length (map octets_at xs) ≡ length xs
+  map_length [] = refl
+  map_length (x ∷ xs) = ap (λ (n : ℕ). suc n) (map_length xs)
+
+  -- the elements' octets in ascending order: the unordered list is written
+  pub unordered_done : (IsValue : E → Type 0) (xs : List E) (own : List Octets) (count : ℕ) (old new : Written) → length xs < 2 ^ 64 → Gathered tree IsValue xs own count → new ≡ append (quantity_octets (length xs) ++ joined (sorted own)) old → Encodes (list_of false tree xs) old new
+  unfolding list_of
+  unordered_done IsValue xs own count old new short h e =
+      let same : own ≡ canonical_elements (trees_of tree xs) = h.octets ∙ sym (elements_are xs) in
+      let count_is : length own ≡ length xs = ap (λ (os : List Octets). length os) h.octets ∙ map_length xs in
+      let few : empties own < 65537 = let c = h.counted in let f = h.few in omega (arith, c, f) in
+      record {
+        encodable = list_encodable no_runs tree false xs own same (none_fails xs h.encodable) few (omega (arith, count_is, short));
+        written = e ∙ ap (λ (n : ℕ). append (quantity_octets n ++ joined (sorted own)) old) (sym count_is) ∙ ap (λ (o : Octets). append o old) (unordered_octets xs own same);
+      }

@@ -1,0 +1,34 @@
+-- The elements of an unordered list, each written on its own.
+use Rattle.std.specs.Prelude.{◌≡◌, ℕ, ◌+◌, ◌<◌, true, cond, List, [], ◌∷◌, ◌++◌, ◌⊎◌, map, Vec}
+use Rattle.asn1_base.specs.declared.error.EncodeErrorKind.{EncodeErrorKind}
+use Rattle.asn1_base.specs.declared.error.EncodeErrorKind.TheVariants.{OutOfMemory, TooManyEmptyElements}
+use Rattle.oer_forms.specs.Failures.{Fails}
+use Rattle.oer_write.specs.Lists.{is_nil}
+use Rattle.std.specs.declared.alloc.Global.{Global}
+use Rattle.asn1_base.specs.Octets.{Octets}
+use Rattle.oer_forms.specs.Encoding.{IsEncodable, canonical_octets, empties}
+use Rattle.oer_forms.specs.Spelled.{EachValue}
+use Rattle.oer_forms.specs.Tree.{Tree}
+
+abbrev pub octets_in : Vec ℕ Global → Octets
+octets_in v = v.items
+
+-- these elements were written, in their order, so many of them without octets
+pub record Gathered {E : Type 0} (tree : E → Tree) (IsValue : E → Type 0) (xs : List E) (contents : List Octets) (count : ℕ) : Type 0 where
+  pub octets : contents ≡ map (λ x. canonical_octets (tree x)) xs
+  pub encodable : EachValue (λ x. IsEncodable (tree x)) xs
+  pub values : EachValue IsValue xs
+  pub counted : count ≡ empties contents
+  pub few : count < 65537
+
+-- one more element was written, with the count of those without octets before and after it
+pub record OneMore {E : Type 0} (tree : E → Tree) (IsValue : E → Type 0) (x : E) (old new : List Octets) (count next : ℕ) : Type 0 where
+  pub octets : new ≡ old ++ canonical_octets (tree x) ∷ []
+  pub encodable : IsEncodable (tree x)
+  pub value : IsValue x
+  pub counted : next ≡ count + cond (is_nil (canonical_octets (tree x))) 1 0
+  pub few : next < 65537
+
+-- why one more element is refused
+abbrev pub OneRefused : Tree → ℕ → EncodeErrorKind → Type 0
+OneRefused t count k = (k ≡ OutOfMemory) ⊎ (Fails t k ⊎ ((k ≡ TooManyEmptyElements) × (is_nil (canonical_octets t) ≡ true) × (count ≡ 65536)))

@@ -1,0 +1,144 @@
+//! Unordered lists: the elements in the order of their octets.
+ghost use Rattle.std.specs.Prelude.{◌≡◌, ℕ, ◌+◌, ◌<◌, List, [], ◌∷◌, ◌++◌, ◌⊎◌, cond, Bool, true, false, map, OnOk, IfOk, IfErr};
+ghost use Rattle.asn1_base.specs.Octets.{joined};
+ghost use Rattle.asn1_base.specs.declared.error.EncodeErrorKind.TheVariants.{OutOfMemory, TooManyEmptyElements};
+ghost use Rattle.oer_forms.specs.Failures.{Fails};
+ghost use Rattle.oer_forms.specs.Lengths.{quantity_octets};
+ghost use Rattle.oer_forms.specs.Places.{sorted};
+ghost use Rattle.oer_forms.specs.Spelled.{list_of, EachValue};
+ghost use Rattle.oer_forms.specs.Writing.{Appends, BeginsWith};
+ghost use Rattle.oer_write.specs.Lists.{is_nil};
+ghost use Rattle.oer_write.specs.Unordered.{octets_in, Gathered, OneMore, OneRefused};
+ghost use Rattle.oer_write.specs.Written.{append, Keeps, Encodes, Refused};
+
+use crate::encode::Encode;
+use crate::encoder::Encoder;
+use crate::lists::MAX_EMPTY_ELEMENTS;
+use crate::rows::content_of;
+use asn1_base::{Constraints, EncodeError, EncodeErrorKind, Tag};
+use oer_forms::leaf::write::write_quantity;
+use std::alloc::Global;
+
+/// The count of elements without octets, with one more element.
+fn next_count(is_empty: bool, count: u32) -> Result<u32, EncodeErrorKind>
+    requires few { count < 65537 }
+    ensures done { IfOk result (λ n. (n ≡ count + cond is_empty 1 0) × (n < 65537)) }
+    ensures refused { IfErr result (λ k. (k ≡ TooManyEmptyElements) × (is_empty ≡ true) × (count ≡ 65536)) }
+{
+    if !is_empty {
+        return Ok(count);
+    }
+    if count == MAX_EMPTY_ELEMENTS {
+        return Err(EncodeErrorKind::TooManyEmptyElements);
+    }
+    Ok(count + 1)
+}
+
+/// Whether there are no octets.
+fn is_nothing(octets: &[u8]) -> bool
+    ensures { result ≡ is_nil octets.now }
+{
+    match octets {
+        [] => true,
+        _ => false,
+    }
+}
+
+/// Writes one element on its own, and counts those without octets.
+fn put_one<E: Encode>(
+    alloc: Global,
+    x: &E,
+    count: u32,
+    contents: &mut Vec<Vec<u8>>,
+) -> Result<u32, EncodeError>
+    requires few { count < 65537 }
+    ensures done { IfOk result (λ n. OneMore (E.tree E.CONSTRAINTS) E.IsValue x.now (map octets_in contents.old.items) (map octets_in contents.new.items) count n) }
+    ensures refused { IfErr result (λ e. OneRefused (E.tree E.CONSTRAINTS x.now) count e.kind) }
+{
+    let octets = content_of(alloc, E::TAG, E::CONSTRAINTS, x)?;
+    let next = next_count(is_nothing(&octets), count)?;
+    push_content(contents, octets)?;
+    Ok(next)
+}
+
+/// Each element's octets, in the elements' order.
+fn contents_of<E: Encode>(alloc: Global, elements: &[E]) -> Result<Vec<Vec<u8>>, EncodeError>
+    ensures done { IfOk result (λ contents. (count : ℕ) × Gathered (E.tree E.CONSTRAINTS) E.IsValue elements.now (map octets_in contents.items) count) }
+    ensures refused { IfErr result (λ x. (x.kind ≡ OutOfMemory) ⊎ Fails (list_of false (E.tree E.CONSTRAINTS) elements.now) x.kind) }
+{
+    let mut contents = Vec::new(alloc);
+    let mut empty_count: u32 = 0;
+    for x in elements {
+        empty_count = put_one(alloc, x, empty_count, &mut contents)?;
+    }
+    Ok(contents)
+}
+
+/// Puts an element's octets behind the others.
+fn push_content(contents: &mut Vec<Vec<u8>>, octets: Vec<u8>) -> Result<(), EncodeErrorKind>
+    ensures done { OnOk result (map octets_in contents.new.items ≡ map octets_in contents.old.items ++ (octets.items ∷ [])) }
+    ensures refused { IfErr result (λ k. k ≡ OutOfMemory) }
+{
+    contents.push(octets)?;
+    Ok(())
+}
+
+/// Sorts octets.
+fn arrange_octets(contents: &mut Vec<Vec<u8>>) -> Result<(), EncodeErrorKind>
+    ensures done { OnOk result (map octets_in contents.new.items ≡ sorted (map octets_in contents.old.items)) }
+    ensures refused { IfErr result (λ k. k ≡ OutOfMemory) }
+{
+    contents.sort()?;
+    Ok(())
+}
+
+/// Appends each content.
+fn put_contents(contents: &[Vec<u8>], out: &mut Vec<u8>) -> Result<(), EncodeErrorKind>
+    ensures done { OnOk result (out.new.items ≡ out.old.items ++ joined (map octets_in contents.now)) }
+    ensures refused { IfErr result (λ k. k ≡ OutOfMemory) }
+    ensures begins { BeginsWith out.old.items out.new.items }
+{
+    for content in contents {
+        out.extend_from_slice(content)?;
+    }
+    Ok(())
+}
+
+/// Appends a quantity and each content.
+fn write_contents(
+    contents: &[Vec<u8>],
+    count: usize,
+    out: &mut Vec<u8>,
+) -> Result<(), EncodeErrorKind>
+    ensures { Appends result (quantity_octets count ++ joined (map octets_in contents.now)) out.old.items out.new.items }
+{
+    write_quantity(count, out)?;
+    put_contents(contents, out)
+}
+
+impl<'buffer> Encoder<'buffer> {
+    /// Writes a list in the ascending order of its elements' octets (X.696, 19).
+    pub(crate) fn put_unordered<E: Encode>(&mut self, elements: &[E]) -> Result<(), EncodeError>
+        ensures done { OnOk result (Encodes (list_of false (E.tree E.CONSTRAINTS) elements.now) self.old self.new) }
+        ensures value { OnOk result (EachValue E.IsValue elements.now) }
+        ensures refused { IfErr result (λ x. Refused (list_of false (E.tree E.CONSTRAINTS) elements.now) x.kind self.old self.new) }
+    {
+        let mut contents = contents_of(self.alloc, elements)?;
+        self.put_sorted(&mut contents, elements.len())?;
+        Ok(())
+    }
+
+    /// Writes a quantity, and contents in ascending order.
+    fn put_sorted(
+        &mut self,
+        contents: &mut Vec<Vec<u8>>,
+        count: usize,
+    ) -> Result<(), EncodeErrorKind>
+        ensures done { OnOk result (self.new ≡ append (quantity_octets count ++ joined (sorted (map octets_in contents.old.items))) self.old) }
+        ensures refused { IfErr result (λ k. (k ≡ OutOfMemory) × Keeps self.old self.new) }
+    {
+        arrange_octets(contents)?;
+        write_contents(contents, count, &mut *self.output)?;
+        Ok(())
+    }
+}
