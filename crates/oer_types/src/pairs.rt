@@ -28,7 +28,7 @@ pub struct Nested {
 #[derive(Debug, PartialEq, Eq, Drop)]
 pub struct Empty;
 
-const PAIR_FIELDS: &'static [Field] = &[
+const PAIR_FIELDS: &'static [Field<'static>] = &[
     Field { index: 0, tag: Tag { class: Class::Context, value: 0 }, presence: FieldPresence::Required, name: "a" },
     Field { index: 1, tag: Tag { class: Class::Context, value: 1 }, presence: FieldPresence::Required, name: "b" },
 ];
@@ -72,11 +72,11 @@ impl Constructed<2, 0> for Pair {
 
     const EXTENDED_FIELDS: Option<Fields<0>> = None;
 
-    fn root_fields() -> &'static [Field] {
+    fn root_fields() -> &'static [Field<'static>] {
         PAIR_FIELDS
     }
 
-    fn addition_fields() -> &'static [Field] {
+    fn addition_fields() -> &'static [Field<'static>] {
         &[]
     }
 
@@ -156,11 +156,11 @@ impl Constructed<2, 0> for Nested {
 
     const EXTENDED_FIELDS: Option<Fields<0>> = None;
 
-    fn root_fields() -> &'static [Field] {
+    fn root_fields() -> &'static [Field<'static>] {
         PAIR_FIELDS
     }
 
-    fn addition_fields() -> &'static [Field] {
+    fn addition_fields() -> &'static [Field<'static>] {
         &[]
     }
 
@@ -240,11 +240,11 @@ impl Constructed<0, 0> for Empty {
 
     const EXTENDED_FIELDS: Option<Fields<0>> = None;
 
-    fn root_fields() -> &'static [Field] {
+    fn root_fields() -> &'static [Field<'static>] {
         &[]
     }
 
-    fn addition_fields() -> &'static [Field] {
+    fn addition_fields() -> &'static [Field<'static>] {
         &[]
     }
 

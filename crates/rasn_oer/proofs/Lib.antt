@@ -2,6 +2,10 @@ pub mod Comes
 pub mod Openings
 pub mod SequenceLaw
 pub mod Marked
+pub mod ListSteps
+pub mod ListLaw
+pub mod Promises
+pub mod SameTrees
 pub mod Steps
 pub mod OptionalSteps
 pub mod Reading

@@ -34,13 +34,13 @@ pub record Opens (s : State) (extensible : Bool) (roots additions : List Row) (l
   pub count : length bits ≡ bits_for extensible roots
   pub is : lent ≡ record { input = rest; codec = s.codec; levels = s.levels - 1; frame = frame_behind extensible roots additions bits }
 
-level_ok : (n m : ℕ) → level_at n ≡ Ok m → (1 ≤ n) × (m ≡ n - 1)
+pub level_ok : (n m : ℕ) → level_at n ≡ Ok m → (1 ≤ n) × (m ≡ n - 1)
 level_ok n m e =
     let g = guard_ok (eqb n 0) ExceedsMaxParseDepth (Ok (n - 1)) m e in
     let ne : n ≡ 0 → ⊥ = eqb-false n 0 g.0 in
     (omega (arith, ne), sym (ok_is (n - 1) m g.1))
 
-level_again : (n : ℕ) → 1 ≤ n → level_at n ≡ Ok (n - 1)
+pub level_again : (n : ℕ) → 1 ≤ n → level_at n ≡ Ok (n - 1)
 level_again n h = go (eqb n 0) refl
   where
     go : (b : Bool) → eqb n 0 ≡ b → cond b (Err ExceedsMaxParseDepth) (Ok (n - 1)) ≡ Ok (n - 1)

@@ -3,6 +3,8 @@ pub mod Law
 pub mod Parts
 pub mod Scopes
 pub mod Components
+pub mod Lists
+pub mod Additions
 pub mod Seen
 pub mod Answers
 pub mod Headline

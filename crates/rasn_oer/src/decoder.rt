@@ -3,6 +3,7 @@
 ghost use Rattle.std.specs.Prelude.{◌≡◌, ◌<◌, ◌-◌, map, Ok, Err};
 ghost use Rattle.asn1_base.specs.declared.error.DecodeError.{DecodeError};
 ghost use Rattle.asn1_base.specs.declared.error.DecodeErrorKind.{DecodeErrorKind};
+ghost use Rattle.asn1_base.specs.Octets.{AreOctets};
 ghost use Rattle.rasn_oer.specs.Answers.{Took};
 ghost use Rattle.rasn_oer.specs.Seen.{frame_of};
 ghost use Rattle.rasn_oer.specs.State.{closed};
@@ -78,6 +79,15 @@ impl<'input> Decoder<'input> {
         ensures { result.now ≡ self.now.input }
     {
         self.input
+    }
+
+    /// The octets that are left, each of which is one.
+    pub(crate) fn octets(&self) -> &'input [u8]
+        ensures input { result.now ≡ self.now.input }
+        ensures octets { AreOctets self.now.input }
+    {
+        let input: &'input [u8] = self.remaining();
+        input
     }
 
     /// The rules that octets are read by.
