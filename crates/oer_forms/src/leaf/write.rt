@@ -18,5 +18,5 @@ pub use integers::write_integer;
 pub use lengths::{write_content, write_length};
 pub use places::{write_bitmap, write_preamble};
 pub use quantities::write_quantity;
-pub use tags::{write_groups, write_tag};
+pub use tags::write_tag;
 pub use texts::{write_any, write_octet_string, write_text, write_utf8};

@@ -1,13 +1,13 @@
-ghost use Rattle.std.specs.Prelude.{◌≡◌, ◌^◌};
-ghost use Rattle.std.specs.Result.{IfErr};
+ghost use Rattle.std.specs.Prelude.{◌≡◌, ◌^◌, IfErr};
 ghost use Rattle.asn1_base.specs.Octets.{unsigned};
-ghost use Rattle.oer_forms.specs.Reading.{Gives, octet_at, octets_at, canonical, begins_with_zero, if_below};
+ghost use Rattle.oer_forms.specs.Reading.{Gives, IsNotForMemory, octet_at, octets_at, canonical, begins_with_zero, if_below};
 
 use asn1_base::{Codec, DecodeErrorKind};
 
 /// The octet at the front, and what is left; refused as `Incomplete` by 1 where there is none.
 pub fn read_octet(input: &[u8]) -> Result<(u8, &[u8]), DecodeErrorKind>
-    ensures { Gives (λ x. (x.0, x.1.now)) result (octet_at input.now) }
+    ensures function { Gives (λ x. (x.0, x.1.now)) result (octet_at input.now) }
+    ensures memory { IfErr result IsNotForMemory }
 {
     match input {
         [] => Err(DecodeErrorKind::Incomplete { needed: 1 }),
@@ -17,7 +17,8 @@ pub fn read_octet(input: &[u8]) -> Result<(u8, &[u8]), DecodeErrorKind>
 
 /// That many octets at the front, and what is left; refused as `Incomplete` by as many as are missing.
 pub fn read_octets(count: usize, input: &[u8]) -> Result<(&[u8], &[u8]), DecodeErrorKind>
-    ensures { Gives (λ x. (x.0.now, x.1.now)) result (octets_at count input.now) }
+    ensures function { Gives (λ x. (x.0.now, x.1.now)) result (octets_at count input.now) }
+    ensures memory { IfErr result IsNotForMemory }
 {
     if input.len() < count {
         let needed = count - input.len();
@@ -28,7 +29,8 @@ pub fn read_octets(count: usize, input: &[u8]) -> Result<(&[u8], &[u8]), DecodeE
 
 /// Canonical reading refuses what is superfluous, as `NotValidCanonicalEncoding`.
 pub fn require_canonical(codec: Codec, superfluous: bool) -> Result<(), DecodeErrorKind>
-    ensures { Gives (λ x. x) result (canonical codec superfluous) }
+    ensures function { Gives (λ x. x) result (canonical codec superfluous) }
+    ensures memory { IfErr result IsNotForMemory }
 {
     match codec {
         Codec::Oer => Ok(()),

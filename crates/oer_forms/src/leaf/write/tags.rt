@@ -32,9 +32,7 @@ fn write_front_groups(number: u64, out: &mut Vec<u8>) -> Result<(), EncodeErrorK
 }
 
 /// Appends a number in groups of seven bits, highest first, with the top bit set on all but the last: at least one group.
-///
-/// Refused only for want of memory.
-pub fn write_groups(number: u64, out: &mut Vec<u8>) -> Result<(), EncodeErrorKind>
+fn write_groups(number: u64, out: &mut Vec<u8>) -> Result<(), EncodeErrorKind>
     ensures { Appends result (group_octets number) out.old.items out.new.items }
 {
     write_front_groups(number / 128, out)?;
