@@ -11,3 +11,4 @@ pub mod OptionalSteps
 pub mod Reading
 pub mod LeafLaws
 pub mod Entries
+pub mod IntegerLaw

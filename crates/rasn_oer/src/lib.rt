@@ -7,6 +7,7 @@ mod de;
 mod decode;
 mod decoder;
 mod entry;
+mod integers;
 mod leaves;
 mod lists;
 pub mod oer;

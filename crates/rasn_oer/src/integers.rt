@@ -1,0 +1,190 @@
+//! Integers are read by the value constraint.
+
+ghost use Rattle.std.specs.Prelude.{◌≡◌, IsTrue, true, IfErr};
+ghost use Rattle.asn1_base.specs.Bounds.{value_bounds};
+ghost use Rattle.oer_forms.specs.ReadingIntegers.{integer_at};
+ghost use Rattle.oer_forms.specs.Spelled.{integer};
+ghost use Rattle.rasn_oer.specs.Answers.{Answers};
+ghost use Rattle.rasn_oer.specs.Law.{Decodes, IsForMemory};
+
+use crate::decode::Decode;
+use crate::decoder::Decoder;
+use asn1_base::{Constraints, DecodeError, Tag};
+use asn1_ints::{ConstrainedInteger, Integer, IntegerRange, IntegerType};
+use oer_forms::leaf::read::read_integer;
+use std::alloc::Global;
+
+impl<'input> Decoder<'input> {
+    /// Reads an INTEGER (X.696, 10) under the value constraint: of a fixed count of octets, or behind a length.
+    ///
+    /// Refused, the first that applies: what the octets are refused by (docs/REFUSALS.md); `IntegerOverflow` where the
+    /// number isn't one of the type; `ValueConstraintNotSatisfied` where it is outside a constraint that isn't extensible,
+    /// or no i128 under one. Types that take no memory never answer `OutOfMemory`.
+    pub fn decode_integer<I: IntegerType>(
+        &mut self,
+        alloc: Global,
+        _tag: Tag,
+        constraints: Constraints,
+    ) -> Result<I, DecodeError>
+        ensures function { Answers I.number self.old result self.new (integer_at I.admits (value_bounds constraints) self.old.codec self.old.input) }
+        ensures memory { IfErr result (λ e. IsForMemory e → IsTrue I.TAKES_MEMORY) }
+        ensures law { Decodes (λ v. integer constraints (I.number v)) (λ v. I.admits (I.number v) ≡ true) self.old result self.new }
+    {
+        let answer = read_integer(alloc, self.codec(), constraints, self.remaining());
+        self.take(answer)
+    }
+}
+
+impl Decode for i8 {
+    fn decode_with_tag_and_constraints(
+        alloc: Global,
+        decoder: &mut Decoder<'_>,
+        tag: Tag,
+        constraints: Constraints,
+    ) -> Result<i8, DecodeError> {
+        decoder.decode_integer(alloc, tag, constraints)
+    }
+}
+
+impl Decode for i16 {
+    fn decode_with_tag_and_constraints(
+        alloc: Global,
+        decoder: &mut Decoder<'_>,
+        tag: Tag,
+        constraints: Constraints,
+    ) -> Result<i16, DecodeError> {
+        decoder.decode_integer(alloc, tag, constraints)
+    }
+}
+
+impl Decode for i32 {
+    fn decode_with_tag_and_constraints(
+        alloc: Global,
+        decoder: &mut Decoder<'_>,
+        tag: Tag,
+        constraints: Constraints,
+    ) -> Result<i32, DecodeError> {
+        decoder.decode_integer(alloc, tag, constraints)
+    }
+}
+
+impl Decode for i64 {
+    fn decode_with_tag_and_constraints(
+        alloc: Global,
+        decoder: &mut Decoder<'_>,
+        tag: Tag,
+        constraints: Constraints,
+    ) -> Result<i64, DecodeError> {
+        decoder.decode_integer(alloc, tag, constraints)
+    }
+}
+
+impl Decode for i128 {
+    fn decode_with_tag_and_constraints(
+        alloc: Global,
+        decoder: &mut Decoder<'_>,
+        tag: Tag,
+        constraints: Constraints,
+    ) -> Result<i128, DecodeError> {
+        decoder.decode_integer(alloc, tag, constraints)
+    }
+}
+
+impl Decode for isize {
+    fn decode_with_tag_and_constraints(
+        alloc: Global,
+        decoder: &mut Decoder<'_>,
+        tag: Tag,
+        constraints: Constraints,
+    ) -> Result<isize, DecodeError> {
+        decoder.decode_integer(alloc, tag, constraints)
+    }
+}
+
+impl Decode for u8 {
+    fn decode_with_tag_and_constraints(
+        alloc: Global,
+        decoder: &mut Decoder<'_>,
+        tag: Tag,
+        constraints: Constraints,
+    ) -> Result<u8, DecodeError> {
+        decoder.decode_integer(alloc, tag, constraints)
+    }
+}
+
+impl Decode for u16 {
+    fn decode_with_tag_and_constraints(
+        alloc: Global,
+        decoder: &mut Decoder<'_>,
+        tag: Tag,
+        constraints: Constraints,
+    ) -> Result<u16, DecodeError> {
+        decoder.decode_integer(alloc, tag, constraints)
+    }
+}
+
+impl Decode for u32 {
+    fn decode_with_tag_and_constraints(
+        alloc: Global,
+        decoder: &mut Decoder<'_>,
+        tag: Tag,
+        constraints: Constraints,
+    ) -> Result<u32, DecodeError> {
+        decoder.decode_integer(alloc, tag, constraints)
+    }
+}
+
+impl Decode for u64 {
+    fn decode_with_tag_and_constraints(
+        alloc: Global,
+        decoder: &mut Decoder<'_>,
+        tag: Tag,
+        constraints: Constraints,
+    ) -> Result<u64, DecodeError> {
+        decoder.decode_integer(alloc, tag, constraints)
+    }
+}
+
+impl Decode for u128 {
+    fn decode_with_tag_and_constraints(
+        alloc: Global,
+        decoder: &mut Decoder<'_>,
+        tag: Tag,
+        constraints: Constraints,
+    ) -> Result<u128, DecodeError> {
+        decoder.decode_integer(alloc, tag, constraints)
+    }
+}
+
+impl Decode for usize {
+    fn decode_with_tag_and_constraints(
+        alloc: Global,
+        decoder: &mut Decoder<'_>,
+        tag: Tag,
+        constraints: Constraints,
+    ) -> Result<usize, DecodeError> {
+        decoder.decode_integer(alloc, tag, constraints)
+    }
+}
+
+impl Decode for Integer {
+    fn decode_with_tag_and_constraints(
+        alloc: Global,
+        decoder: &mut Decoder<'_>,
+        tag: Tag,
+        constraints: Constraints,
+    ) -> Result<Integer, DecodeError> {
+        decoder.decode_integer(alloc, tag, constraints)
+    }
+}
+
+impl<R: IntegerRange> Decode for ConstrainedInteger<R> {
+    fn decode_with_tag_and_constraints(
+        alloc: Global,
+        decoder: &mut Decoder<'_>,
+        tag: Tag,
+        constraints: Constraints,
+    ) -> Result<ConstrainedInteger<R>, DecodeError> {
+        decoder.decode_integer(alloc, tag, constraints)
+    }
+}
