@@ -1,14 +1,18 @@
 //! Sequences of required components.
 ghost use Rattle.oer_forms.specs.Tree.{NoRows};
-ghost use Rattle.oer_types.specs.Pairs.{pair_rows, nested_rows};
+ghost use Rattle.oer_types.specs.Pairs.{pair_rows, nested_rows, pair_parts, nested_parts, none_of};
 ghost use Rattle.oer_write.specs.Rows.{InSequence};
+ghost use Rattle.rasn_oer.specs.Parts.{NoParts, ReadsParts};
 
 use asn1_base::{
-    AsnType, Class, Constraints, Constructed, EncodeError, Field, FieldPresence, Fields, Tag,
+    AsnType, Class, Constraints, Constructed, DecodeError, EncodeError, Field, FieldPresence,
+    Fields, Tag,
 };
 use asn1_ints::Integer;
 use oer_forms::Spelled;
 use oer_write::{Encode, Encoder};
+use rasn_oer::{Decode, Decoder};
+use std::alloc::Global;
 
 /// `SEQUENCE { a INTEGER, b INTEGER }`
 #[derive(Debug, PartialEq, Eq, Drop)]
@@ -29,8 +33,24 @@ pub struct Nested {
 pub struct Empty;
 
 const PAIR_FIELDS: &'static [Field<'static>] = &[
-    Field { index: 0, tag: Tag { class: Class::Context, value: 0 }, presence: FieldPresence::Required, name: "a" },
-    Field { index: 1, tag: Tag { class: Class::Context, value: 1 }, presence: FieldPresence::Required, name: "b" },
+    Field {
+        index: 0,
+        tag: Tag {
+            class: Class::Context,
+            value: 0,
+        },
+        presence: FieldPresence::Required,
+        name: "a",
+    },
+    Field {
+        index: 1,
+        tag: Tag {
+            class: Class::Context,
+            value: 1,
+        },
+        presence: FieldPresence::Required,
+        name: "b",
+    },
 ];
 
 impl AsnType for Pair {
@@ -54,13 +74,12 @@ impl AsnType for Pair {
 }
 
 impl Constructed<2, 0> for Pair {
-    ghost use Rattle.std.specs.Prelude.{false, refl, [], ◌∷◌};
-    ghost use Rattle.asn1_base.specs.declared.fields.FieldPresence.TheVariants.{Required};
-    ghost use Rattle.oer_types.specs.Tags.{context};
+    ghost use Rattle.std.specs.Prelude.{false, refl, []};
+    ghost use Rattle.oer_types.specs.Pairs.{two_rows};
 
     ghost is_set = { false };
 
-    ghost root_rows = { record { index = 0; tag = context 0; presence = Required } ∷ record { index = 1; tag = context 1; presence = Required } ∷ [] };
+    ghost root_rows = { two_rows };
 
     ghost addition_rows = { [] };
 
@@ -68,7 +87,9 @@ impl Constructed<2, 0> for Pair {
 
     const IS_EXTENSIBLE: bool = false;
 
-    const FIELDS: Fields<2> = Fields { fields: PAIR_FIELDS };
+    const FIELDS: Fields<2> = Fields {
+        fields: PAIR_FIELDS,
+    };
 
     const EXTENDED_FIELDS: Option<Fields<0>> = None;
 
@@ -109,8 +130,10 @@ impl Encode for Pair {
             |encoder: &mut Encoder<'_>| -> Result<(), EncodeError>
                 ensures { InSequence (pair_rows self.entry.now) NoRows encoder.old result encoder.new }
             {
-                self.a.encode_with_tag(encoder, Tag::new(Class::Context, 0))?;
-                self.b.encode_with_tag(encoder, Tag::new(Class::Context, 1))?;
+                self.a
+                    .encode_with_tag(encoder, Tag::new(Class::Context, 0))?;
+                self.b
+                    .encode_with_tag(encoder, Tag::new(Class::Context, 1))?;
                 Ok(())
             },
         )
@@ -138,13 +161,12 @@ impl AsnType for Nested {
 }
 
 impl Constructed<2, 0> for Nested {
-    ghost use Rattle.std.specs.Prelude.{false, refl, [], ◌∷◌};
-    ghost use Rattle.asn1_base.specs.declared.fields.FieldPresence.TheVariants.{Required};
-    ghost use Rattle.oer_types.specs.Tags.{context};
+    ghost use Rattle.std.specs.Prelude.{false, refl, []};
+    ghost use Rattle.oer_types.specs.Pairs.{two_rows};
 
     ghost is_set = { false };
 
-    ghost root_rows = { record { index = 0; tag = context 0; presence = Required } ∷ record { index = 1; tag = context 1; presence = Required } ∷ [] };
+    ghost root_rows = { two_rows };
 
     ghost addition_rows = { [] };
 
@@ -152,7 +174,9 @@ impl Constructed<2, 0> for Nested {
 
     const IS_EXTENSIBLE: bool = false;
 
-    const FIELDS: Fields<2> = Fields { fields: PAIR_FIELDS };
+    const FIELDS: Fields<2> = Fields {
+        fields: PAIR_FIELDS,
+    };
 
     const EXTENDED_FIELDS: Option<Fields<0>> = None;
 
@@ -193,8 +217,10 @@ impl Encode for Nested {
             |encoder: &mut Encoder<'_>| -> Result<(), EncodeError>
                 ensures { InSequence (nested_rows self.entry.now) NoRows encoder.old result encoder.new }
             {
-                self.a.encode_with_tag(encoder, Tag::new(Class::Context, 0))?;
-                self.b.encode_with_tag(encoder, Tag::new(Class::Context, 1))?;
+                self.a
+                    .encode_with_tag(encoder, Tag::new(Class::Context, 0))?;
+                self.b
+                    .encode_with_tag(encoder, Tag::new(Class::Context, 1))?;
                 Ok(())
             },
         )
@@ -276,9 +302,66 @@ impl Encode for Empty {
             tag,
             |encoder: &mut Encoder<'_>| -> Result<(), EncodeError>
                 ensures { InSequence (NoRows) NoRows encoder.old result encoder.new }
+            { Ok(()) },
+        )
+    }
+}
+
+#[tactic(auto, using(rasn_oer::proofs::Reading::reading))]
+impl Decode for Pair {
+    fn decode_with_tag_and_constraints(
+        alloc: Global,
+        decoder: &mut Decoder<'_>,
+        tag: Tag,
+        _constraints: Constraints,
+    ) -> Result<Pair, DecodeError> {
+        decoder.decode_sequence::<2, 0, Pair, _>(
+            tag,
+            |decoder: &mut Decoder<'_>| -> Result<Pair, DecodeError>
+                ensures { ReadsParts pair_parts NoParts pair_rows none_of decoder.old result decoder.new }
             {
-                Ok(())
+                let a = Integer::decode_with_tag(alloc, decoder, Tag::new(Class::Context, 0))?;
+                let b = Integer::decode_with_tag(alloc, decoder, Tag::new(Class::Context, 1))?;
+                Ok(Pair { a, b })
             },
+        )
+    }
+}
+
+#[tactic(auto, using(rasn_oer::proofs::Reading::reading))]
+impl Decode for Nested {
+    fn decode_with_tag_and_constraints(
+        alloc: Global,
+        decoder: &mut Decoder<'_>,
+        tag: Tag,
+        _constraints: Constraints,
+    ) -> Result<Nested, DecodeError> {
+        decoder.decode_sequence::<2, 0, Nested, _>(
+            tag,
+            |decoder: &mut Decoder<'_>| -> Result<Nested, DecodeError>
+                ensures { ReadsParts nested_parts NoParts nested_rows none_of decoder.old result decoder.new }
+            {
+                let a = bool::decode_with_tag(alloc, decoder, Tag::new(Class::Context, 0))?;
+                let b = Pair::decode_with_tag(alloc, decoder, Tag::new(Class::Context, 1))?;
+                Ok(Nested { a, b })
+            },
+        )
+    }
+}
+
+#[tactic(auto, using(rasn_oer::proofs::Reading::reading))]
+impl Decode for Empty {
+    fn decode_with_tag_and_constraints(
+        _alloc: Global,
+        decoder: &mut Decoder<'_>,
+        tag: Tag,
+        _constraints: Constraints,
+    ) -> Result<Empty, DecodeError> {
+        decoder.decode_sequence::<0, 0, Empty, _>(
+            tag,
+            |_decoder: &mut Decoder<'_>| -> Result<Empty, DecodeError>
+                ensures { ReadsParts NoParts NoParts none_of none_of _decoder.old result _decoder.new }
+            { Ok(Empty) },
         )
     }
 }
