@@ -1,6 +1,6 @@
 ghost use Rattle.std.specs.Prelude.{◌≡◌};
 
-/// The class of a tag (X.680, clause 8), in the order of tags (X.696, 16.2.2 and X.680, 8.6).
+/// The class of a tag (X.680, clause 8), in the order of tags (X.680, 8.6).
 #[derive(Debug, Clone, Copy, PartialEq, Eq, PartialOrd, Ord)]
 pub enum Class {
     Universal,
