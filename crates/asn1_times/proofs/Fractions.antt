@@ -52,7 +52,7 @@ zeros_left k (suc j) m =
     ∙ ap (λ t. cond t (without_zeros (k + j) (m * 10 ^ suc j / 10)) (decimal (suc (k + j)) (m * 10 ^ suc j))) (eq-eqb ((m * 10 ^ suc j) % 10) 0 low)
     ∙ ap (without_zeros (k + j)) high ∙ zeros_left k j m
 
-no_zeros : (k m : ℕ) → (m % 10 ≡ 0 → ⊥) → without_zeros (suc k) m ≡ decimal (suc k) m
+pub no_zeros : (k m : ℕ) → (m % 10 ≡ 0 → ⊥) → without_zeros (suc k) m ≡ decimal (suc k) m
 no_zeros k m some = ap (λ t. cond t (without_zeros k (m / 10)) (decimal (suc k) m)) (ne_eqb (m % 10) 0 some)
 
 -- the last digit is the number's lowest
@@ -139,7 +139,7 @@ fraction_obeys c h =
 
 -- ---- endings
 
-middle : (c : Octets) (x : ℕ) → take (length (c ++ (x ∷ [])) - 1) (c ++ (x ∷ [])) ≡ c
+pub middle : (c : Octets) (x : ℕ) → take (length (c ++ (x ∷ [])) - 1) (c ++ (x ∷ [])) ≡ c
 middle c x = let n : length (c ++ (x ∷ [])) - 1 ≡ length c = omega (arith, length-append c (x ∷ [])) in ap (λ k. take k (c ++ (x ∷ []))) n ∙ take-append_seam c (x ∷ [])
 
 pub pointed_ending : (c : Octets) → is_ending (0x2E ∷ (c ++ (0x5A ∷ []))) ≡ is_fraction c

@@ -1,3 +1,4 @@
 pub mod Decimals
 pub mod Fractions
 pub mod TimeTexts
+pub mod OneText

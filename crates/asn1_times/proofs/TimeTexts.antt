@@ -208,7 +208,7 @@ days_small y m = cases (eqb m 2) (eqb m 4 || eqb m 6 || eqb m 9 || eqb m 11)
     cases false true = omega arith
     cases false false = omega arith
 
-day_small : (d : Date) (y : ℕ) → d.year ≡ pos y → d.day < 100
+pub day_small : (d : Date) (y : ℕ) → d.year ≡ pos y → d.day < 100
 day_small d y e =
     let last : days_in_month d.year d.month ≡ days_of y d.month = ap (λ z. days_in_month z d.month) e in
     omega (arith, last, d.day_in.1, days_small y d.month)
@@ -217,11 +217,11 @@ day_small d y e =
 abbrev pub IsYear : ℤ → Type 0
 IsYear z = (y : ℕ) × (z ≡ pos y)
 
-year_of : (z : ℤ) → int_le (pos 0) z ≡ true → IsYear z
+pub year_of : (z : ℤ) → int_le (pos 0) z ≡ true → IsYear z
 year_of (pos y) h = (y, refl)
 year_of (negsuc y) h = absurd cc
 
-utc_year_of : (z : ℤ) → is_utc_year z ≡ true → (y : ℕ) × (z ≡ pos y) × (1950 ≤ y) × (y ≤ 2049)
+pub utc_year_of : (z : ℤ) → is_utc_year z ≡ true → (y : ℕ) × (z ≡ pos y) × (1950 ≤ y) × (y ≤ 2049)
 utc_year_of (pos y) h = let both = and_parts (leb 1950 y) (leb y 2049) h in (y, refl, leb-true 1950 y both.0, leb-true y 2049 both.1)
 utc_year_of (negsuc y) h = absurd cc
 
@@ -238,7 +238,7 @@ full_year_of y low high = by_half (cases_lt y 2000)
         let year : 2000 + y % 100 ≡ y = omega arith in
         ap (λ t. cond t (2000 + y % 100) (1900 + y % 100)) (lt-ltb (y % 100) 50 (omega arith)) ∙ year
 
-text_of : (t : Bool) (x c : Octets) → ◌≡◌ {A = Option Octets} (cond t (Some x) None) (Some c) → (t ≡ true) × (x ≡ c)
+pub text_of : (t : Bool) (x c : Octets) → ◌≡◌ {A = Option Octets} (cond t (Some x) None) (Some c) → (t ≡ true) × (x ≡ c)
 text_of true x c e = (refl, cc)
 text_of false x c e = absurd cc
 

@@ -88,3 +88,28 @@ GeneralizedObeys t c = generalized_text t ≡ Some c → AreOctets c × Obeys Ge
 
 abbrev pub DateObeys : Date → Octets → Type 0
 DateObeys d c = date_text d ≡ Some c → AreOctets c × Obeys DateRule c
+
+-- two with one text are the same, field by field
+pub record IsSameDay (d e : Date) : Type 0 where
+  pub year_is : d.year ≡ e.year
+  pub month_is : d.month ≡ e.month
+  pub day_is : d.day ≡ e.day
+
+pub record IsSameClock (t u : Time) : Type 0 where
+  pub hour_is : t.hour ≡ u.hour
+  pub minute_is : t.minute ≡ u.minute
+  pub second_is : t.second ≡ u.second
+  pub nanosecond_is : t.subsec_nanosecond ≡ u.subsec_nanosecond
+
+pub record IsSameTime (t u : DateTime) : Type 0 where
+  pub day : IsSameDay t.date u.date
+  pub clock : IsSameClock t.time u.time
+
+abbrev pub UtcOnce : DateTime → DateTime → Octets → Type 0
+UtcOnce t u c = utc_text t ≡ Some c → utc_text u ≡ Some c → IsSameTime t u
+
+abbrev pub GeneralizedOnce : DateTime → DateTime → Octets → Type 0
+GeneralizedOnce t u c = generalized_text t ≡ Some c → generalized_text u ≡ Some c → IsSameTime t u
+
+abbrev pub DateOnce : Date → Date → Octets → Type 0
+DateOnce d e c = date_text d ≡ Some c → date_text e ≡ Some c → IsSameDay d e

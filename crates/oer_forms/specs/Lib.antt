@@ -9,6 +9,8 @@ pub mod Encoding
 pub mod Versions
 pub mod Laws
 pub mod Spelled
+pub mod SpelledSets
+pub mod SpelledTimes
 pub mod Reading
 pub mod Failures
 pub mod Writing

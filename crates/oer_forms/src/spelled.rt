@@ -1,9 +1,11 @@
 //! The tree of each value, by which every other contract speaks of types.
 
+mod identifiers;
 mod integers;
 mod strings;
+mod times;
 
-use asn1_base::AsnType;
+use asn1_base::{AsnType, SetOf};
 
 /// A type each of whose values has a tree.
 ///
@@ -91,10 +93,43 @@ impl<T: Spelled> Spelled for Vec<T> {
     ghost alike = { λ c k vs ws i j. lists_alike (T.tree T.CONSTRAINTS) T.IsValue true (T.alike T.CONSTRAINTS T.consistent) vs.items ws.items i j };
 }
 
+/// A list whose order doesn't count.
+impl<T: Spelled> Spelled for SetOf<T> {
+    ghost use Rattle.std.specs.Prelude.{false};
+    ghost use Rattle.oer_forms.specs.Spelled.{EachValue, list_of, list_is, lists_alike};
+
+    ghost tree = { λ c vs. list_of false (T.tree T.CONSTRAINTS) vs };
+
+    ghost IsValue = { λ vs. EachValue T.IsValue vs };
+
+    ghost is_tree = { λ c k vs i. list_is (T.tree T.CONSTRAINTS) T.IsValue false (T.is_tree T.CONSTRAINTS T.consistent) vs i };
+
+    ghost alike = { λ c k vs ws i j. lists_alike (T.tree T.CONSTRAINTS) T.IsValue false (T.alike T.CONSTRAINTS T.consistent) vs ws i j };
+}
+
 impl EqualAsSpelled for bool {
     ghost use Rattle.oer_forms.specs.Spelled.{booleans_same};
 
     ghost eq_is_same = { λ c k a b i j. booleans_same a b };
+}
+
+impl EqualAsSpelled for () {
+    ghost use Rattle.oer_forms.specs.Spelled.{nulls_same};
+    ghost use Rattle.std.specs.Prelude.{refl};
+
+    ghost eq_is_same = { λ c k v w i j. (λ e. nulls_same v w, λ s. refl) };
+}
+
+impl<T: EqualAsSpelled> EqualAsSpelled for Vec<T> {
+    ghost use Rattle.oer_forms.specs.Spelled.{lists_same};
+
+    ghost eq_is_same = { λ c k vs ws i j. lists_same (T.tree T.CONSTRAINTS) T.IsValue T.eq (T.eq_is_same T.CONSTRAINTS T.consistent) vs.items ws.items i j };
+}
+
+impl<T: EqualAsSpelled + Eq> EqualAsSpelled for SetOf<T> {
+    ghost use Rattle.oer_forms.specs.SpelledSets.{unordered_same};
+
+    ghost eq_is_same = { λ c k vs ws i j. unordered_same (T.tree T.CONSTRAINTS) T.IsValue T.eq T.Eq.laws (T.eq_is_same T.CONSTRAINTS T.consistent) vs ws i j };
 }
 
 /// A box is equal where its content is.

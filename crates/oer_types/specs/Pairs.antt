@@ -1,5 +1,5 @@
 -- Sequences of required components.
-use Rattle.std.specs.Prelude.{◌≡◌, ℤ, Bool, true, false, List, [], ◌∷◌, ⊤, refl}
+use Rattle.std.specs.Prelude.{◌≡◌, ℤ, Bool, true, false, List, [], ◌∷◌, refl}
 use Rattle.asn1_base.specs.Rows.{Row}
 use Rattle.asn1_base.specs.declared.fields.FieldPresence.TheVariants as presence
 use Rattle.asn1_base.specs.declared.constraints.TheConstants.Constraints.{NONE}

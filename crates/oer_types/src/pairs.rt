@@ -309,6 +309,10 @@ impl Encode for Empty {
 
 #[tactic(auto, using(rasn_oer::proofs::Reading::reading))]
 impl Decode for Pair {
+    ghost use Rattle.std.specs.Prelude.{⊤};
+
+    ghost Answered = { λ c s r t. ⊤ };
+
     fn decode_with_tag_and_constraints(
         alloc: Global,
         decoder: &mut Decoder<'_>,
@@ -330,6 +334,10 @@ impl Decode for Pair {
 
 #[tactic(auto, using(rasn_oer::proofs::Reading::reading))]
 impl Decode for Nested {
+    ghost use Rattle.std.specs.Prelude.{⊤};
+
+    ghost Answered = { λ c s r t. ⊤ };
+
     fn decode_with_tag_and_constraints(
         alloc: Global,
         decoder: &mut Decoder<'_>,
@@ -351,6 +359,10 @@ impl Decode for Nested {
 
 #[tactic(auto, using(rasn_oer::proofs::Reading::reading))]
 impl Decode for Empty {
+    ghost use Rattle.std.specs.Prelude.{⊤};
+
+    ghost Answered = { λ c s r t. ⊤ };
+
     fn decode_with_tag_and_constraints(
         _alloc: Global,
         decoder: &mut Decoder<'_>,

@@ -1,5 +1,5 @@
 -- From what the closure of a choice writes to what the choice writes.
-use Rattle.std.proofs.Common.{◌≡◌, ℕ, suc, ◌^◌, ◌<◌, Bool, true, false, cond, not, ◌&&◌, ◌||◌, List, ◌++◌, length, refl, ap, sym, ◌∙◌, subst, arith, append_assoc, Ok, Err, Result, ◌⊎◌, inl, inr}
+use Rattle.std.proofs.Common.{◌≡◌, ℕ, suc, ◌^◌, ◌<◌, Bool, true, false, not, ◌&&◌, List, ◌++◌, length, refl, ap, sym, ◌∙◌, subst, arith, append_assoc, inl, inr}
 use Rattle.std.specs.Prelude.{nat_lt}
 use Rattle.std.proofs.lemmas.List.{append_cancel_left}
 use Rattle.asn1_base.specs.Octets.{Octets, usize_max}
@@ -14,7 +14,7 @@ use Rattle.oer_forms.specs.Lengths.{tag_octets}
 use Rattle.oer_forms.specs.Places.{choice_octets}
 use Rattle.oer_forms.specs.Tree.{Tree, Choice}
 use Rattle.oer_forms.specs.Writing.{BeginsWith}
-use Rattle.oer_write.specs.Choices.{Picks, ContentDone, ContentRefused, Appended, ChoiceDone, ChoiceBroken, alternative_octets, WritesAlternative, IsKnownToPick}
+use Rattle.oer_write.specs.Choices.{Picks, ContentRefused, Appended, ChoiceDone, ChoiceBroken, alternative_octets, IsKnownToPick}
 use Rattle.oer_write.specs.Written.{Written, append, Keeps, Encodes, Refused}
 use Rattle.oer_write.proofs.Items.{or_false, or_left}
 use Rattle.oer_write.proofs.Keeping.{keeps_then}

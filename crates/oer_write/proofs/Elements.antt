@@ -1,5 +1,5 @@
 -- The elements of a list, one after the other, and the tree of the whole.
-use Rattle.std.proofs.Common.{◌≡◌, ℕ, zero, suc, ◌+◌, ◌^◌, ◌<◌, ◌≤◌, Bool, true, false, cond, ◌||◌, List, [], ◌∷◌, ◌++◌, length, take, drop, get_or, refl, ap, ap₂, sym, ◌∙◌, subst, rules, arith, append_assoc, Ok, Err, Result, ◌⊎◌, inl, inr}
+use Rattle.std.proofs.Common.{◌≡◌, ℕ, zero, suc, ◌+◌, ◌^◌, ◌<◌, ◌≤◌, Bool, true, false, cond, List, [], ◌∷◌, ◌++◌, length, take, drop, get_or, refl, ap, ap₂, sym, ◌∙◌, subst, rules, arith, append_assoc, Ok, Err, Result, ◌⊎◌, inl, inr}
 use Rattle.std.specs.Prelude.{Contains, nat_lt}
 use Rattle.std.proofs.lemmas.List.{take_more, append_cancel_left, take-append-drop}
 use Rattle.std.proofs.lemmas.List.Elements.{Contains-append_left}
@@ -13,12 +13,12 @@ use Rattle.oer_forms.specs.Leaves.{Failure, BadValue, BadSize, BadIdentifier, Ba
 use Rattle.oer_forms.specs.Lengths.{quantity_octets}
 use Rattle.oer_forms.specs.Places.{list_octets}
 use Rattle.oer_forms.specs.Spelled.{trees_of, list_of, EachValue}
-use Rattle.oer_forms.specs.Tree.{Tree, ListOf, Trees, NoTrees, More}
+use Rattle.oer_forms.specs.Tree.{Tree, ListOf}
 use Rattle.oer_forms.specs.Writing.{BeginsWith}
 use Rattle.oer_write.specs.Scopes.{Runs}
 use Rattle.oer_write.specs.Lists.{is_nil, WroteElement, WroteEach, SoFar, ListDone, ListBroken, ElementDone, ElementTooMany, ElementsDone, ElementsBroken, ElementRefused, IsKnownToWriteAt}
 use Rattle.oer_write.specs.Lists as lists
-use Rattle.oer_write.specs.Written.{Written, Frame, append, Keeps, Encodes, Refused, WritesTree}
+use Rattle.oer_write.specs.Written.{Written, append, Keeps, Encodes, Refused, WritesTree}
 use Rattle.oer_write.proofs.Keeping.{keeps_then}
 use Rattle.oer_write.proofs.Items.{or_false, or_left, or_right}
 

@@ -1,19 +1,22 @@
 -- The elements of an unordered list, one after the other, and the tree of the whole.
-use Rattle.std.proofs.Common.{◌≡◌, ℕ, zero, suc, ◌+◌, ◌^◌, ◌<◌, ◌≤◌, Bool, true, false, cond, List, [], ◌∷◌, ◌++◌, length, take, get_or, map, refl, ap, ap₂, sym, ◌∙◌, subst, arith, ◌⊎◌, inl, inr}
+use Rattle.std.proofs.Common.{◌≡◌, ℕ, suc, ◌+◌, ◌^◌, ◌<◌, Bool, true, false, cond, List, [], ◌∷◌, ◌++◌, length, take, get_or, map, refl, ap, ap₂, sym, ◌∙◌, subst, arith, ◌⊎◌, inl, inr}
 use Rattle.std.proofs.lemmas.List.{take_more}
 use Rattle.asn1_base.specs.Octets.{Octets, joined}
 use Rattle.asn1_base.specs.declared.error.EncodeErrorKind.{EncodeErrorKind}
-use Rattle.asn1_base.specs.declared.error.EncodeErrorKind.TheVariants.{OutOfMemory, TooManyEmptyElements}
+use Rattle.asn1_base.specs.declared.error.EncodeErrorKind.TheVariants.{OutOfMemory}
 use Rattle.oer_forms.specs.Encoding.{IsEncodable, canonical_octets, canonical_elements, empties, fails, trees_fail}
 use Rattle.oer_forms.specs.Failures.{Fails}
 use Rattle.oer_forms.specs.Leaves.{Failure}
 use Rattle.oer_forms.specs.Lengths.{quantity_octets}
+use Rattle.oer_forms.specs.Orders.{Stands, Reorders}
 use Rattle.oer_forms.specs.Places.{sorted, list_octets}
 use Rattle.oer_forms.specs.Spelled.{EachValue, trees_of, list_of}
 use Rattle.oer_forms.specs.Tree.{Tree, ListOf}
+use Rattle.oer_forms.proofs.Lists.{Reorders-length}
+use Rattle.oer_forms.proofs.Sorted.{sorted_mixed}
 use Rattle.oer_write.specs.Lists.{is_nil}
 use Rattle.oer_write.specs.Scopes.{Runs}
-use Rattle.oer_write.specs.Unordered.{Gathered, OneMore, OneRefused}
+use Rattle.oer_write.specs.Unordered.{Gathered, OneMore, OneRefused, IsSameInAnyWalk}
 use Rattle.oer_write.specs.Written.{Written, append, Encodes}
 use Rattle.oer_write.proofs.Elements.{element_fails, many_fail, empties_front, empties_push, list_encodable}
 use Rattle.oer_write.proofs.Items.{or_false}
@@ -90,3 +93,23 @@ module _ {E : Type 0} (tree : E → Tree) where
         encodable = list_encodable no_runs tree false xs own same (none_fails xs h.encodable) few (omega (arith, count_is, short));
         written = e ∙ ap (λ (n : ℕ). append (quantity_octets n ++ joined (sorted own)) old) (sym count_is) ∙ ap (λ (o : Octets). append o old) (unordered_octets xs own same);
       }
+
+  map_stands : (ys : List E) (x : E) (rest : List E) → Stands ys x rest → Stands (map octets_at ys) (octets_at x) (map octets_at rest)
+  map_stands [] x rest s = absurd s
+  map_stands (y ∷ ys) x rest (inl e) = inl (ap octets_at e.0, ap (map octets_at) e.1)
+  map_stands (y ∷ ys) x rest (inr (rs, e, s)) = inr (map octets_at rs, ap (map octets_at) e, map_stands ys x rs s)
+
+  map_reorders : (xs ys : List E) → Reorders xs ys → Reorders (map octets_at xs) (map octets_at ys)
+  map_reorders [] ys r = ap (map octets_at) r
+  map_reorders (x ∷ xs) ys (rest, s, r) = (map octets_at rest, map_stands ys x rest s, map_reorders xs rest r)
+
+  elements_octets : (xs : List E) → quantity_octets (length xs) ++ joined (sorted (map octets_at xs)) ≡ canonical_octets (list_of false tree xs)
+  unfolding list_of
+  elements_octets xs =
+      ap (λ (n : ℕ). quantity_octets n ++ joined (sorted (map octets_at xs))) (sym (map_length xs)) ∙ unordered_octets xs (map octets_at xs) (sym (elements_are xs))
+
+  pub any_walk : IsSameInAnyWalk tree
+  any_walk xs ys r =
+      sym (elements_octets ys)
+      ∙ ap₂ (λ (n : ℕ) (os : List Octets). quantity_octets n ++ joined os) (sym (Reorders-length xs ys r)) (sym (sorted_mixed (map octets_at xs) (map octets_at ys) (map_reorders xs ys r)))
+      ∙ elements_octets xs

@@ -1,5 +1,5 @@
 -- What two calls, one after the other, leave of an encoder.
-use Rattle.std.proofs.Common.{◌≡◌, List, ◌++◌, ap, ◌∙◌, append_assoc, refl, append-nil, sym}
+use Rattle.std.proofs.Common.{◌++◌, ap, ◌∙◌, append_assoc}
 use Rattle.asn1_base.specs.Octets.{Octets}
 use Rattle.oer_forms.specs.Writing.{BeginsWith}
 use Rattle.oer_write.specs.Written.{Written, Keeps}

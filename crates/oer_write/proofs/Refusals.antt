@@ -1,5 +1,5 @@
 -- A leaf that is refused by its first failure is refused by the law.
-use Rattle.std.proofs.Common.{◌≡◌, ◌/◌, ℤ, List, length, Bool, true, false, cond, ◌⊎◌, inl, inr, refl, sym, ap, ◌∙◌, Option, Some, None}
+use Rattle.std.proofs.Common.{◌≡◌, ◌/◌, ℕ, ℤ, List, length, Bool, true, false, cond, inl, inr, refl, sym, ap, ◌∙◌, Option, Some, None}
 use Rattle.std.specs.Prelude.{Result, IfErr}
 use Rattle.std.proofs.lemmas.Result.{IfErr-weaker}
 use Rattle.asn1_base.specs.Bounds.{size_bounds, value_bounds}
@@ -8,12 +8,14 @@ use Rattle.asn1_base.specs.Texts.{Rule}
 use Rattle.asn1_base.specs.declared.constraints.Constraints.{Constraints}
 use Rattle.asn1_base.specs.declared.error.EncodeError.{EncodeError}
 use Rattle.asn1_base.specs.declared.error.EncodeErrorKind.{EncodeErrorKind}
-use Rattle.asn1_base.specs.declared.error.EncodeErrorKind.TheVariants.{ValueConstraintNotSatisfied, SizeConstraintNotSatisfied, TimeNotRepresentable, LengthExceedsPlatformSize, OutOfMemory}
+use Rattle.asn1_base.specs.declared.error.EncodeErrorKind.TheVariants.{ValueConstraintNotSatisfied, SizeConstraintNotSatisfied, InvalidObjectIdentifier, TimeNotRepresentable, LengthExceedsPlatformSize}
 use Rattle.oer_forms.specs.Encoding.{fails}
 use Rattle.oer_forms.specs.Failures.{Fails, failure_of, first_failure}
 use Rattle.oer_forms.specs.Leaves.{Failure, BadValue, BadSize, BadTime, TooLong, leaf_fails, unit_of}
-use Rattle.oer_forms.specs.Spelled.{bit_string, integer, text, unsized_text}
-use Rattle.oer_forms.specs.Tree.{Leaf, Boolean, Null, Enum, Int, Bits, Text, Content, Written, Civil, Primitive}
+use Rattle.oer_forms.specs.Spelled.{IsIdentifier, bit_string, identifier, integer, text, time, unsized_text}
+use Rattle.oer_forms.specs.TimeTexts.{time_content}
+use Rattle.oer_forms.specs.Tree.{Leaf, Boolean, Null, Enum, Int, Bits, Text, Written, Civil, Primitive}
+use Rattle.oer_forms.specs.WritingTexts.{identifier_leaf}
 use Rattle.oer_write.specs.Written as state
 
 abbrev LeafFails : Leaf → EncodeErrorKind → Type 0
@@ -62,3 +64,18 @@ text_by_law r rule c o e e' h = by_law r (Text rule (size_bounds c) (Written o))
 pub unsized_by_law : (r : Result (Unit {0}) EncodeError) (rule : Rule) (o : Octets) (e e' : state.Written) → IfErr r (λ x. state.RefusedLeaf (Text rule None (Written o)) x.kind e e') → IfErr r (λ x. state.Refused (unsized_text rule o) x.kind e e')
 unfolding unsized_text
 unsized_by_law r rule o e e' h = by_law r (Text rule None (Written o)) e e' h
+
+pub time_by_law : (r : Result (Unit {0}) EncodeError) (rule : Rule) (o : Option Octets) (fields : List ℕ) (e e' : state.Written) → IfErr r (λ x. state.RefusedLeaf (Text rule None (time_content o fields)) x.kind e e') → IfErr r (λ x. state.Refused (time rule o fields) x.kind e e')
+unfolding time
+time_by_law r rule o fields e e' h = by_law r (Text rule None (time_content o fields)) e e' h
+
+-- of arcs that are an identifier
+as_leaf : (arcs : List ℕ) (kind : EncodeErrorKind) (e e' : state.Written) → IsIdentifier arcs → state.RefusedIdentifier arcs kind e e' → state.RefusedLeaf (identifier_leaf arcs) kind e e'
+as_leaf arcs kind e e' i h = record {
+  reason = elim h.reason [ inl m ↦ inl m | inr f ↦ inr (sym (ap (λ b. cond b (first_failure (identifier_leaf arcs)) (Some InvalidObjectIdentifier)) i) ∙ f) ];
+  keeps = h.keeps;
+}
+
+pub identifier_by_law : (r : Result (Unit {0}) EncodeError) (arcs : List ℕ) (e e' : state.Written) → IfErr r (λ x. state.RefusedIdentifier arcs x.kind e e') → IsIdentifier arcs → IfErr r (λ x. state.Refused (identifier arcs) x.kind e e')
+unfolding identifier
+identifier_by_law r arcs e e' h i = IfErr-weaker r _ _ (λ x w. leaf_refused (identifier_leaf arcs) x.kind e e' (as_leaf arcs x.kind e e' i w)) h

@@ -1,18 +1,16 @@
 -- From what the closure of a sequence writes to what the sequence writes.
-use Rattle.std.proofs.Common.{◌≡◌, ℕ, ◌^◌, ◌<◌, Bool, true, false, cond, ◌||◌, List, [], ◌∷◌, ◌++◌, length, refl, ap, ap₂, sym, ◌∙◌, subst, map, ◌⊎◌, inl, inr}
+use Rattle.std.proofs.Common.{◌≡◌, ℕ, ◌^◌, ◌<◌, Bool, false, List, length, refl, ap, ap₂, sym, ◌∙◌, ◌⊎◌, inl, inr}
 use Rattle.std.proofs.lemmas.List.{append_cancel_left, length-map}
-use Rattle.asn1_base.specs.Octets.{Octets, pack}
+use Rattle.asn1_base.specs.Octets.{Octets}
 use Rattle.asn1_base.specs.declared.error.EncodeError.{EncodeError}
 use Rattle.asn1_base.specs.declared.error.EncodeErrorKind.{EncodeErrorKind}
-use Rattle.oer_forms.specs.Encoding.{fails, rows_fail, opens_fail, bitmap_fails, canonical_octets, canonical_items, IsEncodable}
-use Rattle.oer_forms.specs.Leaves.{Failure}
-use Rattle.oer_forms.specs.Lengths.{counted_bits}
-use Rattle.oer_forms.specs.Places.{Item, presence, bodies, any_bit, additions_octets, extension_octets, extension_bit, struct_octets, by_tag, in_writing_order}
-use Rattle.oer_forms.specs.Tree.{Tree, Rows, Struct}
+use Rattle.oer_forms.specs.Encoding.{fails, rows_fail, canonical_octets, IsEncodable}
+use Rattle.oer_forms.specs.Places.{Item, any_bit, extension_octets}
+use Rattle.oer_forms.specs.Tree.{Rows, Struct}
 use Rattle.oer_forms.specs.Failures.{Fails}
-use Rattle.oer_write.specs.Rows.{RowsDone, RowsRefused, IsKnownToWrite, presence_of, octets_of, items_of, bitmap_of, opens_of, AreEncodable, AreOpenEncodable, SomeFails, recorded}
-use Rattle.oer_write.specs.Scopes.{Runs, Closed, Stopped, Broken, sequence_octets, extension_of, any_true}
-use Rattle.oer_write.specs.Written.{Written, Frame, fresh, append, Keeps, Encodes, Refused}
+use Rattle.oer_write.specs.Rows.{RowsDone, IsKnownToWrite, presence_of, octets_of, items_of, bitmap_of, opens_of, AreEncodable, AreOpenEncodable, SomeFails, recorded}
+use Rattle.oer_write.specs.Scopes.{Runs, Closed, Broken, sequence_octets, extension_of, any_true}
+use Rattle.oer_write.specs.Written.{Written, Frame, fresh, append, Encodes, Refused}
 use Rattle.oer_write.proofs.Items.{items_are, presence_is, bodies_are, bitmap_is, any_is, opens_are, none_fails, encodable_of_open, no_open_fails, short_bitmap, rows_fail_by, or_false, or_left, or_right}
 
 -- the additions' octets, by what was recorded of them

@@ -1,9 +1,8 @@
 -- What a choice asks of its closure, and what it does with what the closure wrote.
-use Rattle.std.specs.Prelude.{◌≡◌, ◌^◌, ◌<◌, Bool, true, false, cond, ◌++◌, ◌⊎◌, length, List, Result, Ok, Err}
+use Rattle.std.specs.Prelude.{◌≡◌, ◌^◌, ◌<◌, Bool, false, cond, ◌++◌, ◌⊎◌, length, Result, Ok, Err}
 use Rattle.std.specs.Borrow.{MutBor}
 use Rattle.std.specs.Fn.{Once, FnOnceReturnsAtMut}
 use Rattle.asn1_base.specs.Octets.{Octets}
-use Rattle.asn1_base.specs.Tags.{holds}
 use Rattle.asn1_base.specs.declared.error.EncodeError.{EncodeError}
 use Rattle.asn1_base.specs.declared.error.EncodeErrorKind.TheVariants.{OutOfMemory}
 use Rattle.asn1_base.specs.declared.tag.Tag.{Tag}

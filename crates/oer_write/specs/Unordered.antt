@@ -1,5 +1,5 @@
 -- The elements of an unordered list, each written on its own.
-use Rattle.std.specs.Prelude.{◌≡◌, ℕ, ◌+◌, ◌<◌, true, cond, List, [], ◌∷◌, ◌++◌, ◌⊎◌, map, Vec}
+use Rattle.std.specs.Prelude.{◌≡◌, ℕ, ◌+◌, ◌<◌, true, false, cond, List, [], ◌∷◌, ◌++◌, ◌⊎◌, map, Vec}
 use Rattle.asn1_base.specs.declared.error.EncodeErrorKind.{EncodeErrorKind}
 use Rattle.asn1_base.specs.declared.error.EncodeErrorKind.TheVariants.{OutOfMemory, TooManyEmptyElements}
 use Rattle.oer_forms.specs.Failures.{Fails}
@@ -7,7 +7,8 @@ use Rattle.oer_write.specs.Lists.{is_nil}
 use Rattle.std.specs.declared.alloc.Global.{Global}
 use Rattle.asn1_base.specs.Octets.{Octets}
 use Rattle.oer_forms.specs.Encoding.{IsEncodable, canonical_octets, empties}
-use Rattle.oer_forms.specs.Spelled.{EachValue}
+use Rattle.oer_forms.specs.Orders.{Reorders}
+use Rattle.oer_forms.specs.Spelled.{EachValue, list_of}
 use Rattle.oer_forms.specs.Tree.{Tree}
 
 abbrev pub octets_in : Vec ℕ Global → Octets
@@ -32,3 +33,7 @@ pub record OneMore {E : Type 0} (tree : E → Tree) (IsValue : E → Type 0) (x 
 -- why one more element is refused
 abbrev pub OneRefused : Tree → ℕ → EncodeErrorKind → Type 0
 OneRefused t count k = (k ≡ OutOfMemory) ⊎ (Fails t k ⊎ ((k ≡ TooManyEmptyElements) × (is_nil (canonical_octets t) ≡ true) × (count ≡ 65536)))
+
+-- An unordered list has the same octets in whatever order its elements stand.
+abbrev pub IsSameInAnyWalk : {E : Type 0} → (E → Tree) → Type 0
+IsSameInAnyWalk {E} tree = (xs ys : List E) → Reorders xs ys → canonical_octets (list_of false tree ys) ≡ canonical_octets (list_of false tree xs)

@@ -1,5 +1,5 @@
 -- What contracts see of an encoder: the octets written, and the open scopes.
-use Rattle.std.specs.Prelude.{◌≡◌, ℕ, Bool, true, false, List, [], ◌∷◌, ◌++◌, ◌⊎◌, Option, Some, Result, Ok, Err}
+use Rattle.std.specs.Prelude.{◌≡◌, ℕ, Bool, true, false, List, [], ◌++◌, ◌⊎◌, Some, Result, Ok, Err}
 use Rattle.asn1_base.specs.Octets.{Octets}
 use Rattle.asn1_base.specs.declared.error.EncodeError.{EncodeError}
 use Rattle.asn1_base.specs.declared.error.EncodeErrorKind.{EncodeErrorKind}
@@ -9,6 +9,7 @@ use Rattle.oer_forms.specs.Places.{Item}
 use Rattle.oer_forms.specs.Tree.{Leaf, Tree}
 use Rattle.oer_forms.specs.Writing.{BeginsWith}
 use Rattle.oer_forms.specs.Failures.{Fails, first_failure}
+use Rattle.oer_forms.specs.WritingTexts.{identifier_failure}
 
 -- A scope: whether it is open, what kind it is, and what was recorded in it so far.
 pub record Frame : Type 0 where
@@ -65,6 +66,11 @@ pub record Refused (t : Tree) (kind : EncodeErrorKind) (e e' : Written) : Type 0
 -- Of a leaf: by the first condition that it breaks.
 pub record RefusedLeaf (l : Leaf) (kind : EncodeErrorKind) (e e' : Written) : Type 0 where
   pub reason : (kind ≡ OutOfMemory) ⊎ (first_failure l ≡ Some kind)
+  pub keeps : Keeps e e'
+
+-- Of an identifier: by arcs that are none, then as a leaf.
+pub record RefusedIdentifier (arcs : List ℕ) (kind : EncodeErrorKind) (e e' : Written) : Type 0 where
+  pub reason : (kind ≡ OutOfMemory) ⊎ (identifier_failure arcs ≡ Some kind)
   pub keeps : Keeps e e'
 
 -- the law by what a call answers

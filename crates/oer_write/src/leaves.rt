@@ -3,13 +3,13 @@ ghost use Rattle.std.specs.Prelude.{◌≡◌, true, OnOk, IfErr};
 ghost use Rattle.asn1_base.specs.declared.error.EncodeErrorKind.TheVariants.{OutOfMemory};
 ghost use Rattle.asn1_base.specs.Bounds.{value_bounds};
 ghost use Rattle.oer_forms.specs.Tree.{Int};
-ghost use Rattle.oer_forms.specs.Spelled.{boolean, integer, null};
+ghost use Rattle.oer_forms.specs.Spelled.{boolean, enumerated, integer, null};
 ghost use Rattle.oer_write.specs.Written.{Encodes, Keeps, Refused, RefusedLeaf};
 
 use crate::encoder::Encoder;
-use asn1_base::{Constraints, EncodeError, Tag};
+use asn1_base::{Constraints, EncodeError, Enumerated, Tag};
 use asn1_ints::IntegerType;
-use oer_forms::leaf::write::{write_bool, write_integer};
+use oer_forms::leaf::write::{write_bool, write_enumerated, write_integer};
 
 impl<'buffer> Encoder<'buffer> {
     /// Writes a BOOLEAN (X.696, 9): FF for true, 00 for false.
@@ -32,6 +32,23 @@ impl<'buffer> Encoder<'buffer> {
         ensures done { OnOk result (Encodes (null tt) self.old self.new) }
         ensures refused { IfErr result (λ x. (x.kind ≡ OutOfMemory) × Keeps self.old self.new) }
     {
+        Ok(())
+    }
+
+    /// Writes an ENUMERATED value (X.696, 11) by its number: one octet from 0 to 127; else an octet 128 + k and the k shortest
+    /// octets of the number.
+    ///
+    /// Refused for want of memory alone.
+    #[tactic(auto, unfolding(oer_forms::specs::Spelled::enumerated, oer_forms::specs::Encoding::canonical_octets, oer_forms::specs::Encoding::fails))]
+    pub fn encode_enumerated<E: Enumerated>(
+        &mut self,
+        _tag: Tag,
+        value: &E,
+    ) -> Result<(), EncodeError>
+        ensures done { OnOk result (Encodes (enumerated (E.number value.now)) self.old self.new) }
+        ensures refused { IfErr result (λ x. (x.kind ≡ OutOfMemory) × Keeps self.old self.new) }
+    {
+        write_enumerated(value.discriminant(), &mut *self.output)?;
         Ok(())
     }
 

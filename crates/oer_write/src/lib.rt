@@ -7,6 +7,7 @@ mod component;
 pub mod enc;
 pub mod encode;
 mod encoder;
+mod identifiers;
 mod integers;
 mod leaves;
 mod lists;
@@ -15,7 +16,9 @@ mod rules;
 mod scope;
 mod scopes;
 mod sets;
+mod strings;
 mod texts;
+mod times;
 mod unordered;
 
 pub use encode::Encode;

@@ -288,4 +288,17 @@ impl<'buffer> Encoder<'buffer> {
         write_text(value, constraints, &mut *self.output)?;
         Ok(())
     }
+
+    /// Writes a restricted character string of any character set.
+    #[tactic(auto, using(crate::proofs::Refusals::text_by_law))]
+    pub(crate) fn put_restricted<C: CharacterSet>(
+        &mut self,
+        constraints: Constraints,
+        value: &RestrictedString<C>,
+    ) -> Result<(), EncodeError>
+        ensures done { OnOk result (Encodes (text C.rule constraints value.now) self.old self.new) }
+        ensures law { IfErr result (λ x. Refused (text C.rule constraints value.now) x.kind self.old self.new) }
+    {
+        self.put_text(constraints, value)
+    }
 }

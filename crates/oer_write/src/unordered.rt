@@ -8,14 +8,14 @@ ghost use Rattle.oer_forms.specs.Places.{sorted};
 ghost use Rattle.oer_forms.specs.Spelled.{list_of, EachValue};
 ghost use Rattle.oer_forms.specs.Writing.{Appends, BeginsWith};
 ghost use Rattle.oer_write.specs.Lists.{is_nil};
-ghost use Rattle.oer_write.specs.Unordered.{octets_in, Gathered, OneMore, OneRefused};
+ghost use Rattle.oer_write.specs.Unordered.{octets_in, Gathered, OneMore, OneRefused, IsSameInAnyWalk};
 ghost use Rattle.oer_write.specs.Written.{append, Keeps, Encodes, Refused};
 
 use crate::encode::Encode;
 use crate::encoder::Encoder;
 use crate::lists::MAX_EMPTY_ELEMENTS;
 use crate::rows::content_of;
-use asn1_base::{Constraints, EncodeError, EncodeErrorKind, Tag};
+use asn1_base::{Constraints, EncodeError, EncodeErrorKind, SetOf, Tag};
 use oer_forms::leaf::write::write_quantity;
 use std::alloc::Global;
 
@@ -62,13 +62,13 @@ fn put_one<E: Encode>(
 }
 
 /// Each element's octets, in the elements' order.
-fn contents_of<E: Encode>(alloc: Global, elements: &[E]) -> Result<Vec<Vec<u8>>, EncodeError>
+fn contents_of<E: Encode>(alloc: Global, elements: &SetOf<E>) -> Result<Vec<Vec<u8>>, EncodeError>
     ensures done { IfOk result (λ contents. (count : ℕ) × Gathered (E.tree E.CONSTRAINTS) E.IsValue elements.now (map octets_in contents.items) count) }
     ensures refused { IfErr result (λ x. (x.kind ≡ OutOfMemory) ⊎ Fails (list_of false (E.tree E.CONSTRAINTS) elements.now) x.kind) }
 {
     let mut contents = Vec::new(alloc);
     let mut empty_count: u32 = 0;
-    for x in elements {
+    for x in elements.iter() {
         empty_count = put_one(alloc, x, empty_count, &mut contents)?;
     }
     Ok(contents)
@@ -117,8 +117,27 @@ fn write_contents(
 }
 
 impl<'buffer> Encoder<'buffer> {
-    /// Writes a list in the ascending order of its elements' octets (X.696, 19).
-    pub(crate) fn put_unordered<E: Encode>(&mut self, elements: &[E]) -> Result<(), EncodeError>
+    /// Writes a SET OF (X.696, 19): its quantity, and the elements' octets in ascending order, each element under its type's
+    /// own constraints.
+    ///
+    /// Whatever the order in which the elements stand, the octets are the same. Refused by what an element is refused by, at
+    /// the 65,537th element without octets by `TooManyEmptyElements`, or for want of memory.
+    #[tactic(auto, using(crate::proofs::Gathering::any_walk))]
+    pub fn encode_set_of<E: Encode>(
+        &mut self,
+        _tag: Tag,
+        _constraints: Constraints,
+        value: &SetOf<E>,
+    ) -> Result<(), EncodeError>
+        ensures done { OnOk result (Encodes (list_of false (E.tree E.CONSTRAINTS) value.now) self.old self.new) }
+        ensures value { OnOk result (EachValue E.IsValue value.now) }
+        ensures refused { IfErr result (λ x. Refused (list_of false (E.tree E.CONSTRAINTS) value.now) x.kind self.old self.new) }
+        ensures any_order { IsSameInAnyWalk (E.tree E.CONSTRAINTS) }
+    {
+        self.put_unordered(value)
+    }
+
+    fn put_unordered<E: Encode>(&mut self, elements: &SetOf<E>) -> Result<(), EncodeError>
         ensures done { OnOk result (Encodes (list_of false (E.tree E.CONSTRAINTS) elements.now) self.old self.new) }
         ensures value { OnOk result (EachValue E.IsValue elements.now) }
         ensures refused { IfErr result (λ x. Refused (list_of false (E.tree E.CONSTRAINTS) elements.now) x.kind self.old self.new) }
@@ -140,5 +159,16 @@ impl<'buffer> Encoder<'buffer> {
         arrange_octets(contents)?;
         write_contents(contents, count, &mut *self.output)?;
         Ok(())
+    }
+}
+
+impl<T: Encode> Encode for SetOf<T> {
+    fn encode_with_tag_and_constraints(
+        &self,
+        encoder: &mut Encoder<'_>,
+        tag: Tag,
+        constraints: Constraints,
+    ) -> Result<(), EncodeError> {
+        encoder.encode_set_of(tag, constraints, self)
     }
 }

@@ -1,6 +1,7 @@
 //! `oertool oer|coer TYPE HEX` reads octets as a value of a type, and prints its canonical octets and what is left.
 #![tactic(auto)]
 
+mod known;
 mod run;
 #[cfg(test)]
 mod tests;

@@ -1,9 +1,8 @@
 //! The program over any writer.
 
+use crate::known::{OnType, with_type};
 use asn1_base::Codec;
-use asn1_ints::Integer;
 use hex::FromHexError;
-use oer_types::{Empty, Nested, Pair};
 use oer_write::Encode;
 use rasn_oer::{Decode, coer, oer};
 use std::alloc::{AllocError, Global};
@@ -59,28 +58,35 @@ fn hex_line(alloc: Global, octets: &[u8]) -> Result<String, Failure> {
     Ok(line)
 }
 
-/// Reads a value of a type in that mode, and writes it again.
-fn recoded<T: Decode + Encode>(
+/// Octets that are read in a mode and written again.
+#[derive(Drop)]
+struct Recoding<'a> {
     alloc: Global,
     codec: Codec,
-    input: &[u8],
-) -> Result<Lines, Failure> {
-    let read = match codec {
-        Codec::Oer => oer::decode_with_remainder::<T>(alloc, input),
-        Codec::Coer => coer::decode_with_remainder::<T>(alloc, input),
-    };
-    let (value, rest) = match read {
-        Ok(read) => read,
-        Err(e) => return Err(Failure::Refused(e.kind.name())),
-    };
-    let octets = match coer::encode(alloc, &value) {
-        Ok(octets) => octets,
-        Err(e) => return Err(Failure::Refused(e.kind.name())),
-    };
-    Ok(Lines {
-        canonical: hex_line(alloc, octets.as_slice())?,
-        remainder: hex_line(alloc, rest)?,
-    })
+    input: &'a [u8],
+}
+
+impl<'a> OnType for Recoding<'a> {
+    type Output = Result<Lines, Failure>;
+
+    fn on<T: Decode + Encode>(self) -> Result<Lines, Failure> {
+        let read = match self.codec {
+            Codec::Oer => oer::decode_with_remainder::<T>(self.alloc, self.input),
+            Codec::Coer => coer::decode_with_remainder::<T>(self.alloc, self.input),
+        };
+        let (value, rest) = match read {
+            Ok(read) => read,
+            Err(e) => return Err(Failure::Refused(e.kind.name())),
+        };
+        let octets = match coer::encode(self.alloc, &value) {
+            Ok(octets) => octets,
+            Err(e) => return Err(Failure::Refused(e.kind.name())),
+        };
+        Ok(Lines {
+            canonical: hex_line(self.alloc, octets.as_slice())?,
+            remainder: hex_line(self.alloc, rest)?,
+        })
+    }
 }
 
 /// The octets of a text in hexadecimal.
@@ -106,12 +112,14 @@ fn answer(alloc: Global, words: &[String]) -> Result<Lines, Failure> {
     };
     let codec = codec_of(mode.as_str()).ok_or(Failure::Usage)?;
     let octets = octets_of(alloc, text.as_str())?;
-    let input = octets.as_slice();
-    match word.as_str() {
-        "bool" => recoded::<bool>(alloc, codec, input),
-        "int" => recoded::<Integer>(alloc, codec, input),
-        "empty" => recoded::<Empty>(alloc, codec, input),
-        _ => Err(Failure::Usage),
+    let recoding = Recoding {
+        alloc,
+        codec,
+        input: octets.as_slice(),
+    };
+    match with_type(word.as_str(), recoding) {
+        Some(lines) => lines,
+        None => Err(Failure::Usage),
     }
 }
 

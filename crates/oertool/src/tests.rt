@@ -1,13 +1,25 @@
 //! The program's rows, and every input of at most two octets, against answers from outside.
+mod closures;
+mod conversions;
+mod defaults;
+mod extensions;
+mod leaf_vectors;
+mod leaves;
+mod nested;
+mod sets;
+mod vectors;
+
+use crate::known::{OnType, with_type};
 use crate::run::{Status, run};
-use asn1_base::Codec;
+use asn1_base::{Codec, DecodeError, DecodeErrorKind};
 use asn1_ints::Integer;
 use oer_types::{Empty, Nested, Pair};
 use oer_write::Encode;
-use rasn_oer::{Decode, coer, oer};
+use rasn_oer::{Decode, Decoder, DecoderOptions, coer, oer};
 use std::alloc::{AllocError, Global};
 use std::process::Abort;
 use std::test::Fail;
+use vectors::{CHOICES, EXTENSIBLE, LISTS, NESTED, NUMBERS, ROWS, SEQUENCES, SETS, STRINGS, TIMES};
 
 fn words_of(alloc: Global, text: &str) -> Result<Vec<String>, AllocError> {
     let mut words = Vec::new(alloc);
@@ -146,12 +158,12 @@ fn place_of(name: &str) -> u8 {
     0
 }
 
+/// A checksum of answers (FNV-1a of 32 bits), and how many inputs were read and refused by each kind.
 #[derive(Drop)]
-/// A checksum of answers (FNV-1a of 32 bits), and how many were read and refused by one kind.
 struct Tally {
     hash: u32,
     read: u32,
-    refused: u32,
+    refused: [u32; 26],
 }
 
 impl Tally {
@@ -162,13 +174,20 @@ impl Tally {
     fn mix_count(&mut self, count: usize) {
         self.mix(u8::try_from(count).unwrap_or(255));
     }
+
+    fn refuse(&mut self, place: u8) {
+        self.mix(1);
+        self.mix(place);
+        if let Some(count) = self.refused.get_mut(usize::from(place)) {
+            *count = count.wrapping_add(1);
+        }
+    }
 }
 
-/// Takes the answer for one input into the tally, and counts refusals by that kind.
+/// Takes the answer for one input into the tally.
 fn tally_one<T: Decode + Encode>(
     alloc: Global,
     codec: Codec,
-    kind: &str,
     input: &[u8],
     tally: &mut Tally,
 ) -> Result<(), Fail> {
@@ -187,92 +206,158 @@ fn tally_one<T: Decode + Encode>(
             }
             tally.mix_count(input.len().saturating_sub(rest.len()));
         }
-        Err(e) => {
-            if e.kind.name() == kind {
-                tally.refused = tally.refused.wrapping_add(1);
-            }
-            tally.mix(1);
-            tally.mix(place_of(e.kind.name()));
-        }
+        Err(e) => tally.refuse(place_of(e.kind.name())),
     }
     Ok(())
 }
 
 /// All inputs of at most two octets: none, one, two.
-fn tally_of<T: Decode + Encode>(alloc: Global, codec: Codec, kind: &str) -> Result<Tally, Fail> {
-    let mut tally = Tally {
-        hash: 2166136261,
-        read: 0,
-        refused: 0,
-    };
-    tally_one::<T>(alloc, codec, kind, &[], &mut tally)?;
-    for a in 0..=255u8 {
-        tally_one::<T>(alloc, codec, kind, &[a], &mut tally)?;
-    }
-    for n in 0..=65535u16 {
-        tally_one::<T>(alloc, codec, kind, &n.to_be_bytes(), &mut tally)?;
-    }
-    Ok(tally)
-}
-
-fn agrees<T: Decode + Encode>(
-    rt: &impl Abort,
+#[derive(Drop)]
+struct Tallying {
     alloc: Global,
     codec: Codec,
-    kind: &str,
-    expected: (u32, u32, u32),
-) -> Result<(), Fail> {
-    let tally = tally_of::<T>(alloc, codec, kind)?;
-    assert_eq!(rt; (tally.read, tally.refused, tally.hash), expected);
+}
+
+impl OnType for Tallying {
+    type Output = Result<Tally, Fail>;
+
+    fn on<T: Decode + Encode>(self) -> Result<Tally, Fail> {
+        let mut tally = Tally {
+            hash: 2166136261,
+            read: 0,
+            refused: [0; 26],
+        };
+        tally_one::<T>(self.alloc, self.codec, &[], &mut tally)?;
+        for a in 0..=255u8 {
+            tally_one::<T>(self.alloc, self.codec, &[a], &mut tally)?;
+        }
+        for n in 0..=65535u16 {
+            tally_one::<T>(self.alloc, self.codec, &n.to_be_bytes(), &mut tally)?;
+        }
+        Ok(tally)
+    }
+}
+
+fn codec_of(word: &str) -> Codec {
+    if word == "coer" {
+        Codec::Coer
+    } else {
+        Codec::Oer
+    }
+}
+
+/// One line of the tallies: each kind that is counted there has that count.
+fn agrees(rt: &impl Abort, alloc: Global, line: &str) -> Result<(), Fail> {
+    let mut words = line.split(' ');
+    let word = words.next().unwrap_or("");
+    let codec = codec_of(words.next().unwrap_or(""));
+    let tally = match with_type(word, Tallying { alloc, codec }) {
+        Some(tally) => tally?,
+        None => return Err(Fail::from("no such word")),
+    };
+    assert_eq!(rt; Ok(tally.hash), words.next().unwrap_or("").parse::<u32>());
+    assert_eq!(rt; Ok(tally.read), words.next().unwrap_or("").parse::<u32>());
+    for count in words {
+        let mut parts = count.split('=');
+        let place = parts.next().unwrap_or("").parse::<usize>().unwrap_or(0);
+        let expected = parts.next().unwrap_or("").parse::<u32>();
+        assert_eq!(rt;
+            Ok(tally.refused.get(place).copied().unwrap_or(0)),
+            expected
+        );
+    }
+    Ok(())
+}
+
+/// Each line of the tallies.
+fn all_agree(rt: &impl Abort, alloc: Global, lines: &str) -> Result<(), Fail> {
+    for line in lines.split('\n') {
+        agrees(rt, alloc, line)?;
+    }
     Ok(())
 }
 
 #[test]
-fn short_inputs_agree_with_the_counts_from_outside(rt: HostRuntime) -> Result<(), Fail> {
-    let alloc = rt.alloc();
-    agrees::<bool>(&rt, alloc, Codec::Oer, "Incomplete", (65792, 1, 0x43ce9a30))?;
-    agrees::<bool>(
-        &rt,
-        alloc,
-        Codec::Coer,
-        "InvalidBool",
-        (514, 65278, 0x76693170),
-    )?;
-    agrees::<Integer>(
-        &rt,
-        alloc,
-        Codec::Oer,
-        "Incomplete",
-        (256, 65022, 0x59433c5a),
-    )?;
-    agrees::<Integer>(
-        &rt,
-        alloc,
-        Codec::Oer,
-        "EmptyInteger",
-        (256, 258, 0x59433c5a),
-    )?;
-    agrees::<Integer>(
-        &rt,
-        alloc,
-        Codec::Coer,
-        "Incomplete",
-        (256, 64895, 0xacde1a63),
-    )?;
-    agrees::<Integer>(
-        &rt,
-        alloc,
-        Codec::Coer,
-        "NotValidCanonicalEncoding",
-        (256, 128, 0xacde1a63),
-    )?;
-    agrees::<Empty>(&rt, alloc, Codec::Oer, "Incomplete", (65793, 0, 0x3cdbabb7))?;
-    agrees::<Empty>(
-        &rt,
-        alloc,
-        Codec::Coer,
-        "Incomplete",
-        (65793, 0, 0x3cdbabb7),
-    )?;
+fn short_inputs_of_numbers_agree(rt: HostRuntime) -> Result<(), Fail> {
+    all_agree(&rt, rt.alloc(), NUMBERS)
+}
+
+#[test]
+fn short_inputs_of_strings_and_identifiers_agree(rt: HostRuntime) -> Result<(), Fail> {
+    all_agree(&rt, rt.alloc(), STRINGS)
+}
+
+#[test]
+fn short_inputs_of_times_agree(rt: HostRuntime) -> Result<(), Fail> {
+    all_agree(&rt, rt.alloc(), TIMES)
+}
+
+#[test]
+fn short_inputs_of_sequences_agree(rt: HostRuntime) -> Result<(), Fail> {
+    all_agree(&rt, rt.alloc(), SEQUENCES)
+}
+
+#[test]
+fn short_inputs_of_extensible_sequences_agree(rt: HostRuntime) -> Result<(), Fail> {
+    all_agree(&rt, rt.alloc(), EXTENSIBLE)
+}
+
+#[test]
+fn short_inputs_of_groups_and_nested_sequences_agree(rt: HostRuntime) -> Result<(), Fail> {
+    all_agree(&rt, rt.alloc(), NESTED)
+}
+
+#[test]
+fn short_inputs_of_choices_and_sets_agree(rt: HostRuntime) -> Result<(), Fail> {
+    all_agree(&rt, rt.alloc(), CHOICES)
+}
+
+#[test]
+fn short_inputs_of_lists_agree(rt: HostRuntime) -> Result<(), Fail> {
+    all_agree(&rt, rt.alloc(), LISTS)
+}
+
+#[test]
+fn short_inputs_of_unordered_lists_agree(rt: HostRuntime) -> Result<(), Fail> {
+    all_agree(&rt, rt.alloc(), SETS)
+}
+
+/// One line of the rows: what the program prints, and its status.
+fn prints(rt: &impl Abort, alloc: Global, line: &str) -> Result<(), Fail> {
+    let mut parts = line.split(';');
+    let words = words_of(alloc, parts.next().unwrap_or(""))?;
+    let mut expected = String::new(alloc);
+    for printed in parts.next().unwrap_or("").split('|') {
+        expected.push_str(printed)?;
+        expected.push_str("\n")?;
+    }
+    let mut out = Vec::new(alloc);
+    let ended = run(alloc, words.as_slice(), &mut out);
+    assert_eq!(rt; out.as_slice(), expected.as_bytes());
+    assert_eq!(rt; Ok(ended.code()), parts.next().unwrap_or("").parse::<u8>());
+    Ok(())
+}
+
+#[test]
+fn the_program_prints_the_rows_from_outside(rt: HostRuntime) -> Result<(), Fail> {
+    for line in ROWS.split('\n') {
+        prints(&rt, rt.alloc(), line)?;
+    }
+    Ok(())
+}
+
+#[test]
+fn refusals_leave_what_is_to_be_read(rt: HostRuntime) -> Result<(), Fail> {
+    let input = [1, 1, 2, 1];
+    let mut decoder = Decoder::new(&input, DecoderOptions::coer());
+    let answer = Pair::decode(rt.alloc(), &mut decoder);
+    assert!(rt;
+        answer
+            == Err(DecodeError {
+                kind: DecodeErrorKind::Incomplete { needed: 1 },
+                codec: Codec::Coer
+            })
+    );
+    assert_eq!(rt; decoder.remaining(), input.as_slice());
     Ok(())
 }

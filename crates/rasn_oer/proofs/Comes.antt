@@ -1,13 +1,11 @@
 -- What is left in a scope, row by row.
-use Rattle.std.proofs.Common.{◌≡◌, ℕ, Bool, true, false, List, [], ◌∷◌, ◌++◌, refl, sym, ap, ◌∙◌, subst, append_assoc}
-use Rattle.std.proofs.lemmas.List.{append_cancel_left}
+use Rattle.std.proofs.Common.{◌≡◌, ℕ, List, [], ◌∷◌, ◌++◌, refl, sym, ap, ◌∙◌, append_assoc}
 use Rattle.asn1_base.specs.Octets.{Octets}
 use Rattle.asn1_base.specs.declared.tag.Tag.{Tag}
 use Rattle.oer_forms.specs.Encoding.{IsEncoding, AreItems}
 use Rattle.oer_forms.specs.Mode.{Mode, mode_of}
-use Rattle.oer_forms.specs.Places.{Item, needed, present, absent, bodies}
-use Rattle.oer_forms.specs.Tree.{Tree, Rows, NoRows, Required}
-use Rattle.rasn_oer.specs.Law.{Fronts}
+use Rattle.oer_forms.specs.Places.{Item, needed, bodies}
+use Rattle.oer_forms.specs.Tree.{Tree, Rows, Required}
 use Rattle.rasn_oer.specs.Parts.{Comes, asks_in}
 use Rattle.rasn_oer.specs.State.{State}
 
@@ -46,6 +44,7 @@ comes_needed s g t r a rest c =
         are_additions = c.are_additions;
         asked = sym (ap asks_in e) ∙ c.asked;
         placed = c.placed;
+        only = c.only;
         tail = c.tail;
       };
     }
@@ -64,5 +63,6 @@ needed_comes s g t r a rest o more e f c = record {
   are_additions = c.are_additions;
   asked = c.asked;
   placed = c.placed;
+  only = c.only;
   tail = c.tail;
 }

@@ -1,10 +1,10 @@
 -- What the law of reading gives to the entry calls, by the laws of the definitions.
-use Rattle.std.proofs.Common.{◌≡◌, ℕ, ◌≤◌, Bool, true, false, List, [], ◌++◌, refl, sym, ap, ◌∙◌, subst}
+use Rattle.std.proofs.Common.{◌≡◌, ℕ, ◌≤◌, ◌++◌, sym, ◌∙◌, subst}
 use Rattle.asn1_base.specs.Octets.{Octets}
 use Rattle.asn1_base.specs.declared.codec.Codec.{Codec}
 use Rattle.asn1_base.specs.declared.codec.Codec.TheVariants.{Oer, Coer}
 use Rattle.oer_forms.specs.Encoding.{IsTree, IsEncodable, IsEncoding, canonical_octets, levels}
-use Rattle.oer_forms.specs.Mode.{Mode, Canonical, OwnSized, mode_of}
+use Rattle.oer_forms.specs.Mode.{mode_of}
 use Rattle.oer_forms.specs.Same.{Same, Alike}
 use Rattle.oer_forms.specs.Tree.{Tree}
 use Rattle.oer_forms.specs.Versions.{Drops}
@@ -21,7 +21,7 @@ use Rattle.rasn_oer.specs.Law.{Reads, RefusedBy}
 use Rattle.rasn_oer.specs.State.{State, closed}
 
 -- what is written is read in both modes
-written_in : (m : Codec) (t : Tree) (d : ℕ) → IsTree t → IsEncodable t → levels t ≤ d → IsEncoding (mode_of m) d (canonical_octets t) t
+pub written_in : (m : Codec) (t : Tree) (d : ℕ) → IsTree t → IsEncodable t → levels t ≤ d → IsEncoding (mode_of m) d (canonical_octets t) t
 written_in Coer t d i f l = own_sized_within_canonical t d (canonical_octets t) (spelt t d i f l).0
 written_in Oer t d i f l = canonical_within_lenient t d (canonical_octets t) (own_sized_within_canonical t d (canonical_octets t) (spelt t d i f l).0)
 

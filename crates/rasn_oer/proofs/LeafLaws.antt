@@ -9,12 +9,12 @@ use Rattle.asn1_base.specs.declared.error.DecodeErrorKind.TheVariants.{OutOfMemo
 use Rattle.oer_forms.proofs.Unambiguous.{unique}
 use Rattle.oer_forms.specs.Encoding.{IsTree, IsEncoding}
 use Rattle.oer_forms.specs.Leaves.{IsLeafEncoding}
-use Rattle.oer_forms.specs.Mode.{mode_of}
+use Rattle.oer_forms.specs.Mode.{Mode, mode_of}
 use Rattle.oer_forms.specs.Same.{Alike}
 use Rattle.oer_forms.specs.Spelled.{boolean, boolean_is, booleans_alike, null, null_is, nulls_alike, IsAny}
-use Rattle.oer_forms.specs.Tree.{Tree, Boolean, Null}
+use Rattle.oer_forms.specs.Tree.{Tree, Primitive, Leaf, Boolean}
 use Rattle.rasn_oer.specs.Answers.{Took}
-use Rattle.rasn_oer.specs.Law.{Reads, NoFront, Decodes, Fronts, IsForMemory}
+use Rattle.rasn_oer.specs.Law.{Reads, NoFront, Decodes, Fronts}
 use Rattle.oer_forms.specs.Reading.{ReadsFront, seen}
 use Rattle.rasn_oer.specs.State.{State}
 
@@ -42,31 +42,36 @@ module _ {A : Type 0} (tree : A → Tree) (IsValue : A → Type 0) where
         rest = n ∙ ap (λ (r : Octets). record old { input = r }) (sym at);
       }
 
-  -- what a reader answers of a leaf is read by the law
-  pub leaf_law : (Spells : Octets → A → Type 0) (old : State) → AreSettled
-      → ((o : Octets) (v : A) → Spells o v → IsValue v × IsEncoding (mode_of old.codec) old.levels o (tree v))
-      → ((o : Octets) (v : A) → IsValue v → IsEncoding (mode_of old.codec) old.levels o (tree v) → Spells o v)
-      → (answer : Result (A × Bor (List ℕ)) DecodeErrorKind) (result : Result A DecodeError) (new : State)
-      → ReadsFront Spells old.input (seen (λ (x : A × Bor (List ℕ)). (x.0, x.1.now)) answer) → Took answer old result new → Decodes tree IsValue old result new
-  leaf_law Spells old k to from (Ok x) result new (o, e, s) (a, n) =
-      subst (λ (r : Result A DecodeError). Decodes tree IsValue old r new) (sym a) (record { read = reads_front k old x.0 new o x.1.now (to o x.0 s).0 e (to o x.0 s).1 n; refused = tt })
-  leaf_law Spells old k to from (Err kind) result new none (a, n) =
-      subst (λ (r : Result A DecodeError). Decodes tree IsValue old r new) (sym a) (record { read = tt; refused = record { same = n; none = λ m w o j f. none m o f.rest w f.split (from o w j f.encoding) } })
+  module _ (leaf : A → Leaf) (is_primitive : (v : A) → tree v ≡ Primitive (leaf v)) where
+    -- the octets of a leaf are those of its tree
+    pub encodes : (m : Mode) (d : ℕ) (o : Octets) (v : A) → IsLeafEncoding m o (leaf v) → IsEncoding m d o (tree v)
+    unfolding IsEncoding
+    encodes m d o v s = subst (λ (t : Tree). IsEncoding m d o t) (sym (is_primitive v)) s
 
-boolean_to : (old : State) (o : Octets) (v : Bool) → IsLeafEncoding (mode_of old.codec) o (Boolean v) → IsAny v × IsEncoding (mode_of old.codec) old.levels o (boolean v)
-unfolding boolean IsEncoding
-boolean_to old o v s = (tt, s)
+    pub encoded : (m : Mode) (d : ℕ) (o : Octets) (v : A) → IsEncoding m d o (tree v) → IsLeafEncoding m o (leaf v)
+    unfolding IsEncoding
+    encoded m d o v s = subst (λ (t : Tree). IsEncoding m d o t) (is_primitive v) s
 
-boolean_from : (old : State) (o : Octets) (v : Bool) → IsAny v → IsEncoding (mode_of old.codec) old.levels o (boolean v) → IsLeafEncoding (mode_of old.codec) o (Boolean v)
-unfolding boolean IsEncoding
-boolean_from old o v i f = f
+    -- what a reader answers of a leaf, seen by `show`, is read by the law
+    pub leaf_law : {V : Type 0} (show : A → V) (Spells : Octets → V → Type 0) (old : State) → AreSettled
+        → ((o : Octets) (v : A) → Spells o (show v) → IsValue v × IsLeafEncoding (mode_of old.codec) o (leaf v))
+        → ((o : Octets) (v : A) → IsValue v → IsLeafEncoding (mode_of old.codec) o (leaf v) → Spells o (show v))
+        → (answer : Result (A × Bor (List ℕ)) DecodeErrorKind) (result : Result A DecodeError) (new : State)
+        → ReadsFront Spells old.input (seen (λ (x : A × Bor (List ℕ)). (show x.0, x.1.now)) answer) → Took answer old result new → Decodes tree IsValue old result new
+    leaf_law show Spells old k to from (Ok x) result new (o, e, s) (a, n) =
+        let f = encodes (mode_of old.codec) old.levels o x.0 (to o x.0 s).1 in
+        subst (λ (r : Result A DecodeError). Decodes tree IsValue old r new) (sym a) (record { read = reads_front k old x.0 new o x.1.now (to o x.0 s).0 e f n; refused = tt })
+    leaf_law show Spells old k to from (Err kind) result new none (a, n) =
+        let nothing : (kind ≡ OutOfMemory → ⊥) → NoFront tree IsValue old = λ m w o j f. none m o f.rest (show w) f.split (from o w j (encoded (mode_of old.codec) old.levels o w f.encoding)) in
+        subst (λ (r : Result A DecodeError). Decodes tree IsValue old r new) (sym a) (record { read = tt; refused = record { same = n; none = nothing } })
 
 pub boolean_law : (old : State) (answer : Result (Bool × Bor (List ℕ)) DecodeErrorKind) (result : Result Bool DecodeError) (new : State)
     → ReadsFront (λ o v. IsLeafEncoding (mode_of old.codec) o (Boolean v)) old.input (seen (λ (x : Bool × Bor (List ℕ)). (x.0, x.1.now)) answer)
     → Took answer old result new → Decodes boolean IsAny old result new
+unfolding boolean
 boolean_law old answer result new f t =
-    leaf_law boolean IsAny (λ o v. IsLeafEncoding (mode_of old.codec) o (Boolean v)) old
-    (record { is_tree = λ v i. boolean_is v; alike = λ v w i j. booleans_alike v w }) (boolean_to old) (boolean_from old) answer result new f t
+    leaf_law boolean IsAny Boolean (λ v. refl) (λ v. v) (λ o v. IsLeafEncoding (mode_of old.codec) o (Boolean v)) old
+    (record { is_tree = λ v i. boolean_is v; alike = λ v w i j. booleans_alike v w }) (λ o v s. (tt, s)) (λ o v i s. s) answer result new f t
 
 null_is_empty : (old : State) → IsEncoding (mode_of old.codec) old.levels [] (null tt)
 unfolding null IsEncoding

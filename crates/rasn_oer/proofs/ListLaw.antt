@@ -1,8 +1,7 @@
 -- From what a list does, and what its closure promises, to the law of reading.
-use Rattle.std.proofs.Common.{◌≡◌, ℕ, suc, ◌+◌, ◌-◌, ◌<◌, ◌≤◌, Bool, true, false, cond, eqb, Result, Ok, Err, List, [], ◌∷◌, ◌++◌, length, refl, sym, ap, ap₂, ◌∙◌, subst, subst₂, arith, append_assoc, length-append}
-use Rattle.std.specs.Prelude.{nat_lt}
+use Rattle.std.proofs.Common.{◌≡◌, ℕ, suc, ◌+◌, ◌-◌, ◌<◌, ◌≤◌, Bool, true, false, cond, Result, Ok, Err, List, [], ◌∷◌, ◌++◌, length, refl, sym, ap, ap₂, ◌∙◌, subst, arith, append_assoc, length-append}
 use Rattle.std.specs.Result.{IfOk, IfErr, OnErr}
-use Rattle.std.proofs.lemmas.Bool.{eqb-true, eqb-false, le-ltb, ltb-false, eq-eqb, ne_eqb}
+use Rattle.std.proofs.lemmas.Bool.{le-ltb, ltb-false, eq-eqb, ne_eqb}
 use Rattle.std.proofs.lemmas.List.{append_cancel_left, append_cancel_right}
 use Rattle.asn1_base.specs.Octets.{Octets, AreOctets, joined, usize_max}
 use Rattle.asn1_base.specs.declared.error.DecodeError.{DecodeError}
@@ -15,12 +14,11 @@ use Rattle.oer_forms.specs.Encoding.{IsTree, IsEncoding, AreElements, canonical_
 use Rattle.oer_forms.specs.Leaves.{Failure, TooManyEmpty, TooLong}
 use Rattle.oer_forms.specs.Lengths.{IsQuantity}
 use Rattle.oer_forms.specs.Mode.{Mode, mode_of}
-use Rattle.oer_forms.specs.Places.{SpellsList}
-use Rattle.oer_forms.specs.Reading.{◌>>=◌, ◌>>◌, quantity_at}
+use Rattle.oer_forms.specs.Reading.{◌>>◌, quantity_at}
 use Rattle.oer_forms.specs.Spelled.{EachValue, trees_of, list_of}
-use Rattle.oer_forms.specs.Tree.{Tree, ListOf, Trees, NoTrees, More}
-use Rattle.rasn_oer.specs.Law.{Reads, RefusedBy, Decodes, NoFront, Fronts, IsForMemory, IsRear}
-use Rattle.rasn_oer.specs.Lists.{lent_element, list_opened_at, count_empty, RanEach, ListRead, ElementsStopped, ElementRefused, TooManyEmpty as TooManyAreEmpty, NoMemory, ListRefused, NotOpened, Stopped}
+use Rattle.oer_forms.specs.Tree.{Tree, Trees, NoTrees, More}
+use Rattle.rasn_oer.specs.Law.{Reads, Decodes, NoFront, IsForMemory}
+use Rattle.rasn_oer.specs.Lists.{lent_element, list_opened_at, count_empty, RanEach, ListRead, ElementsStopped, ElementRefused, TooManyEmpty as TooManyAreEmpty, NoMemory, ListRefused, NotOpened, Stopped, TakesOctets}
 use Rattle.rasn_oer.specs.Scopes.{level_at}
 use Rattle.rasn_oer.specs.State.{State}
 use Rattle.rasn_oer.proofs.ListSteps.{RanEach-push}
@@ -51,7 +49,7 @@ list_again s n rest o =
 pub quantity_fits : (m : Mode) (o : Octets) (n : ℕ) → IsQuantity m o n → n ≤ usize_max
 quantity_fits m o n (c, _, _, _, f, _) = f
 
-not_both : {X : Type 0} (r : Result X DecodeErrorKind) (x : X) (k : DecodeErrorKind) → r ≡ Ok x → r ≡ Err k → ⊥
+pub not_both : {X : Type 0} (r : Result X DecodeErrorKind) (x : X) (k : DecodeErrorKind) → r ≡ Ok x → r ≡ Err k → ⊥
 not_both {X} r x k e f = go (sym e ∙ f)
   where
     go : ◌≡◌ {A = Result X DecodeErrorKind} (Ok x) (Err k) → ⊥
@@ -63,7 +61,7 @@ empty_of : (o : Octets) (n : ℕ) (os : List Octets) → empties (o ∷ os) ≡ 
 empty_of [] n os = refl
 empty_of (x ∷ o) n os = refl
 
-count_is : (n : ℕ) (o q : Octets) → count_empty n (o ++ q) q ≡ cond (is_nil o) (suc n) n
+pub count_is : (n : ℕ) (o q : Octets) → count_empty n (o ++ q) q ≡ cond (is_nil o) (suc n) n
 count_is n [] q = ap (λ (b : Bool). cond b (suc n) n) (eq-eqb (length q) (length q) refl)
 count_is n (x ∷ o) q = ap (λ (b : Bool). cond b (suc n) n) (ne_eqb (length ((x ∷ o) ++ q)) (length q) (λ e. omega (arith, e, length-append (x ∷ o) q)))
 
@@ -85,11 +83,11 @@ module _ {A : Type 0} (tree : A → Tree) (IsPart : A → Type 0) (Ran : State �
     pub counted : k ≡ n + empties elements
     pub count : length elements ≡ length vs
 
-  cons_elements : (m : Mode) (d : ℕ) (o : Octets) (os : List Octets) (t : Tree) (ts : Trees) → IsEncoding m d o t → AreElements m d os ts → AreElements m d (o ∷ os) (More t ts)
+  pub cons_elements : (m : Mode) (d : ℕ) (o : Octets) (os : List Octets) (t : Tree) (ts : Trees) → IsEncoding m d o t → AreElements m d os ts → AreElements m d (o ∷ os) (More t ts)
   unfolding IsEncoding
   cons_elements m d o os t ts f h = (f, h)
 
-  no_elements : (m : Mode) (d : ℕ) → AreElements m d [] NoTrees
+  pub no_elements : (m : Mode) (d : ℕ) → AreElements m d [] NoTrees
   unfolding IsEncoding
   no_elements m d = refl
 
@@ -108,7 +106,7 @@ module _ {A : Type 0} (tree : A → Tree) (IsPart : A → Type 0) (Ran : State �
         count = ap suc t.count;
       }
 
-  split_elements : (m : Mode) (d : ℕ) (os : List Octets) (t : Tree) (ts : Trees) → AreElements m d os (More t ts) → (o : Octets) × (ps : List Octets) × (os ≡ o ∷ ps) × IsEncoding m d o t × AreElements m d ps ts
+  pub split_elements : (m : Mode) (d : ℕ) (os : List Octets) (t : Tree) (ts : Trees) → AreElements m d os (More t ts) → (o : Octets) × (ps : List Octets) × (os ≡ o ∷ ps) × IsEncoding m d o t × AreElements m d ps ts
   unfolding IsEncoding
   split_elements m d [] t ts h = absurd h
   split_elements m d (o ∷ os) t ts (f, h) = (o, os, refl, f, h)
@@ -154,9 +152,13 @@ module _ {A : Type 0} (tree : A → Tree) (IsPart : A → Type 0) (Ran : State �
         counted = a.counted ∙ ap (λ (z : ℕ). z + empties ps) c ∙ count_more n o ps ∙ ap (λ (z : List Octets). n + empties z) (sym same);
       }
 
+  nil_octets : (o : Octets) → is_nil o ≡ true → o ≡ []
+  nil_octets [] e = refl
+  nil_octets (x ∷ o) e = absurd cc
+
   module _ (is_tree : (v : A) → IsPart v → IsTree (tree v)) where
     -- as many elements have no octets as are written without
-    same_empties : (m : Mode) (d : ℕ) (os : List Octets) (vs : List A) → EachValue IsPart vs → AreElements m d os (trees_of tree vs) → empties (canonical_elements (trees_of tree vs)) ≡ empties os
+    pub same_empties : (m : Mode) (d : ℕ) (os : List Octets) (vs : List A) → EachValue IsPart vs → AreElements m d os (trees_of tree vs) → empties (canonical_elements (trees_of tree vs)) ≡ empties os
     unfolding IsEncoding canonical_octets
     same_empties m d os [] i f = ap empties (sym f)
     same_empties m d [] (v ∷ vs) i f = absurd f
@@ -165,18 +167,18 @@ module _ {A : Type 0} (tree : A → Tree) (IsPart : A → Type 0) (Ran : State �
         ∙ ap₂ (λ (b : Bool) (z : ℕ). cond b (suc z) z) (sym (nil_alike (tree v) m d o (is_tree v i.0) f)) (same_empties m d os vs i.1 h)
         ∙ sym (empty_of o 0 os)
 
-    canonical_count : (vs : List A) → length (canonical_elements (trees_of tree vs)) ≡ length vs
+    pub canonical_count : (vs : List A) → length (canonical_elements (trees_of tree vs)) ≡ length vs
     unfolding canonical_octets
     canonical_count [] = refl
     canonical_count (v ∷ vs) = ap suc (canonical_count vs)
 
     -- a list with few elements without octets, and no more than the platform counts, can be written
-    nothing_fails : (own : List Octets) → empties own ≤ 65536 → length own ≤ usize_max → (k : Failure) → list_fails own k ≡ false
+    pub nothing_fails : (own : List Octets) → empties own ≤ 65536 → length own ≤ usize_max → (k : Failure) → list_fails own k ≡ false
     nothing_fails own e l TooManyEmpty = le-ltb 65536 (empties own) e
     nothing_fails own e l TooLong = le-ltb usize_max (length own) l
     nothing_fails own e l _ = refl
 
-    elements_count : (m : Mode) (d : ℕ) (os : List Octets) (vs : List A) → AreElements m d os (trees_of tree vs) → length os ≡ length vs
+    pub elements_count : (m : Mode) (d : ℕ) (os : List Octets) (vs : List A) → AreElements m d os (trees_of tree vs) → length os ≡ length vs
     unfolding IsEncoding
     elements_count m d os [] f = ap length f
     elements_count m d [] (v ∷ vs) f = absurd f
@@ -214,7 +216,7 @@ module _ {A : Type 0} (tree : A → Tree) (IsPart : A → Type 0) (Ran : State �
       (l.quantity, l.own, l.whole, l.spelled, refl),
     )
 
-    no_octets : (m : Mode) (d : ℕ) (os : List Octets) (vs : List A) → length vs ≡ 0 → AreElements m d os (trees_of tree vs) → os ≡ []
+    pub no_octets : (m : Mode) (d : ℕ) (os : List Octets) (vs : List A) → length vs ≡ 0 → AreElements m d os (trees_of tree vs) → os ≡ []
     unfolding IsEncoding
     no_octets m d os [] e f = f
     no_octets m d os (v ∷ vs) e f = absurd (omega (arith, e))
@@ -227,7 +229,7 @@ module _ {A : Type 0} (tree : A → Tree) (IsPart : A → Type 0) (Ran : State �
       spelled = l.spelled;
     })
 
-    same_opened : (n k : ℕ) (r s : Octets) (x : Result (ℕ × Octets) DecodeErrorKind) → x ≡ Ok (n, r) → x ≡ Ok (k, s) → (n ≡ k) × (r ≡ s)
+    pub same_opened : (n k : ℕ) (r s : Octets) (x : Result (ℕ × Octets) DecodeErrorKind) → x ≡ Ok (n, r) → x ≡ Ok (k, s) → (n ≡ k) × (r ≡ s)
     same_opened n k r s x e f = go (sym e ∙ f)
       where
         go : ◌≡◌ {A = Result (ℕ × Octets) DecodeErrorKind} (Ok (n, r)) (Ok (k, s)) → (n ≡ k) × (r ≡ s)
@@ -295,3 +297,25 @@ module _ {A : Type 0} (tree : A → Tree) (IsPart : A → Type 0) (Ran : State �
         let p = list_read old (items l) new k in
         record { read = record { taken = p.taken; split = p.split; encoding = p.encoding; value = p.value; only = λ w o i f. p.only (items w) o i f; rest = p.rest }; refused = tt }
     list_law items old (Err e) new k l u = record { read = tt; refused = record { same = u; none = λ m w o i f. list_refused old e l m (items w) o i f } }
+
+    -- octets that are an element's are some, where its type takes octets
+    element_some : (m : Mode) (d : ℕ) (o : Octets) (v : A) → IsPart v → TakesOctets tree IsPart → IsEncoding m d o (tree v) → 1 ≤ length o
+    element_some m d [] v i takes f = absurd (takes v i (nil_octets (canonical_octets (tree v)) (sym (nil_alike (tree v) m d [] (is_tree v i) f))))
+    element_some m d (x ∷ o) v i takes f = omega arith
+
+    as_many_octets : (m : Mode) (d : ℕ) (os : List Octets) (vs : List A) → EachValue IsPart vs → TakesOctets tree IsPart → AreElements m d os (trees_of tree vs) → length vs ≤ length (joined os)
+    unfolding IsEncoding
+    as_many_octets m d os [] i takes f = omega arith
+    as_many_octets m d [] (v ∷ vs) i takes f = absurd f
+    as_many_octets m d (o ∷ os) (v ∷ vs) i takes (f, h) = omega (arith, element_some m d o v i.0 takes f, as_many_octets m d os vs i.1 takes h, length-append o (joined os))
+
+    list_few : (old : State) (vs : List A) (new : State) → TakesOctets tree IsPart → Reads (list_of true tree) (EachValue IsPart) old vs new → length vs + length new.input ≤ length old.input
+    list_few old vs new takes p =
+        let l = list_parts (mode old) old.levels p.taken vs p.value p.encoding in
+        let n = as_many_octets (mode old) (old.levels - 1) l.own vs p.value takes l.encoded in
+        omega (arith, n, ap length p.split, ap length l.whole, length-append p.taken new.input, length-append l.quantity (joined l.own))
+
+    -- a list has at most as many elements as octets, where its elements take octets
+    pub list_is_short : {L : Type 0} (items : L → List A) (old : State) (result : Result L DecodeError) (new : State) → IfOk result (λ l. ListRead Ran old (items l) new) → TakesOctets tree IsPart → IfOk result (λ l. length (items l) + length new.input ≤ length old.input)
+    list_is_short items old (Ok l) new k takes = list_few old (items l) new takes (list_read old (items l) new k)
+    list_is_short items old (Err e) new k takes = tt

@@ -1,11 +1,11 @@
 -- The next row of a scope that has a presence bit, and what comes after it.
-use Rattle.std.proofs.Common.{◌≡◌, ℕ, Bool, true, false, cond, List, [], ◌∷◌, ◌++◌, ◌⊎◌, inl, inr, refl, sym, ap, ap₂, ◌∙◌, subst, append_assoc}
+use Rattle.std.proofs.Common.{◌≡◌, ℕ, Bool, true, false, cond, List, [], ◌∷◌, ◌++◌, ◌⊎◌, inl, inr, refl, sym, ap, ap₂, ◌∙◌, append_assoc}
 use Rattle.asn1_base.specs.Octets.{Octets}
 use Rattle.asn1_base.specs.declared.tag.Tag.{Tag}
 use Rattle.oer_forms.specs.Encoding.{IsEncoding, AreItems, IsItem}
 use Rattle.oer_forms.specs.Mode.{Mode, mode_of, InLenient}
-use Rattle.oer_forms.specs.Places.{Item, needed, present, absent, bodies}
-use Rattle.oer_forms.specs.Tree.{Tree, Rows, NoRows, Required, Optional, Default, Slot, Absent, Present}
+use Rattle.oer_forms.specs.Places.{Item, present, absent, bodies}
+use Rattle.oer_forms.specs.Tree.{Tree, Rows, Optional, Default, Slot, Absent, Present}
 use Rattle.rasn_oer.specs.Components.{asking}
 use Rattle.rasn_oer.specs.Parts.{Comes, asks_in}
 use Rattle.rasn_oer.specs.State.{Ask, State}
@@ -25,12 +25,12 @@ pub record Marked (s : State) (g : Tag) (r a : Rows) (rest : Octets) (P : Item �
   pub split : s.input ≡ item.octets ++ after
   pub comes : Comes (past (asking s more) after) r a rest
 
-item_marks : (m : Mode) (d : ℕ) (g : Tag) (i : Item) (s : Slot) → IsItem m d g i s → (i.marked ≡ true) × (i.tag ≡ g)
+pub item_marks : (m : Mode) (d : ℕ) (g : Tag) (i : Item) (s : Slot) → IsItem m d g i s → (i.marked ≡ true) × (i.tag ≡ g)
 unfolding IsEncoding
 item_marks m d g i Absent f = (ap (λ (z : Item). z.marked) f, ap (λ (z : Item). z.tag) f)
 item_marks m d g i (Present t) f = (ap (λ (z : Item). z.marked) f.0, ap (λ (z : Item). z.tag) f.0)
 
-default_marks : (m : Mode) (d : ℕ) (g : Tag) (u : Tree) (i : Item) (s : Slot) → IsDefaultItem m d g u i s → (i.marked ≡ true) × (i.tag ≡ g)
+pub default_marks : (m : Mode) (d : ℕ) (g : Tag) (u : Tree) (i : Item) (s : Slot) → IsDefaultItem m d g u i s → (i.marked ≡ true) × (i.tag ≡ g)
 default_marks m d g u i s (inl f) = item_marks m d g i s f
 default_marks m d g u i s (inr (_, _, f, _)) = (ap (λ (z : Item). z.marked) f, ap (λ (z : Item). z.tag) f)
 
@@ -55,6 +55,7 @@ mark s g r a rest P i is row marks c e p h = record {
     are_additions = c.are_additions;
     asked = refl;
     placed = c.placed;
+    only = c.only;
     tail = c.tail;
   };
 }
@@ -71,24 +72,25 @@ unmark s g r a rest P row marks cons k =
       are_additions = c.are_additions;
       asked = asked_first k.item c.roots g (marks k.item k.holds).0 (marks k.item k.holds).1 ∙ ap (λ (l : List Ask). record { tag = g; bit = k.item.bit } ∷ l) c.asked ∙ sym k.next;
       placed = c.placed;
+      only = c.only;
       tail = c.tail;
     }
 
-optional_items : (m : Mode) (d : ℕ) (g : Tag) (sl : Slot) (r : Rows) (is : List Item) → AreItems m d is (Optional g sl r) → (i : Item) × (js : List Item) × (is ≡ i ∷ js) × IsItem m d g i sl × AreItems m d js r
+pub optional_items : (m : Mode) (d : ℕ) (g : Tag) (sl : Slot) (r : Rows) (is : List Item) → AreItems m d is (Optional g sl r) → (i : Item) × (js : List Item) × (is ≡ i ∷ js) × IsItem m d g i sl × AreItems m d js r
 unfolding IsEncoding
 optional_items m d g sl r [] h = absurd h
 optional_items m d g sl r (i ∷ js) (f, h) = (i, js, refl, f, h)
 
-default_items : (m : Mode) (d : ℕ) (g : Tag) (u : Tree) (sl : Slot) (r : Rows) (is : List Item) → AreItems m d is (Default g u sl r) → (i : Item) × (js : List Item) × (is ≡ i ∷ js) × IsDefaultItem m d g u i sl × AreItems m d js r
+pub default_items : (m : Mode) (d : ℕ) (g : Tag) (u : Tree) (sl : Slot) (r : Rows) (is : List Item) → AreItems m d is (Default g u sl r) → (i : Item) × (js : List Item) × (is ≡ i ∷ js) × IsDefaultItem m d g u i sl × AreItems m d js r
 unfolding IsEncoding
 default_items m d g u sl r [] h = absurd h
 default_items m d g u sl r (i ∷ js) (f, h) = (i, js, refl, f, h)
 
-cons_optional : (m : Mode) (d : ℕ) (g : Tag) (sl : Slot) (r : Rows) (i : Item) (is : List Item) → IsItem m d g i sl → AreItems m d is r → AreItems m d (i ∷ is) (Optional g sl r)
+pub cons_optional : (m : Mode) (d : ℕ) (g : Tag) (sl : Slot) (r : Rows) (i : Item) (is : List Item) → IsItem m d g i sl → AreItems m d is r → AreItems m d (i ∷ is) (Optional g sl r)
 unfolding IsEncoding
 cons_optional m d g sl r i is f h = (f, h)
 
-cons_default : (m : Mode) (d : ℕ) (g : Tag) (u : Tree) (sl : Slot) (r : Rows) (i : Item) (is : List Item) → IsDefaultItem m d g u i sl → AreItems m d is r → AreItems m d (i ∷ is) (Default g u sl r)
+pub cons_default : (m : Mode) (d : ℕ) (g : Tag) (u : Tree) (sl : Slot) (r : Rows) (i : Item) (is : List Item) → IsDefaultItem m d g u i sl → AreItems m d is r → AreItems m d (i ∷ is) (Default g u sl r)
 unfolding IsEncoding
 cons_default m d g u sl r i is f h = (f, h)
 

@@ -1,7 +1,6 @@
 -- What a scope reads before its closure and behind it.
-use Rattle.std.proofs.Common.{◌≡◌, ℕ, ◌+◌, ◌-◌, ◌<◌, ◌≤◌, Bool, true, false, cond, Option, Some, None, Result, Ok, Err, List, [], ◌∷◌, ◌++◌, length, refl, sym, ap, ap₂, ◌∙◌, subst, arith, append_assoc, append-nil, eqb, drop, get_or}
+use Rattle.std.proofs.Common.{◌≡◌, ℕ, ◌-◌, ◌≤◌, Bool, true, false, cond, Option, Some, None, Result, Ok, Err, List, [], ◌∷◌, ◌++◌, length, refl, sym, ap, ap₂, ◌∙◌, subst, arith, append_assoc, eqb}
 use Rattle.std.proofs.lemmas.Bool.{eqb-false, eqb-true}
-use Rattle.std.specs.List.{AllByRecursion}
 use Rattle.asn1_base.specs.Octets.{Octets, AreOctets}
 use Rattle.asn1_base.specs.Rows.{Row}
 use Rattle.asn1_base.specs.declared.error.DecodeErrorKind.{DecodeErrorKind}
@@ -9,17 +8,16 @@ use Rattle.asn1_base.specs.declared.error.DecodeErrorKind.TheVariants.{ExceedsMa
 use Rattle.asn1_base.specs.declared.codec.Codec.{Codec}
 use Rattle.asn1_base.specs.declared.codec.Codec.TheVariants.{Oer, Coer}
 use Rattle.oer_forms.proofs.ReadPlaces.{preamble_reads, bitmap_reads, skipped_reads}
-use Rattle.oer_forms.proofs.Steps.{bind_ok, then_ok, ok_is, pair_is, guard_ok, front_octets, rear_octets}
-use Rattle.oer_forms.specs.Lengths.{IsBitmap}
-use Rattle.oer_forms.specs.Mode.{Mode, mode_of, InOwnSized}
-use Rattle.oer_forms.specs.Places.{Item, bodies, IsPreamble, IsExtension, AreAdditions, AreSkipped}
+use Rattle.oer_forms.proofs.Steps.{bind_ok, then_ok, ok_is, pair_is, guard_ok, rear_octets}
+use Rattle.oer_forms.specs.Mode.{mode_of, InOwnSized}
+use Rattle.oer_forms.specs.Places.{Item, bodies, IsPreamble, AreSkipped}
 use Rattle.oer_forms.specs.Reading.{◌>>=◌, ◌>>◌}
 use Rattle.oer_forms.specs.ReadingBits.{preamble_at, bitmap_at, skipped_at}
-use Rattle.oer_forms.specs.Tree.{Rows, NoRows}
+use Rattle.oer_forms.specs.Tree.{NoRows}
 use Rattle.rasn_oer.specs.Law.{IsRear}
 use Rattle.rasn_oer.specs.Parts.{Comes, IsTail, asks_in, places_in}
-use Rattle.rasn_oer.specs.Scopes.{level_at, bits_for, extension_of, presence_of, frame_behind, opened_at, closed_at, all_asked, tail_at, unknown_at}
-use Rattle.rasn_oer.specs.State.{Ask, Place, State, Frame}
+use Rattle.rasn_oer.specs.Scopes.{level_at, bits_for, frame_behind, opened_at, closed_at, all_asked, tail_at, unknown_at}
+use Rattle.rasn_oer.specs.State.{Ask, Place, State}
 
 -- ---- the start
 
@@ -78,7 +76,7 @@ none_left [] [] x e = (refl, refl)
 none_left [] (p ∷ ps) x e = absurd cc
 none_left (k ∷ ks) ps x e = absurd cc
 
-own_sized : (codec : Codec) (P : Type 0) → InOwnSized (mode_of codec) P
+pub own_sized : (codec : Codec) (P : Type 0) → InOwnSized (mode_of codec) P
 own_sized Oer P = tt
 own_sized Coer P = tt
 
@@ -131,6 +129,7 @@ closed_comes t rest fits e =
       are_additions = refl;
       asked = sym n.0;
       placed = sym n.1;
+      only = λ e. refl;
       tail = f.2;
     }
 

@@ -1,5 +1,5 @@
 -- What a closure's promise says of a run.
-use Rattle.std.proofs.Common.{◌≡◌, Result, Ok, subst}
+use Rattle.std.proofs.Common.{Result, Ok, subst}
 use Rattle.std.specs.Fn.{FnOnceReturnsAtMut}
 use Rattle.std.specs.Borrow.{MutBor}
 use denote.Param.Members.{Once, Shared}

@@ -1,5 +1,5 @@
 -- Same trees have the same encodings.
-use Rattle.std.proofs.Common.{◌≡◌, Bool, true, false, ℕ, List, inl, inr, refl, sym, ap, subst, ◌∙◌, ◌++◌}
+use Rattle.std.proofs.Common.{Bool, true, false, ℕ, List, inl, refl, subst}
 use Rattle.asn1_base.specs.Octets.{Octets}
 use Rattle.asn1_base.specs.Tags.{holds}
 use Rattle.asn1_base.specs.declared.codec.Codec.{Codec}

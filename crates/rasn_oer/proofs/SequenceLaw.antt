@@ -1,7 +1,7 @@
 -- From what a sequence does, and what its closure promises, to the law of reading.
-use Rattle.std.proofs.Common.{◌≡◌, ℕ, suc, ◌+◌, ◌-◌, ◌≤◌, Bool, true, false, cond, Result, Ok, Err, List, [], ◌∷◌, ◌++◌, length, inl, inr, refl, sym, ap, ap₂, ◌∙◌, subst, arith, append_assoc, length-append, get_or, drop, map}
+use Rattle.std.proofs.Common.{◌≡◌, ℕ, suc, ◌+◌, ◌-◌, Bool, true, false, cond, Result, Ok, Err, List, [], ◌∷◌, ◌++◌, length, inl, inr, refl, sym, ap, ap₂, ◌∙◌, subst, arith, append_assoc, length-append, get_or, drop, map}
 use Rattle.std.specs.Prelude.{not}
-use Rattle.std.proofs.lemmas.List.{append_cancel_left, append_cancel_right}
+use Rattle.std.proofs.lemmas.List.{append_cancel_right}
 use Rattle.std.specs.Result.{IfOk, IfErr, OnErr}
 use Rattle.asn1_base.specs.Octets.{Octets, AreOctets}
 use Rattle.asn1_base.specs.Rows.{Row, may_be_absent}
@@ -12,10 +12,10 @@ use Rattle.asn1_base.specs.declared.tag.Tag.{Tag}
 use Rattle.oer_forms.proofs.Lists.{Pairwise}
 use Rattle.oer_forms.specs.Encoding.{IsEncoding, AreItems, IsItem}
 use Rattle.oer_forms.specs.Mode.{Mode, mode_of}
-use Rattle.oer_forms.specs.Places.{Item, needed, present, absent, presence, bodies, extension_bit, IsPreamble, IsExtension}
+use Rattle.oer_forms.specs.Places.{Item, presence, bodies, extension_bit, IsPreamble, IsExtension}
 use Rattle.oer_forms.specs.Tree.{Tree, Struct, Rows, NoRows, Required, Optional, Default, Slot, Absent, Present}
-use Rattle.rasn_oer.specs.Law.{Reads, RefusedBy, Decodes, Fronts, IsForMemory, IsRear}
-use Rattle.rasn_oer.specs.Parts.{Comes, asks_in, places_in, Parts, NoParts, NeededPart, OptionalPart, DefaultPart, AreOf, IsTableOf, Takes, Refuses, ReadsParts}
+use Rattle.rasn_oer.specs.Law.{Reads, Decodes, Fronts, IsForMemory}
+use Rattle.rasn_oer.specs.Parts.{Comes, asks_in, places_in, Parts, NoParts, NeededPart, OptionalPart, DefaultPart, AreOf, IsTableOf, ReadsParts, part_places}
 use Rattle.rasn_oer.specs.Scopes.{bits_for, extension_of, presence_of, frame_behind, opened_at, closed_at, SequenceRead, SequenceRefused, NotOpened, Stopped, NotClosed}
 use Rattle.rasn_oer.specs.State.{Ask, Place, State, asks_of, marked_count, places_of}
 use Rattle.rasn_oer.proofs.Openings.{Opens, opened_opens, opens_opened, closed_comes, comes_closed, rear_trans, rear_are_octets, opens_rear}
@@ -101,6 +101,26 @@ items_places (i ∷ is) (r ∷ table) (o, h) =
 items_places [] (r ∷ table) h = absurd h
 items_places (i ∷ is) [] h = absurd h
 
+-- no rows, no items
+none_of_none : (is : List Item) (table : List Row) → Pairwise IsOfRow is table → table ≡ [] → is ≡ []
+none_of_none [] table h e = refl
+none_of_none (i ∷ is) [] h e = absurd h
+none_of_none (i ∷ is) (r ∷ table) h e = absurd (cc e)
+
+-- a table's rows, as they are asked, are those of its parts
+place_of : (r : Row) (g : Tag) (n : Bool) {ps qs : List Place} → r.tag ≡ g → not (may_be_absent r.presence) ≡ n → ps ≡ qs → ◌≡◌ {A = List Place} (record { tag = r.tag; needed = not (may_be_absent r.presence) } ∷ ps) (record { tag = g; needed = n } ∷ qs)
+place_of r g n e f h = λ z. record { tag = e z; needed = f z } ∷ h z
+
+table_places : (table : List Row) (ps : Parts) → IsTableOf table ps → places_of table ≡ part_places ps
+table_places [] NoParts t = refl
+table_places (q ∷ table) (NeededPart k P ps) (a, b, t) = place_of q k true a (ap (λ (p : FieldPresence). not (may_be_absent p)) b) (table_places table ps t)
+table_places (q ∷ table) (OptionalPart k P ps) (a, b, t) = place_of q k false a (ap (λ (p : FieldPresence). not (may_be_absent p)) b) (table_places table ps t)
+table_places (q ∷ table) (DefaultPart k w P ps) (a, b, t) = place_of q k false a (ap (λ (p : FieldPresence). not (may_be_absent p)) b) (table_places table ps t)
+table_places [] (NeededPart k P ps) t = absurd t
+table_places [] (OptionalPart k P ps) t = absurd t
+table_places [] (DefaultPart k w P ps) t = absurd t
+table_places (q ∷ table) NoParts t = absurd t
+
 -- the bits of asks
 abbrev asked_bits : List Ask → List Bool
 asked_bits ks = map (λ (k : Ask). k.bit) ks
@@ -150,7 +170,7 @@ extended_only true b e = refl
 extended_only false b e = absurd (cc e)
 
 -- ---- an encoding of a struct, and what comes behind its preamble
-module _ (extensible : Bool) (table more : List Row) (ps qs : Parts) (is_table : IsTableOf table ps) (is_more : IsTableOf more qs) where
+module _ (extensible : Bool) (table more : List Row) (ps qs : Parts) (is_table : IsTableOf table ps) (is_more : IsTableOf more qs) (only : extensible ≡ false → more ≡ []) where
   pub record Begun (s : State) (r a : Rows) (rest : Octets) : Type 0 where
     pub lent : State
     pub opened : opened_at s extensible table more ≡ Ok lent
@@ -188,6 +208,7 @@ module _ (extensible : Bool) (table more : List Row) (ps qs : Parts) (is_table :
           are_additions = k;
           asked = items_asks is table rows ∙ ap (asks_of table) (sym (front_presence extensible f.extended (presence is)));
           placed = items_places js more more_rows;
+          only = λ x. none_of_none js more more_rows (only x);
           tail = subst (λ (x : Bool). IsExtension m x f.extension js) (sym (front_extension extensible f.extended (presence is) f.only)) f.rest;
         };
       }
@@ -235,22 +256,23 @@ lent_same s extensible table more a b e f = ok_same a b (sym e ∙ f)
 rest_same : (a b : Octets) → ◌≡◌ {A = Result Octets DecodeErrorKind} (Ok a) (Ok b) → a ≡ b
 rest_same a b e = cc e
 
-not_both : {X : Type 0} (r : Result X DecodeErrorKind) (x : X) (k : DecodeErrorKind) → r ≡ Ok x → r ≡ Err k → ⊥
+pub not_both : {X : Type 0} (r : Result X DecodeErrorKind) (x : X) (k : DecodeErrorKind) → r ≡ Ok x → r ≡ Err k → ⊥
 not_both {X} r x k e f = go (sym e ∙ f)
   where
     go : ◌≡◌ {A = Result X DecodeErrorKind} (Ok x) (Err k) → ⊥
     go h = cc h
 
 module _ {A : Type 0} (ps qs : Parts) (roots additions : A → Rows) (extensible : Bool) (table more : List Row) (is_table : IsTableOf table ps) (is_more : IsTableOf more qs)
+    (only : extensible ≡ false → more ≡ [])
     (tree : A → Tree) (IsValue : A → Type 0)
     (is : (v : A) → tree v ≡ Struct false extensible (roots v) (additions v))
     (made : (v : A) → AreOf ps (roots v) → AreOf qs (additions v) → IsValue v)
     (parts : (v : A) → IsValue v → AreOf ps (roots v) × AreOf qs (additions v))
     (Ran : State → Result A DecodeError → State → Type 0) (promise : (s : State) (r : Result A DecodeError) (t : State) → Ran s r t → ReadsParts ps qs roots additions s r t) where
   -- what an encoding of a value that begins what is left leaves for the closure
-  begins_value : (old : State) (w : A) (o : Octets) → IsValue w → (f : Fronts old o (tree w)) → Begun extensible table more ps qs is_table is_more old (roots w) (additions w) f.rest
+  begins_value : (old : State) (w : A) (o : Octets) → IsValue w → (f : Fronts old o (tree w)) → Begun extensible table more ps qs is_table is_more only old (roots w) (additions w) f.rest
   begins_value old w o i f =
-      begins extensible table more ps qs is_table is_more old (roots w) (additions w) o f.rest (parts w i).0 (parts w i).1 f.split
+      begins extensible table more ps qs is_table is_more only old (roots w) (additions w) o f.rest (parts w i).0 (parts w i).1 f.split
       (subst (λ (t : Tree). IsEncoding (mode_of old.codec) old.levels o t) (is w) f.encoding)
 
   sequence_read : (old : State) (v : A) (new : State) → SequenceRead Ran extensible table more old v new → Reads tree IsValue old v new
@@ -258,7 +280,7 @@ module _ {A : Type 0} (ps qs : Parts) (roots additions : A → Rows) (extensible
       let p = (promise k.lent (Ok v) k.after k.ran).read in
       let opens = opened_opens old extensible table more k.lent k.octets k.opened in
       let after_fits : AreOctets k.after.input = rear_are_octets old.input k.after.input (rear_trans old.input k.lent.input k.after.input (opens_rear old extensible table more k.lent opens) p.rear) k.octets in
-      let enc = begun extensible table more ps qs is_table is_more old k.lent (roots v) (additions v) k.rest p.fits p.more_fit opens (p.sound k.rest (closed_comes k.after k.rest after_fits k.closed)) in
+      let enc = begun extensible table more ps qs is_table is_more only old k.lent (roots v) (additions v) k.rest p.fits p.more_fit opens (p.sound (ap (λ (z : State). z.frame.additions) opens.is ∙ table_places more qs is_more) k.rest (closed_comes k.after k.rest after_fits k.closed)) in
       let input : new.input ≡ k.rest = ap (λ (z : State). z.input) k.left in
       record {
         taken = enc.0;

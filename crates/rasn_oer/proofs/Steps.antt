@@ -1,7 +1,6 @@
 -- How far a closure has read the components of a value.
-use Rattle.std.proofs.Common.{◌≡◌, List, [], ◌++◌, append_assoc, Result, Ok, Err, refl, sym, ap, ◌∙◌, subst, Continue, Break}
-use Rattle.std.specs.Result.{IsErr, IsErrAnd, IfOk, IfErr, result_from_control_flow}
-use Rattle.std.proofs.lemmas.Result.{err_from_is_err_and}
+use Rattle.std.proofs.Common.{◌≡◌, [], ◌++◌, append_assoc, Result, Ok, Err, refl, sym, ap, ◌∙◌, subst, Continue, Break}
+use Rattle.std.specs.Result.{IsErrAnd, IfOk, IfErr, result_from_control_flow}
 use Rattle.std.proofs.lemmas.List.{append_cancel_left}
 use Rattle.asn1_base.specs.Octets.{Octets}
 use Rattle.asn1_base.specs.declared.error.DecodeError.{DecodeError}
@@ -9,8 +8,8 @@ use Rattle.asn1_base.specs.declared.tag.Tag.{Tag}
 use Rattle.oer_forms.specs.Encoding.{IsEncoding}
 use Rattle.oer_forms.specs.Mode.{mode_of}
 use Rattle.oer_forms.specs.Tree.{Tree, Rows, NoRows, Required, Optional, Default}
-use Rattle.rasn_oer.specs.Law.{Reads, RefusedBy, Decodes, NoFront, Fronts, IsForMemory}
-use Rattle.rasn_oer.specs.Parts.{Comes, Admits, AreOf, Parts, NoParts, NeededPart, OptionalPart, DefaultPart, Takes, Refuses, Stops, ReadsParts}
+use Rattle.rasn_oer.specs.Law.{Reads, RefusedBy, Decodes, NoFront, Fronts}
+use Rattle.rasn_oer.specs.Parts.{Comes, Admits, AreOf, Parts, NoParts, NeededPart, Takes, Refuses, Stops, ReadsParts, part_places}
 use Rattle.rasn_oer.specs.State.{State}
 use Rattle.rasn_oer.proofs.Comes.{past, ComesNeeded, comes_needed, needed_comes}
 
@@ -25,7 +24,7 @@ at_err P r b x e f h = subst (λ (z : Result _ _). IfErr z P) (e ∙ ap result_f
 -- ---- the end
 
 pub done : (s : State) → Takes s NoParts NoParts NoRows NoRows s
-done s = record { fits = tt; more_fit = tt; rear = record { front = []; split = refl }; sound = λ rest c. c; complete = complete }
+done s = record { fits = tt; more_fit = tt; rear = record { front = []; split = refl }; sound = λ p rest c. c; complete = complete }
   where
     complete : (r a : Rows) (rest : Octets) → AreOf NoParts r → AreOf NoParts a → Comes s r a rest → Comes s NoRows NoRows rest
     complete NoRows NoRows rest f g c = c
@@ -45,13 +44,13 @@ module _ {B : Type 0} (tree : B → Tree) (IsPart : B → Type 0) where
       let more : c.more ≡ u.input = append_cancel_left d.taken c.more u.input (ap (λ (l : Octets). l ++ c.more) (sym same) ∙ sym c.split ∙ d.split) in
       subst (λ (z : State). Comes z r a rest) (ap (λ (l : Octets). past s l) more ∙ sym d.rest) c.comes
 
-  read_takes : (s u t : State) (v : B) (g : Tag) (ps qs : Parts) (r a : Rows) → Reads tree IsPart s v u → Takes u ps qs r a t
+  pub read_takes : (s u t : State) (v : B) (g : Tag) (ps qs : Parts) (r a : Rows) → Reads tree IsPart s v u → Takes u ps qs r a t
       → Takes s (NeededPart g (Admits tree IsPart) ps) qs (Required g (tree v) r) a t
   read_takes s u t v g ps qs r a d k = record { fits = (refl, record { value = v; is_value = d.value; is = refl }, k.fits); more_fit = k.more_fit; rear = record { front = d.taken ++ k.rear.front; split = d.split ∙ ap (λ (l : Octets). d.taken ++ l) k.rear.split ∙ sym (append_assoc d.taken k.rear.front t.input) }; sound = sound; complete = complete }
     where
-      sound : (rest : Octets) → Comes t NoRows NoRows rest → Comes s (Required g (tree v) r) a rest
-      sound rest c =
-          needed_comes s g (tree v) r a rest d.taken u.input d.split d.encoding (subst (λ (z : State). Comes z r a rest) d.rest (k.sound rest c))
+      sound : s.frame.additions ≡ part_places qs → (rest : Octets) → Comes t NoRows NoRows rest → Comes s (Required g (tree v) r) a rest
+      sound p rest c =
+          needed_comes s g (tree v) r a rest d.taken u.input d.split d.encoding (subst (λ (z : State). Comes z r a rest) d.rest (k.sound (ap (λ (z : State). z.frame.additions) d.rest ∙ p) rest c))
 
       complete : (r' a' : Rows) (rest : Octets) → AreOf (NeededPart g (Admits tree IsPart) ps) r' → AreOf qs a' → Comes s r' a' rest → Comes t NoRows NoRows rest
       complete (Required h w r') a' rest (e, p, f) f' c = k.complete r' a' rest f f' (after s u v w r' a' rest d p (comes_needed s h w r' a' rest c))
@@ -59,13 +58,13 @@ module _ {B : Type 0} (tree : B → Tree) (IsPart : B → Type 0) where
       complete (Optional _ _ _) a' rest f f' c = absurd f
       complete (Default _ _ _ _) a' rest f f' c = absurd f
 
-  read_refuses : (s u : State) (v : B) (g : Tag) (ps qs : Parts) → Reads tree IsPart s v u → Refuses u ps qs → Refuses s (NeededPart g (Admits tree IsPart) ps) qs
+  pub read_refuses : (s u : State) (v : B) (g : Tag) (ps qs : Parts) → Reads tree IsPart s v u → Refuses u ps qs → Refuses s (NeededPart g (Admits tree IsPart) ps) qs
   read_refuses s u v g ps qs d k (Required h w r) a rest (e, p, f) f' c = k r a rest f f' (after s u v w r a rest d p (comes_needed s h w r a rest c))
   read_refuses s u v g ps qs d k NoRows a rest f f' c = absurd f
   read_refuses s u v g ps qs d k (Optional _ _ _) a rest f f' c = absurd f
   read_refuses s u v g ps qs d k (Default _ _ _ _) a rest f f' c = absurd f
 
-  refused_refuses : (s : State) (g : Tag) (ps qs : Parts) → NoFront tree IsPart s → Refuses s (NeededPart g (Admits tree IsPart) ps) qs
+  pub refused_refuses : (s : State) (g : Tag) (ps qs : Parts) → NoFront tree IsPart s → Refuses s (NeededPart g (Admits tree IsPart) ps) qs
   refused_refuses s g ps qs n (Required h w r) a rest (e, p, f) f' c =
       let q : ComesNeeded s w r a rest = comes_needed s h w r a rest c in
       n p.value q.octets p.is_value (record { rest = q.more; split = q.split; encoding = subst (λ (z : Tree). IsEncoding (mode_of s.codec) s.levels q.octets z) p.is q.encoding })

@@ -69,20 +69,21 @@ abbrev pub inside : State → Octets → State
 inside s content = record { input = content; codec = s.codec; levels = s.levels; frame = closed }
 
 -- ---- the value in an open type
-module _ {A : Type 0} (tree : A → Tree) (IsValue : A → Type 0) (s : State) (content : Octets) where
+module _ {A : Type 0} (tree : A → Tree) (IsValue : A → Type 0) (Answered : State → Result A DecodeError → State → Type 0) (s : State) (content : Octets) where
   -- the value was read from the open type's octets, of which canonically none is left over
   pub record OpenRead (v : A) : Type 0 where
     pub after : State
     pub reads : Reads tree IsValue (inside s content) v after
+    pub answered : Answered (inside s content) (Ok v) after
     pub whole : s.codec ≡ Coer → after.input ≡ []
 
-  -- The first that applies: the value is refused as the type refuses it; octets are left over, in canonical mode.
+  -- The first that applies: the value is refused with that very error by its type; octets are left over, in canonical mode.
   pub data OpenRefused (e : DecodeError) : Type 0 where
-    Within : ((IsForMemory e → ⊥) → NoFront tree IsValue (inside s content)) → OpenRefused e
-    LeftOver : (v : A) (after : State) → Reads tree IsValue (inside s content) v after → after.input ≢ [] → s.codec ≡ Coer → e ≡ record { kind = NotValidCanonicalEncoding; codec = s.codec } → OpenRefused e
+    Within : (after : State) → Answered (inside s content) (Err e) after → ((IsForMemory e → ⊥) → NoFront tree IsValue (inside s content)) → OpenRefused e
+    LeftOver : (v : A) (after : State) → Reads tree IsValue (inside s content) v after → Answered (inside s content) (Ok v) after → after.input ≢ [] → s.codec ≡ Coer → e ≡ record { kind = NotValidCanonicalEncoding; codec = s.codec } → OpenRefused e
 
 -- ---- an addition
-module _ {A : Type 0} (tree : A → Tree) (IsValue : A → Type 0) (s : State) (g : Option Tag) where
+module _ {A : Type 0} (tree : A → Tree) (IsValue : A → Type 0) (Answered : State → Result A DecodeError → State → Type 0) (s : State) (g : Option Tag) where
   -- absent, and the decoder is behind the row
   pub record AddedAbsent (t : State) : Type 0 where
     pub next : addition_at s g ≡ Ok (None, t)
@@ -91,7 +92,7 @@ module _ {A : Type 0} (tree : A → Tree) (IsValue : A → Type 0) (s : State) (
   pub record AddedPresent (v : A) (t : State) : Type 0 where
     pub content : Octets
     pub next : addition_at s g ≡ Ok (Some content, t)
-    pub open_type : OpenRead tree IsValue s content v
+    pub open_type : OpenRead tree IsValue Answered s content v
 
   abbrev pub Added : Option A → State → Type 0
   Added None t = AddedAbsent t
@@ -100,7 +101,7 @@ module _ {A : Type 0} (tree : A → Tree) (IsValue : A → Type 0) (s : State) (
   -- The first that applies: the row, the bitmap or the open type is refused, or its value is.
   pub data AddRefused (e : DecodeError) : Type 0 where
     NotThere : addition_at s g ≡ Err e.kind → e.codec ≡ s.codec → AddRefused e
-    Inside : (content : Octets) (t : State) → addition_at s g ≡ Ok (Some content, t) → OpenRefused tree IsValue s content e → AddRefused e
+    Inside : (content : Octets) (t : State) → addition_at s g ≡ Ok (Some content, t) → OpenRefused tree IsValue Answered s content e → AddRefused e
 
   -- An extension addition: absent or read by its bit; a refusal changes nothing.
   pub record Adds (answer : Result (Option A) DecodeError) (t : State) : Type 0 where

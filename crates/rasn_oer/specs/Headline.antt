@@ -1,5 +1,5 @@
 -- What the entry calls promise.
-use Rattle.std.specs.Prelude.{◌≡◌, ℕ, ◌≤◌, Bool, true, false, List, [], ◌++◌, ◌⊎◌, ⊤, Result, Ok, Err, Option, Some, None}
+use Rattle.std.specs.Prelude.{◌≡◌, ℕ, ◌≤◌, Bool, true, false, ◌++◌, ◌⊎◌, Result, Ok, Err}
 use Rattle.asn1_base.specs.Octets.{Octets}
 use Rattle.asn1_base.specs.declared.codec.Codec.{Codec}
 use Rattle.asn1_base.specs.declared.error.DecodeError.{DecodeError}
@@ -9,7 +9,7 @@ use Rattle.asn1_base.specs.declared.error.EncodeErrorKind.TheVariants as encode
 use Rattle.asn1_base.specs.declared.codec.Codec.TheVariants.{Oer, Coer}
 use Rattle.oer_forms.specs.Encoding.{IsTree, IsEncodable, IsEncoding, canonical_octets, levels}
 use Rattle.oer_forms.specs.Failures.{Fails}
-use Rattle.oer_forms.specs.Mode.{Mode, Canonical, OwnSized, mode_of}
+use Rattle.oer_forms.specs.Mode.{OwnSized, mode_of}
 use Rattle.oer_forms.specs.Same.{Same}
 use Rattle.oer_forms.specs.Tree.{Tree}
 use Rattle.oer_forms.specs.Versions.{Drops}

@@ -1,8 +1,7 @@
 -- The law of a type that is read.
-use Rattle.std.specs.Prelude.{◌≡◌, ℕ, ◌++◌, List, Result, IfOk, IfErr}
+use Rattle.std.specs.Prelude.{◌≡◌, ◌++◌, Result, IfOk, IfErr}
 use Rattle.asn1_base.specs.Octets.{Octets}
 use Rattle.asn1_base.specs.declared.error.DecodeError.{DecodeError}
-use Rattle.asn1_base.specs.declared.error.DecodeErrorKind.{DecodeErrorKind}
 use Rattle.asn1_base.specs.declared.error.DecodeErrorKind.TheVariants.{OutOfMemory}
 use Rattle.oer_forms.specs.Encoding.{IsEncoding}
 use Rattle.oer_forms.specs.Mode.{mode_of}
@@ -47,3 +46,8 @@ module _ {A : Type 0} (tree : A → Tree) (IsValue : A → Type 0) where
   pub record Decodes (old : State) (result : Result A DecodeError) (new : State) : Type 0 where
     pub read : IfOk result (λ v. Reads old v new)
     pub refused : IfErr result (λ e. RefusedBy e old new)
+
+-- What a type promises of reading: the law, and what it says of its answers beside it.
+pub record Promised {A : Type 0} (tree : A → Tree) (IsValue : A → Type 0) (Answered : State → Result A DecodeError → State → Type 0) (old : State) (result : Result A DecodeError) (new : State) : Type 0 where
+  pub law : Decodes tree IsValue old result new
+  pub answered : Answered old result new

@@ -1,12 +1,14 @@
 -- What a list does, by what its closure does.
-use Rattle.std.specs.Prelude.{◌≡◌, ℕ, suc, ◌+◌, ◌-◌, ◌<◌, ◌≤◌, Bool, true, false, cond, ◌==◌, List, [], ◌∷◌, length, Result, Ok, Err}
+use Rattle.std.specs.Prelude.{◌≡◌, ◌≢◌, ℕ, suc, ◌-◌, ◌<◌, ◌≤◌, cond, ◌==◌, List, [], ◌∷◌, length, Result, Ok, Err, IfOk, IfErr}
 use Rattle.std.specs.Borrow.{MutBor}
 use denote.Param.Members.{Shared}
 use Rattle.asn1_base.specs.Octets.{Octets, AreOctets}
 use Rattle.asn1_base.specs.declared.error.DecodeError.{DecodeError}
 use Rattle.asn1_base.specs.declared.error.DecodeErrorKind.{DecodeErrorKind}
 use Rattle.asn1_base.specs.declared.error.DecodeErrorKind.TheVariants.{TooManyEmptyElements}
-use Rattle.oer_forms.specs.Reading.{◌>>=◌, ◌>>◌, quantity_at}
+use Rattle.oer_forms.specs.Encoding.{canonical_octets}
+use Rattle.oer_forms.specs.Reading.{◌>>◌, quantity_at}
+use Rattle.oer_forms.specs.Tree.{Tree}
 use Rattle.rasn_oer.specs.Law.{IsForMemory}
 use Rattle.rasn_oer.specs.Scopes.{level_at}
 use Rattle.rasn_oer.specs.State.{State, closed}
@@ -37,6 +39,10 @@ pub record FnReturnsAtMut {F T R : Type 0} (g : Shared F (MutBor T × Unit {0}) 
   pub met : g.post f (shown, tt) (r, (left, tt))
   pub leaves : left.now ≡ y
 
+-- each value of the type is written in some octets
+abbrev pub TakesOctets : {A : Type 0} → (A → Tree) → (A → Type 0) → Type 0
+TakesOctets {A} tree IsValue = (v : A) → IsValue v → canonical_octets (tree v) ≢ []
+
 module _ {A : Type 0} (Ran : State → Result A DecodeError → State → Type 0) (old : State) where
   -- The closure answered these in turn, from r to q, and there were n elements without octets before and k after.
   abbrev pub RanEach : Octets → ℕ → List A → Octets → ℕ → Type 0
@@ -66,3 +72,8 @@ module _ {A : Type 0} (Ran : State → Result A DecodeError → State → Type 0
   pub data ListRefused (e : DecodeError) : Type 0 where
     NotOpened : list_opened_at old ≡ Err e.kind → e.codec ≡ old.codec → ListRefused e
     Stopped : (n : ℕ) (rest : Octets) → list_opened_at old ≡ Ok (n, rest) → ElementsStopped n rest e → ListRefused e
+
+  -- a list was read or refused, by what its closure promises
+  pub record ListAnswers {L : Type 0} (items : L → List A) (result : Result L DecodeError) (new : State) : Type 0 where
+    pub read : IfOk result (λ l. ListRead (items l) new)
+    pub refused : IfErr result (λ e. ListRefused e)

@@ -1,5 +1,5 @@
 -- What a scope's closure owes: the components of a value, read in the order of the tables.
-use Rattle.std.specs.Prelude.{◌≡◌, ◌++◌, ℕ, Bool, not, cond, List, [], ◌∷◌, map, Option, Some, None, Result, IfOk, IfErr, ⊤}
+use Rattle.std.specs.Prelude.{◌≡◌, ◌++◌, Bool, true, false, not, cond, List, [], ◌∷◌, map, Option, Some, None, Result, IfOk, IfErr, ⊤}
 use Rattle.asn1_base.specs.Octets.{Octets}
 use Rattle.asn1_base.specs.Rows.{Row}
 use Rattle.asn1_base.specs.declared.error.DecodeError.{DecodeError}
@@ -11,7 +11,7 @@ use Rattle.oer_forms.specs.Places.{Item, bodies, IsExtension, AreAdditions}
 use Rattle.oer_forms.specs.Same.{SameSlot}
 use Rattle.oer_forms.specs.Tree.{Tree, Rows, NoRows, Required, Optional, Default, Slot, Absent, Present}
 use Rattle.rasn_oer.specs.Law.{IsForMemory, IsRear}
-use Rattle.rasn_oer.specs.State.{Ask, Place, Frame, State}
+use Rattle.rasn_oer.specs.State.{Ask, Place, State}
 
 -- ---- what is left to read in a scope
 
@@ -39,6 +39,7 @@ pub record Comes (s : State) (r a : Rows) (rest : Octets) : Type 0 where
   pub are_additions : AreItems (mode_of s.codec) s.levels additions a
   pub asked : asks_in roots ≡ s.frame.asks
   pub placed : places_in additions ≡ s.frame.additions
+  pub only : s.frame.extensible ≡ false → additions ≡ []
   pub tail : IsTail (mode_of s.codec) s.frame.extended s.frame.bitmap extension additions
 
 -- ---- the components that a type admits
@@ -76,13 +77,20 @@ IsTableOf (r ∷ rs) (OptionalPart g P ps) = (r.tag ≡ g) × (r.presence ≡ pr
 IsTableOf (r ∷ rs) (DefaultPart g u P ps) = (r.tag ≡ g) × (r.presence ≡ presence.Default) × IsTableOf rs ps
 IsTableOf _ _ = ⊥
 
--- From s to t the rows r and a were read, which are of these parts: each rest that may follow t may follow them, and
--- whatever rows of these parts come at s, nothing is left of them at t.
+-- the addition rows of these parts, as they are asked
+abbrev pub part_places : Parts → List Place
+part_places NoParts = []
+part_places (NeededPart g P ps) = record { tag = g; needed = true } ∷ part_places ps
+part_places (OptionalPart g P ps) = record { tag = g; needed = false } ∷ part_places ps
+part_places (DefaultPart g u P ps) = record { tag = g; needed = false } ∷ part_places ps
+
+-- From s to t the rows r and a were read, which are of these parts: where these are the additions still to be asked at s,
+-- each rest that may follow t may follow them, and whatever rows of these parts come at s, nothing is left of them at t.
 pub record Takes (s : State) (ps qs : Parts) (r a : Rows) (t : State) : Type 0 where
   pub fits : AreOf ps r
   pub more_fit : AreOf qs a
   pub rear : IsRear s.input t.input
-  pub sound : (rest : Octets) → Comes t NoRows NoRows rest → Comes s r a rest
+  pub sound : s.frame.additions ≡ part_places qs → (rest : Octets) → Comes t NoRows NoRows rest → Comes s r a rest
   pub complete : (r' a' : Rows) (rest : Octets) → AreOf ps r' → AreOf qs a' → Comes s r' a' rest → Comes t NoRows NoRows rest
 
 -- rows of these parts don't come at s

@@ -1,5 +1,5 @@
 -- What contracts see of a decoder's private fields.
-use Rattle.std.specs.Prelude.{List, map, Option}
+use Rattle.std.specs.Prelude.{map}
 use Rattle.std.specs.Option.{option_map}
 use Rattle.asn1_base.specs.Rows.{row}
 use Rattle.rasn_oer.specs.declared.decoder.OpenScope.{OpenScope}

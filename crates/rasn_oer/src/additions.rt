@@ -206,8 +206,8 @@ impl<'input> Decoder<'input> {
         constraints: Constraints,
     ) -> Result<D, DecodeError>
         requires { IsConsistent constraints }
-        ensures ok { IfOk result (OpenRead (D.tree constraints) D.IsValue self.now content.entry.now) }
-        ensures err { IfErr result (OpenRefused (D.tree constraints) D.IsValue self.now content.entry.now) }
+        ensures ok { IfOk result (OpenRead (D.tree constraints) D.IsValue (D.Answered constraints) self.now content.entry.now) }
+        ensures err { IfErr result (OpenRefused (D.tree constraints) D.IsValue (D.Answered constraints) self.now content.entry.now) }
     {
         let mut inner: Decoder<'input> = self.inside(content);
         match D::decode_with_tag_and_constraints(alloc, &mut inner, tag, constraints) {
@@ -228,7 +228,7 @@ impl<'input> Decoder<'input> {
         constraints: Constraints,
     ) -> Result<Option<D>, DecodeError>
         requires { IsConsistent constraints }
-        ensures { Adds (D.tree constraints) D.IsValue self.old asked result self.new }
+        ensures { Adds (D.tree constraints) D.IsValue (D.Answered constraints) self.old asked result self.new }
     {
         let _octets = self.octets();
         match self.next_addition(asked) {
@@ -266,7 +266,7 @@ impl<'input> Decoder<'input> {
         constraints: Constraints,
     ) -> Result<Option<D>, DecodeError>
         requires { IsConsistent constraints }
-        ensures { Adds (D.tree constraints) D.IsValue self.old (Some tag) result self.new }
+        ensures { Adds (D.tree constraints) D.IsValue (D.Answered constraints) self.old (Some tag) result self.new }
     {
         self.addition(alloc, Some(tag), tag, constraints)
     }
@@ -280,7 +280,7 @@ impl<'input> Decoder<'input> {
         constraints: Constraints,
     ) -> Result<Option<D>, DecodeError>
         requires { IsConsistent constraints }
-        ensures { Adds (D.tree constraints) D.IsValue self.old (Some tag) result self.new }
+        ensures { Adds (D.tree constraints) D.IsValue (D.Answered constraints) self.old (Some tag) result self.new }
     {
         self.addition(alloc, Some(tag), tag, constraints)
     }
@@ -293,7 +293,7 @@ impl<'input> Decoder<'input> {
     ) -> Result<Option<D>, DecodeError>
     where
         D: Decode + Constructed<RC, EC>,
-        ensures { Adds (D.tree D.CONSTRAINTS) D.IsValue self.old None result self.new }
+        ensures { Adds (D.tree D.CONSTRAINTS) D.IsValue (D.Answered D.CONSTRAINTS) self.old None result self.new }
     {
         self.addition(alloc, None, D::TAG, D::CONSTRAINTS)
     }

@@ -1,11 +1,14 @@
 //! Canonical octet encoding rules (X.696): canonical reading, and canonical writing.
 ghost use Rattle.asn1_base.specs.declared.codec.Codec.TheVariants.{Coer};
 ghost use Rattle.oer_forms.specs.Spelled.{IsConsistent};
+ghost use Rattle.rasn_oer.specs.Conversions.{IsAsOlder};
 ghost use Rattle.rasn_oer.specs.Headline.{IsAppended, IsRead, IsReadAlone, IsWritten};
 
+pub use crate::codec_error::CodecError;
 use crate::de::DecoderOptions;
 use crate::decode::Decode;
 use crate::entry::{append_value, decode_value, encode_value};
+use crate::recode::older_value;
 use asn1_base::{Constraints, DecodeError, EncodeError};
 use oer_write::Encode;
 use std::alloc::Global;
@@ -79,4 +82,14 @@ pub fn decode_with_constraints<T: Decode>(
 {
     let (value, _rest) = decode_value(alloc, DecoderOptions::coer(), constraints, input)?;
     Ok(value)
+}
+
+/// A newer version's value as one of an older version: what canonical reading of its canonical octets answers.
+///
+/// Refused as `encode` refuses the newer value, or as `decode` refuses its octets as the older type: also where a
+/// component's default leaves out what the newer value spells out.
+pub fn as_older<New: Encode, Old: Decode>(alloc: Global, newer: &New) -> Result<Old, CodecError>
+    ensures { IsAsOlder (New.tree New.CONSTRAINTS) New.IsValue (Old.tree Old.CONSTRAINTS) Old.IsValue Coer 128 newer.now result }
+{
+    older_value(alloc, DecoderOptions::coer(), newer)
 }

@@ -9,7 +9,15 @@ use std::alloc::Global;
 
 /// A type that is read.
 pub trait Decode: Spelled {
+    ghost use Rattle.std.specs.Prelude.{Result};
+    ghost use Rattle.asn1_base.specs.declared.constraints.Constraints.{Constraints};
+    ghost use Rattle.asn1_base.specs.declared.error.DecodeError.{DecodeError};
     ghost use Rattle.oer_forms.specs.Spelled.{IsConsistent};
+    ghost use Rattle.rasn_oer.specs.State.{State};
+
+    /// What the type promises of its answers beside the law, so that a scope can promise which refusal it passes on: a
+    /// leaf's whole clause. `λ c s r t. ⊤` promises nothing more than the law.
+    ghost Answered: { Constraints → State → Result Self DecodeError → State → Type 0 };
 
     /// Reads a value, under the handed-in tag and constraints.
     fn decode_with_tag_and_constraints(
@@ -19,11 +27,13 @@ pub trait Decode: Spelled {
         constraints: Constraints,
     ) -> Result<Self, DecodeError>
         requires { IsConsistent constraints }
-        ensures { Decodes (Self.tree constraints) Self.IsValue decoder.old result decoder.new };
+        ensures law { Decodes (Self.tree constraints) Self.IsValue decoder.old result decoder.new }
+        ensures answered { Self.Answered constraints decoder.old result decoder.new };
 
     /// Reads a value, under the type's own tag and constraints.
     fn decode(alloc: Global, decoder: &mut Decoder<'_>) -> Result<Self, DecodeError>
-        ensures { Decodes (Self.tree Self.CONSTRAINTS) Self.IsValue decoder.old result decoder.new }
+        ensures law { Decodes (Self.tree Self.CONSTRAINTS) Self.IsValue decoder.old result decoder.new }
+        ensures answered { Self.Answered Self.CONSTRAINTS decoder.old result decoder.new }
     {
         Self::decode_with_tag_and_constraints(alloc, decoder, Self::TAG, Self::CONSTRAINTS)
     }
@@ -34,7 +44,8 @@ pub trait Decode: Spelled {
         decoder: &mut Decoder<'_>,
         tag: Tag,
     ) -> Result<Self, DecodeError>
-        ensures { Decodes (Self.tree Self.CONSTRAINTS) Self.IsValue decoder.old result decoder.new }
+        ensures law { Decodes (Self.tree Self.CONSTRAINTS) Self.IsValue decoder.old result decoder.new }
+        ensures answered { Self.Answered Self.CONSTRAINTS decoder.old result decoder.new }
     {
         Self::decode_with_tag_and_constraints(alloc, decoder, tag, Self::CONSTRAINTS)
     }
@@ -46,7 +57,8 @@ pub trait Decode: Spelled {
         constraints: Constraints,
     ) -> Result<Self, DecodeError>
         requires { IsConsistent constraints }
-        ensures { Decodes (Self.tree constraints) Self.IsValue decoder.old result decoder.new }
+        ensures law { Decodes (Self.tree constraints) Self.IsValue decoder.old result decoder.new }
+        ensures answered { Self.Answered constraints decoder.old result decoder.new }
     {
         Self::decode_with_tag_and_constraints(alloc, decoder, Self::TAG, constraints)
     }

@@ -97,6 +97,13 @@ impl<'input> Decoder<'input> {
         self.options.codec
     }
 
+    /// How many levels of nesting are left: sequences, sets, lists and choices count one each.
+    pub fn levels(&self) -> usize
+        ensures { result ≡ self.now.levels }
+    {
+        self.options.levels
+    }
+
     /// Goes on with these octets.
     pub(crate) fn set_remaining(&mut self, rest: &'input [u8])
         ensures { self.new ≡ record self.old { input = rest.entry.now } }

@@ -36,6 +36,10 @@ impl<'input> Decoder<'input> {
 }
 
 impl Decode for i8 {
+    ghost use Rattle.rasn_oer.specs.Answers.{IntegerAnswers};
+
+    ghost Answered = { IntegerAnswers ⟦<i8 as IntegerType>⟧.number ⟦<i8 as IntegerType>⟧.admits ⟦<i8 as IntegerType>⟧.TAKES_MEMORY };
+
     fn decode_with_tag_and_constraints(
         alloc: Global,
         decoder: &mut Decoder<'_>,
@@ -47,6 +51,10 @@ impl Decode for i8 {
 }
 
 impl Decode for i16 {
+    ghost use Rattle.rasn_oer.specs.Answers.{IntegerAnswers};
+
+    ghost Answered = { IntegerAnswers ⟦<i16 as IntegerType>⟧.number ⟦<i16 as IntegerType>⟧.admits ⟦<i16 as IntegerType>⟧.TAKES_MEMORY };
+
     fn decode_with_tag_and_constraints(
         alloc: Global,
         decoder: &mut Decoder<'_>,
@@ -58,6 +66,10 @@ impl Decode for i16 {
 }
 
 impl Decode for i32 {
+    ghost use Rattle.rasn_oer.specs.Answers.{IntegerAnswers};
+
+    ghost Answered = { IntegerAnswers ⟦<i32 as IntegerType>⟧.number ⟦<i32 as IntegerType>⟧.admits ⟦<i32 as IntegerType>⟧.TAKES_MEMORY };
+
     fn decode_with_tag_and_constraints(
         alloc: Global,
         decoder: &mut Decoder<'_>,
@@ -69,6 +81,10 @@ impl Decode for i32 {
 }
 
 impl Decode for i64 {
+    ghost use Rattle.rasn_oer.specs.Answers.{IntegerAnswers};
+
+    ghost Answered = { IntegerAnswers ⟦<i64 as IntegerType>⟧.number ⟦<i64 as IntegerType>⟧.admits ⟦<i64 as IntegerType>⟧.TAKES_MEMORY };
+
     fn decode_with_tag_and_constraints(
         alloc: Global,
         decoder: &mut Decoder<'_>,
@@ -80,6 +96,10 @@ impl Decode for i64 {
 }
 
 impl Decode for i128 {
+    ghost use Rattle.rasn_oer.specs.Answers.{IntegerAnswers};
+
+    ghost Answered = { IntegerAnswers ⟦<i128 as IntegerType>⟧.number ⟦<i128 as IntegerType>⟧.admits ⟦<i128 as IntegerType>⟧.TAKES_MEMORY };
+
     fn decode_with_tag_and_constraints(
         alloc: Global,
         decoder: &mut Decoder<'_>,
@@ -91,6 +111,10 @@ impl Decode for i128 {
 }
 
 impl Decode for isize {
+    ghost use Rattle.rasn_oer.specs.Answers.{IntegerAnswers};
+
+    ghost Answered = { IntegerAnswers ⟦<isize as IntegerType>⟧.number ⟦<isize as IntegerType>⟧.admits ⟦<isize as IntegerType>⟧.TAKES_MEMORY };
+
     fn decode_with_tag_and_constraints(
         alloc: Global,
         decoder: &mut Decoder<'_>,
@@ -102,6 +126,10 @@ impl Decode for isize {
 }
 
 impl Decode for u8 {
+    ghost use Rattle.rasn_oer.specs.Answers.{IntegerAnswers};
+
+    ghost Answered = { IntegerAnswers ⟦<u8 as IntegerType>⟧.number ⟦<u8 as IntegerType>⟧.admits ⟦<u8 as IntegerType>⟧.TAKES_MEMORY };
+
     fn decode_with_tag_and_constraints(
         alloc: Global,
         decoder: &mut Decoder<'_>,
@@ -113,6 +141,10 @@ impl Decode for u8 {
 }
 
 impl Decode for u16 {
+    ghost use Rattle.rasn_oer.specs.Answers.{IntegerAnswers};
+
+    ghost Answered = { IntegerAnswers ⟦<u16 as IntegerType>⟧.number ⟦<u16 as IntegerType>⟧.admits ⟦<u16 as IntegerType>⟧.TAKES_MEMORY };
+
     fn decode_with_tag_and_constraints(
         alloc: Global,
         decoder: &mut Decoder<'_>,
@@ -124,6 +156,10 @@ impl Decode for u16 {
 }
 
 impl Decode for u32 {
+    ghost use Rattle.rasn_oer.specs.Answers.{IntegerAnswers};
+
+    ghost Answered = { IntegerAnswers ⟦<u32 as IntegerType>⟧.number ⟦<u32 as IntegerType>⟧.admits ⟦<u32 as IntegerType>⟧.TAKES_MEMORY };
+
     fn decode_with_tag_and_constraints(
         alloc: Global,
         decoder: &mut Decoder<'_>,
@@ -135,6 +171,10 @@ impl Decode for u32 {
 }
 
 impl Decode for u64 {
+    ghost use Rattle.rasn_oer.specs.Answers.{IntegerAnswers};
+
+    ghost Answered = { IntegerAnswers ⟦<u64 as IntegerType>⟧.number ⟦<u64 as IntegerType>⟧.admits ⟦<u64 as IntegerType>⟧.TAKES_MEMORY };
+
     fn decode_with_tag_and_constraints(
         alloc: Global,
         decoder: &mut Decoder<'_>,
@@ -146,6 +186,10 @@ impl Decode for u64 {
 }
 
 impl Decode for u128 {
+    ghost use Rattle.rasn_oer.specs.Answers.{IntegerAnswers};
+
+    ghost Answered = { IntegerAnswers ⟦<u128 as IntegerType>⟧.number ⟦<u128 as IntegerType>⟧.admits ⟦<u128 as IntegerType>⟧.TAKES_MEMORY };
+
     fn decode_with_tag_and_constraints(
         alloc: Global,
         decoder: &mut Decoder<'_>,
@@ -157,6 +201,10 @@ impl Decode for u128 {
 }
 
 impl Decode for usize {
+    ghost use Rattle.rasn_oer.specs.Answers.{IntegerAnswers};
+
+    ghost Answered = { IntegerAnswers ⟦<usize as IntegerType>⟧.number ⟦<usize as IntegerType>⟧.admits ⟦<usize as IntegerType>⟧.TAKES_MEMORY };
+
     fn decode_with_tag_and_constraints(
         alloc: Global,
         decoder: &mut Decoder<'_>,
@@ -168,6 +216,10 @@ impl Decode for usize {
 }
 
 impl Decode for Integer {
+    ghost use Rattle.rasn_oer.specs.Answers.{IntegerAnswers};
+
+    ghost Answered = { IntegerAnswers ⟦<Integer as IntegerType>⟧.number ⟦<Integer as IntegerType>⟧.admits ⟦<Integer as IntegerType>⟧.TAKES_MEMORY };
+
     fn decode_with_tag_and_constraints(
         alloc: Global,
         decoder: &mut Decoder<'_>,
@@ -179,6 +231,10 @@ impl Decode for Integer {
 }
 
 impl<R: IntegerRange> Decode for ConstrainedInteger<R> {
+    ghost use Rattle.rasn_oer.specs.Answers.{IntegerAnswers};
+
+    ghost Answered = { IntegerAnswers ⟦<ConstrainedInteger<R> as IntegerType>⟧.number ⟦<ConstrainedInteger<R> as IntegerType>⟧.admits ⟦<ConstrainedInteger<R> as IntegerType>⟧.TAKES_MEMORY };
+
     fn decode_with_tag_and_constraints(
         alloc: Global,
         decoder: &mut Decoder<'_>,

@@ -27,6 +27,7 @@ impl<'input> Decoder<'input> {
 
     /// Reads a NULL, which has no octets (X.696, 15); it never refuses.
     pub fn decode_null(&mut self, _tag: Tag) -> Result<(), DecodeError>
+        ensures answer { result ≡ Ok tt }
         ensures unchanged { self.new ≡ self.old }
         ensures law { Decodes null IsAny self.old result self.new }
     {
@@ -35,6 +36,12 @@ impl<'input> Decoder<'input> {
 }
 
 impl Decode for bool {
+    ghost use Rattle.oer_forms.specs.Reading.{bool_at};
+    ghost use Rattle.std.specs.Prelude.{false};
+    ghost use Rattle.rasn_oer.specs.Answers.{LeafAnswers};
+
+    ghost Answered = { λ c s r t. LeafAnswers (λ v. v) false s r t (bool_at s.codec s.input) };
+
     fn decode_with_tag_and_constraints(
         _alloc: Global,
         decoder: &mut Decoder<'_>,
@@ -46,6 +53,10 @@ impl Decode for bool {
 }
 
 impl Decode for () {
+    ghost use Rattle.std.specs.Prelude.{◌≡◌, Ok};
+
+    ghost Answered = { λ c s r t. (r ≡ Ok tt) × (t ≡ s) };
+
     fn decode_with_tag_and_constraints(
         _alloc: Global,
         decoder: &mut Decoder<'_>,

@@ -2,18 +2,31 @@
 #![tactic(auto)]
 
 mod additions;
+mod boxes;
+mod choices;
+mod codec_error;
 pub mod coer;
 mod de;
 mod decode;
 mod decoder;
+mod defaults;
 mod entry;
 mod integers;
 mod leaves;
 mod lists;
+mod octets;
 pub mod oer;
+mod owned;
+mod recode;
 mod rows;
 mod scopes;
+mod sets;
+mod strings;
+mod times;
+mod unordered;
+mod values;
 
+pub use choices::DecodeChoice;
 pub use de::DecoderOptions;
 pub use decode::Decode;
 pub use decoder::Decoder;

@@ -1,11 +1,11 @@
 //! Lists: a closure reads each element on a decoder of its own.
 
-ghost use Rattle.std.specs.Prelude.{◌≡◌, ℕ, ◌<◌, ◌≤◌, length, List, true, IfOk, IfErr, OnErr, OnOk, Ok, Err};
+ghost use Rattle.std.specs.Prelude.{◌≡◌, ℕ, ◌+◌, ◌<◌, ◌≤◌, length, List, true, IfOk, IfErr, OnErr, OnOk, Ok, Err};
 ghost use Rattle.asn1_base.specs.Octets.{Octets, AreOctets};
 ghost use Rattle.oer_forms.specs.Reading.{Gives};
 ghost use Rattle.oer_forms.specs.Spelled.{EachValue, list_of};
-ghost use Rattle.rasn_oer.specs.Law.{Decodes, IsForMemory, IsRear};
-ghost use Rattle.rasn_oer.specs.Lists.{lent_element, list_opened_at, count_empty, FnTakesAtMut, FnReturnsAtMut, RanEach, ListRead, ElementsStopped, ListRefused};
+ghost use Rattle.rasn_oer.specs.Law.{Decodes, IsForMemory, IsRear, Promised};
+ghost use Rattle.rasn_oer.specs.Lists.{lent_element, list_opened_at, count_empty, FnTakesAtMut, FnReturnsAtMut, RanEach, ListRead, ElementsStopped, ListRefused, ListAnswers, TakesOctets};
 ghost use Rattle.rasn_oer.specs.State.{State};
 
 use crate::de::DecoderOptions;
@@ -22,7 +22,7 @@ const MOST_EMPTY: usize = 65536;
 impl<'input> Decoder<'input> {
     /// How many elements a list has, and what is left.
     #[tactic(auto, unfolding(crate::specs::Lists::list_opened_at))]
-    fn open_list(&self) -> Result<(usize, &'input [u8]), DecodeErrorKind>
+    pub(crate) fn open_list(&self) -> Result<(usize, &'input [u8]), DecodeErrorKind>
         ensures quantity { Gives (λ x. (x.0, x.1.now)) result (list_opened_at self.now) }
         ensures level { OnOk result (0 < self.now.levels) }
         ensures octets { AreOctets self.now.input }
@@ -76,7 +76,12 @@ impl<'input> Decoder<'input> {
     }
 
     /// One more element without octets, where as many octets are left as before; at most 65,536.
-    fn count_empty(&self, empties: usize, before: &[u8], after: &[u8]) -> Result<usize, DecodeError>
+    pub(crate) fn count_empty(
+        &self,
+        empties: usize,
+        before: &[u8],
+        after: &[u8],
+    ) -> Result<usize, DecodeError>
         requires { empties ≤ 65536 }
         ensures ok { IfOk result (λ n. (n ≡ count_empty empties before.now after.now) × (n ≤ 65536)) }
         ensures err { IfErr result (λ e. (65536 < count_empty empties before.now after.now) × (e ≡ record { kind = DecodeErrorKind.TooManyEmptyElements; codec = self.now.codec })) }
@@ -159,27 +164,36 @@ impl<'input> Decoder<'input> {
 }
 
 impl<'input> Decoder<'input> {
-    /// Reads a SEQUENCE OF (X.696, 17) of the type's own elements, as `decode_sequence_of_with` does.
+    /// Reads a SEQUENCE OF (X.696, 17) of the type's own elements, as `decode_sequence_of_with` does; an element is refused
+    /// with the very error that its type answers. Where no element takes zero octets, there are at most as many elements as
+    /// octets that were read.
     pub fn decode_sequence_of<D: Decode>(
         &mut self,
         alloc: Global,
         tag: Tag,
         constraints: Constraints,
     ) -> Result<Vec<D>, DecodeError>
-        ensures { Decodes (λ v. list_of true (D.tree D.CONSTRAINTS) v.items) (λ v. EachValue D.IsValue v.items) self.old result self.new }
+        ensures law { Decodes (λ v. list_of true (D.tree D.CONSTRAINTS) v.items) (λ v. EachValue D.IsValue v.items) self.old result self.new }
+        ensures answered { ListAnswers (Promised (D.tree D.CONSTRAINTS) D.IsValue (D.Answered D.CONSTRAINTS)) self.old (λ v. v.items) result self.new }
+        ensures few { TakesOctets (D.tree D.CONSTRAINTS) D.IsValue → IfOk result (λ v. length v.items + length self.new.input ≤ length self.old.input) }
     {
         self.decode_sequence_of_with::<D, _>(
             alloc,
             tag,
             constraints,
             |inner: &mut Decoder<'_>| -> Result<D, DecodeError>
-                ensures { Decodes (D.tree D.CONSTRAINTS) D.IsValue inner.old result inner.new }
+                ensures { Promised (D.tree D.CONSTRAINTS) D.IsValue (D.Answered D.CONSTRAINTS) inner.old result inner.new }
             { D::decode(alloc, inner) },
         )
     }
 }
 
 impl<T: Decode> Decode for Vec<T> {
+    ghost use Rattle.rasn_oer.specs.Law.{Promised};
+    ghost use Rattle.rasn_oer.specs.Lists.{ListAnswers};
+
+    ghost Answered = { λ c s r t. ListAnswers (Promised (T.tree T.CONSTRAINTS) T.IsValue (T.Answered T.CONSTRAINTS)) s (λ v. v.items) r t };
+
     fn decode_with_tag_and_constraints(
         alloc: Global,
         decoder: &mut Decoder<'_>,

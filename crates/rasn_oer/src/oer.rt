@@ -1,11 +1,14 @@
 //! Basic octet encoding rules (X.696): lenient reading, and canonical writing.
 ghost use Rattle.asn1_base.specs.declared.codec.Codec.TheVariants.{Oer};
 ghost use Rattle.oer_forms.specs.Spelled.{IsConsistent};
+ghost use Rattle.rasn_oer.specs.Conversions.{IsAsOlder, IsCanonicalised};
 ghost use Rattle.rasn_oer.specs.Headline.{IsAppended, IsRead, IsReadAlone, IsWritten};
 
+pub use crate::codec_error::CodecError;
 use crate::de::DecoderOptions;
 use crate::decode::Decode;
 use crate::entry::{append_value, decode_value, encode_value};
+use crate::recode::{canonical_value, older_value};
 use asn1_base::{Constraints, DecodeError, EncodeError};
 use oer_write::Encode;
 use std::alloc::Global;
@@ -79,4 +82,26 @@ pub fn decode_with_constraints<T: Decode>(
 {
     let (value, _rest) = decode_value(alloc, DecoderOptions::oer(), constraints, input)?;
     Ok(value)
+}
+
+/// The canonical octets of the value whose lenient encoding begins the input, within 128 levels, and the octets behind it.
+///
+/// Canonical reading takes these octets as an encoding of the same tree, and to do it again changes nothing. Refused as
+/// `decode` refuses the input, or as `encode` refuses what was read.
+pub fn canonicalise<'a, T: Decode + Encode>(
+    alloc: Global,
+    input: &'a [u8],
+) -> Result<(Vec<u8>, &'a [u8]), CodecError>
+    ensures { IsCanonicalised (T.tree T.CONSTRAINTS) T.IsValue 128 input.entry.now result }
+{
+    canonical_value::<T>(alloc, input)
+}
+
+/// A newer version's value as one of an older version: what lenient reading of its canonical octets answers.
+///
+/// Refused as `encode` refuses the newer value, or as `decode` refuses its octets as the older type.
+pub fn as_older<New: Encode, Old: Decode>(alloc: Global, newer: &New) -> Result<Old, CodecError>
+    ensures { IsAsOlder (New.tree New.CONSTRAINTS) New.IsValue (Old.tree Old.CONSTRAINTS) Old.IsValue Oer 128 newer.now result }
+{
+    older_value(alloc, DecoderOptions::oer(), newer)
 }

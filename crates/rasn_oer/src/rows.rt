@@ -68,7 +68,7 @@ impl<'input> Decoder<'input> {
         constraints: Constraints,
     ) -> Result<Option<D>, DecodeError>
         requires { IsConsistent constraints }
-        ensures { Asks (D.tree constraints) D.IsValue self.old tag result self.new }
+        ensures { Asks (D.tree constraints) D.IsValue (D.Answered constraints) self.old tag result self.new }
     {
         match self.next_row(tag) {
             Err(e) => Err(e),
@@ -91,7 +91,7 @@ impl<'input> Decoder<'input> {
 
     /// Reads an optional component under its type's tag and constraints, as `decode_optional_with_tag_and_constraints` does.
     pub fn decode_optional<D: Decode>(&mut self, alloc: Global) -> Result<Option<D>, DecodeError>
-        ensures { Asks (D.tree D.CONSTRAINTS) D.IsValue self.old D.TAG result self.new }
+        ensures { Asks (D.tree D.CONSTRAINTS) D.IsValue (D.Answered D.CONSTRAINTS) self.old D.TAG result self.new }
     {
         self.decode_optional_with_tag_and_constraints(alloc, D::TAG, D::CONSTRAINTS)
     }
@@ -103,7 +103,7 @@ impl<'input> Decoder<'input> {
         alloc: Global,
         tag: Tag,
     ) -> Result<Option<D>, DecodeError>
-        ensures { Asks (D.tree D.CONSTRAINTS) D.IsValue self.old tag result self.new }
+        ensures { Asks (D.tree D.CONSTRAINTS) D.IsValue (D.Answered D.CONSTRAINTS) self.old tag result self.new }
     {
         self.decode_optional_with_tag_and_constraints(alloc, tag, D::CONSTRAINTS)
     }
@@ -116,7 +116,7 @@ impl<'input> Decoder<'input> {
         constraints: Constraints,
     ) -> Result<Option<D>, DecodeError>
         requires { IsConsistent constraints }
-        ensures { Asks (D.tree constraints) D.IsValue self.old D.TAG result self.new }
+        ensures { Asks (D.tree constraints) D.IsValue (D.Answered constraints) self.old D.TAG result self.new }
     {
         self.decode_optional_with_tag_and_constraints(alloc, D::TAG, constraints)
     }
@@ -128,7 +128,7 @@ impl<'input> Decoder<'input> {
         alloc: Global,
         tag: Tag,
     ) -> Result<Option<D>, DecodeError>
-        ensures { Asks (D.tree D.CONSTRAINTS) D.IsValue self.old tag result self.new }
+        ensures { Asks (D.tree D.CONSTRAINTS) D.IsValue (D.Answered D.CONSTRAINTS) self.old tag result self.new }
     {
         self.decode_optional_with_tag(alloc, tag)
     }
@@ -139,7 +139,8 @@ impl<'input> Decoder<'input> {
         alloc: Global,
         _tag: Tag,
     ) -> Result<D, DecodeError>
-        ensures { Decodes (D.tree D.CONSTRAINTS) D.IsValue self.old result self.new }
+        ensures law { Decodes (D.tree D.CONSTRAINTS) D.IsValue self.old result self.new }
+        ensures answered { D.Answered D.CONSTRAINTS self.old result self.new }
     {
         D::decode(alloc, self)
     }

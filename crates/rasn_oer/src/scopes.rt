@@ -69,7 +69,7 @@ pub(crate) fn one_level_less(levels: usize) -> Result<usize, DecodeErrorKind>
 }
 
 /// How many bits a preamble has.
-fn bits_for(extensible: bool, roots: &[Field<'_>]) -> usize
+pub(crate) fn bits_for(extensible: bool, roots: &[Field<'_>]) -> usize
     ensures { result ≡ bits_for extensible (map row roots.now) }
 {
     let _size = roots.len();
@@ -78,7 +78,7 @@ fn bits_for(extensible: bool, roots: &[Field<'_>]) -> usize
 }
 
 /// The extension bit of an extensible type, and the presence bits.
-fn split_extension(extensible: bool, bits: BitSlice<'_>) -> (bool, BitSlice<'_>)
+pub(crate) fn split_extension(extensible: bool, bits: BitSlice<'_>) -> (bool, BitSlice<'_>)
     ensures extended { result.0 ≡ extension_of extensible (bits_left bits.entry) }
     ensures presence { bits_left result.1 ≡ presence_of extensible (bits_left bits.entry) }
 {
@@ -181,7 +181,7 @@ impl<'input> Decoder<'input> {
 
     /// What is left behind the scope, after its closure.
     #[tactic(auto, unfolding(crate::specs::Scopes::closed_at))]
-    fn close(&self) -> Result<&'input [u8], DecodeErrorKind>
+    pub(crate) fn close(&self) -> Result<&'input [u8], DecodeErrorKind>
         ensures { Gives (λ x. x.now) result (closed_at self.now) }
     {
         self.require_all_asked()?;

@@ -1,12 +1,28 @@
-use Rattle.std.proofs.Common.{arith}
+use Rattle.std.proofs.Common.{◌≡◌, length, take, ap, ◌∙◌, arith}
+use Rattle.std.specs.Slice.Iter.{iter_rest}
+use Rattle.std.proofs.lemmas.Iterator.{YieldsList-from_slice}
+use Rattle.std.proofs.lemmas.Iterator.Consumers.{YieldsList-turn, YieldsList-end}
+use Rattle.std.proofs.lemmas.List.{length_push, take_all}
 use Rattle.std.proofs.lemmas.Result.{err_from_is_err_and}
 use Rattle.oer_write.proofs.Gathering.{gathered_more, gathered_broken}
 use Rattle.oer_write.proofs.unordered.contents_of.Goals as goal
 
 pub loop-x-preserved : goal.loop-x-preserved
-loop-x-preserved g c = gathered_more _ _ _ _ _ _ _ _ _ (omega arith) c.x-item.is c.loop-x.invariant c.in_ok-empty_count.ensures.done
+loop-x-preserved g c =
+    let walked = YieldsList-from_slice c.args.elements.now (ap iter_rest c.into_iter-x-iterator.ensures.into_iter_gives ∙ c.iter-x-items.ensures) in
+    let turn = YieldsList-turn walked c.loop-x.yielded _ c.loop-x.yielded_by _ _ c.in-Some.x c.in-Some.is c.next.ensures.steps in
+    rw (length_push c.loop-x.yielded c.in-Some.x) (gathered_more _ _ _ _ _ _ _ _ _ turn.0 turn.1 c.loop-x.invariant c.in_ok-empty_count.ensures.done)
 
 pub returns-in_err-empty_count-clause-refused : goal.returns-in_err-empty_count-clause-refused
 returns-in_err-empty_count-clause-refused g c =
+    let walked = YieldsList-from_slice c.args.elements.now (ap iter_rest c.into_iter-x-iterator.ensures.into_iter_gives ∙ c.iter-x-items.ensures) in
+    let turn = YieldsList-turn walked c.loop-x.yielded _ c.loop-x.yielded_by _ _ c.in-Some.x c.in-Some.is c.next.ensures.steps in
     let p = err_from_is_err_and c.from_residual.result c.from_residual.ensures.1 in
-    rw (p.1, p.2) (gathered_broken _ _ _ _ _ _ _ _ (omega arith) c.x-item.is c.loop-x.invariant c.in_err-empty_count.ensures.refused)
+    rw (p.1, p.2) (gathered_broken _ _ _ _ _ _ _ _ turn.0 turn.1 c.loop-x.invariant c.in_err-empty_count.ensures.refused)
+
+pub returns-clause-done : goal.returns-clause-done
+returns-clause-done g c =
+    let walked = YieldsList-from_slice c.args.elements.now (ap iter_rest c.into_iter-x-iterator.ensures.into_iter_gives ∙ c.iter-x-items.ensures) in
+    let end = YieldsList-end walked c.loop-x.yielded _ c.loop-x.yielded_by _ _ c.in-None.is c.next.ensures.steps in
+    let all : take (length c.loop-x.yielded) c.args.elements.now ≡ c.args.elements.now = take_all _ _ (omega (arith, end.1)) in
+    (c.loop-x.empty_count, rw (← all) c.loop-x.invariant)

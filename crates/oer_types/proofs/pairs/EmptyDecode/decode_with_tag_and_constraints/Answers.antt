@@ -10,7 +10,7 @@ pub decode_sequence-requires-clause-keeps : goal.decode_sequence-requires-clause
 decode_sequence-requires-clause-keeps c lent after v opened k =
     (promise_of _ _ (λ s r t. ReadsParts NoParts NoParts none_of none_of s r t) (λ p q r k. k) _ _ _ k).read.rear
 
-pub returns : goal.returns
+pub returns-clause-law : goal.returns-clause-law
 unfolding Rattle.oer_types.specs.Pairs.empty_tree
-returns c =
-    sequence_law NoParts NoParts none_of none_of false [] [] tt tt empty_tree IsAny (λ v. refl) (λ v a b. tt) empty_made _ (promise_of _ _ _ (λ p q r k. k)) _ _ _ c.decode_sequence.ensures.read c.decode_sequence.ensures.refused c.decode_sequence.ensures.unchanged
+returns-clause-law c =
+    sequence_law NoParts NoParts none_of none_of false [] [] tt tt (λ e. refl) empty_tree IsAny (λ v. refl) (λ v a b. tt) empty_made _ (promise_of _ _ _ (λ p q r k. k)) _ _ _ c.decode_sequence.ensures.read c.decode_sequence.ensures.refused c.decode_sequence.ensures.unchanged

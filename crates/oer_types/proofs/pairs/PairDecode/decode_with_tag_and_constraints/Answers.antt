@@ -10,7 +10,7 @@ pub decode_sequence-requires-clause-keeps : goal.decode_sequence-requires-clause
 decode_sequence-requires-clause-keeps c lent after v opened k =
     (promise_of _ _ (λ s r t. ReadsParts pair_parts NoParts pair_rows none_of s r t) (λ p q r k. k) _ _ _ k).read.rear
 
-pub returns : goal.returns
+pub returns-clause-law : goal.returns-clause-law
 unfolding Rattle.oer_types.specs.Pairs.pair_tree
-returns c =
-    sequence_law pair_parts NoParts pair_rows none_of false two_rows [] (refl, refl, (refl, refl, tt)) tt pair_tree IsAny (λ v. refl) (λ v a b. tt) pair_made _ (promise_of _ _ _ (λ p q r k. k)) _ _ _ c.decode_sequence.ensures.read c.decode_sequence.ensures.refused c.decode_sequence.ensures.unchanged
+returns-clause-law c =
+    sequence_law pair_parts NoParts pair_rows none_of false two_rows [] (refl, refl, (refl, refl, tt)) tt (λ e. refl) pair_tree IsAny (λ v. refl) (λ v a b. tt) pair_made _ (promise_of _ _ _ (λ p q r k. k)) _ _ _ c.decode_sequence.ensures.read c.decode_sequence.ensures.refused c.decode_sequence.ensures.unchanged

@@ -1,6 +1,5 @@
 use Rattle.std.proofs.Common.{rules}
 use Rattle.std.proofs.lemmas.Result.{on_ok_weaker}
-use Rattle.oer_write.specs.Lists.{ListDone}
 use Rattle.oer_write.proofs.Elements.{each_value}
 use Rattle.oer_write.proofs.encoder.Encoder.encode_sequence_of.Goals as goal
 

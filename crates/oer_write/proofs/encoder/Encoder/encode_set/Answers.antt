@@ -1,5 +1,5 @@
 use Rattle.std.proofs.lemmas.Result.{on_ok_weaker, IfErr-weaker}
-use Rattle.std.proofs.Common.{Bool, List, ap, ◌++◌}
+use Rattle.std.proofs.Common.{List, ap, ◌++◌}
 use Rattle.asn1_base.specs.Octets.{pack}
 use Rattle.oer_forms.specs.Places.{Item, extension_bit, presence, bodies}
 use Rattle.oer_write.specs.Scopes.{any_true, extension_of}

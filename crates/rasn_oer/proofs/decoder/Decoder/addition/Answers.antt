@@ -1,4 +1,4 @@
-use Rattle.std.proofs.Common.{◌≡◌, refl, sym, ap, subst, ◌∙◌, Ok, Some, Err}
+use Rattle.std.proofs.Common.{refl}
 use Rattle.rasn_oer.specs.Additions.{Inside, NotThere}
 use Rattle.rasn_oer.proofs.decoder.Decoder.addition.Goals as goal
 

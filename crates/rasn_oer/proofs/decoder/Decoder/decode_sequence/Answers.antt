@@ -1,9 +1,5 @@
-use Rattle.std.proofs.Common.{◌≡◌, Ok, refl, sym, ap, ◌∙◌, Result}
-use Rattle.asn1_base.specs.Octets.{Octets}
-use Rattle.asn1_base.specs.declared.error.DecodeErrorKind.{DecodeErrorKind}
-use Rattle.rasn_oer.specs.Law.{IsRear}
-use Rattle.rasn_oer.specs.Scopes.{opened_at, Stopped, NotClosed}
-use Rattle.rasn_oer.specs.State.{State}
+use Rattle.std.proofs.Common.{refl}
+use Rattle.rasn_oer.specs.Scopes.{Stopped, NotClosed}
 use Rattle.rasn_oer.proofs.Openings.{opened_opens, opens_rear, closed_rear, rear_trans, rear_are_octets}
 use Rattle.rasn_oer.proofs.decoder.Decoder.decode_sequence.Goals as goal
 

@@ -1,4 +1,4 @@
-use Rattle.std.proofs.Common.{true, eqb, rules, ◌&&◌, ◌≡◌, refl, sym, ap, ◌∙◌, map, List, ◌∷◌, Bool, get_or, false, drop}
+use Rattle.std.proofs.Common.{true, eqb, rules, ◌&&◌, ◌≡◌, sym, ap, ◌∙◌, map, List, ◌∷◌, Bool, get_or, false, drop}
 use Rattle.std.proofs.lemmas.Bool.{and_parts, eqb-true}
 use denote.Enum.Bare.{sameb, same_true}
 use Rattle.asn1_base.specs.contracts.tag.Class.{the_type}

@@ -1,7 +1,7 @@
-use Rattle.std.proofs.Common.{rules, refl, ◌∙◌, ap, sym, ◌≡◌, ◌<◌, arith, List, ℕ, ◌++◌, ◌∷◌, [], length}
+use Rattle.std.proofs.Common.{◌<◌, arith, length}
 use Rattle.std.proofs.lemmas.List.{length_push}
 use Rattle.std.proofs.lemmas.Result.{err_from_is_err_and}
-use Rattle.rasn_oer.specs.Lists.{RanEach, FnReturnsAtMut, ElementRefused, TooManyEmpty}
+use Rattle.rasn_oer.specs.Lists.{FnReturnsAtMut, ElementRefused, TooManyEmpty}
 use Rattle.rasn_oer.proofs.ListSteps.{RanEach-push}
 use Rattle.rasn_oer.proofs.decoder.Decoder.read_elements.Goals as goal
 

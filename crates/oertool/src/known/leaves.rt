@@ -1,0 +1,25 @@
+use crate::known::OnType;
+use asn1_base::Utf8String;
+use asn1_ints::Integer;
+use asn1_times::{Date, GeneralizedTime, UtcTime};
+use asn1_values::{BitString, ObjectIdentifier, OctetString};
+use oer_types::{Enum4, GreatPositive, Small};
+
+/// Does it with the type without parts of that word; the work again where none has it.
+pub(super) fn with_leaf<W: OnType>(word: &str, work: W) -> Result<W::Output, W> {
+    match word {
+        "bool" => Ok(work.on::<bool>()),
+        "int" => Ok(work.on::<Integer>()),
+        "octets" => Ok(work.on::<OctetString>()),
+        "bits" => Ok(work.on::<BitString>()),
+        "utf8" => Ok(work.on::<Utf8String>()),
+        "oid" => Ok(work.on::<ObjectIdentifier>()),
+        "utctime" => Ok(work.on::<UtcTime>()),
+        "gentime" => Ok(work.on::<GeneralizedTime>()),
+        "date" => Ok(work.on::<Date>()),
+        "posbig" => Ok(work.on::<GreatPositive>()),
+        "small" => Ok(work.on::<Small>()),
+        "enum4" => Ok(work.on::<Enum4>()),
+        _ => Err(work),
+    }
+}

@@ -1,0 +1,59 @@
+-- From what reading and writing promise to the calls that do both.
+use Rattle.std.proofs.Common.{◌≡◌, ℕ, ◌≤◌, [], ◌++◌, refl, sym, ap, subst, ◌∙◌, append-nil}
+use Rattle.asn1_base.specs.Octets.{Octets}
+use Rattle.asn1_base.specs.declared.codec.Codec.{Codec}
+use Rattle.asn1_base.specs.declared.codec.Codec.TheVariants.{Oer, Coer}
+use Rattle.oer_forms.proofs.Canonical.{same_octets}
+use Rattle.oer_forms.proofs.Readable.{form_levels}
+use Rattle.oer_forms.proofs.Within.{canonical_within_lenient}
+use Rattle.oer_forms.specs.Encoding.{IsTree, IsEncodable, IsEncoding, canonical_octets, levels}
+use Rattle.oer_forms.specs.Mode.{Lenient, mode_of}
+use Rattle.oer_forms.specs.Same.{Same}
+use Rattle.oer_forms.specs.Tree.{Tree}
+use Rattle.oer_forms.specs.Versions.{Drops}
+use Rattle.rasn_oer.specs.Conversions.{Canonicalised, ReadAsOlder, NoneIsOlder}
+use Rattle.rasn_oer.specs.Headline.{is_settled, Begins, Decoded, HasNone, Written}
+use Rattle.rasn_oer.proofs.Entries.{written_in}
+
+module _ {A : Type 0} (tree : A → Tree) (IsValue : A → Type 0) (is_tree : (v : A) → IsValue v → IsTree (tree v)) where
+  -- what is read has no more levels than were allowed
+  shallow : (d : ℕ) (input : Octets) (v : A) (rest : Octets) → Decoded tree IsValue Oer d input v rest → levels (tree v) ≤ d
+  shallow d input v rest k = form_levels (tree v) Lenient d k.taken k.begins.spells
+
+  pub canonicalised : (d : ℕ) (input octets rest : Octets) (v : A) → Decoded tree IsValue Oer d input v rest → Written tree IsValue v octets → Canonicalised tree IsValue d input octets rest
+  canonicalised d input octets rest v k w = record {
+    value = v;
+    read = k;
+    written = w;
+    canonical = λ r. record { value = w.value; split = refl; spells = subst (λ o. IsEncoding (mode_of Coer) d o (tree v)) (sym w.octets_are) (written_in Coer (tree v) d (is_tree v w.value) w.encodable (shallow d input v rest k)) };
+    again = λ x r o s j y.
+        let u = j.again v r w.value w.encodable (shallow d input v rest k) (ap (λ l. l ++ r) w.octets_are) in
+        (y.octets_are ∙ same_octets (tree x) (tree v) u.2 ∙ sym w.octets_are, u.1);
+    accepted = λ x o r b.
+        let u = k.only x o r (record { value = b.value; split = b.split; spells = canonical_within_lenient (tree x) d o b.spells }) in
+        (u.1, u.2);
+  }
+
+module _ {A B : Type 0} (newer : A → Tree) (IsNewer : A → Type 0) (is_newer : (v : A) → IsNewer v → IsTree (newer v)) (older : B → Tree) (IsOlder : B → Type 0) (m : Codec) (d : ℕ) (n : A) where
+  pub read_as_older : (octets rest : Octets) (v : B) → Written newer IsNewer n octets → Decoded older IsOlder m d octets v rest → ReadAsOlder newer IsNewer older IsOlder m d n v
+  read_as_older octets rest v w k' =
+      let k : Decoded older IsOlder m d (canonical_octets (newer n)) v rest = subst (λ o. Decoded older IsOlder m d o v rest) w.octets_are k' in
+      record {
+        value = w.value;
+        encodable = w.encodable;
+        rest = rest;
+        read = k;
+        same = λ t i f l.
+            (k.older (newer n) t (canonical_octets (newer n)) [] (is_newer n w.value) i f (sym (append-nil (canonical_octets (newer n)))) (written_in m (newer n) d (is_newer n w.value) w.encodable l)).2;
+      }
+
+  pub none_is_older : (octets : Octets) → Written newer IsNewer n octets → HasNone older IsOlder m d octets → NoneIsOlder newer IsNewer older IsOlder m d n
+  none_is_older octets w k' =
+      let k : HasNone older IsOlder m d (canonical_octets (newer n)) = subst (λ o. HasNone older IsOlder m d o) w.octets_are k' in
+      record {
+        value = w.value;
+        encodable = w.encodable;
+        none = k;
+        dropped = λ t i f l.
+            k.newer (newer n) t (canonical_octets (newer n)) [] (is_newer n w.value) i f (sym (append-nil (canonical_octets (newer n)))) (written_in m (newer n) d (is_newer n w.value) w.encodable l);
+      }

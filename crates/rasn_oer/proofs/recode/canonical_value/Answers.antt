@@ -1,0 +1,10 @@
+use Rattle.rasn_oer.proofs.Conversions.{canonicalised}
+use Rattle.rasn_oer.proofs.recode.canonical_value.Goals as goal
+
+pub returns : goal.returns
+returns g c =
+    let t = g.T.Spelled in
+    let k = g.T.AsnType in
+    canonicalised (t.tree k.CONSTRAINTS) t.IsValue (t.is_tree k.CONSTRAINTS k.consistent) 128 c.args.input.now c.in-Ok-encode_value.octets.items c.in-Ok.rest.now c.in-Ok.value
+    (rw (c.oer.ensures, c.CONSTRAINTS.ensures) at c.in-Ok.ensures)
+    (rw c.CONSTRAINTS-in-Ok.ensures at c.in-Ok-encode_value.ensures)

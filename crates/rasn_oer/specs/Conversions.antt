@@ -1,0 +1,59 @@
+-- What the calls promise that read and write: into canonical octets, and from a newer version of a type into an older one.
+use Rattle.std.specs.Prelude.{◌≡◌, ℕ, ◌≤◌, ◌++◌, ◌⊎◌, Result, Ok, Err, Vec}
+use Rattle.std.specs.Borrow.{Bor}
+use Rattle.std.specs.declared.alloc.Global.{Global}
+use Rattle.asn1_base.specs.Octets.{Octets}
+use Rattle.asn1_base.specs.declared.codec.Codec.{Codec}
+use Rattle.asn1_base.specs.declared.codec.Codec.TheVariants.{Oer, Coer}
+use Rattle.asn1_base.specs.declared.error.DecodeErrorKind.TheVariants as decode
+use Rattle.asn1_base.specs.declared.error.EncodeErrorKind.TheVariants as encode
+use Rattle.oer_forms.specs.Encoding.{IsEncodable, canonical_octets, levels}
+use Rattle.oer_forms.specs.Failures.{Fails}
+use Rattle.oer_forms.specs.Same.{Same}
+use Rattle.oer_forms.specs.Tree.{Tree}
+use Rattle.oer_forms.specs.Versions.{Drops}
+use Rattle.rasn_oer.specs.Headline.{is_settled, Begins, Decoded, HasNone, Written}
+use Rattle.rasn_oer.specs.declared.codec_error.CodecError.{CodecError}
+use Rattle.rasn_oer.specs.declared.codec_error.CodecError.TheVariants.{Decode, Encode}
+
+module _ {A : Type 0} (tree : A → Tree) (IsValue : A → Type 0) where
+  -- The octets are the canonical ones of the value that is read leniently, and the rest is what is left behind it.
+  pub record Canonicalised (d : ℕ) (input octets rest : Octets) : Type 0 where
+    pub value : A
+    pub read : Decoded tree IsValue Oer d input value rest
+    pub written : Written tree IsValue value octets
+    -- canonical reading takes them as an encoding of that value, whatever follows
+    pub canonical : (r : Octets) → Begins tree IsValue Coer d (octets ++ r) value octets r
+    -- to do it again changes nothing
+    pub again : (w : A) (r o s : Octets) → Decoded tree IsValue Oer d (octets ++ r) w s → Written tree IsValue w o → (o ≡ octets) × (s ≡ r)
+    -- what canonical reading takes is that value, with the same rest
+    pub accepted : (w : A) (o r : Octets) → Begins tree IsValue Coer d input w o r → (r ≡ rest) × Same (tree value) (tree w)
+
+  -- Refused only where no value is read leniently, or what is read can't be written; want of memory aside.
+  abbrev pub IsCanonicalised : ℕ → Octets → Result (Vec ℕ Global × Bor Octets) CodecError → Type 0
+  IsCanonicalised d input (Ok p) = Canonicalised d input p.0.items p.1.now
+  IsCanonicalised d input (Err (Decode e)) = (e.kind ≡ decode.OutOfMemory → ⊥) → HasNone tree IsValue Oer d input
+  IsCanonicalised d input (Err (Encode e)) = (e.kind ≡ encode.OutOfMemory) ⊎ ((v : A) × (rest : Octets) × Decoded tree IsValue Oer d input v rest × Fails (tree v) e.kind)
+
+module _ {A B : Type 0} (newer : A → Tree) (IsNewer : A → Type 0) (older : B → Tree) (IsOlder : B → Type 0) (m : Codec) (d : ℕ) (n : A) where
+  -- The newer value can be written, and the older one is what is read of its canonical octets.
+  pub record ReadAsOlder (v : B) : Type 0 where
+    pub value : IsNewer n
+    pub encodable : IsEncodable (newer n)
+    pub rest : Octets
+    pub read : Decoded older IsOlder m d (canonical_octets (newer n)) v rest
+    -- the newer value less its later additions is that value
+    pub same : (t : B) → IsOlder t → Drops (is_settled m) (newer n) (older t) → levels (newer n) ≤ d → Same (older v) (older t)
+
+  -- No value of the older type is read of the newer one's canonical octets.
+  pub record NoneIsOlder : Type 0 where
+    pub value : IsNewer n
+    pub encodable : IsEncodable (newer n)
+    pub none : HasNone older IsOlder m d (canonical_octets (newer n))
+    pub dropped : (t : B) → IsOlder t → Drops (is_settled m) (newer n) (older t) → levels (newer n) ≤ d → ⊥
+
+  -- Refused only where the newer value can't be written, or no older one is read of its octets; want of memory aside.
+  abbrev pub IsAsOlder : Result B CodecError → Type 0
+  IsAsOlder (Ok v) = ReadAsOlder v
+  IsAsOlder (Err (Decode e)) = (e.kind ≡ decode.OutOfMemory → ⊥) → NoneIsOlder
+  IsAsOlder (Err (Encode e)) = (e.kind ≡ encode.OutOfMemory) ⊎ Fails (newer n) e.kind

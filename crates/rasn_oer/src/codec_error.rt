@@ -1,0 +1,13 @@
+use asn1_base::{DecodeError, EncodeError};
+use thiserror::Error;
+
+/// Why a call that reads and writes refused.
+#[derive(Debug, PartialEq, Eq, Drop, Error)]
+pub enum CodecError {
+    /// What reading refused.
+    #[error("reading: {0}")]
+    Decode(DecodeError),
+    /// What writing refused.
+    #[error("writing: {0}")]
+    Encode(EncodeError),
+}

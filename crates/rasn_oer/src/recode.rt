@@ -1,0 +1,47 @@
+//! Calls that read and write.
+ghost use Rattle.rasn_oer.specs.Conversions.{IsAsOlder, IsCanonicalised};
+
+use crate::codec_error::CodecError;
+use crate::de::DecoderOptions;
+use crate::decode::Decode;
+use crate::entry::{decode_value, encode_value};
+use oer_write::Encode;
+use std::alloc::Global;
+
+/// The canonical octets of the value that is read leniently, and the octets behind it.
+pub(crate) fn canonical_value<'a, T: Decode + Encode>(
+    alloc: Global,
+    input: &'a [u8],
+) -> Result<(Vec<u8>, &'a [u8]), CodecError>
+    ensures { IsCanonicalised (T.tree T.CONSTRAINTS) T.IsValue 128 input.entry.now result }
+{
+    match decode_value::<T>(alloc, DecoderOptions::oer(), T::CONSTRAINTS, input) {
+        Err(e) => Err(CodecError::Decode(e)),
+        Ok((value, rest)) => match encode_value(alloc, T::CONSTRAINTS, &value) {
+            Err(e) => Err(CodecError::Encode(e)),
+            Ok(octets) => Ok((octets, rest)),
+        },
+    }
+}
+
+/// The value of the older type that is read of a newer value's canonical octets.
+pub(crate) fn older_value<New: Encode, Old: Decode>(
+    alloc: Global,
+    options: DecoderOptions,
+    newer: &New,
+) -> Result<Old, CodecError>
+    ensures { IsAsOlder (New.tree New.CONSTRAINTS) New.IsValue (Old.tree Old.CONSTRAINTS) Old.IsValue options.codec options.levels newer.now result }
+{
+    match encode_value(alloc, New::CONSTRAINTS, newer) {
+        Err(e) => Err(CodecError::Encode(e)),
+        Ok(octets) => match decode_value::<Old>(
+            alloc,
+            options,
+            Old::CONSTRAINTS,
+            octets.as_slice(),
+        ) {
+            Err(e) => Err(CodecError::Decode(e)),
+            Ok((value, _rest)) => Ok(value),
+        },
+    }
+}
