@@ -11,9 +11,9 @@ use Rattle.oer_forms.specs.Spelled.{IsTextOf, text, text_is, texts_alike}
 use Rattle.oer_forms.specs.Tree.{Tree, Rows, NoRows, Optional, Struct}
 use Rattle.rasn_oer.specs.Components.{slot_of}
 use Rattle.rasn_oer.specs.Parts.{Parts, NoParts, OptionalPart, Admits, OnPresent, AreOf}
-use Rattle.oer_types.specs.Defaults.{optional_row}
-use Rattle.oer_types.specs.Slots.{IfThere, slot_is, slots_alike, slot_made}
-use Rattle.oer_types.specs.Tags.{context}
+use Rattle.sequence_types.specs.Defaults.{optional_row}
+use Rattle.sequence_types.specs.Slots.{IfThere, slot_is, slots_alike, slot_made}
+use Rattle.sequence_types.specs.Tags.{context}
 use Rattle.oer_types.specs.Wrappers.{of_three}
 use Rattle.oer_types.specs.declared.constrained.ConstrainedOptions.{ConstrainedOptions}
 use Rattle.oer_types.specs.declared.wrappers.HashedId3.{HashedId3}

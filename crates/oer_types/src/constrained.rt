@@ -1,12 +1,11 @@
 //! A sequence with an optional component that has constraints.
 ghost use Rattle.oer_forms.specs.Tree.{NoRows};
 ghost use Rattle.oer_types.specs.Constrained.{IsHashed, constrained_rows, constrained_parts};
-ghost use Rattle.oer_types.specs.Pairs.{none_of};
-ghost use Rattle.oer_types.specs.Slots.{IfThere};
+ghost use Rattle.sequence_types.specs.Pairs.{none_of};
+ghost use Rattle.sequence_types.specs.Slots.{IfThere};
 ghost use Rattle.oer_write.specs.Rows.{InSequence};
 ghost use Rattle.rasn_oer.specs.Parts.{NoParts, ReadsParts};
 
-use crate::options::put_option;
 use crate::wrappers::HashedId3;
 use asn1_base::{
     AsnType, Class, Constraints, Constructed, DecodeError, EncodeError, Field, FieldPresence,
@@ -15,6 +14,7 @@ use asn1_base::{
 use oer_forms::Spelled;
 use oer_write::{Encode, Encoder};
 use rasn_oer::{Decode, Decoder};
+use sequence_types::put_option;
 use std::alloc::Global;
 
 /// `SEQUENCE { a HashedId3 OPTIONAL }`

@@ -1,6 +1,6 @@
 use Rattle.std.proofs.Common.{refl, [], false}
 use Rattle.oer_types.specs.Constrained.{IsConstrained, constrained_parts, constrained_rows, constrained_tree, constrained_made, constrained_admitted, constrained_table}
-use Rattle.oer_types.specs.Pairs.{none_of}
+use Rattle.sequence_types.specs.Pairs.{none_of}
 use Rattle.rasn_oer.proofs.Promises.{promise_of}
 use Rattle.rasn_oer.proofs.SequenceLaw.{sequence_law}
 use Rattle.rasn_oer.specs.Parts.{NoParts, ReadsParts}

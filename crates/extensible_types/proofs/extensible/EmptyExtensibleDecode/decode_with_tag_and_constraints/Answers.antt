@@ -1,0 +1,13 @@
+use Rattle.std.proofs.Common.{refl, [], true}
+use Rattle.oer_forms.specs.Spelled.{IsAny}
+use Rattle.extensible_types.specs.Extensible.{empty_extensible_made, empty_extensible_tree}
+use Rattle.sequence_types.specs.Pairs.{none_of}
+use Rattle.rasn_oer.proofs.Promises.{promise_of}
+use Rattle.rasn_oer.proofs.SequenceLaw.{sequence_law}
+use Rattle.rasn_oer.specs.Parts.{NoParts}
+use Rattle.extensible_types.proofs.extensible.EmptyExtensibleDecode.decode_with_tag_and_constraints.Goals as goal
+
+pub returns-clause-law : goal.returns-clause-law
+unfolding Rattle.extensible_types.specs.Extensible.empty_extensible_tree
+returns-clause-law c =
+    sequence_law NoParts NoParts none_of none_of true [] [] tt tt (λ e. absurd (cc e)) empty_extensible_tree IsAny (λ v. refl) (λ v a b. tt) empty_extensible_made _ (promise_of _ _ _ (λ p q r k. k)) _ _ _ c.decode_sequence.ensures.read c.decode_sequence.ensures.refused c.decode_sequence.ensures.unchanged

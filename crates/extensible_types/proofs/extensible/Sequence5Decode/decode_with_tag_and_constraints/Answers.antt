@@ -1,0 +1,11 @@
+use Rattle.std.proofs.Common.{refl, true}
+use Rattle.oer_forms.specs.Spelled.{IsAny}
+use Rattle.extensible_types.specs.Extensible.{first_parts, sequence5_more, sequence5_roots, sequence5_additions, a_rows, b_rows, sequence5_made, sequence5_tree}
+use Rattle.rasn_oer.proofs.Promises.{promise_of}
+use Rattle.rasn_oer.proofs.SequenceLaw.{sequence_law}
+use Rattle.extensible_types.proofs.extensible.Sequence5Decode.decode_with_tag_and_constraints.Goals as goal
+
+pub returns-clause-law : goal.returns-clause-law
+unfolding Rattle.extensible_types.specs.Extensible.sequence5_tree
+returns-clause-law c =
+    sequence_law first_parts sequence5_more sequence5_roots sequence5_additions true a_rows b_rows (refl, refl, tt) (refl, refl, tt) (λ e. absurd (cc e)) sequence5_tree IsAny (λ v. refl) (λ v a b. tt) sequence5_made _ (promise_of _ _ _ (λ p q r k. k)) _ _ _ c.decode_sequence.ensures.read c.decode_sequence.ensures.refused c.decode_sequence.ensures.unchanged

@@ -1,0 +1,14 @@
+use Rattle.rasn_oer.proofs.Reading.{reading}
+use Rattle.extensible_types.proofs.extensible.fn.Sequence2Decode.decode_with_tag_and_constraints.decode_sequence.Goals as goal
+
+pub returns-in_err-a : goal.returns-in_err-a
+returns-in_err-a c = search reading
+
+pub returns-in_err-b : goal.returns-in_err-b
+returns-in_err-b c = search reading
+
+pub returns-in_err-c : goal.returns-in_err-c
+returns-in_err-c c = search reading
+
+pub returns : goal.returns
+returns c = search reading

@@ -1,0 +1,12 @@
+use Rattle.rasn_oer.proofs.Reading.{reading}
+use Rattle.sequence_types.specs.Defaults.{whole_default}
+use Rattle.extensible_types.proofs.extension_defaults.fn.AddDefDecode.decode_with_tag_and_constraints.decode_sequence.Goals as goal
+
+pub returns-in_err-a : goal.returns-in_err-a
+returns-in_err-a c = search (reading, whole_default)
+
+pub returns-in_err-b : goal.returns-in_err-b
+returns-in_err-b c = search (reading, whole_default)
+
+pub returns : goal.returns
+returns c = search (reading, whole_default)

@@ -1,0 +1,2 @@
+pub mod Extensible
+pub mod ExtensionDefaults

@@ -1,0 +1,12 @@
+use Rattle.std.proofs.Common.{refl, true}
+use Rattle.oer_forms.specs.Spelled.{IsAny}
+use Rattle.extensible_types.specs.Extensible.{first_parts, a_rows}
+use Rattle.group_types.specs.Groups.{sequence3_more, sequence3_roots, sequence3_additions, group_rows, sequence3_made, sequence3_tree}
+use Rattle.rasn_oer.proofs.Promises.{promise_of}
+use Rattle.rasn_oer.proofs.SequenceLaw.{sequence_law}
+use Rattle.group_types.proofs.groups.Sequence3Decode.decode_with_tag_and_constraints.Goals as goal
+
+pub returns-clause-law : goal.returns-clause-law
+unfolding Rattle.group_types.specs.Groups.sequence3_tree
+returns-clause-law c =
+    sequence_law first_parts sequence3_more sequence3_roots sequence3_additions true a_rows group_rows (refl, refl, tt) (refl, refl, tt) (λ e. absurd (cc e)) sequence3_tree IsAny (λ v. refl) (λ v a b. tt) sequence3_made _ (promise_of _ _ _ (λ p q r k. k)) _ _ _ c.decode_sequence.ensures.read c.decode_sequence.ensures.refused c.decode_sequence.ensures.unchanged

@@ -1,0 +1,11 @@
+use Rattle.rasn_oer.proofs.Reading.{reading}
+use Rattle.group_types.proofs.octet_additions.fn.OmittedDecode.decode_with_tag_and_constraints.decode_sequence.Goals as goal
+
+pub returns-in_err-a : goal.returns-in_err-a
+returns-in_err-a c = search reading
+
+pub returns-in_err-omitted : goal.returns-in_err-omitted
+returns-in_err-omitted c = search reading
+
+pub returns : goal.returns
+returns c = search reading

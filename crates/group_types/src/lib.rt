@@ -1,0 +1,8 @@
+//! Sequences with addition groups, and additions of octets, by hand.
+#![tactic(auto)]
+
+mod groups;
+mod octet_additions;
+
+pub use groups::{Group6, Sequence3, Sequence4, Sequence6};
+pub use octet_additions::{Omitted, SequenceDuplicatesExtended};

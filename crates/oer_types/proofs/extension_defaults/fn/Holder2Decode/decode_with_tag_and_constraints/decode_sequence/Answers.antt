@@ -1,9 +1,0 @@
-use Rattle.rasn_oer.proofs.Reading.{reading}
-use Rattle.oer_types.specs.ExtensionDefaults.{sequence5_known}
-use Rattle.oer_types.proofs.extension_defaults.fn.Holder2Decode.decode_with_tag_and_constraints.decode_sequence.Goals as goal
-
-pub returns-in_err-a : goal.returns-in_err-a
-returns-in_err-a c = search (reading, sequence5_known)
-
-pub returns : goal.returns
-returns c = search (reading, sequence5_known)

@@ -1,0 +1,3 @@
+pub mod LinkLaw
+pub mod NestLaw
+pub mod TopLaw

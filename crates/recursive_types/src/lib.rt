@@ -1,0 +1,10 @@
+//! Types that contain themselves, by hand.
+#![tactic(auto)]
+
+mod links;
+mod nests;
+mod top_levels;
+
+pub use links::{Link, LinkChoice};
+pub use nests::Nest;
+pub use top_levels::{TestChoice, TopLevel};

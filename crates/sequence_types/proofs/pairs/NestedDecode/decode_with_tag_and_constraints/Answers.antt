@@ -1,0 +1,16 @@
+use Rattle.std.proofs.Common.{refl, [], false}
+use Rattle.oer_forms.specs.Spelled.{IsAny}
+use Rattle.sequence_types.specs.Pairs.{nested_parts, nested_rows, none_of, nested_tree, nested_made, two_rows}
+use Rattle.rasn_oer.proofs.Promises.{promise_of}
+use Rattle.rasn_oer.proofs.SequenceLaw.{sequence_law}
+use Rattle.rasn_oer.specs.Parts.{NoParts, ReadsParts}
+use Rattle.sequence_types.proofs.pairs.NestedDecode.decode_with_tag_and_constraints.Goals as goal
+
+pub decode_sequence-requires-clause-keeps : goal.decode_sequence-requires-clause-keeps
+decode_sequence-requires-clause-keeps c lent after v opened k =
+    (promise_of _ _ (λ s r t. ReadsParts nested_parts NoParts nested_rows none_of s r t) (λ p q r k. k) _ _ _ k).read.rear
+
+pub returns-clause-law : goal.returns-clause-law
+unfolding Rattle.sequence_types.specs.Pairs.nested_tree
+returns-clause-law c =
+    sequence_law nested_parts NoParts nested_rows none_of false two_rows [] (refl, refl, (refl, refl, tt)) tt (λ e. refl) nested_tree IsAny (λ v. refl) (λ v a b. tt) nested_made _ (promise_of _ _ _ (λ p q r k. k)) _ _ _ c.decode_sequence.ensures.read c.decode_sequence.ensures.refused c.decode_sequence.ensures.unchanged

@@ -1,0 +1,5 @@
+pub mod Tags
+pub mod Slots
+pub mod DefaultSlots
+pub mod Pairs
+pub mod Defaults
