@@ -1,3 +1,5 @@
+pub mod DeepDefaultLaw
 pub mod LinkLaw
 pub mod NestLaw
+pub mod NestedLaw
 pub mod TopLaw

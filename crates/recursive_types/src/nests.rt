@@ -7,7 +7,7 @@ ghost use Rattle.oer_write.specs.Written.{WritesTree, Encodes, Refused};
 ghost use Rattle.rasn_oer.specs.Law.{Decodes};
 
 use asn1_base::{AsnType, Constraints, DecodeError, EncodeError, Tag};
-use oer_forms::Spelled;
+use oer_forms::{EqualAsSpelled, Spelled};
 use oer_write::{Encode, Encoder};
 use rasn_oer::{Decode, Decoder};
 use std::alloc::Global;
@@ -48,6 +48,12 @@ impl Spelled for Nest {
     ghost is_tree = { λ c k v i. nest_is v };
 
     ghost alike = { λ c k v w i j. nests_alike v w };
+}
+
+impl EqualAsSpelled for Nest {
+    ghost use Rattle.recursive_types.specs.SameNests.{nests_same};
+
+    ghost eq_is_same = { λ c k v w i j. nests_same v w };
 }
 
 /// Writes a nest: by its depth.

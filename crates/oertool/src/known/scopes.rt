@@ -2,7 +2,7 @@ use crate::known::OnType;
 use asn1_base::SetOf;
 use asn1_ints::Integer;
 use oer_types::{
-    DefaultAndOptional, DefaultInteger, Empty, EmptyExtensible, Foo, Holder1, Holder2,
+    DeepDefault, DefaultAndOptional, DefaultInteger, Empty, EmptyExtensible, Foo, Holder1, Holder2,
     ManyOptional, MixedSet, Nest, Omitted, OnlyChoice, Outer, PriorityChoice, Sequence1, Sequence2,
     Sequence3, Sequence5, Sequence6, SequenceDuplicatesExtended, TopLevel, WideChoice,
 };
@@ -20,6 +20,7 @@ pub(super) fn with_sequence<W: OnType>(word: &str, work: W) -> Result<W::Output,
         "outer" => Ok(work.on::<Outer>()),
         "defint" => Ok(work.on::<DefaultInteger>()),
         "defopt" => Ok(work.on::<DefaultAndOptional>()),
+        "deepdef" => Ok(work.on::<DeepDefault>()),
         "holder1" => Ok(work.on::<Holder1>()),
         "holder2" => Ok(work.on::<Holder2>()),
         "omitted" => Ok(work.on::<Omitted>()),

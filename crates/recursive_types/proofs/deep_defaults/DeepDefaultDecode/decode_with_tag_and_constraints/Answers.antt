@@ -1,0 +1,17 @@
+use Rattle.std.proofs.Common.{refl, [], false}
+use Rattle.oer_forms.specs.Spelled.{IsAny}
+use Rattle.recursive_types.specs.DeepDefaults.{deep_default_parts, deep_default_rows, deep_default_tree, deep_default_made, deep_default_table}
+use Rattle.sequence_types.specs.Pairs.{none_of}
+use Rattle.rasn_oer.proofs.Promises.{promise_of}
+use Rattle.rasn_oer.proofs.SequenceLaw.{sequence_law}
+use Rattle.rasn_oer.specs.Parts.{NoParts, ReadsParts}
+use Rattle.recursive_types.proofs.deep_defaults.DeepDefaultDecode.decode_with_tag_and_constraints.Goals as goal
+
+pub decode_sequence-requires-clause-keeps : goal.decode_sequence-requires-clause-keeps
+decode_sequence-requires-clause-keeps c lent after v opened k =
+    (promise_of _ _ (λ s r t. ReadsParts deep_default_parts NoParts deep_default_rows none_of s r t) (λ p q r k. k) _ _ _ k).read.rear
+
+pub returns-clause-law : goal.returns-clause-law
+unfolding Rattle.recursive_types.specs.DeepDefaults.deep_default_tree
+returns-clause-law c =
+    sequence_law deep_default_parts NoParts deep_default_rows none_of false deep_default_table [] (refl, refl, tt) tt (λ e. refl) deep_default_tree IsAny (λ v. refl) (λ v a b. tt) deep_default_made _ (promise_of _ _ _ (λ p q r k. k)) _ _ _ c.decode_sequence.ensures.read c.decode_sequence.ensures.refused c.decode_sequence.ensures.unchanged
