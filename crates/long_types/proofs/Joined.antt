@@ -1,12 +1,12 @@
 -- Rows that are written in two calls, one behind the other.
-use Rattle.std.proofs.Common.{◌≡◌, Bool, true, List, [], ◌∷◌, ◌++◌, refl, ap, sym, ◌∙◌, append_assoc, Ok, Err, Result, inl, inr}
+use Rattle.std.proofs.Common.{◌≡◌, Bool, true, List, ◌∷◌, ◌++◌, refl, ap, sym, ◌∙◌, append_assoc, Ok, Err, Result, inl, inr}
 use Rattle.asn1_base.specs.Octets.{Octets}
 use Rattle.asn1_base.specs.declared.error.EncodeError.{EncodeError}
 use Rattle.asn1_base.specs.declared.error.EncodeErrorKind.{EncodeErrorKind}
 use Rattle.oer_forms.specs.Encoding.{canonical_octets}
 use Rattle.oer_forms.specs.Tree.{Rows, NoRows, Required, Optional, Default}
 use Rattle.oer_write.proofs.Keeping.{keeps_then}
-use Rattle.oer_write.specs.Rows.{RowsDone, RowsRefused, InSequence, recorded, join, octets_of, presence_of, bitmap_of, opens_of, open_type, slot_octets, slot_open, is_present, AreEncodable, AreOpenEncodable, SomeFails}
+use Rattle.oer_write.specs.Rows.{RowsDone, InSequence, recorded, join, octets_of, presence_of, bitmap_of, opens_of, open_type, slot_octets, slot_open, is_present, AreEncodable, AreOpenEncodable, SomeFails}
 use Rattle.oer_write.specs.Written.{Written, Frame, Keeps}
 
 octets_join : (a b : Rows) → octets_of (join a b) ≡ octets_of a ++ octets_of b
@@ -45,15 +45,6 @@ open_encodable_join (Required g t r) b h i = (h.0, open_encodable_join r b h.1 i
 open_encodable_join (Optional g s r) b h i = (h.0, open_encodable_join r b h.1 i)
 open_encodable_join (Default g u s r) b h i = (h.0, open_encodable_join r b h.1 i)
 
-fails_first : (k : EncodeErrorKind) (a b : Rows) → SomeFails a k → SomeFails (join a b) k
-fails_first k NoRows b h = absurd h
-fails_first k (Required g t r) b (inl h) = inl h
-fails_first k (Required g t r) b (inr h) = inr (fails_first k r b h)
-fails_first k (Optional g s r) b (inl h) = inl h
-fails_first k (Optional g s r) b (inr h) = inr (fails_first k r b h)
-fails_first k (Default g u s r) b (inl h) = inl h
-fails_first k (Default g u s r) b (inr h) = inr (fails_first k r b h)
-
 fails_second : (k : EncodeErrorKind) (a b : Rows) → SomeFails b k → SomeFails (join a b) k
 fails_second k NoRows b h = h
 fails_second k (Required g t r) b h = inr (fails_second k r b h)
@@ -85,13 +76,7 @@ keeps_of_done a c e e' h = record {
   outer = h.outer;
 }
 
--- rows in a sequence: where the first call is refused, and where the second one follows it
-pub refused_before : (a b c d : Rows) (x : EncodeError) (e e' : Written) → RowsRefused a c x.kind e e' → RowsRefused (join a b) (join c d) x.kind e e'
-refused_before a b c d x e e' h = record {
-  reason = elim h.reason [ inl m ↦ inl m | inr f ↦ inr (elim f [ inl r ↦ inl (fails_first x.kind a b r) | inr r ↦ inr (fails_first x.kind c d r) ]) ];
-  keeps = h.keeps;
-}
-
+-- two calls, the second where the first one is done
 pub then_rows : (a b c d : Rows) (e e1 e' : Written) (u : Unit {0}) (r : Result (Unit {0}) EncodeError) → InSequence a c e (Ok u) e1 → InSequence b d e1 r e' → InSequence (join a b) (join c d) e r e'
 then_rows a b c d e e1 e' u (Ok v) h i = λ s. let k = h s in done_then a b c d e e1 e' k (i (ap (λ (f : Frame). f.is_set) k.frame ∙ s))
 then_rows a b c d e e1 e' u (Err x) h i = λ s.
@@ -102,10 +87,6 @@ then_rows a b c d e e1 e' u (Err x) h i = λ s.
       keeps = keeps_then e e1 e' (keeps_of_done a c e e1 k) n.keeps;
     }
 
--- ---- the same, of root rows alone
-
-pub refused_first : (a b : Rows) (x : EncodeError) (e e' : Written) → RowsRefused a NoRows x.kind e e' → RowsRefused (join a b) NoRows x.kind e e'
-refused_first a b x e e' h = refused_before a b NoRows NoRows x e e' h
-
+-- the same, of root rows alone
 pub then_in_sequence : (a b : Rows) (e e1 e' : Written) (u : Unit {0}) (r : Result (Unit {0}) EncodeError) → InSequence a NoRows e (Ok u) e1 → InSequence b NoRows e1 r e' → InSequence (join a b) NoRows e r e'
 then_in_sequence a b e e1 e' u r h i = then_rows a b NoRows NoRows e e1 e' u r h i

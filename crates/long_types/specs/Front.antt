@@ -47,7 +47,7 @@ unfolding text
 same_octets o p e = cc e
 
 -- what is admitted by its tree is one that the type admits
-octets_there : (o : Option Octets) → OnPresent OctetsPart (octet_slot o) → IfThere IsOctets o
+pub octets_there : (o : Option Octets) → OnPresent OctetsPart (octet_slot o) → IfThere IsOctets o
 octets_there None h = tt
 octets_there (Some v) h = subst IsOctets (sym (same_octets v h.value h.is)) h.is_value
 

@@ -88,7 +88,7 @@ fn put_octets(
 
 /// Writes them.
 pub(crate) fn put_front(front: FrontView<'_>, encoder: &mut Encoder<'_>) -> Result<(), EncodeError>
-    ensures { InSequence (front_rows (seen front) NoRows) NoRows encoder.old result encoder.new }
+    ensures { InSequence (front_rows (seen front.entry) NoRows) NoRows encoder.old result encoder.new }
 {
     let tag = Tag::new(Class::Context, 0);
     encoder.encode_component(tag, Integer::CONSTRAINTS, front.value)?;
