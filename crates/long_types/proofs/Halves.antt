@@ -5,7 +5,7 @@ use Rattle.asn1_base.specs.declared.error.DecodeError.{DecodeError}
 use Rattle.oer_forms.specs.Tree.{Rows}
 use Rattle.rasn_oer.proofs.Steps.{at_ok, at_err}
 use Rattle.rasn_oer.specs.Law.{IsForMemory}
-use Rattle.rasn_oer.specs.Parts.{Parts, Takes, Refuses, Stops}
+use Rattle.rasn_oer.specs.Parts.{Parts, Takes, Refuses, Stops, ReadsParts}
 use Rattle.rasn_oer.specs.State.{State}
 use Rattle.long_types.specs.Halves.{Passes, ReadsFirst}
 
@@ -32,3 +32,18 @@ module _ {B A : Type 0} (all rest qs : Parts) (first : A → Rows → Rows) wher
   pub first_leaves : (Q : DecodeError → Type 0) (s : State) (result : Result A DecodeError) (t : State) → IsErrAnd result Q → Stops s all qs result → ReadsFirst B all rest qs first s result t
   first_leaves Q s (Ok v) t h k = absurd h
   first_leaves Q s (Err e) t h k = record { read = tt; refused = k }
+
+-- ---- a call that reads all that is left
+
+module _ {A : Type 0} (ps qs : Parts) (roots additions : A → Rows) where
+  pub last_read : (s t : State) (answer : Result A DecodeError) (flow : _) (v : A) (r a : Rows)
+      → ReadsParts ps qs roots additions s answer t → answer ≡ result_from_control_flow flow → flow ≡ Continue v → r ≡ roots v → a ≡ additions v → Takes s ps qs r a t
+  last_read s t answer flow v r a d e f i j =
+      subst (λ (z : Rows). Takes s ps qs z a t) (sym i) (subst (λ (z : Rows). Takes s ps qs (roots v) z t) (sym j) (at_ok (λ v. Takes s ps qs (roots v) (additions v) t) answer flow v e f d.read))
+
+  pub last_stops : {B : Type 0} (Q : DecodeError → Type 0) (s t : State) (answer : Result A DecodeError) (flow : _) (x : _) (result : Result B DecodeError)
+      → ReadsParts ps qs roots additions s answer t → answer ≡ result_from_control_flow flow → flow ≡ Break x → IsErrAnd result Q → ((y : DecodeError) → Q y → y ≡ x.0) → Stops s ps qs result
+  last_stops Q s t answer flow x (Ok w) d e f h q = absurd h
+  last_stops Q s t answer flow x (Err y) d e f h q =
+      let n : (IsForMemory x.0 → ⊥) → Refuses s ps qs = at_err (λ y. (IsForMemory y → ⊥) → Refuses s ps qs) answer flow x e f d.stops.none in
+      record { none = λ m. n (λ k. m (ap (λ (z : DecodeError). z.kind) (q y h) ∙ k)) }

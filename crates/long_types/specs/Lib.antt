@@ -1,2 +1,4 @@
+pub mod Extended
+pub mod Front
 pub mod Halves
 pub mod Many

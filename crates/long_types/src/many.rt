@@ -1,13 +1,13 @@
 //! A sequence of many optional components, written and read in two calls.
+ghost use Rattle.std.specs.Prelude.{◌≡◌};
 ghost use Rattle.oer_forms.specs.Tree.{NoRows};
-ghost use Rattle.long_types.specs.Halves.{ReadsFirst};
-ghost use Rattle.long_types.specs.Many.{IsOctets, many_front, many_back, many_rows, first_rows, many_parts, many_rest};
+ghost use Rattle.long_types.specs.Front.{seen};
+ghost use Rattle.long_types.specs.Many.{many_first, many_back, many_rows, many_parts};
 ghost use Rattle.sequence_types.specs.Pairs.{none_of};
-ghost use Rattle.sequence_types.specs.Slots.{IfThere};
-ghost use Rattle.long_types.specs.declared.many.ManyOptional.{ManyOptional};
 ghost use Rattle.oer_write.specs.Rows.{InSequence};
 ghost use Rattle.rasn_oer.specs.Parts.{NoParts, ReadsParts};
 
+use crate::front::{BeginsWithFront, FrontView, look_at, put_front, put_integer, read_front};
 use asn1_base::{
     AsnType, Class, Constraints, Constructed, DecodeError, EncodeError, Field, FieldPresence,
     Fields, Tag,
@@ -17,7 +17,6 @@ use asn1_values::OctetString;
 use oer_forms::Spelled;
 use oer_write::{Encode, Encoder};
 use rasn_oer::{Decode, Decoder};
-use sequence_types::put_option;
 use std::alloc::Global;
 
 /// `SEQUENCE` of an INTEGER and twelve optional components: integers, and three octet strings.
@@ -36,18 +35,6 @@ pub struct ManyOptional {
     pub integer7: Option<Integer>,
     pub integer8: Option<Integer>,
     pub integer9: Option<Integer>,
-}
-
-/// The components that are read first.
-#[derive(Drop)]
-struct ManyFirst {
-    value: Integer,
-    integer1: Option<Integer>,
-    octet1: Option<OctetString>,
-    integer2: Option<Integer>,
-    octet2: Option<OctetString>,
-    integer3: Option<Integer>,
-    octet3: Option<OctetString>,
 }
 
 const MANY_FIELDS: &'static [Field<'static>] = &[
@@ -233,106 +220,42 @@ impl Spelled for ManyOptional {
     ghost alike = { λ c k v w i j. many_alike v w i j };
 }
 
-/// What there is of an octet string is octets.
-fn look_at(value: &Option<OctetString>)
-    ensures { IfThere IsOctets value.now }
-{
-    match value {
-        Some(value) => {
-            let _octets = value.as_bytes();
-        }
-        None => {}
-    }
+impl BeginsWithFront for ManyOptional {
+    ghost use Rattle.rasn_oer.specs.Parts.{NoParts};
+    ghost use Rattle.long_types.specs.Many.{many_rest};
+
+    ghost others = { many_rest };
+
+    ghost additions = { NoParts };
 }
 
-/// Writes the first components.
-fn put_front(many: &ManyOptional, encoder: &mut Encoder<'_>) -> Result<(), EncodeError>
-    ensures { InSequence (many_front many.now) NoRows encoder.old result encoder.new }
-{
-    encoder.encode_component(
-        Tag::new(Class::Context, 0),
-        Integer::CONSTRAINTS,
-        &many.value,
-    )?;
-    put_option(
-        encoder,
-        Tag::new(Class::Context, 1),
-        Integer::CONSTRAINTS,
-        &many.integer1,
-    )?;
-    put_option(
-        encoder,
-        Tag::new(Class::Context, 2),
-        OctetString::CONSTRAINTS,
-        &many.octet1,
-    )?;
-    put_option(
-        encoder,
-        Tag::new(Class::Context, 3),
-        Integer::CONSTRAINTS,
-        &many.integer2,
-    )?;
-    put_option(
-        encoder,
-        Tag::new(Class::Context, 4),
-        OctetString::CONSTRAINTS,
-        &many.octet2,
-    )?;
-    put_option(
-        encoder,
-        Tag::new(Class::Context, 5),
-        Integer::CONSTRAINTS,
-        &many.integer3,
-    )?;
-    put_option(
-        encoder,
-        Tag::new(Class::Context, 6),
-        OctetString::CONSTRAINTS,
-        &many.octet3,
-    )?;
-    Ok(())
+impl ManyOptional {
+    /// The components that are written first.
+    fn first(&self) -> FrontView<'_>
+        ensures { seen result ≡ many_first self.now }
+    {
+        FrontView {
+            value: &self.value,
+            integer1: &self.integer1,
+            octet1: &self.octet1,
+            integer2: &self.integer2,
+            octet2: &self.octet2,
+            integer3: &self.integer3,
+            octet3: &self.octet3,
+        }
+    }
 }
 
 /// Writes the others.
 fn put_back(many: &ManyOptional, encoder: &mut Encoder<'_>) -> Result<(), EncodeError>
     ensures { InSequence (many_back many.now) NoRows encoder.old result encoder.new }
 {
-    put_option(
-        encoder,
-        Tag::new(Class::Context, 7),
-        Integer::CONSTRAINTS,
-        &many.integer4,
-    )?;
-    put_option(
-        encoder,
-        Tag::new(Class::Context, 8),
-        Integer::CONSTRAINTS,
-        &many.integer5,
-    )?;
-    put_option(
-        encoder,
-        Tag::new(Class::Context, 9),
-        Integer::CONSTRAINTS,
-        &many.integer6,
-    )?;
-    put_option(
-        encoder,
-        Tag::new(Class::Context, 10),
-        Integer::CONSTRAINTS,
-        &many.integer7,
-    )?;
-    put_option(
-        encoder,
-        Tag::new(Class::Context, 11),
-        Integer::CONSTRAINTS,
-        &many.integer8,
-    )?;
-    put_option(
-        encoder,
-        Tag::new(Class::Context, 12),
-        Integer::CONSTRAINTS,
-        &many.integer9,
-    )?;
+    put_integer(7, &many.integer4, encoder)?;
+    put_integer(8, &many.integer5, encoder)?;
+    put_integer(9, &many.integer6, encoder)?;
+    put_integer(10, &many.integer7, encoder)?;
+    put_integer(11, &many.integer8, encoder)?;
+    put_integer(12, &many.integer9, encoder)?;
     Ok(())
 }
 
@@ -352,42 +275,11 @@ impl Encode for ManyOptional {
             |encoder: &mut Encoder<'_>| -> Result<(), EncodeError>
                 ensures { InSequence (many_rows self.entry.now) NoRows encoder.old result encoder.new }
             {
-                put_front(self, encoder)?;
+                put_front(self.first(), encoder)?;
                 put_back(self, encoder)
             },
         )
     }
-}
-
-/// Reads the first components.
-fn read_front(alloc: Global, decoder: &mut Decoder<'_>) -> Result<ManyFirst, DecodeError>
-    ensures { ReadsFirst ManyOptional many_parts many_rest NoParts first_rows decoder.old result decoder.new }
-{
-    let value = Integer::decode_with_tag(alloc, decoder, Tag::new(Class::Context, 0))?;
-    let integer1 = decoder.decode_optional_with_tag::<Integer>(alloc, Tag::new(Class::Context, 1))?;
-    let octet1 = decoder.decode_optional_with_tag::<OctetString>(
-        alloc,
-        Tag::new(Class::Context, 2),
-    )?;
-    let integer2 = decoder.decode_optional_with_tag::<Integer>(alloc, Tag::new(Class::Context, 3))?;
-    let octet2 = decoder.decode_optional_with_tag::<OctetString>(
-        alloc,
-        Tag::new(Class::Context, 4),
-    )?;
-    let integer3 = decoder.decode_optional_with_tag::<Integer>(alloc, Tag::new(Class::Context, 5))?;
-    let octet3 = decoder.decode_optional_with_tag::<OctetString>(
-        alloc,
-        Tag::new(Class::Context, 6),
-    )?;
-    Ok(ManyFirst {
-        value,
-        integer1,
-        octet1,
-        integer2,
-        octet2,
-        integer3,
-        octet3,
-    })
 }
 
 #[tactic(auto, using(rasn_oer::proofs::Reading::reading))]
@@ -407,7 +299,7 @@ impl Decode for ManyOptional {
             |decoder: &mut Decoder<'_>| -> Result<ManyOptional, DecodeError>
                 ensures { ReadsParts many_parts NoParts many_rows none_of decoder.old result decoder.new }
             {
-                let first = read_front(alloc, decoder)?;
+                let first = read_front::<ManyOptional>(alloc, decoder)?;
                 let integer4 = decoder.decode_optional_with_tag::<Integer>(
                     alloc,
                     Tag::new(Class::Context, 7),

@@ -15,7 +15,7 @@ pub use extensible_types::{
 pub use group_types::{
     Group6, Omitted, Sequence3, Sequence4, Sequence6, SequenceDuplicatesExtended,
 };
-pub use long_types::ManyOptional;
+pub use long_types::{ExtendedOptional, ManyOptional};
 pub use ranges::{FiveAroundZero, FromZeroTo64Bits, GreatPositive, Small};
 pub use recursive_types::{DeepDefault, Link, LinkChoice, Nest, TestChoice, TopLevel};
 pub use sequence_types::{

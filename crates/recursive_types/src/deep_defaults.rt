@@ -9,7 +9,7 @@ ghost use Rattle.rasn_oer.specs.Parts.{NoParts, ReadsParts};
 
 use crate::nests::Nest;
 use asn1_base::{
-    AsnType, Class, Codec, Constraints, Constructed, DecodeError, DecodeErrorKind, EncodeError,
+    AsnType, Class, Constraints, Constructed, DecodeError, DecodeErrorKind, EncodeError,
     EncodeErrorKind, Field, FieldPresence, Fields, Tag,
 };
 use oer_forms::Spelled;
@@ -136,7 +136,7 @@ impl Encode for DeepDefault {
                     Ok(default) => default,
                     Err(_) => return Err(EncodeError {
                         kind: EncodeErrorKind::OutOfMemory,
-                        codec: Codec::Coer,
+                        codec: encoder.codec(),
                     }),
                 };
                 encoder.encode_default_with_tag_and_constraints(

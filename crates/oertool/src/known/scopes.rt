@@ -2,9 +2,10 @@ use crate::known::OnType;
 use asn1_base::SetOf;
 use asn1_ints::Integer;
 use oer_types::{
-    DeepDefault, DefaultAndOptional, DefaultInteger, Empty, EmptyExtensible, Foo, Holder1, Holder2,
-    ManyOptional, MixedSet, Nest, Omitted, OnlyChoice, Outer, PriorityChoice, Sequence1, Sequence2,
-    Sequence3, Sequence5, Sequence6, SequenceDuplicatesExtended, TopLevel, WideChoice,
+    DeepDefault, DefaultAndOptional, DefaultInteger, Empty, EmptyExtensible, ExtendedOptional, Foo,
+    Holder1, Holder2, ManyOptional, MixedSet, Nest, Omitted, OnlyChoice, Outer, PriorityChoice,
+    Sequence1, Sequence2, Sequence3, Sequence5, Sequence6, SequenceDuplicatesExtended, TopLevel,
+    WideChoice,
 };
 
 /// Does it with the sequence or set of that word; the work again where none has it.
@@ -25,6 +26,7 @@ pub(super) fn with_sequence<W: OnType>(word: &str, work: W) -> Result<W::Output,
         "holder2" => Ok(work.on::<Holder2>()),
         "omitted" => Ok(work.on::<Omitted>()),
         "dup" => Ok(work.on::<SequenceDuplicatesExtended>()),
+        "extopt" => Ok(work.on::<ExtendedOptional>()),
         "manyopt" => Ok(work.on::<ManyOptional>()),
         "toplevel" => Ok(work.on::<TopLevel>()),
         "foo" => Ok(work.on::<Foo>()),

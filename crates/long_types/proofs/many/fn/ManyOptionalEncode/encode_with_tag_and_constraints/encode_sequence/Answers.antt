@@ -1,6 +1,14 @@
+use Rattle.std.proofs.Common.{Ok, subst}
+use Rattle.oer_forms.specs.Tree.{NoRows}
+use Rattle.oer_write.specs.Rows.{InSequence}
 use Rattle.long_types.proofs.Joined.{then_in_sequence}
-use Rattle.long_types.specs.Many.{many_front, many_back}
+use Rattle.long_types.specs.Front.{front_rows}
+use Rattle.long_types.specs.Many.{many_first, many_back}
+use Rattle.long_types.specs.declared.front.ReadFront.{ReadFront}
 use Rattle.long_types.proofs.many.fn.ManyOptionalEncode.encode_with_tag_and_constraints.encode_sequence.Goals as goal
 
 pub returns : goal.returns
-returns c = then_in_sequence (many_front c.captures.self.now) (many_back c.captures.self.now) _ _ _ _ _ c.in_ok-put_front.ensures c.put_back.ensures
+returns c =
+    then_in_sequence (front_rows (many_first c.captures.self.now) NoRows) (many_back c.captures.self.now) _ _ _ _ _
+    (subst (λ (f : ReadFront). InSequence (front_rows f NoRows) NoRows c.args.encoder.now (Ok tt) c.put_front.new.encoder) c.first.ensures c.in_ok-put_front.ensures)
+    c.put_back.ensures
