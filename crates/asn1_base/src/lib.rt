@@ -8,8 +8,6 @@ mod fields;
 pub mod laws;
 mod sets;
 mod tag;
-#[cfg(test)]
-mod tests;
 mod traits;
 mod types;
 

@@ -13,6 +13,3 @@ pub use integer::Integer;
 pub use integer_type::IntegerType;
 pub use octets::{has_superfluous_sign, has_superfluous_zero, i128_of, shortest_signed};
 pub use primitive::PrimitiveInteger;
-
-#[cfg(test)]
-mod tests;

@@ -8,8 +8,6 @@ mod identifiers;
 pub mod laws;
 mod octets;
 mod strings;
-#[cfg(test)]
-mod tests;
 
 pub use bits::BitString;
 pub use characters::{

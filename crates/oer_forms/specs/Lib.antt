@@ -15,7 +15,6 @@ pub mod Reading
 pub mod Failures
 pub mod Writing
 pub mod Bits
-pub mod Views
 pub mod ReadingBits
 pub mod ReadingTexts
 pub mod WritingTexts
@@ -25,7 +24,5 @@ pub mod NearMisses
 pub mod Premises
 pub mod Widths
 pub mod ReadingIntegers
-pub mod ReadingEnumerated
-pub mod ReadingMemory
 pub mod TimeTexts
 pub mod TimeLaws

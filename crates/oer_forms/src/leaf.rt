@@ -1,12 +1,9 @@
-//! Readers and writers of leaves and their parts, over slices.
+//! What the readers and the writers of leaves share: layouts of integers, counts of octets, types of times.
 
-#[cfg(test)]
-mod number_tests;
-pub mod read;
-#[cfg(test)]
-mod string_tests;
+mod bits;
 mod time_type;
 mod widths;
-pub mod write;
 
+pub use bits::{octets_for, unused_for};
 pub use time_type::TimeType;
+pub use widths::{IntegerWidth, is_in_range, width_of};

@@ -1,4 +1,4 @@
-//! The definitions of what octets spell which value (X.696), their laws, and the readers and writers of leaves over slices.
+//! The definitions of what octets spell which value (X.696), and their laws.
 #![tactic(auto)]
 
 pub mod examples;

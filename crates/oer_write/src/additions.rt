@@ -11,7 +11,7 @@ use crate::encode::Encode;
 use crate::encoder::Encoder;
 use crate::rows::content_of;
 use asn1_base::{Constraints, EncodeError, EncodeErrorKind, Tag};
-use oer_forms::leaf::write::write_content;
+use leaf_writers::write_content;
 
 /// Appends an open type (X.696, 30).
 #[tactic(auto, unfolding(crate::specs::Rows::open_type))]

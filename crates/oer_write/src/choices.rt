@@ -12,7 +12,7 @@ use crate::enc::EncoderOptions;
 use crate::encoder::Encoder;
 use crate::scope::Scope;
 use asn1_base::{Choice, Constraints, EncodeError, EncodeErrorKind, Tag};
-use oer_forms::leaf::write::{write_content, write_tag};
+use leaf_writers::{write_content, write_tag};
 use std::alloc::Global;
 
 /// Whether the tag is one of those.

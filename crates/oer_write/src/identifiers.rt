@@ -7,7 +7,7 @@ use crate::encode::Encode;
 use crate::encoder::Encoder;
 use asn1_base::{Constraints, EncodeError, Tag};
 use asn1_values::ObjectIdentifier;
-use oer_forms::leaf::write::write_object_identifier;
+use leaf_writers::write_object_identifier;
 
 impl<'buffer> Encoder<'buffer> {
     /// Writes an OBJECT IDENTIFIER (X.696, 21) by its arcs: a length, and the contents octets.

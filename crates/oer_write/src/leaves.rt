@@ -9,7 +9,7 @@ ghost use Rattle.oer_write.specs.Written.{Encodes, Keeps, Refused, RefusedLeaf};
 use crate::encoder::Encoder;
 use asn1_base::{Constraints, EncodeError, Enumerated, Tag};
 use asn1_ints::IntegerType;
-use oer_forms::leaf::write::{write_bool, write_enumerated, write_integer};
+use leaf_writers::{write_bool, write_enumerated, write_integer};
 
 impl<'buffer> Encoder<'buffer> {
     /// Writes a BOOLEAN (X.696, 9): FF for true, 00 for false.

@@ -13,7 +13,7 @@ use crate::encode::Encode;
 use crate::encoder::Encoder;
 use crate::scope::Scope;
 use asn1_base::{Constraints, EncodeError, EncodeErrorKind, Tag};
-use oer_forms::leaf::write::write_quantity;
+use leaf_writers::write_quantity;
 
 /// At most so many elements of one list may take no octets (the project's own choice).
 pub(crate) const MAX_EMPTY_ELEMENTS: u32 = 65536;

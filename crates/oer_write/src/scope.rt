@@ -9,7 +9,7 @@ ghost use Rattle.oer_write.specs.Written.{fresh, closed};
 
 use crate::component::Component;
 use asn1_base::EncodeErrorKind;
-use oer_forms::leaf::write::{write_bitmap, write_preamble};
+use leaf_writers::{write_bitmap, write_preamble};
 use std::alloc::Global;
 
 /// What was recorded in a scope so far.

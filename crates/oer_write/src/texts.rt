@@ -14,9 +14,7 @@ use asn1_values::{
     PrintableCharacters, PrintableString, RestrictedString, TeletexCharacters, TeletexString,
     VisibleCharacters, VisibleString,
 };
-use oer_forms::leaf::write::{
-    write_any, write_bit_string, write_octet_string, write_text, write_utf8,
-};
+use leaf_writers::{write_any, write_bit_string, write_octet_string, write_text, write_utf8};
 
 impl<'buffer> Encoder<'buffer> {
     /// Writes a BIT STRING (X.696, 13).

@@ -11,8 +11,8 @@ use crate::encode::Encode;
 use crate::encoder::Encoder;
 use asn1_base::{Constraints, EncodeError, Tag};
 use asn1_times::{Date, GeneralizedTime, UtcTime};
+use leaf_writers::write_time;
 use oer_forms::leaf::TimeType;
-use oer_forms::leaf::write::write_time;
 
 impl<'buffer> Encoder<'buffer> {
     /// Writes a UTCTime (X.696, 29): a length, and the text.

@@ -16,7 +16,7 @@ use crate::encoder::Encoder;
 use crate::lists::MAX_EMPTY_ELEMENTS;
 use crate::rows::content_of;
 use asn1_base::{Constraints, EncodeError, EncodeErrorKind, SetOf, Tag};
-use oer_forms::leaf::write::write_quantity;
+use leaf_writers::write_quantity;
 use std::alloc::Global;
 
 /// The count of elements without octets, with one more element.

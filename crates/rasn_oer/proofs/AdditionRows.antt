@@ -8,8 +8,8 @@ use Rattle.asn1_base.specs.Tags.{class_number, same_tag}
 use Rattle.asn1_base.specs.declared.codec.Codec.{Codec}
 use Rattle.asn1_base.specs.declared.error.DecodeErrorKind.{DecodeErrorKind}
 use Rattle.asn1_base.specs.declared.tag.Tag.{Tag}
-use Rattle.oer_forms.proofs.ReadLengths.{content_reads}
-use Rattle.oer_forms.proofs.ReadPlaces.{bitmap_reads}
+use Rattle.leaf_readers.proofs.ReadLengths.{content_reads}
+use Rattle.leaf_readers.proofs.ReadPlaces.{bitmap_reads}
 use Rattle.oer_forms.proofs.Steps.{bind_ok, then_ok, ok_is, rear_octets}
 use Rattle.oer_forms.specs.Encoding.{AreItems, IsItem}
 use Rattle.oer_forms.specs.Mode.{Mode, mode_of, InStrict}

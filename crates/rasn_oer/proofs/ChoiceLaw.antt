@@ -12,8 +12,8 @@ use Rattle.asn1_base.specs.declared.error.DecodeError.{DecodeError}
 use Rattle.asn1_base.specs.declared.error.DecodeErrorKind.{DecodeErrorKind}
 use Rattle.asn1_base.specs.declared.error.DecodeErrorKind.TheVariants.{InvalidTagVariantOnChoice}
 use Rattle.asn1_base.specs.declared.tag.Tag.{Tag}
-use Rattle.oer_forms.proofs.ReadLengths.{content_reads}
-use Rattle.oer_forms.proofs.ReadTags.{tag_reads}
+use Rattle.leaf_readers.proofs.ReadLengths.{content_reads}
+use Rattle.leaf_readers.proofs.ReadTags.{tag_reads}
 use Rattle.oer_forms.proofs.Steps.{bind_ok, then_ok, ok_is, canonical_ok, canonical_again, strict_is, strict_has, rear_octets}
 use Rattle.oer_forms.specs.Encoding.{IsTree, IsEncoding}
 use Rattle.oer_forms.specs.Lengths.{IsTag, IsBehindLength}

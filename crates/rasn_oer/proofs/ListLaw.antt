@@ -8,7 +8,7 @@ use Rattle.asn1_base.specs.declared.error.DecodeError.{DecodeError}
 use Rattle.asn1_base.specs.declared.error.DecodeErrorKind.{DecodeErrorKind}
 use Rattle.oer_forms.proofs.Nil.{nil_alike}
 use Rattle.oer_forms.proofs.Skips.{is_nil}
-use Rattle.oer_forms.proofs.ReadQuantities.{quantity_reads}
+use Rattle.leaf_readers.proofs.ReadQuantities.{quantity_reads}
 use Rattle.oer_forms.proofs.Steps.{then_ok, pair_is}
 use Rattle.oer_forms.specs.Encoding.{IsTree, IsEncoding, AreElements, canonical_octets, canonical_elements, empties, list_fails}
 use Rattle.oer_forms.specs.Leaves.{Failure, TooManyEmpty, TooLong}

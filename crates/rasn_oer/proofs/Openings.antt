@@ -7,7 +7,7 @@ use Rattle.asn1_base.specs.declared.error.DecodeErrorKind.{DecodeErrorKind}
 use Rattle.asn1_base.specs.declared.error.DecodeErrorKind.TheVariants.{ExceedsMaxParseDepth}
 use Rattle.asn1_base.specs.declared.codec.Codec.{Codec}
 use Rattle.asn1_base.specs.declared.codec.Codec.TheVariants.{Oer, Coer}
-use Rattle.oer_forms.proofs.ReadPlaces.{preamble_reads, bitmap_reads, skipped_reads}
+use Rattle.leaf_readers.proofs.ReadPlaces.{preamble_reads, bitmap_reads, skipped_reads}
 use Rattle.oer_forms.proofs.Steps.{bind_ok, then_ok, ok_is, pair_is, guard_ok, rear_octets}
 use Rattle.oer_forms.specs.Mode.{mode_of, InOwnSized}
 use Rattle.oer_forms.specs.Places.{Item, bodies, IsPreamble, AreSkipped}

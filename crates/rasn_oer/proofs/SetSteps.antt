@@ -1,7 +1,7 @@
 -- Calls of a set's closure, in turn.
 use Rattle.std.proofs.Common.{◌≡◌, ℕ, suc, ◌+◌, ◌-◌, Bool, true, false, cond, List, [], ◌∷◌, ◌++◌, ◌⊎◌, inl, inr, Result, Ok, Err, refl, sym, ap, ap₂, ◌∙◌, subst, append_assoc, append-nil, map, zero, drop, get_or, length, add-one, drop-cons, arith, ◌<◌, ◌≤◌}
 use Rattle.asn1_base.specs.Octets.{Octets, AreOctets}
-use Rattle.oer_forms.proofs.ReadPlaces.{preamble_reads}
+use Rattle.leaf_readers.proofs.ReadPlaces.{preamble_reads}
 use Rattle.oer_forms.proofs.Steps.{bind_ok}
 use Rattle.oer_forms.specs.Places.{IsPreamble}
 use Rattle.oer_forms.specs.Reading.{◌>>=◌}

@@ -10,13 +10,13 @@ use Rattle.asn1_base.specs.declared.error.DecodeError.{DecodeError}
 use Rattle.asn1_base.specs.declared.error.DecodeErrorKind.{DecodeErrorKind}
 use Rattle.asn1_base.specs.declared.error.DecodeErrorKind.TheVariants.{DiscriminantValueNotFound}
 use Rattle.asn1_values.specs.Identifiers.{is_identifier, arcs_octets}
-use Rattle.oer_forms.proofs.ReadEnumerated.{enumerated_reads}
+use Rattle.leaf_readers.proofs.ReadEnumerated.{enumerated_reads}
 use Rattle.oer_forms.proofs.Steps.{Reads, bind_ok, front_is}
 use Rattle.oer_forms.specs.Encoding.{IsTree}
 use Rattle.oer_forms.specs.Leaves.{IsLeafEncoding}
 use Rattle.oer_forms.specs.Mode.{mode_of}
 use Rattle.oer_forms.specs.Reading.{Gives, ReadsFront, seen, ◌>>=◌}
-use Rattle.oer_forms.specs.ReadingEnumerated.{IsEnumeratedNumber, enumerated_at}
+use Rattle.leaf_readers.specs.ReadingEnumerated.{IsEnumeratedNumber, enumerated_at}
 use Rattle.oer_forms.specs.Spelled.{IsAny, IsIdentifier, enumerated, enumerated_is, enumerated_alike, identifier, identifier_is, identifiers_alike, time, times_alike}
 use Rattle.oer_forms.specs.TimeTexts.{time_content}
 use Rattle.oer_forms.specs.Tree.{Tree, Enum, Text, Written}

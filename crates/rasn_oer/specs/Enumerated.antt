@@ -6,7 +6,7 @@ use Rattle.asn1_base.specs.declared.codec.Codec.{Codec}
 use Rattle.asn1_base.specs.declared.error.DecodeErrorKind.{DecodeErrorKind}
 use Rattle.asn1_base.specs.declared.error.DecodeErrorKind.TheVariants.{DiscriminantValueNotFound}
 use Rattle.oer_forms.specs.Reading.{◌>>=◌}
-use Rattle.oer_forms.specs.ReadingEnumerated.{enumerated_at}
+use Rattle.leaf_readers.specs.ReadingEnumerated.{enumerated_at}
 
 -- the value and what is left; a number that no value has is refused last
 unfoldable pub value_at : {E : Type 0} → (ℤ → Option E) → Codec → Octets → Result (E × Octets) DecodeErrorKind

@@ -3,7 +3,7 @@ use Rattle.std.specs.Prelude.{map}
 use Rattle.std.specs.Option.{option_map}
 use Rattle.asn1_base.specs.Rows.{row}
 use Rattle.rasn_oer.specs.declared.decoder.OpenScope.{OpenScope}
-use Rattle.oer_forms.specs.Views.{bits_left}
+use Rattle.leaf_readers.specs.Views.{bits_left}
 use Rattle.rasn_oer.specs.State.{Frame, asks_of, places_of}
 
 abbrev pub frame_of : OpenScope → Frame

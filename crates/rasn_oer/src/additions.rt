@@ -6,7 +6,7 @@ ghost use Rattle.asn1_base.specs.Octets.{AreOctets};
 ghost use Rattle.asn1_base.specs.Rows.{row, may_be_absent};
 ghost use Rattle.oer_forms.specs.Reading.{Gives};
 ghost use Rattle.oer_forms.specs.Spelled.{IsConsistent};
-ghost use Rattle.oer_forms.specs.Views.{bits_left};
+ghost use Rattle.leaf_readers.specs.Views.{bits_left};
 ghost use Rattle.rasn_oer.specs.Additions.{row_present, all_present, with_bitmap, bitmap_first, mapped_at, next_place, open_content, bits_now, addition_at, behind_place, inside, OpenRead, OpenRefused, Adds};
 ghost use Rattle.rasn_oer.specs.State.{places_of};
 
@@ -17,7 +17,7 @@ use crate::scopes::{missing, next_bit};
 use asn1_base::{
     Codec, Constraints, Constructed, DecodeError, DecodeErrorKind, Field, FieldPresence, Tag,
 };
-use oer_forms::leaf::read::{BitSlice, read_bitmap, read_content};
+use leaf_readers::{BitSlice, read_bitmap, read_content};
 use std::alloc::Global;
 
 /// An addition whose bit is not set has to be one that may be absent.

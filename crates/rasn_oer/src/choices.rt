@@ -16,8 +16,8 @@ use crate::de::DecoderOptions;
 use crate::decoder::{Decoder, OpenScope};
 use crate::scopes::one_level_less;
 use asn1_base::{Choice, Constraints, DecodeError, DecodeErrorKind, Tag};
+use leaf_readers::{read_content, read_tag, require_canonical};
 use oer_forms::Spelled;
-use oer_forms::leaf::read::{read_content, read_tag, require_canonical};
 use std::alloc::Global;
 
 /// Whether the tag is one of those.

@@ -10,7 +10,7 @@ ghost use Rattle.rasn_oer.specs.State.{closed};
 
 use crate::de::DecoderOptions;
 use asn1_base::{Codec, DecodeError, DecodeErrorKind, Field};
-use oer_forms::leaf::read::BitSlice;
+use leaf_readers::BitSlice;
 use std::marker::Model;
 
 /// The rows of the open scope that are still to be asked, and its presence bits.

@@ -11,7 +11,7 @@ use crate::decode::Decode;
 use crate::decoder::Decoder;
 use asn1_base::{Constraints, DecodeError, Tag};
 use asn1_ints::{ConstrainedInteger, Integer, IntegerRange, IntegerType};
-use oer_forms::leaf::read::read_integer;
+use leaf_readers::read_integer;
 use std::alloc::Global;
 
 impl<'input> Decoder<'input> {

@@ -9,7 +9,7 @@ ghost use Rattle.oer_forms.specs.Reading.{bool_at};
 use crate::decode::Decode;
 use crate::decoder::Decoder;
 use asn1_base::{Constraints, DecodeError, Tag};
-use oer_forms::leaf::read::read_bool;
+use leaf_readers::read_bool;
 use std::alloc::Global;
 
 impl<'input> Decoder<'input> {

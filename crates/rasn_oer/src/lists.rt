@@ -13,7 +13,7 @@ use crate::decode::Decode;
 use crate::decoder::{Decoder, OpenScope};
 use crate::scopes::one_level_less;
 use asn1_base::{Constraints, DecodeError, DecodeErrorKind, Tag};
-use oer_forms::leaf::read::{BitSlice, read_quantity};
+use leaf_readers::{BitSlice, read_quantity};
 use std::alloc::Global;
 
 /// The number of elements of one list that may take no octets.

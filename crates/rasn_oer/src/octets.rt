@@ -14,7 +14,7 @@ use crate::decoder::Decoder;
 use crate::owned::read_own_octets;
 use asn1_base::{Constraints, DecodeError, Tag};
 use asn1_values::{Any, BitString, OctetString};
-use oer_forms::leaf::read::{read_bit_string, read_octet_string};
+use leaf_readers::{read_bit_string, read_octet_string};
 use std::alloc::Global;
 
 impl<'input> Decoder<'input> {

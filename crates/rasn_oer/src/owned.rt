@@ -9,13 +9,13 @@ ghost use Rattle.asn1_values.specs.Characters.{are_characters};
 ghost use Rattle.oer_forms.specs.Leaves.{IsLeafEncoding};
 ghost use Rattle.oer_forms.specs.Mode.{mode_of};
 ghost use Rattle.oer_forms.specs.Reading.{ReadsFront, seen};
-ghost use Rattle.oer_forms.specs.ReadingMemory.{GivesOrMemory};
+ghost use Rattle.leaf_readers.specs.ReadingMemory.{GivesOrMemory};
 ghost use Rattle.oer_forms.specs.ReadingTexts.{octet_string_at, text_at, characters_at};
 ghost use Rattle.oer_forms.specs.Tree.{Text, Written};
 
 use asn1_base::{Codec, Constraints, DecodeErrorKind, Utf8String};
 use asn1_values::{CharacterSet, OctetContent, OctetType, RestrictedString};
-use oer_forms::leaf::read::{read_octet_string, read_text, read_utf8};
+use leaf_readers::{read_octet_string, read_text, read_utf8};
 use std::alloc::Global;
 
 /// Octets at the front, copied, and what is left; refused as `read_octet_string` does, then for want of memory.

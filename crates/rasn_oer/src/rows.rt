@@ -11,7 +11,7 @@ use crate::decode::Decode;
 use crate::decoder::{Decoder, OpenScope};
 use crate::scopes::{missing, next_bit, next_marked};
 use asn1_base::{Constraints, DecodeError, Tag};
-use oer_forms::leaf::read::BitSlice;
+use leaf_readers::BitSlice;
 use std::alloc::Global;
 
 impl<'input> Decoder<'input> {

@@ -6,7 +6,7 @@ ghost use Rattle.asn1_base.specs.Octets.{AreOctets};
 ghost use Rattle.asn1_base.specs.Rows.{row};
 ghost use Rattle.oer_forms.specs.Reading.{Gives};
 ghost use Rattle.oer_forms.specs.ReadingBits.{skipped_at};
-ghost use Rattle.oer_forms.specs.Views.{bits_left};
+ghost use Rattle.leaf_readers.specs.Views.{bits_left};
 ghost use Rattle.rasn_oer.specs.Answers.{Refuses};
 ghost use Rattle.rasn_oer.specs.Law.{IsRear};
 ghost use Rattle.rasn_oer.specs.Scopes.{level_at, bits_for, extension_of, presence_of, opened_at, closed_at, all_asked, unknown_at, missing, SequenceRead, SequenceRefused};
@@ -15,7 +15,7 @@ ghost use Rattle.rasn_oer.specs.State.{State, asks_of, marked_count, places_of};
 use crate::de::DecoderOptions;
 use crate::decoder::{Decoder, OpenScope};
 use asn1_base::{Constructed, DecodeError, DecodeErrorKind, Field, FieldPresence, Tag};
-use oer_forms::leaf::read::{BitSlice, read_bitmap, read_preamble, skip_additions};
+use leaf_readers::{BitSlice, read_bitmap, read_preamble, skip_additions};
 
 /// The bit that is next, false past the end, and the bits after it.
 pub(crate) fn next_bit(bits: BitSlice<'_>) -> (bool, BitSlice<'_>)

@@ -5,7 +5,7 @@ ghost use Rattle.asn1_base.specs.Octets.{AreOctets};
 ghost use Rattle.asn1_base.specs.Rows.{row};
 ghost use Rattle.asn1_base.specs.Tables.{canonised_rest};
 ghost use Rattle.oer_forms.specs.Reading.{Gives};
-ghost use Rattle.oer_forms.specs.Views.{bits_left};
+ghost use Rattle.leaf_readers.specs.Views.{bits_left};
 ghost use Rattle.rasn_oer.specs.Law.{IsForMemory, IsRear};
 ghost use Rattle.rasn_oer.specs.Sets.{Call, is_there, bits_behind, root_calls, addition_calls, set_calls, set_opened_at, FieldReturns, FieldsMake, RanInTurn, RefusedInTurn, SetRead, SetRefused};
 ghost use Rattle.rasn_oer.specs.State.{State};
@@ -16,7 +16,7 @@ use crate::scopes::{bits_for, next_bit, one_level_less, split_extension};
 use asn1_base::{
     Canonised, Constructed, DecodeError, DecodeErrorKind, Field, FieldPresence, Fields, Tag,
 };
-use oer_forms::leaf::read::{BitSlice, read_preamble};
+use leaf_readers::{BitSlice, read_preamble};
 use std::alloc::Global;
 
 /// Whether a row's component is there, and the presence bits behind it.

@@ -12,7 +12,7 @@ use crate::decode::Decode;
 use crate::decoder::Decoder;
 use asn1_base::{Constraints, DecodeError, Tag};
 use asn1_times::{Date, GeneralizedTime, UtcTime};
-use oer_forms::leaf::read::read_time;
+use leaf_readers::read_time;
 use std::alloc::Global;
 
 impl<'input> Decoder<'input> {

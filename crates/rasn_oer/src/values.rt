@@ -5,7 +5,7 @@ ghost use Rattle.asn1_base.specs.declared.error.DecodeErrorKind.TheVariants.{Inv
 ghost use Rattle.asn1_values.specs.Identifiers.{arcs_octets};
 ghost use Rattle.oer_forms.specs.Mode.{mode_of};
 ghost use Rattle.oer_forms.specs.Reading.{Gives, seen, ReadsFront, IsNotForMemory};
-ghost use Rattle.oer_forms.specs.ReadingEnumerated.{IsEnumeratedNumber};
+ghost use Rattle.leaf_readers.specs.ReadingEnumerated.{IsEnumeratedNumber};
 ghost use Rattle.oer_forms.specs.ReadingTexts.{are_contents, text_at};
 ghost use Rattle.oer_forms.specs.Spelled.{IsAny, IsIdentifier, enumerated, identifier};
 ghost use Rattle.rasn_oer.specs.Answers.{Answers};
@@ -16,7 +16,7 @@ use crate::decode::Decode;
 use crate::decoder::Decoder;
 use asn1_base::{Codec, Constraints, DecodeError, DecodeErrorKind, Enumerated, Tag};
 use asn1_values::ObjectIdentifier;
-use oer_forms::leaf::read::{read_enumerated, read_object_identifier};
+use leaf_readers::{read_enumerated, read_object_identifier};
 use std::alloc::Global;
 
 /// The value at the front, and what is left.

@@ -9,7 +9,7 @@ use asn1_ints::IntegerType;
 /// How an INTEGER is laid out (X.696, 10.2 to 10.4): in a fixed count of octets, or behind a length, in two's complement or
 /// unsigned.
 #[derive(Debug, Clone, Copy, PartialEq, Eq)]
-pub(crate) enum IntegerWidth {
+pub enum IntegerWidth {
     /// In that many octets.
     Fixed { signed: bool, octets: usize },
     /// Behind a length.
@@ -20,7 +20,7 @@ impl IntegerWidth {
     ghost use Rattle.oer_forms.specs.ReadingIntegers.{is_signed};
 
     /// Whether the number is in two's complement.
-    pub(crate) fn is_signed(self) -> bool
+    pub fn is_signed(self) -> bool
         ensures { result ≡ is_signed (width_view self) }
     {
         match self {
@@ -71,7 +71,7 @@ fn signed_width(low: i128, high: i128) -> IntegerWidth
 }
 
 /// The layout under these constraints: an extensible constraint counts as none (X.696, 10.1).
-pub(crate) fn width_of(constraints: &Constraints) -> IntegerWidth
+pub fn width_of(constraints: &Constraints) -> IntegerWidth
     ensures { width_view result ≡ width_of (value_bounds constraints.now) }
 {
     let Some((bounds, false)) = &constraints.value else {
@@ -86,7 +86,7 @@ pub(crate) fn width_of(constraints: &Constraints) -> IntegerWidth
 }
 
 /// Whether the number is allowed; under a constraint that isn't extensible only one of i128 is.
-pub(crate) fn is_in_range<I: IntegerType>(constraints: &Constraints, value: &I) -> bool
+pub fn is_in_range<I: IntegerType>(constraints: &Constraints, value: &I) -> bool
     ensures { result ≡ in_range (value_bounds constraints.now) (I.number value.now) }
 {
     match value.to_i128() {

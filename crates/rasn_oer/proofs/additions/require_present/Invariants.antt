@@ -1,6 +1,6 @@
 use Rattle.std.proofs.Common.{◌≡◌, map, length}
 use Rattle.asn1_base.specs.Rows.{row}
-use Rattle.oer_forms.specs.Views.{bits_left}
+use Rattle.leaf_readers.specs.Views.{bits_left}
 use Rattle.rasn_oer.specs.Additions.{all_present}
 use Rattle.rasn_oer.specs.State.{places_of}
 use Rattle.rasn_oer.proofs.additions.require_present.Given as goal

@@ -3,7 +3,7 @@ use Rattle.std.proofs.lemmas.List.{length-map}
 use Rattle.std.proofs.lemmas.Result.{err_from_is_err_and}
 use Rattle.asn1_base.specs.Rows.{row, Row}
 use Rattle.asn1_base.specs.Tags.{by_tag}
-use Rattle.oer_forms.specs.Views.{bits_left}
+use Rattle.leaf_readers.specs.Views.{bits_left}
 use Rattle.rasn_oer.specs.Sets.{root_calls, addition_calls, set_calls, FieldReturns}
 use Rattle.rasn_oer.proofs.SetSteps.{ran_append, either_front, either_append}
 use Rattle.rasn_oer.proofs.sets.read_fields.Goals as goal

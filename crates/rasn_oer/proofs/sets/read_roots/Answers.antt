@@ -1,7 +1,7 @@
 use Rattle.std.proofs.Common.{sym, ◌∙◌, map}
 use Rattle.asn1_base.specs.Rows.{row}
 use Rattle.asn1_base.specs.Tables.{canonised_rest}
-use Rattle.oer_forms.specs.Views.{bits_left}
+use Rattle.leaf_readers.specs.Views.{bits_left}
 use Rattle.rasn_oer.specs.Sets.{root_calls, FieldReturns}
 use Rattle.rasn_oer.proofs.SetSteps.{roots_next, roots_done}
 use Rattle.rasn_oer.proofs.sets.read_roots.Goals as goal

@@ -4,7 +4,7 @@ use denote.Enum.Bare.{sameb, same_true}
 use Rattle.asn1_base.specs.contracts.tag.Class.{the_type}
 use Rattle.asn1_base.specs.Rows.{row}
 use Rattle.asn1_base.specs.declared.tag.Tag.{Tag}
-use Rattle.oer_forms.specs.Views.{bits_left}
+use Rattle.leaf_readers.specs.Views.{bits_left}
 use Rattle.rasn_oer.specs.Components.{asking}
 use Rattle.rasn_oer.specs.State.{Ask, State, asks_of}
 use Rattle.rasn_oer.proofs.decoder.Decoder.next_row.Goals as goal

@@ -1,4 +1,0 @@
-use Rattle.oer_forms.proofs.leaf.write.tags.+write_front_groups.Given as goal
-
-abbrev pub decreases-write_front_groups : goal.decreases-write_front_groups
-decreases-write_front_groups l = l.number
