@@ -28,11 +28,7 @@ use std::process::Abort;
 use std::test::Fail;
 use vectors::{CHOICES, EXTENSIBLE, LISTS, NESTED, NUMBERS, ROWS, SEQUENCES, SETS, STRINGS, TIMES};
 
-fn words_between(
-    alloc: Global,
-    text: &str,
-    separator: char,
-) -> Result<Vec<String>, AllocError> {
+fn words_between(alloc: Global, text: &str, separator: char) -> Result<Vec<String>, AllocError> {
     let mut words = Vec::new(alloc);
     for word in text.split(separator) {
         words.push(String::from_str(alloc, word)?)?;

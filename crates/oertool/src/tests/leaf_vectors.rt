@@ -29,6 +29,9 @@ oer i16inext1..8 0400000007;0107\n\
 coer i16inext1..8 0400000007;NotValidCanonicalEncoding\n\
 oer bits14 ff43;ff40\n\
 coer bits14 ff43;NotValidCanonicalEncoding\n\
+oer bits3..6 020290;020290\n\
+coer bits3..6 0201fe;SizeConstraintNotSatisfied 7\n\
+oer bits3..6 0206c0;SizeConstraintNotSatisfied 2\n\
 oer octets3..6 02aabb;SizeConstraintNotSatisfied 2\n\
 coer octets3..6 02aabb;SizeConstraintNotSatisfied 2\n\
 oer Negative<Integer> 01ff;01ff\n\

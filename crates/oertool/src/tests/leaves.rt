@@ -1,17 +1,14 @@
 //! Leaves, wrappers and enumerated types, under constraints too.
 use crate::tests::codec_of;
 use crate::tests::leaf_vectors::TYPE_ROWS;
-use crate::tests::words::{UnderConstraints, with_word};
+use crate::tests::spelled::there;
+use crate::tests::words::{UnderConstraints, sizes, with_word};
 use asn1_base::{
-    AsnType, Bounded, Codec, Constraints, DecodeErrorKind, EncodeError, EncodeErrorKind,
-    Enumerated, Tag,
+    Codec, Constraints, DecodeErrorKind, EncodeError, EncodeErrorKind, Enumerated, Tag,
 };
 use asn1_ints::Integer;
 use asn1_times::{GeneralizedTime, UtcTime};
-use asn1_values::{
-    Any, BitString, BmpString, GeneralString, GraphicString, Ia5String, NumericString,
-    ObjectIdentifier, OctetString, PrintableString, TeletexString, VisibleString,
-};
+use asn1_values::{BitString, BmpString, ObjectIdentifier, OctetString};
 use oer_types::{Enum3, HashedId3, Negative, Positive};
 use oer_write::enc::EncoderOptions;
 use oer_write::{Encode, Encoder};
@@ -96,6 +93,31 @@ fn refused<T: Encode>(alloc: Global, value: &T) -> Option<EncodeErrorKind> {
         Ok(_) => None,
         Err(e) => Some(e.kind),
     }
+}
+
+/// The kind that a value's writing is refused by, under a size of 3 to 6.
+fn refused_by_size<T: Encode>(alloc: Global, value: &T) -> Option<EncodeErrorKind> {
+    let constraints = sizes(3, 6);
+    if !constraints.is_consistent() {
+        return None;
+    }
+    match oer::encode_with_constraints(alloc, constraints, value) {
+        Ok(_) => None,
+        Err(e) => Some(e.kind),
+    }
+}
+
+#[test]
+fn values_outside_their_sizes_are_not_written(rt: HostRuntime) -> Result<(), Fail> {
+    let alloc = rt.alloc();
+    let seven = Some(EncodeErrorKind::SizeConstraintNotSatisfied { size: 7 });
+    let octets = OctetString::from_slice(alloc, &[1, 2, 3, 4, 5, 6, 7])?;
+    assert_eq!(rt; refused_by_size(alloc, &octets), seven);
+    let bits = there(BitString::from_octets(alloc, &[0xfe], 7)?)?;
+    assert_eq!(rt; refused_by_size(alloc, &bits), seven);
+    let three = BmpString::from_units(alloc, &[1, 2, 3])?;
+    assert_eq!(rt; refused_by_size(alloc, &three), None);
+    Ok(())
 }
 
 #[test]

@@ -14,9 +14,24 @@ fn other_words_are_answered_by_the_usage(rt: HostRuntime) -> Result<(), Fail> {
     assert_eq!(rt; run(alloc, &[], &mut out), Status::Usage);
     assert_eq!(rt; out.as_slice(), USAGE.as_bytes());
     let rows = [
-        "", "oer", "coer", "oer,bool", "oer,bool,ff,00", "OER,bool,ff", "oer,Bool,ff",
-        "oer,bool,f", "coer,int,0", "oer,bool,0xff", "oer,bool,fg", "oer,bool,ff ",
-        "oer,nosuch,00", "coer,nosuch,00", "oer,nosuch,", ",bool,ff", "oer,,ff", "bool,oer,ff",
+        "",
+        "oer",
+        "coer",
+        "oer,bool",
+        "oer,bool,ff,00",
+        "OER,bool,ff",
+        "oer,Bool,ff",
+        "oer,bool,f",
+        "coer,int,0",
+        "oer,bool,0xff",
+        "oer,bool,fg",
+        "oer,bool,ff ",
+        "oer,nosuch,00",
+        "coer,nosuch,00",
+        "oer,nosuch,",
+        ",bool,ff",
+        "oer,,ff",
+        "bool,oer,ff",
     ];
     for row in rows {
         let words = words_between(alloc, row, ',')?;

@@ -162,19 +162,21 @@ fn refused_rows_leave_what_is_to_be_read(rt: HostRuntime) -> Result<(), Fail> {
 }
 
 /// Each proper front of these octets is refused for want of octets, in both modes.
-fn fronts_lack_octets(
-    rt: &impl Abort,
-    alloc: Global,
-    word: &str,
-    text: &str,
-) -> Result<(), Fail> {
+fn fronts_lack_octets(rt: &impl Abort, alloc: Global, word: &str, text: &str) -> Result<(), Fail> {
     let mut front = behind_a_boolean(alloc, text)?;
     let octets = hex::decode(alloc, text)?;
     for _ in octets {
         front.pop();
         for codec in [Codec::Oer, Codec::Coer] {
             let octets = front.as_slice();
-            let reason = with_word(word, Refused { alloc, codec, octets })?;
+            let reason = with_word(
+                word,
+                Refused {
+                    alloc,
+                    codec,
+                    octets,
+                },
+            )?;
             assert!(rt; reason.starts_with("Incomplete"));
         }
     }

@@ -23,8 +23,18 @@ fn choices_and_their_octets(rt: HostRuntime) -> Result<(), Fail> {
     let alloc = rt.alloc();
     spells(&rt, alloc, PriorityChoice::Normal(integer(333)), "8002014d")?;
     spells(&rt, alloc, PriorityChoice::High(integer(333)), "8102014d")?;
-    spells(&rt, alloc, PriorityChoice::Medium(integer(333)), "820302014d")?;
-    spells(&rt, alloc, WideChoice::Medium(integer(333)), "bf8fffffff7f02014d")?;
+    spells(
+        &rt,
+        alloc,
+        PriorityChoice::Medium(integer(333)),
+        "820302014d",
+    )?;
+    spells(
+        &rt,
+        alloc,
+        WideChoice::Medium(integer(333)),
+        "bf8fffffff7f02014d",
+    )?;
     spells(&rt, alloc, OnlyChoice::Only(true), "bf8102ff")?;
     let high = PriorityChoice::High(integer(333));
     is_read_as(&rt, alloc, "oer", "bf0102014d", high, 0)?;
@@ -56,7 +66,12 @@ fn additions_and_their_octets(rt: HostRuntime) -> Result<(), Fail> {
     let first = two(Some(true), None);
     is_read_as(&rt, alloc, "oer coer", "80ff02078001ff", first, 0)?;
     let b = Some(two(Some(true), None));
-    spells(&rt, alloc, Outer { a: true, b }, "80ff0207800780ff02068001ff")?;
+    spells(
+        &rt,
+        alloc,
+        Outer { a: true, b },
+        "80ff0207800780ff02068001ff",
+    )?;
     spells(&rt, alloc, EmptyExtensible, "00")?;
     let octets = "8002078002aabb";
     is_read_as(&rt, alloc, "oer coer", octets, EmptyExtensible, 0)?;
@@ -83,8 +98,22 @@ fn newer_octets_are_read_by_the_first_version(rt: HostRuntime) -> Result<(), Fai
     for octets in ["80ff0206c001ff01ff", "80ff0204b001ff0201ff03400105"] {
         is_read_as(&rt, alloc, "oer coer", octets, Sequence1 { a: true }, 0)?;
     }
-    is_read_as(&rt, alloc, "oer coer", long.as_str(), Sequence1 { a: true }, 0)?;
-    is_read_as(&rt, alloc, "oer", "80330206c001ff82000133", Sequence1 { a: true }, 0)
+    is_read_as(
+        &rt,
+        alloc,
+        "oer coer",
+        long.as_str(),
+        Sequence1 { a: true },
+        0,
+    )?;
+    is_read_as(
+        &rt,
+        alloc,
+        "oer",
+        "80330206c001ff82000133",
+        Sequence1 { a: true },
+        0,
+    )
 }
 
 #[test]
@@ -113,7 +142,14 @@ fn groups_and_required_additions_and_their_octets(rt: HostRuntime) -> Result<(),
 #[test]
 fn options_and_defaults_and_their_octets(rt: HostRuntime) -> Result<(), Fail> {
     let alloc = rt.alloc();
-    is_read_as(&rt, alloc, "oer", "800100", DefaultInteger { a: integer(0) }, 0)?;
+    is_read_as(
+        &rt,
+        alloc,
+        "oer",
+        "800100",
+        DefaultInteger { a: integer(0) },
+        0,
+    )?;
     let both = DefaultAndOptional {
         a: integer(1),
         b: Some(integer(3)),

@@ -16,7 +16,7 @@ use asn1_ints::Integer;
 use asn1_times::{Date, GeneralizedTime, UtcTime};
 use asn1_values::{
     Any, BitString, BmpString, GeneralString, GraphicString, Ia5String, NumericString,
-    ObjectIdentifier, PrintableString, TeletexString, VisibleString,
+    PrintableString, TeletexString, VisibleString,
 };
 use oer_types::{Enum3, Pair, PriorityChoice, Sequence1, Sequence4};
 use rasn_oer::oer::de::DecoderOptions;
@@ -60,8 +60,14 @@ fn read_plain(rt: &impl Abort, alloc: Global, decoder: &mut Decoder<'_>) -> Resu
     assert!(rt; number == integer(300));
     let bits = decoder.decode_bit_string(alloc, Tag::BIT_STRING, NONE)?;
     assert_eq!(rt; bits.len(), 4);
-    assert_eq!(rt; decoder.decode_octet_string(Tag::OCTET_STRING, NONE)?, [1, 2].as_slice());
-    assert_eq!(rt; decoder.decode_any(alloc, Tag::EOC)?.as_bytes(), [5].as_slice());
+    assert_eq!(rt;
+        decoder.decode_octet_string(Tag::OCTET_STRING, NONE)?,
+        [1, 2].as_slice()
+    );
+    assert_eq!(rt;
+        decoder.decode_any(alloc, Tag::EOC)?.as_bytes(),
+        [5].as_slice()
+    );
     let identifier = decoder.decode_object_identifier(alloc, Tag::OBJECT_IDENTIFIER)?;
     assert_eq!(rt; identifier.arcs(), [1, 2, 3321].as_slice());
     assert!(rt; decoder.remaining().is_empty());
@@ -94,11 +100,17 @@ fn write_texts(alloc: Global, encoder: &mut Encoder<'_>) -> Result<(), Fail> {
     Ok(())
 }
 
-const TEXTS: &[u8] = b"\x01u\x01v\x01\xff\x01\x00\x01i\x01p\x017\x01\x80\x02\x00A\x0d191009130005Z\x0f20000101000000Z\x0820240229";
+const TEXTS: &[u8] =
+    b"\x01u\x01v\x01\xff\x01\x00\x01i\x01p\x017\x01\x80\x02\x00A\x0d191009130005Z\x0f20000101000000Z\x0820240229";
 
 /// Reads what `write_texts` writes.
 fn read_texts(rt: &impl Abort, alloc: Global, decoder: &mut Decoder<'_>) -> Result<(), Fail> {
-    assert_eq!(rt; decoder.decode_utf8_string(alloc, Tag::UTF8_STRING, NONE)?.as_str(), "u");
+    assert_eq!(rt;
+        decoder
+            .decode_utf8_string(alloc, Tag::UTF8_STRING, NONE)?
+            .as_str(),
+        "u"
+    );
     let text = decoder.decode_visible_string(alloc, Tag::VISIBLE_STRING, NONE)?;
     assert_eq!(rt; text.as_bytes(), b"v".as_slice());
     let text = decoder.decode_general_string(alloc, Tag::GENERAL_STRING, NONE)?;
@@ -130,7 +142,12 @@ fn each_leaf_is_written_and_read_by_its_method(rt: HostRuntime) -> Result<(), Fa
     let alloc = rt.alloc();
     let mut octets = Vec::new(alloc);
     let mut worker = vec![in alloc; 9]?;
-    let mut encoder = Encoder::from_buffer(alloc, EncoderOptions::default(), &mut octets, &mut worker);
+    let mut encoder = Encoder::from_buffer(
+        alloc,
+        EncoderOptions::default(),
+        &mut octets,
+        &mut worker,
+    );
     assert_eq!(rt; encoder.codec(), Codec::Coer);
     write_plain(alloc, &mut encoder)?;
     drop(encoder);
@@ -216,7 +233,10 @@ fn scopes_are_written_by_their_methods(rt: HostRuntime) -> Result<(), Fail> {
     true.encode_with_tag_and_constraints(&mut encoder, one(), NONE)?;
     drop(encoder);
     let written = hex::encode(alloc, octets.as_slice())?;
-    assert_eq!(rt; written.as_str(), "010101028102014d0102ff000101ff010200ffffffffff");
+    assert_eq!(rt;
+        written.as_str(),
+        "010101028102014d0102ff000101ff010200ffffffffff"
+    );
     Ok(())
 }
 
@@ -254,10 +274,11 @@ fn is_missing<T: Drop>(answer: Result<T, DecodeError>, tag: Tag) -> bool {
     match answer {
         Ok(_) => false,
         Err(e) => {
-            e.kind == DecodeErrorKind::MissingTagClassOrValueInSequenceOrSet {
-                class: tag.class,
-                value: tag.value,
-            }
+            e.kind
+                == DecodeErrorKind::MissingTagClassOrValueInSequenceOrSet {
+                    class: tag.class,
+                    value: tag.value,
+                }
         }
     }
 }
@@ -352,7 +373,10 @@ fn scopes_are_read_by_their_methods(rt: HostRuntime) -> Result<(), Fail> {
     let mut d = Decoder::new(octets.as_slice(), DecoderOptions::coer());
     let list: Vec<bool> = d.decode_sequence_of(alloc, Tag::SEQUENCE, NONE)?;
     assert_eq!(rt; list.as_slice(), [true].as_slice());
-    assert_eq!(rt; read_list(alloc, &mut d)?.as_slice(), [true, false].as_slice());
+    assert_eq!(rt;
+        read_list(alloc, &mut d)?.as_slice(),
+        [true, false].as_slice()
+    );
     let set: SetOf<bool> = d.decode_set_of(alloc, Tag::SET, NONE)?;
     assert_eq!(rt; set.len(), 2);
     let high = PriorityChoice::High(integer(333));
@@ -392,7 +416,10 @@ fn options_rules_and_refusals_have_their_derives(rt: HostRuntime) -> Result<(), 
     assert_eq!(rt; shown.as_str(), "Coer");
     let reading = DecoderOptions::oer().clone()?;
     let shown = format!(in alloc; "{:?}", reading)?;
-    assert_eq!(rt; shown.as_str(), "DecoderOptions { codec: Oer, levels: 128 }");
+    assert_eq!(rt;
+        shown.as_str(),
+        "DecoderOptions { codec: Oer, levels: 128 }"
+    );
     let writing = EncoderOptions::coer().clone()?;
     let shown = format!(in alloc; "{:?}", writing)?;
     assert_eq!(rt; shown.as_str(), "EncoderOptions { encoding_rules: Coer }");
@@ -421,7 +448,10 @@ fn both_modules_have_the_same_calls(rt: HostRuntime) -> Result<(), Fail> {
     oer::encode_buf(alloc, &true, &mut buffer)?;
     assert_eq!(rt; buffer.len(), 3);
     let octets = oer::encode_with_constraints(alloc, NONE, &true)?;
-    assert_eq!(rt; coer::encode_with_constraints(alloc, NONE, &true)?.as_slice(), octets.as_slice());
+    assert_eq!(rt;
+        coer::encode_with_constraints(alloc, NONE, &true)?.as_slice(),
+        octets.as_slice()
+    );
     assert!(rt; oer::decode::<bool>(alloc, octets.as_slice())?);
     assert!(rt; coer::decode::<bool>(alloc, octets.as_slice())?);
     assert!(rt; oer::decode_with_constraints::<bool>(alloc, NONE, octets.as_slice())?);

@@ -8,7 +8,6 @@ use asn1_times::{Date, GeneralizedTime, UtcTime};
 use asn1_values::{Any, BitString, BmpString, ObjectIdentifier, OctetString};
 use oer_types::{Enum3, Enum4, GreatPositive, HashedId3, Negative, Positive};
 use std::alloc::Global;
-use std::process::Abort;
 use std::test::Fail;
 
 #[test]
@@ -47,7 +46,11 @@ fn integers_under_constraints_and_their_octets(rt: HostRuntime) -> Result<(), Fa
     let rows = [
         (values(0, 65535), 255, "00ff"),
         (values(-5, 5), -4, "fc"),
-        (values(0, i128::MAX), 18446744073709551616, "09010000000000000000"),
+        (
+            values(0, i128::MAX),
+            18446744073709551616,
+            "09010000000000000000",
+        ),
         (values(-129, 0), -129, "ff7f"),
         (values(0, 255), 255, "ff"),
         (values(2, 65535), 2, "0002"),
@@ -93,8 +96,22 @@ fn bit_and_octet_strings_and_their_octets(rt: HostRuntime) -> Result<(), Fail> {
     is_read_as(&rt, alloc, "oer", "8100", bits(alloc, &[], 0)?, 0)?;
     let octets = |octets: &[u8]| OctetString::from_slice(alloc, octets);
     is_read_as(&rt, alloc, "oer", "820002aabb", octets(&[0xaa, 0xbb])?, 0)?;
-    is_read_as(&rt, alloc, "oer", "8a00000000000000000001aa", octets(&[0xaa])?, 0)?;
-    is_read_as(&rt, alloc, "oer coer", "040102030405", octets(&[1, 2, 3, 4])?, 1)?;
+    is_read_as(
+        &rt,
+        alloc,
+        "oer",
+        "8a00000000000000000001aa",
+        octets(&[0xaa])?,
+        0,
+    )?;
+    is_read_as(
+        &rt,
+        alloc,
+        "oer coer",
+        "040102030405",
+        octets(&[1, 2, 3, 4])?,
+        1,
+    )?;
     let five = octets(&[1, 2, 3, 4, 5])?;
     spells_under(&rt, alloc, sizes(3, 6), five, "050102030405")?;
     spells(&rt, alloc, HashedId3(octets(&[1, 2, 3])?), "010203")?;
@@ -131,7 +148,12 @@ fn times_and_identifiers_and_their_octets(rt: HostRuntime) -> Result<(), Fail> {
     let alloc = rt.alloc();
     let text = "191009130005Z";
     let octets = behind_length(alloc, 13, text)?;
-    spells(&rt, alloc, UtcTime::from_text(text.as_bytes())?, octets.as_str())?;
+    spells(
+        &rt,
+        alloc,
+        UtcTime::from_text(text.as_bytes())?,
+        octets.as_str(),
+    )?;
     for (length, text) in [
         (19, "20801009130005.342Z"),
         (25, "20000101000000.000000001Z"),

@@ -72,9 +72,7 @@ fn with_number<W: UnderConstraints + Drop>(word: &str, work: W) -> Result<String
         "i16inext1..8" => work.under::<i16>(extensible()),
         "u128" => work.under::<u128>(u128::CONSTRAINTS),
         "Positive" => work.under::<Positive>(Positive::CONSTRAINTS),
-        "Negative<Integer>" => {
-            work.under::<Negative<Integer>>(<Negative<Integer>>::CONSTRAINTS)
-        }
+        "Negative<Integer>" => { work.under::<Negative<Integer>>(<Negative<Integer>>::CONSTRAINTS) }
         "Negative<Positive>" => {
             work.under::<Negative<Positive>>(<Negative<Positive>>::CONSTRAINTS)
         }
@@ -106,6 +104,7 @@ fn with_scope<W: UnderConstraints + Drop>(word: &str, work: W) -> Result<String,
 pub(super) fn with_word<W: UnderConstraints + Drop>(word: &str, work: W) -> Result<String, Fail> {
     match word {
         "octets3..6" => work.under::<OctetString>(sizes(3, 6)),
+        "bits3..6" => work.under::<BitString>(sizes(3, 6)),
         "bits14" => work.under::<BitString>(sizes(14, 14)),
         "utf8of3" => work.under::<String>(sizes(3, 3)),
         "bmpof2" => work.under::<BmpString>(sizes(2, 2)),
