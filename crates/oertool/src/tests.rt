@@ -6,8 +6,15 @@ mod extensions;
 mod leaf_vectors;
 mod leaves;
 mod nested;
+mod program;
+mod refusals;
+mod scopes;
 mod sets;
+mod spelled;
+mod surface;
+mod values;
 mod vectors;
+mod words;
 
 use crate::known::{OnType, with_type};
 use crate::run::{Status, run};
@@ -21,12 +28,16 @@ use std::process::Abort;
 use std::test::Fail;
 use vectors::{CHOICES, EXTENSIBLE, LISTS, NESTED, NUMBERS, ROWS, SEQUENCES, SETS, STRINGS, TIMES};
 
-fn words_of(alloc: Global, text: &str) -> Result<Vec<String>, AllocError> {
+fn words_between(alloc: Global, text: &str, separator: char) -> Result<Vec<String>, AllocError> {
     let mut words = Vec::new(alloc);
-    for word in text.split(' ') {
+    for word in text.split(separator) {
         words.push(String::from_str(alloc, word)?)?;
     }
     Ok(words)
+}
+
+fn words_of(alloc: Global, text: &str) -> Result<Vec<String>, AllocError> {
+    words_between(alloc, text, ' ')
 }
 
 #[test]
@@ -49,27 +60,6 @@ fn the_program_prints_its_rows(rt: HostRuntime) -> Result<(), Fail> {
         ("coer int 03ed2979", "03ed2979\n\n", Status::Done),
         ("coer empty ", "\n\n", Status::Done),
         ("oer empty aabb", "\naabb\n", Status::Done),
-        (
-            "coer int 0",
-            "usage: oertool oer|coer TYPE HEX\n",
-            Status::Usage,
-        ),
-        ("coer", "usage: oertool oer|coer TYPE HEX\n", Status::Usage),
-        (
-            "coer nosuch 00",
-            "usage: oertool oer|coer TYPE HEX\n",
-            Status::Usage,
-        ),
-        (
-            "OER bool ff",
-            "usage: oertool oer|coer TYPE HEX\n",
-            Status::Usage,
-        ),
-        (
-            "oer bool fg",
-            "usage: oertool oer|coer TYPE HEX\n",
-            Status::Usage,
-        ),
     ];
     for (words, printed, status) in rows {
         let words = words_of(rt.alloc(), words)?;

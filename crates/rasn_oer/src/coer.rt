@@ -4,7 +4,8 @@ ghost use Rattle.oer_forms.specs.Spelled.{IsConsistent};
 ghost use Rattle.rasn_oer.specs.Conversions.{IsAsOlder};
 ghost use Rattle.rasn_oer.specs.Headline.{IsAppended, IsRead, IsReadAlone, IsWritten};
 
-pub use crate::codec_error::CodecError;
+pub use crate::oer::{CodecError, Decoder, Encoder, EncodingRules, de, enc};
+
 use crate::de::DecoderOptions;
 use crate::decode::Decode;
 use crate::entry::{append_value, decode_value, encode_value};

@@ -1,5 +1,7 @@
+//! The decoder's options.
 ghost use Rattle.std.specs.Prelude.{◌≡◌};
 
+pub use crate::decoder::Decoder;
 use asn1_base::Codec;
 
 /// How a decoder reads: the rules, and how many nested levels.

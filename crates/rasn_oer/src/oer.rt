@@ -5,6 +5,10 @@ ghost use Rattle.rasn_oer.specs.Conversions.{IsAsOlder, IsCanonicalised};
 ghost use Rattle.rasn_oer.specs.Headline.{IsAppended, IsRead, IsReadAlone, IsWritten};
 
 pub use crate::codec_error::CodecError;
+pub use crate::de;
+pub use crate::decoder::Decoder;
+pub use oer_write::{Encoder, EncodingRules, enc};
+
 use crate::de::DecoderOptions;
 use crate::decode::Decode;
 use crate::entry::{append_value, decode_value, encode_value};

@@ -1,6 +1,6 @@
 //! Components with a default, optional ones, and boxes.
 use crate::tests::integer;
-use crate::tests::nested::is_spelled;
+use crate::tests::spelled::is_spelled;
 use asn1_base::{AsnType, Constraints, DecodeError, DecodeErrorKind};
 use asn1_ints::Integer;
 use asn1_values::OctetString;

@@ -29,6 +29,9 @@ oer i16inext1..8 0400000007;0107\n\
 coer i16inext1..8 0400000007;NotValidCanonicalEncoding\n\
 oer bits14 ff43;ff40\n\
 coer bits14 ff43;NotValidCanonicalEncoding\n\
+oer bits3..6 020290;020290\n\
+coer bits3..6 0201fe;SizeConstraintNotSatisfied 7\n\
+oer bits3..6 0206c0;SizeConstraintNotSatisfied 2\n\
 oer octets3..6 02aabb;SizeConstraintNotSatisfied 2\n\
 coer octets3..6 02aabb;SizeConstraintNotSatisfied 2\n\
 oer Negative<Integer> 01ff;01ff\n\
@@ -72,4 +75,36 @@ coer HashedId3 010203;010203\n\
 coer HashedId3 0102;Incomplete 1\n\
 coer Enum3 06;06\n\
 coer Enum3 8101;NotValidCanonicalEncoding\n\
-coer Enum3 08;DiscriminantValueNotFound 8";
+coer Enum3 08;DiscriminantValueNotFound 8\n\
+oer Pair 01010102;01010102\n\
+coer Pair 01010102;01010102\n\
+oer Nested ff01010102;ff01010102\n\
+coer Nested ff01010102;ff01010102\n\
+oer Pair 01010201;Incomplete 1\n\
+coer Pair 01010201;Incomplete 1\n\
+oer AllOptional 00;00\n\
+coer AllOptional 00;00\n\
+oer AllDefault 00;00\n\
+coer AllDefault 00;00\n\
+oer AllDefault 400100;400100\n\
+coer AllDefault 400100;400100\n\
+oer AllDefault c001000101;00\n\
+coer AllDefault c001000101;NotValidCanonicalEncoding\n\
+oer AllDefault 20;InvalidPreamble\n\
+coer AllDefault 20;InvalidPreamble\n\
+oer ConstrainedOptions 80010203;80010203\n\
+coer ConstrainedOptions 80010203;80010203\n\
+oer BoolChoice 8101ff;8101ff\n\
+coer BoolChoice 8101ff;8101ff\n\
+oer BoolChoice 828002014d;828002014d\n\
+coer BoolChoice 828002014d;828002014d\n\
+oer Link 8001018180010280ff;8001018180010280ff\n\
+coer Link 8001018180010280ff;8001018180010280ff\n\
+oer AddDef 00ff;00ff\n\
+coer AddDef 00ff;00ff\n\
+oer AddDef 80ff020780020108;80ff020780020108\n\
+coer AddDef 80ff020780020108;80ff020780020108\n\
+oer AddDef 80ff020780020107;00ff\n\
+coer AddDef 80ff020780020107;NotValidCanonicalEncoding\n\
+oer SetOfOctets 01030001aa020102;01030001aa020102\n\
+coer SetOfOctets 01030001aa020102;01030001aa020102";

@@ -1,16 +1,14 @@
 //! Leaves, wrappers and enumerated types, under constraints too.
 use crate::tests::codec_of;
 use crate::tests::leaf_vectors::TYPE_ROWS;
+use crate::tests::spelled::there;
+use crate::tests::words::{UnderConstraints, sizes, with_word};
 use asn1_base::{
-    AsnType, Bounded, Codec, Constraints, DecodeErrorKind, EncodeError, EncodeErrorKind,
-    Enumerated, Tag,
+    Codec, Constraints, DecodeErrorKind, EncodeError, EncodeErrorKind, Enumerated, Tag,
 };
 use asn1_ints::Integer;
 use asn1_times::{GeneralizedTime, UtcTime};
-use asn1_values::{
-    Any, BitString, BmpString, GeneralString, GraphicString, Ia5String, NumericString,
-    ObjectIdentifier, OctetString, PrintableString, TeletexString, VisibleString,
-};
+use asn1_values::{BitString, BmpString, ObjectIdentifier, OctetString};
 use oer_types::{Enum3, HashedId3, Negative, Positive};
 use oer_write::enc::EncoderOptions;
 use oer_write::{Encode, Encoder};
@@ -29,7 +27,7 @@ fn field_of(kind: &DecodeErrorKind) -> Option<i128> {
     }
 }
 
-/// Octets that are read in a mode and under constraints, and written again.
+/// Octets that are read in a mode and under constraints, and written again by both modules.
 #[derive(Clone, Copy)]
 struct Constrained<'a> {
     alloc: Global,
@@ -37,9 +35,9 @@ struct Constrained<'a> {
     input: &'a [u8],
 }
 
-impl<'a> Constrained<'a> {
+impl<'a> UnderConstraints for Constrained<'a> {
     /// The octets in hexadecimal; or the kind that refuses, and its number.
-    fn recoded<T: Decode + Encode>(self, constraints: Constraints) -> Result<String, Fail> {
+    fn under<T: Decode + Encode>(self, constraints: Constraints) -> Result<String, Fail> {
         if !constraints.is_consistent() {
             return Err(Fail::from("constraints without a value"));
         }
@@ -50,6 +48,10 @@ impl<'a> Constrained<'a> {
         match read {
             Ok(value) => {
                 let octets = coer::encode_with_constraints(self.alloc, constraints, &value)?;
+                let same = oer::encode_with_constraints(self.alloc, constraints, &value)?;
+                if same.as_slice() != octets.as_slice() {
+                    return Err(Fail::from("the modules write different octets"));
+                }
                 Ok(hex::encode(self.alloc, octets.as_slice())?)
             }
             Err(e) => match field_of(&e.kind) {
@@ -57,77 +59,6 @@ impl<'a> Constrained<'a> {
                 None => Ok(String::from_str(self.alloc, e.kind.name())?),
             },
         }
-    }
-
-    /// The same under the type's own constraints.
-    fn own<T: Decode + Encode>(self) -> Result<String, Fail> {
-        self.recoded::<T>(T::CONSTRAINTS)
-    }
-}
-
-fn values(start: i128, end: i128) -> Constraints {
-    Constraints::NONE.with_value(Bounded::Range {
-        start: Some(start),
-        end: Some(end),
-    })
-}
-
-fn sizes(start: usize, end: usize) -> Constraints {
-    Constraints::NONE.with_size(Bounded::Range {
-        start: Some(start),
-        end: Some(end),
-    })
-}
-
-fn extensible() -> Constraints {
-    Constraints::NONE.with_extensible_value(Bounded::Range {
-        start: Some(1),
-        end: Some(8),
-    })
-}
-
-/// By the word of an integer type and its range.
-fn number(word: &str, octets: Constrained<'_>) -> Result<String, Fail> {
-    match word {
-        "0..255" => octets.recoded::<Integer>(values(0, 255)),
-        "0..65535" => octets.recoded::<Integer>(values(0, 65535)),
-        "2..65535" => octets.recoded::<Integer>(values(2, 65535)),
-        "-5..5" => octets.recoded::<Integer>(values(-5, 5)),
-        "-129..0" => octets.recoded::<Integer>(values(-129, 0)),
-        "5..5" => octets.recoded::<Integer>(Constraints::NONE.with_value(Bounded::Single(5))),
-        "0..i128max" => octets.recoded::<Integer>(values(0, i128::MAX)),
-        "i16range" => octets.recoded::<Integer>(values(-32768, 32767)),
-        "ext1..8" => octets.recoded::<Integer>(extensible()),
-        "i8in0..255" => octets.recoded::<i8>(values(0, 255)),
-        "u8inext1..8" => octets.recoded::<u8>(extensible()),
-        "i16inext1..8" => octets.recoded::<i16>(extensible()),
-        "u128" => octets.own::<u128>(),
-        "Positive" => octets.own::<Positive>(),
-        "Negative<Integer>" => octets.own::<Negative<Integer>>(),
-        "Negative<Positive>" => octets.own::<Negative<Positive>>(),
-        "Enum3" => octets.own::<Enum3>(),
-        _ => Err(Fail::from("no such type")),
-    }
-}
-
-/// By the word of a string type and its size.
-fn string(word: &str, octets: Constrained<'_>) -> Result<String, Fail> {
-    match word {
-        "octets3..6" => octets.recoded::<OctetString>(sizes(3, 6)),
-        "bits14" => octets.recoded::<BitString>(sizes(14, 14)),
-        "utf8of3" => octets.recoded::<String>(sizes(3, 3)),
-        "bmpof2" => octets.recoded::<BmpString>(sizes(2, 2)),
-        "bmp" => octets.own::<BmpString>(),
-        "numeric" => octets.own::<NumericString>(),
-        "printable" => octets.own::<PrintableString>(),
-        "visible" => octets.own::<VisibleString>(),
-        "ia5" => octets.own::<Ia5String>(),
-        "general" => octets.own::<GeneralString>(),
-        "graphic" => octets.own::<GraphicString>(),
-        "teletex" => octets.own::<TeletexString>(),
-        "any" => octets.own::<Any>(),
-        "HashedId3" => octets.own::<HashedId3>(),
-        _ => number(word, octets),
     }
 }
 
@@ -143,7 +74,7 @@ fn recodes(rt: &impl Abort, alloc: Global, line: &str) -> Result<(), Fail> {
         codec,
         input: input.as_slice(),
     };
-    let answer = string(word, octets)?;
+    let answer = with_word(word, octets)?;
     assert_eq!(rt; answer.as_str(), parts.next().unwrap_or(""));
     Ok(())
 }
@@ -162,6 +93,31 @@ fn refused<T: Encode>(alloc: Global, value: &T) -> Option<EncodeErrorKind> {
         Ok(_) => None,
         Err(e) => Some(e.kind),
     }
+}
+
+/// The kind that a value's writing is refused by, under a size of 3 to 6.
+fn refused_by_size<T: Encode>(alloc: Global, value: &T) -> Option<EncodeErrorKind> {
+    let constraints = sizes(3, 6);
+    if !constraints.is_consistent() {
+        return None;
+    }
+    match oer::encode_with_constraints(alloc, constraints, value) {
+        Ok(_) => None,
+        Err(e) => Some(e.kind),
+    }
+}
+
+#[test]
+fn values_outside_their_sizes_are_not_written(rt: HostRuntime) -> Result<(), Fail> {
+    let alloc = rt.alloc();
+    let seven = Some(EncodeErrorKind::SizeConstraintNotSatisfied { size: 7 });
+    let octets = OctetString::from_slice(alloc, &[1, 2, 3, 4, 5, 6, 7])?;
+    assert_eq!(rt; refused_by_size(alloc, &octets), seven);
+    let bits = there(BitString::from_octets(alloc, &[0xfe], 7)?)?;
+    assert_eq!(rt; refused_by_size(alloc, &bits), seven);
+    let three = BmpString::from_units(alloc, &[1, 2, 3])?;
+    assert_eq!(rt; refused_by_size(alloc, &three), None);
+    Ok(())
 }
 
 #[test]

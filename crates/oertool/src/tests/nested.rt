@@ -1,28 +1,10 @@
 //! Choices, and types that contain themselves.
 use crate::tests::integer;
+use crate::tests::spelled::is_spelled;
 use asn1_base::{Class, Codec, DecodeError, DecodeErrorKind, Tag};
 use oer_types::{BoolChoice, Link, LinkChoice, PriorityChoice, WideChoice};
-use oer_write::Encode;
-use rasn_oer::{Decode, coer, oer};
-use std::alloc::Global;
-use std::process::Abort;
+use rasn_oer::{coer, oer};
 use std::test::Fail;
-
-/// The value is written as these octets, and they are read as it.
-pub(super) fn is_spelled<T: Decode + Encode + PartialEq>(
-    rt: &impl Abort,
-    alloc: Global,
-    value: T,
-    octets: &[u8],
-) -> Result<(), Fail> {
-    let written = coer::encode(alloc, &value)?;
-    assert_eq!(rt; written.as_slice(), octets);
-    let lenient: T = oer::decode(alloc, octets)?;
-    assert!(rt; lenient == value);
-    let canonical: T = coer::decode(alloc, octets)?;
-    assert!(rt; canonical == value);
-    Ok(())
-}
 
 #[test]
 fn choices_and_links_are_written_and_read(rt: HostRuntime) -> Result<(), Fail> {
