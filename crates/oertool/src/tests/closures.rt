@@ -4,7 +4,7 @@ ghost use Rattle.rasn_oer.specs.Law.{IsRear};
 
 use asn1_base::{AsnType, Class, Codec, DecodeError, DecodeErrorKind, Tag};
 use asn1_ints::Integer;
-use oer_types::{AllOptional, MixedSet};
+use oer_types::{AllOptional, MixedSet, Sequence1};
 use rasn_oer::{Decode, Decoder, DecoderOptions};
 use std::alloc::Global;
 use std::process::Abort;
@@ -74,6 +74,33 @@ fn addition(alloc: Global, decoder: &mut Decoder<'_>, tag: Tag) -> Result<Option
     ensures { OnOk result (IsRear decoder.old.input decoder.new.input) }
 {
     decoder.decode_extension_addition_with_tag_and_constraints(alloc, tag, bool::CONSTRAINTS)
+}
+
+/// What reading answers where the closure asks for an addition that the table doesn't have.
+fn asking_beyond(alloc: Global, decoder: &mut Decoder<'_>) -> Result<Sequence1, DecodeError> {
+    decoder.decode_sequence::<1, 0, Sequence1, _>(
+        Tag::SEQUENCE,
+        |inner: &mut Decoder<'_>| -> Result<Sequence1, DecodeError>
+            ensures { OnOk result (IsRear inner.old.input inner.new.input) }
+        {
+            pass_boolean(alloc, inner)?;
+            match addition(alloc, inner, Tag::new(Class::Context, 1)) {
+                Err(e) => Err(e),
+                Ok(_addition) => Err(DecodeErrorKind::OutOfMemory.with_codec(inner.codec())),
+            }
+        },
+    )
+}
+
+#[test]
+fn no_addition_is_asked_past_the_table(rt: HostRuntime) -> Result<(), Fail> {
+    let octets = [0x00, 0xff];
+    let mut decoder = Decoder::new(&octets, DecoderOptions::oer());
+    let answer = asking_beyond(rt.alloc(), &mut decoder);
+    let refused = DecodeErrorKind::TypeNotExtensible.with_codec(Codec::Oer);
+    assert!(rt; answer == Err(refused));
+    assert_eq!(rt; decoder.remaining(), octets.as_slice());
+    Ok(())
 }
 
 /// Reads a component of a mixed set, and answers by which index and tag it was asked.

@@ -49,7 +49,8 @@ fn newer_values_are_read_as_older_ones(rt: HostRuntime) -> Result<(), Fail> {
         }),
     };
     let older: Sequence1 = coer::as_older(alloc, &outer)?;
-    assert!(rt; older == Sequence1 { a: true });
+    let same: Sequence1 = oer::as_older(alloc, &outer)?;
+    assert!(rt; older == Sequence1 { a: true } && same == older);
     let holder = Holder2 {
         a: Sequence5 {
             a: true,

@@ -1,6 +1,6 @@
 //! Additions with a default, many optional ones, and a required addition that is missing.
 use crate::tests::integer;
-use crate::tests::nested::is_spelled;
+use crate::tests::spelled::is_spelled;
 use asn1_base::{Codec, DecodeError, DecodeErrorKind, Tag};
 use asn1_values::OctetString;
 use oer_types::{AddDef, ExtendedOptional, SequenceDuplicatesExtended};

@@ -1,11 +1,12 @@
 //! Every call, trait, constant and derive of the codec's crate, by its public path.
 ghost use Rattle.std.specs.Prelude.{OnOk};
+ghost use Rattle.oer_forms.specs.Spelled.{boolean};
 ghost use Rattle.oer_forms.specs.Tree.{NoRows};
 ghost use Rattle.oer_write.specs.Choices.{WritesAlternative};
 ghost use Rattle.oer_write.specs.Rows.{InSequence};
 ghost use Rattle.oer_write.specs.Written.{WritesTree};
 ghost use Rattle.rasn_oer.specs.Law.{Decodes, IsRear};
-ghost use Rattle.sequence_types.specs.Pairs.{pair_rows};
+ghost use Rattle.sequence_types.specs.Pairs.{pair_rows, plain_integer};
 
 use crate::tests::integer;
 use crate::tests::spelled::there;
@@ -188,7 +189,7 @@ fn write_alternative(encoder: &mut Encoder<'_>, number: &Integer) -> Result<(), 
         NONE,
         tag,
         |encoder: &mut Encoder<'_>| -> Result<Tag, EncodeError>
-            ensures { WritesAlternative (Integer.tree Integer.CONSTRAINTS number.entry.now) tag encoder.old result encoder.new }
+            ensures { WritesAlternative (plain_integer number.entry.now) tag encoder.old result encoder.new }
         {
             number.encode(encoder)?;
             Ok(tag)
@@ -203,7 +204,7 @@ fn write_lists(alloc: Global, encoder: &mut Encoder<'_>) -> Result<(), Fail> {
         NONE,
         &[true, false],
         |encoder: &mut Encoder<'_>, x: &bool| -> Result<(), EncodeError>
-            ensures { WritesTree (bool.tree bool.CONSTRAINTS x.now) encoder.old result encoder.new }
+            ensures { WritesTree (boolean x.now) encoder.old result encoder.new }
         { x.encode(encoder) },
     )?;
     encoder.encode_sequence_of(Tag::SEQUENCE, NONE, &[true])?;
