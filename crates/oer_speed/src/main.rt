@@ -15,7 +15,7 @@ use std::time::Instant;
 use values::measure_word;
 
 const USAGE: &str =
-    "usage: oer_speed ints|intset|mixed|nest|link|octets|seq2|foo COUNT encode|decode TIMES";
+    "usage: oer_speed ints|intset|mixed|nest|link|octets|seq2|extopt|foo COUNT encode|decode TIMES";
 
 /// How large the value is, what is done with it, and how often.
 #[derive(Drop)]

@@ -5,7 +5,7 @@ use anyhow::Result;
 use asn1_base::SetOf;
 use asn1_ints::Integer;
 use asn1_values::OctetString;
-use oer_types::{Foo, Link, LinkChoice, Nest, Sequence2};
+use oer_types::{ExtendedOptional, Foo, Link, LinkChoice, Nest, Sequence2};
 use std::alloc::Global;
 use std::rt::Clock;
 
@@ -56,6 +56,28 @@ fn link(alloc: Global, count: u32) -> Result<Link> {
     Ok(link)
 }
 
+/// A number, where it is there.
+fn some(number: i128) -> Option<Integer> {
+    Some(Integer::from_i128(number))
+}
+
+/// A sequence of a number, four optional components and two additions that are there.
+fn extended(alloc: Global) -> Result<ExtendedOptional> {
+    Ok(ExtendedOptional {
+        value: Integer::from_i128(0),
+        integer1: some(1),
+        octet1: None,
+        integer2: some(2),
+        octet2: None,
+        integer3: some(3),
+        octet3: Some(OctetString::from_slice(alloc, &[4, 5, 6])?),
+        integer4: some(7),
+        octet4: None,
+        integer5: some(8),
+        octet5: None,
+    })
+}
+
 /// Measures the value of that word; nothing where it is no value's.
 pub(crate) fn measure_word<R: Clock + AllocGlobal>(
     rt: &R,
@@ -82,6 +104,7 @@ pub(crate) fn measure_word<R: Clock + AllocGlobal>(
             };
             measure(rt, alloc, plan, &sequence)
         }
+        "extopt" => measure(rt, alloc, plan, &extended(alloc)?),
         "foo" => {
             let foo = Foo {
                 a: Some(Integer::from_i128(1)),

@@ -4,11 +4,10 @@ ghost use Rattle.oer_forms.specs.Spelled.{IsConsistent};
 ghost use Rattle.rasn_oer.specs.Conversions.{IsAsOlder};
 ghost use Rattle.rasn_oer.specs.Headline.{IsAppended, IsRead, IsReadAlone, IsWritten};
 
-pub use crate::oer::{CodecError, Decoder, Encoder, EncodingRules, de, enc};
-
 use crate::de::DecoderOptions;
 use crate::decode::Decode;
 use crate::entry::{append_value, decode_value, encode_value};
+pub use crate::oer::{CodecError, Decoder, Encoder, EncodingRules, de, enc};
 use crate::recode::older_value;
 use asn1_base::{Constraints, DecodeError, EncodeError};
 use oer_write::Encode;

@@ -6,15 +6,14 @@ ghost use Rattle.rasn_oer.specs.Headline.{IsAppended, IsRead, IsReadAlone, IsWri
 
 pub use crate::codec_error::CodecError;
 pub use crate::de;
-pub use crate::decoder::Decoder;
-pub use oer_write::{Encoder, EncodingRules, enc};
-
 use crate::de::DecoderOptions;
 use crate::decode::Decode;
+pub use crate::decoder::Decoder;
 use crate::entry::{append_value, decode_value, encode_value};
 use crate::recode::{canonical_value, older_value};
 use asn1_base::{Constraints, DecodeError, EncodeError};
 use oer_write::Encode;
+pub use oer_write::{Encoder, EncodingRules, enc};
 use std::alloc::Global;
 
 /// The canonical octets of a value's tree (docs/ENCODING.md).
