@@ -280,7 +280,10 @@ fn integers(alloc: Global, numbers: &[i128]) -> Result<Vec<Integer>, Fail> {
 
 /// An unordered list of two of a type.
 fn bag<T: Drop>(alloc: Global, a: T, b: T) -> Result<SetOf<T>, Fail> {
-    Ok(SetOf::from_vec(vec![in alloc; a, b]?))
+    let mut items = Vec::new(alloc);
+    items.push(a)?;
+    items.push(b)?;
+    Ok(SetOf::from_vec(items))
 }
 
 /// A list of so many values that take no octets.
