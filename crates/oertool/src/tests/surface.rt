@@ -75,8 +75,8 @@ fn read_plain(rt: &impl Abort, alloc: Global, decoder: &mut Decoder<'_>) -> Resu
     Ok(())
 }
 
-/// Writes a text of each type of strings, and a time of each.
-fn write_texts(alloc: Global, encoder: &mut Encoder<'_>) -> Result<(), Fail> {
+/// Writes a text of each of four types of strings.
+fn write_first_texts(alloc: Global, encoder: &mut Encoder<'_>) -> Result<(), Fail> {
     encoder.encode_utf8_string(Tag::UTF8_STRING, NONE, "u")?;
     let text = VisibleString::from_bytes(alloc, b"v")?;
     encoder.encode_visible_string(Tag::VISIBLE_STRING, NONE, &text)?;
@@ -84,50 +84,82 @@ fn write_texts(alloc: Global, encoder: &mut Encoder<'_>) -> Result<(), Fail> {
     encoder.encode_general_string(Tag::GENERAL_STRING, NONE, &text)?;
     let text = GraphicString::from_bytes(alloc, &[0])?;
     encoder.encode_graphic_string(Tag::GRAPHIC_STRING, NONE, &text)?;
+    Ok(())
+}
+
+/// Writes a text of each of three further types.
+fn write_further_texts(alloc: Global, encoder: &mut Encoder<'_>) -> Result<(), Fail> {
     let text = Ia5String::from_bytes(alloc, b"i")?;
     encoder.encode_ia5_string(Tag::IA5_STRING, NONE, &text)?;
     let text = PrintableString::from_bytes(alloc, b"p")?;
     encoder.encode_printable_string(Tag::PRINTABLE_STRING, NONE, &text)?;
     let text = NumericString::from_bytes(alloc, b"7")?;
     encoder.encode_numeric_string(Tag::NUMERIC_STRING, NONE, &text)?;
+    Ok(())
+}
+
+/// Writes a text of each of the last two types.
+fn write_last_texts(alloc: Global, encoder: &mut Encoder<'_>) -> Result<(), Fail> {
     let text = TeletexString::from_bytes(alloc, &[0x80])?;
     encoder.encode_teletex_string(Tag::TELETEX_STRING, NONE, &text)?;
     let text = BmpString::from_units(alloc, &[0x41])?;
     encoder.encode_bmp_string(Tag::BMP_STRING, NONE, &text)?;
-    encoder.encode_utc_time(Tag::UTC_TIME, &UtcTime::from_text(b"191009130005Z")?)?;
+    Ok(())
+}
+
+/// Writes a time of each type.
+fn write_times(encoder: &mut Encoder<'_>) -> Result<(), Fail> {
+    let time = UtcTime::from_text(b"191009130005Z")?;
+    encoder.encode_utc_time(Tag::UTC_TIME, &time)?;
     let time = GeneralizedTime::from_text(b"20000101000000Z")?;
     encoder.encode_generalized_time(Tag::GENERALIZED_TIME, &time)?;
-    encoder.encode_date(Tag::DATE, &Date::from_text(b"20240229")?)?;
+    let day = Date::from_text(b"20240229")?;
+    encoder.encode_date(Tag::DATE, &day)?;
     Ok(())
 }
 
 const TEXTS: &[u8] =
     b"\x01u\x01v\x01\xff\x01\x00\x01i\x01p\x017\x01\x80\x02\x00A\x0d191009130005Z\x0f20000101000000Z\x0820240229";
 
-/// Reads what `write_texts` writes.
-fn read_texts(rt: &impl Abort, alloc: Global, decoder: &mut Decoder<'_>) -> Result<(), Fail> {
-    assert_eq!(rt;
-        decoder
-            .decode_utf8_string(alloc, Tag::UTF8_STRING, NONE)?
-            .as_str(),
-        "u"
-    );
+/// Reads what `write_first_texts` writes.
+fn read_first_texts(rt: &impl Abort, alloc: Global, decoder: &mut Decoder<'_>) -> Result<(), Fail> {
+    let text = decoder.decode_utf8_string(alloc, Tag::UTF8_STRING, NONE)?;
+    assert_eq!(rt; text.as_str(), "u");
     let text = decoder.decode_visible_string(alloc, Tag::VISIBLE_STRING, NONE)?;
     assert_eq!(rt; text.as_bytes(), b"v".as_slice());
     let text = decoder.decode_general_string(alloc, Tag::GENERAL_STRING, NONE)?;
     assert_eq!(rt; text.as_bytes(), [0xff].as_slice());
     let text = decoder.decode_graphic_string(alloc, Tag::GRAPHIC_STRING, NONE)?;
     assert_eq!(rt; text.as_bytes(), [0].as_slice());
+    Ok(())
+}
+
+/// Reads what `write_further_texts` writes.
+fn read_further_texts(
+    rt: &impl Abort,
+    alloc: Global,
+    decoder: &mut Decoder<'_>,
+) -> Result<(), Fail> {
     let text = decoder.decode_ia5_string(alloc, Tag::IA5_STRING, NONE)?;
     assert_eq!(rt; text.as_bytes(), b"i".as_slice());
     let text = decoder.decode_printable_string(alloc, Tag::PRINTABLE_STRING, NONE)?;
     assert_eq!(rt; text.as_bytes(), b"p".as_slice());
     let text = decoder.decode_numeric_string(alloc, Tag::NUMERIC_STRING, NONE)?;
     assert_eq!(rt; text.as_bytes(), b"7".as_slice());
+    Ok(())
+}
+
+/// Reads what `write_last_texts` writes.
+fn read_last_texts(rt: &impl Abort, alloc: Global, decoder: &mut Decoder<'_>) -> Result<(), Fail> {
     let text = decoder.decode_teletex_string(alloc, Tag::TELETEX_STRING, NONE)?;
     assert_eq!(rt; text.as_bytes(), [0x80].as_slice());
     let text = decoder.decode_bmp_string(alloc, Tag::BMP_STRING, NONE)?;
     assert_eq!(rt; text.len(), 1);
+    Ok(())
+}
+
+/// Reads what `write_times` writes.
+fn read_times(rt: &impl Abort, decoder: &mut Decoder<'_>) -> Result<(), Fail> {
     let time = decoder.decode_utc_time(Tag::UTC_TIME)?;
     assert!(rt; time == UtcTime::from_text(b"191009130005Z")?);
     let time = decoder.decode_generalized_time(Tag::GENERALIZED_TIME)?;
@@ -143,12 +175,8 @@ fn each_leaf_is_written_and_read_by_its_method(rt: HostRuntime) -> Result<(), Fa
     let alloc = rt.alloc();
     let mut octets = Vec::new(alloc);
     let mut worker = vec![in alloc; 9]?;
-    let mut encoder = Encoder::from_buffer(
-        alloc,
-        EncoderOptions::default(),
-        &mut octets,
-        &mut worker,
-    );
+    let options = EncoderOptions::default();
+    let mut encoder = Encoder::from_buffer(alloc, options, &mut octets, &mut worker);
     assert_eq!(rt; encoder.codec(), Codec::Coer);
     write_plain(alloc, &mut encoder)?;
     drop(encoder);
@@ -157,13 +185,27 @@ fn each_leaf_is_written_and_read_by_its_method(rt: HostRuntime) -> Result<(), Fa
     let mut decoder = Decoder::new(octets.as_slice(), DecoderOptions::coer());
     assert_eq!(rt; decoder.codec(), Codec::Coer);
     assert_eq!(rt; decoder.levels(), 128);
-    read_plain(&rt, alloc, &mut decoder)?;
+    read_plain(&rt, alloc, &mut decoder)
+}
+
+#[test]
+fn each_text_is_written_and_read_by_its_method(rt: HostRuntime) -> Result<(), Fail> {
+    let alloc = rt.alloc();
     let mut octets = Vec::new(alloc);
-    let mut encoder = Encoder::from_buffer(alloc, EncoderOptions::coer(), &mut octets, &mut worker);
-    write_texts(alloc, &mut encoder)?;
+    let mut worker = Vec::new(alloc);
+    let options = EncoderOptions::coer();
+    let mut encoder = Encoder::from_buffer(alloc, options, &mut octets, &mut worker);
+    write_first_texts(alloc, &mut encoder)?;
+    write_further_texts(alloc, &mut encoder)?;
+    write_last_texts(alloc, &mut encoder)?;
+    write_times(&mut encoder)?;
     drop(encoder);
     assert_eq!(rt; octets.as_slice(), TEXTS);
-    read_texts(&rt, alloc, &mut Decoder::new(TEXTS, DecoderOptions::oer()))
+    let mut decoder = Decoder::new(TEXTS, DecoderOptions::oer());
+    read_first_texts(&rt, alloc, &mut decoder)?;
+    read_further_texts(&rt, alloc, &mut decoder)?;
+    read_last_texts(&rt, alloc, &mut decoder)?;
+    read_times(&rt, &mut decoder)
 }
 
 /// Writes a pair by a closure of its own.
