@@ -1,4 +1,4 @@
-use asn1_base::{Bounded, Class, Constraints, Field, Fields, SetOf, Tag};
+use asn1_base::{Bounded, Class, Constraints, Field, FieldPresence, Fields, SetOf, Tag};
 use std::test::Fail;
 
 /// Universal tags and the numbers of X.680, 8.4.
@@ -46,7 +46,7 @@ static SET_ROWS: [Field<'static>; 3] = [
             class: Class::Context,
             value: 444,
         },
-        presence: crate::FieldPresence::Optional,
+        presence: FieldPresence::Optional,
         name: "a",
     },
     Field {
@@ -55,7 +55,7 @@ static SET_ROWS: [Field<'static>; 3] = [
             class: Class::Context,
             value: 5,
         },
-        presence: crate::FieldPresence::Required,
+        presence: FieldPresence::Required,
         name: "b",
     },
     Field {
@@ -64,7 +64,7 @@ static SET_ROWS: [Field<'static>; 3] = [
             class: Class::Application,
             value: 9,
         },
-        presence: crate::FieldPresence::Default,
+        presence: FieldPresence::Default,
         name: "c",
     },
 ];
