@@ -3,7 +3,7 @@ use Rattle.std.proofs.Common.{◌≡◌, ◌≢◌, ℕ, ◌^◌, ◌≤◌, Boo
 use Rattle.std.specs.Prelude.{⊤, int_lt, not, Some, None}
 use Rattle.std.proofs.lemmas.Bool.{cases_lt, eqb-false, ne_eqb, lt-ltb, le-ltb, not-false}
 use Rattle.std.proofs.lemmas.List.{length-take-le, take-append-drop}
-use Rattle.asn1_base.proofs.Shortest.{tight_from_test}
+use Rattle.asn1_base.proofs.Shortest.{IsTight, tight_from_test}
 use Rattle.asn1_base.specs.Bounds.{Range, in_range}
 use Rattle.asn1_base.specs.Numbers.{has_superfluous_sign}
 use Rattle.asn1_base.specs.Octets.{Octets, AreOctets}
@@ -17,7 +17,6 @@ use Rattle.oer_forms.specs.Reading.{◌>>=◌, ◌>>◌, seen, ReadsFront, canon
 use Rattle.oer_forms.specs.ReadingIntegers.{GivesOrMemory, is_superfluous, is_signed, number_content_in, number_content_at, number_octets_at, IsNumberContent, in_range_only, integer_at, IsIntegerOf}
 use Rattle.oer_forms.specs.Tree.{Int}
 use Rattle.oer_forms.proofs.Canonical.{tight, plain}
-use Rattle.oer_forms.proofs.Numbers.{IsTight}
 use Rattle.leaf_readers.proofs.ReadLengths.{Decodes, behind_reads}
 use Rattle.leaf_readers.proofs.ReadQuantities.{no_leading_zero, no_superfluous_zero}
 use Rattle.leaf_readers.proofs.Short.{not_too_long}

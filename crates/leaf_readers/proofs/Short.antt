@@ -9,7 +9,8 @@ use Rattle.asn1_base.specs.Octets.{Octets, AreOctets, unsigned, signed, usize_ma
 use Rattle.oer_forms.specs.Leaves.{counted_octets, value_of}
 use Rattle.oer_forms.specs.Lengths.{IsLength, IsBehindLength}
 use Rattle.oer_forms.specs.Mode.{Mode}
-use Rattle.oer_forms.proofs.Numbers.{unsigned_cons, complement_octets, length-complement, signed_low, signed_complement}
+use Rattle.asn1_base.proofs.Complement.{complement_octets, length-complement, signed_low, signed_complement}
+use Rattle.asn1_base.proofs.Digits.{unsigned_cons}
 use Rattle.oer_forms.proofs.WrittenLeaves.{first_low, length-with_sign, low_sized}
 
 number_short : (c : Octets) → AreOctets c → 1 ≤ length c → length (number_octets (unsigned c)) ≤ length c

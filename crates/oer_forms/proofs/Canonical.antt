@@ -19,7 +19,9 @@ use Rattle.oer_forms.specs.Tree.{Content, Written, Civil, Leaf, Boolean, Null, E
 use Rattle.oer_forms.proofs.Trees.{EachRow, by_parts}
 use Rattle.oer_forms.proofs.Sorted.{sorted_mixed, sorted_ascends}
 use Rattle.oer_forms.proofs.Lists.{Reorders-length}
-use Rattle.oer_forms.proofs.Numbers.{IsTight, digits_unsigned, number_octets_unsigned, tight_from_short, signed_octets_signed, fixed_octets_unsigned, fixed_octets_signed}
+use Rattle.asn1_base.proofs.Digits.{digits_unsigned}
+use Rattle.asn1_base.proofs.Shortest.{IsTight, signed_octets_signed}
+use Rattle.oer_forms.proofs.Numbers.{number_octets_unsigned, tight_from_short, fixed_octets_unsigned, fixed_octets_signed}
 use Rattle.oer_forms.proofs.Bits.{packed, unused_count, groups_canonical}
 
 pub length_canonical : (o : Octets) (n : ℕ) → IsLength OwnSized o n → o ≡ length_octets n

@@ -13,7 +13,7 @@ use Rattle.oer_forms.specs.Leaves.{fixed_octets}
 use Rattle.std.specs.Int.Digits.{digits_of}
 use Rattle.asn1_base.specs.Octets.{Octets, AreOctets, unsigned}
 use Rattle.oer_forms.specs.Lengths.{length_octets}
-use Rattle.oer_forms.proofs.Numbers.{unsigned_cons, powers, digits_unsigned}
+use Rattle.asn1_base.proofs.Digits.{digits_unsigned, powers, power_pos, unsigned_cons}
 
 pub unsigned_none : unsigned [] ≡ 0
 unsigned_none = refl
@@ -46,10 +46,6 @@ pub tail_octets : (o : Octets) → AreOctets o → AreOctets (drop 1 o)
 tail_octets [] f = tt
 tail_octets (x ∷ o) (f, fs) = fs
 
-power_some : (k : ℕ) → 0 < 256 ^ k
-power_some zero = omega arith
-power_some (suc k) = omega (arith, power_some k, powers k)
-
 length-bytes : (k n : ℕ) → length (bytes_high_first k n) ≡ k
 length-bytes zero n = refl
 length-bytes (suc k) n = ap suc (length-bytes k n)
@@ -65,7 +61,7 @@ unsigned_bytes (suc k) n =
     unsigned_cons (byte_at k n) (bytes_high_first k n)
     ∙ ap (λ l. byte_at k n * 256 ^ l + unsigned (bytes_high_first k n)) (length-bytes k n)
     ∙ ap₂ (λ b u. b * 256 ^ k + u) (byte_is k n) (unsigned_bytes k n)
-    ∙ sym (mod-mul n {m = 256} {c = 256 ^ k} (omega arith) (power_some k))
+    ∙ sym (mod-mul n {m = 256} {c = 256 ^ k} (omega arith) (power_pos k))
     ∙ ap (λ p. n % p) (powers k)
 
 pub unsigned_u64 : (n : ℕ) → n < 2 ^ 64 → unsigned (to_be_bytes w64 n) ≡ n

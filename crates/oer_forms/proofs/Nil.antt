@@ -12,8 +12,8 @@ use Rattle.oer_forms.specs.Places.{Item, SpellsStruct, SpellsList, SpellsChoice,
 use Rattle.oer_forms.specs.Tree.{Content, Written, Civil, Leaf, Boolean, Null, Enum, Int, Bits, Text, Tree, Rows, NoRows, Required, Optional, Default, Slot, Absent, Present}
 use Rattle.oer_forms.proofs.Unique.{length-bits_of}
 use Rattle.oer_forms.proofs.Trees.{EachRow, by_parts}
-use Rattle.oer_forms.proofs.WrittenLeaves.{low_length}
-use Rattle.oer_forms.proofs.Numbers.{length-complement}
+use Rattle.asn1_base.proofs.Complement.{length-complement}
+use Rattle.asn1_base.proofs.Fixed.{low_length}
 use Rattle.oer_forms.proofs.Skips.{is_nil, all_nil, nil_append, pack_some, behind_some, list_some, choice_some, struct_nil, slot_nil}
 
 -- by the count of octets

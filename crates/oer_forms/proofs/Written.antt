@@ -6,6 +6,7 @@ use Rattle.std.specs.Int.Digits.{number_from_digits, digits_of}
 use Rattle.std.proofs.lemmas.Int.Digits.{number_digits_of, first_digits_of, all_below_base_digits_of, length-digits_of-le, length-digits_of_step}
 use Rattle.std.proofs.lemmas.Bool.{eq-eqb, ne_eqb, lt-ltb, le-ltb, cases_lt, cases_eq, cond-true, cond-false}
 use Rattle.std.proofs.lemmas.List.{length-drop}
+use Rattle.asn1_base.proofs.Digits.{append_octets, digits_octets}
 use Rattle.asn1_base.specs.Numbers.{number_octets}
 use Rattle.asn1_base.specs.Octets.{Octets, AreOctets, unsigned, usize_max, is_odd, bits8, bits_of, bit_at, octet_of, pack_into, octets_for, pack, AllFalse}
 use Rattle.asn1_base.specs.declared.tag.Class.{Class}
@@ -17,9 +18,6 @@ use Rattle.oer_forms.proofs.Unique.{length-bits_of}
 use Rattle.oer_forms.proofs.Bits.{groups_is, drop_nil}
 
 -- ---- digits
-pub digits_octets : (n : ℕ) → AreOctets (digits_of 256 n)
-digits_octets n = all_below_base_digits_of 256 n (omega arith)
-
 first_digit : (n : ℕ) → 0 < n → get_or (digits_of 256 n) 0 0 ≢ 0
 first_digit n p e = let h : 0 < get_or (digits_of 256 n) 0 0 = first_digits_of 256 n (omega arith) p in omega (arith, h, e)
 
@@ -51,10 +49,6 @@ length_are_octets n h = go (cases_lt n 128)
     go (inr l) =
         let few : length (digits_of 256 n) ≤ 8 = few_digits n h in
         subst AreOctets (sym (cond-false (nat_lt n 128) (n ∷ []) ((128 + length (digits_of 256 n)) ∷ digits_of 256 n) (le-ltb n 128 l))) (omega arith, digits_octets n)
-
-pub append_octets : (o p : Octets) → AreOctets o → AreOctets p → AreOctets (o ++ p)
-append_octets [] p f g = g
-append_octets (x ∷ o) p (f, fs) g = (f, append_octets o p fs g)
 
 pub behind_form : (c : Octets) → AreOctets c → length c ≤ usize_max → IsBehindLength OwnSized (behind_length c) c
 behind_form c f h = (length_octets (length c), refl, length_form (length c) h, f)

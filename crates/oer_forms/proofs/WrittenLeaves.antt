@@ -1,12 +1,10 @@
 -- What is written of a leaf is a canonical encoding.
-use Rattle.std.proofs.Common.{◌≡◌, ℕ, zero, suc, ◌+◌, ◌-◌, ◌*◌, ◌/◌, ◌%◌, ◌^◌, ◌<◌, ◌≤◌, Bool, true, false, cond, ◌&&◌, nat_lt, List, [], ◌∷◌, length, get_or, ◌⊎◌, inl, inr, refl, sym, ap, ◌∙◌, subst, arith, length-append, ℤ, pos, negsuc, int_le, int_lt, Option, Some, None}
+use Rattle.std.proofs.Common.{◌≡◌, ℕ, zero, suc, ◌+◌, ◌-◌, ◌*◌, ◌/◌, ◌%◌, ◌^◌, ◌<◌, ◌≤◌, Bool, true, false, cond, ◌&&◌, nat_lt, List, [], ◌∷◌, length, get_or, ◌⊎◌, inl, inr, refl, sym, ap, ◌∙◌, subst, arith, ℤ, pos, negsuc, int_le, int_lt, Option, Some, None}
 use Rattle.std.specs.Prelude.{⊤}
 use Rattle.std.specs.Int.Digits.{digits_of}
 use Rattle.std.proofs.lemmas.Int.{ints}
-use Rattle.std.proofs.lemmas.Int.Digits.{number_digits_of, number_push, first_digits_of}
 use native.Mathlib.Nat.{mul-le-mul_right}
-use Rattle.std.proofs.lemmas.Nat.{div_below, div-add-mod'}
-use Rattle.std.proofs.lemmas.Bool.{ltb-true, ltb-false, lt-ltb, cases_lt, cases_eq, cond-true, cond-false, cond_both, cases_Bool, and_parts, not-false}
+use Rattle.std.proofs.lemmas.Bool.{ltb-true, ltb-false, lt-ltb, cases_lt, cond-true, cond-false, cond_both, cases_Bool, and_parts, not-false}
 use Rattle.asn1_base.specs.Bounds.{in_range, fixed_size, Range}
 use Rattle.asn1_base.specs.Numbers.{number_octets, in_i128, complement, with_sign, low_octets, signed_octets}
 use Rattle.asn1_base.specs.Octets.{Octets, AreOctets, unsigned, signed, usize_max, octets_for}
@@ -15,16 +13,15 @@ use Rattle.oer_forms.specs.Leaves.{Width, Fixed, Counted, width_of, signed_width
 use Rattle.oer_forms.specs.Lengths.{NoLeadingZero, behind_length}
 use Rattle.oer_forms.specs.Mode.{OwnSized}
 use Rattle.oer_forms.specs.Tree.{Written, Civil, Leaf, Boolean, Null, Enum, Int, Bits, Text}
-use Rattle.oer_forms.proofs.Numbers.{IsTight, unsigned_cons, complement_octets, complement_twice, length-complement, tight_complement, signed_low, signed_high, signed_complement, with_sign_low, with_sign_high, powers}
-use Rattle.oer_forms.proofs.Written.{digits_octets, append_octets, number_is, behind_form, behind_are_octets, packed_is, counted_bits_form, counted_bits_are_octets, few_digits}
+use Rattle.asn1_base.proofs.Digits.{powers, power_pos, unsigned_cons}
+use Rattle.asn1_base.proofs.Complement.{complement_octets, length-complement, signed_low, signed_high, signed_complement}
+use Rattle.asn1_base.proofs.Fixed.{low_length, low_are_octets, low_value}
+use Rattle.asn1_base.proofs.Shortest.{IsTight, tight_some, signed_octets_are, signed_of_low, signed_of_complement}
+use Rattle.oer_forms.proofs.Written.{number_is, behind_form, behind_are_octets, packed_is, counted_bits_form, counted_bits_are_octets, few_digits}
 
 lead_zero : (x p u : ℕ) → 0 < p → x * p + u ≡ u → x ≡ 0
 lead_zero zero p u h e = refl
 lead_zero (suc k) p u h e = absurd (omega arith)
-
-power_pos : (k : ℕ) → 0 < 256 ^ k
-power_pos zero = omega arith
-power_pos (suc k) = omega (arith, power_pos k, powers k)
 
 pub short_from_tight : (c : Octets) → AreOctets c → IsTight c → IsShort true c
 short_from_tight [] f t = t
@@ -43,83 +40,19 @@ short_from_tight (x ∷ y ∷ ys) (f, fs) (low, high) = λ e. go e (cases_lt x 1
         let z : 255 - x ≡ 0 = lead_zero (255 - x) (256 ^ length (complement (y ∷ ys))) (unsigned (complement (y ∷ ys))) (power_pos (length (complement (y ∷ ys)))) (sym (n ∙ unsigned_cons (255 - x) (complement (y ∷ ys)))) in
         let w : y < 128 = high (omega (arith, z, f)) in absurd (omega (arith, w, b))
 
--- the octets of a number that isn't negative, with room for the sign
-record IsRoomy (n : ℕ) (c : Octets) : Type 0 where
-  octets : AreOctets c
-  tight : IsTight c
-  value : unsigned c ≡ n
-  first : get_or c 0 255 < 128
-
-roomy : (n : ℕ) → IsRoomy n (with_sign (digits_of 256 n))
-roomy n = top (cases_eq n 0)
-  where
-    go : (ds : Octets) → AreOctets ds → unsigned ds ≡ n → 0 < get_or ds 0 0 → IsRoomy n (with_sign ds)
-    go [] f e p = absurd (omega arith)
-    go (d ∷ ds) f e p = at (cases_lt d 128)
-      where
-        low_tight : (ds : Octets) → d < 128 → IsTight (d ∷ ds)
-        low_tight [] l = tt
-        low_tight (x ∷ xs) l = (λ z. absurd (omega (arith, z, p)), λ z. absurd (omega (arith, z, l)))
-
-        at : (d < 128) ⊎ (128 ≤ d) → IsRoomy n (with_sign (d ∷ ds))
-        at (inl l) = subst (IsRoomy n) (sym (with_sign_low d ds l)) (record { octets = f; tight = low_tight ds l; value = e; first = l })
-        at (inr l) = subst (IsRoomy n) (sym (with_sign_high d ds l)) (record { octets = (omega arith, f); tight = (λ _. l, λ z. absurd (omega (arith, z))); value = e; first = omega arith })
-
-    top : (n ≡ 0) ⊎ (n ≡ 0 → ⊥) → IsRoomy n (with_sign (digits_of 256 n))
-    top (inl e) = subst (λ z. IsRoomy z (with_sign (digits_of 256 z))) (sym e) (record { octets = (omega arith, tt); tight = tt; value = refl; first = omega arith })
-    top (inr e) = let p : 0 < n = omega (arith, e) in go (digits_of 256 n) (digits_octets n) (number_digits_of 256 n (omega arith)) (first_digits_of 256 n (omega arith) p)
-
--- octets whose first bit isn't set, and their complement
-signed_of_low : (c : Octets) → get_or c 0 255 < 128 → signed c ≡ pos (unsigned c)
-signed_of_low [] l = absurd (omega arith)
-signed_of_low (x ∷ xs) l = signed_low x xs l
-
-signed_of_complement : (c : Octets) → AreOctets c → get_or c 0 255 < 128 → signed (complement c) ≡ negsuc (unsigned c)
-signed_of_complement [] f l = absurd (omega arith)
-signed_of_complement (x ∷ xs) f l =
-    signed_complement (255 - x) (complement xs) (complement_octets (x ∷ xs)) (omega (arith, l)) ∙ ap (λ z. negsuc (unsigned z)) (complement_twice (x ∷ xs) f)
-
--- the octets of a signed number behind_length a length
+-- the octets of a signed number behind a length
 pub record IsSigned (z : ℤ) (c : Octets) : Type 0 where
   pub octets : AreOctets c
   pub some : 1 ≤ length c
   pub value : z ≡ signed c
   pub short : IsShort true c
 
-tight_some : (c : Octets) → IsTight c → 1 ≤ length c
-tight_some [] t = absurd t
-tight_some (x ∷ xs) t = omega arith
-
 pub signed_is : (z : ℤ) → IsSigned z (signed_octets z)
-signed_is (pos n) =
-    let r = roomy n in
-    record { octets = r.octets; some = tight_some (with_sign (digits_of 256 n)) r.tight; value = ap pos (sym r.value) ∙ sym (signed_of_low (with_sign (digits_of 256 n)) r.first); short = short_from_tight (with_sign (digits_of 256 n)) r.octets r.tight }
-signed_is (negsuc n) =
-    let r = roomy n in
-    let c : Octets = with_sign (digits_of 256 n) in
-    let t : IsTight (complement c) = tight_complement c r.octets r.tight in
-    record { octets = complement_octets c; some = tight_some (complement c) t; value = ap negsuc (sym r.value) ∙ sym (signed_of_complement c r.octets r.first); short = short_from_tight (complement c) (complement_octets c) t }
+signed_is z =
+    let r = signed_octets_are z in
+    record { octets = r.octets; some = omega (arith, tight_some (signed_octets z) r.tight); value = sym r.value; short = short_from_tight (signed_octets z) r.octets r.tight }
 
 -- ---- a fixed count of octets
-pub low_length : (k n : ℕ) → length (low_octets k n) ≡ k
-low_length zero n = refl
-low_length (suc k) n = let e : length (low_octets k (n / 256)) ≡ k = low_length k (n / 256) in omega (arith, length-append (low_octets k (n / 256)) (n % 256 ∷ []), e)
-
-low_are_octets : (k n : ℕ) → AreOctets (low_octets k n)
-low_are_octets zero n = tt
-low_are_octets (suc k) n = append_octets (low_octets k (n / 256)) (n % 256 ∷ []) (low_are_octets k (n / 256)) (omega arith, tt)
-
-low_value : (k n : ℕ) → n < 256 ^ k → unsigned (low_octets k n) ≡ n
-low_value zero n h = zero_only n h
-  where
-    zero_only : (n : ℕ) → n < 1 → 0 ≡ n
-    zero_only n h = omega arith
-low_value (suc k) n h =
-    number_push 256 (low_octets k (n / 256)) (n % 256) ∙ ap (λ z. z * 256 + n % 256) (low_value k (n / 256) (div_below n 256 (256 ^ k) (omega arith) (room n (256 ^ k) (256 ^ suc k) (powers k) h))) ∙ div-add-mod' n 256
-  where
-    room : (n p q : ℕ) → 256 * p ≡ q → n < q → n < p * 256
-    room n p q e l = omega arith
-
 abbrev pub magnitude : ℤ → ℕ
 magnitude (pos n) = n
 magnitude (negsuc n) = n

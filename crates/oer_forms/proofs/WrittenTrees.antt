@@ -1,5 +1,5 @@
 -- What is written of a encodable tree is its canonical encoding, with bitmaps of the own size.
-use Rattle.std.proofs.Common.{◌≡◌, ℕ, ◌+◌, ◌-◌, ◌<◌, ◌≤◌, Bool, true, false, cond, not, ◌&&◌, ◌||◌, nat_lt, List, [], ◌∷◌, ◌++◌, map, length, inl, refl, sym, ap, subst, arith}
+use Rattle.std.proofs.Common.{◌≡◌, ℕ, ◌+◌, ◌-◌, ◌≤◌, Bool, true, false, cond, not, ◌&&◌, ◌||◌, nat_lt, List, [], ◌∷◌, ◌++◌, map, length, inl, refl, sym, ap, subst, arith}
 use Rattle.std.specs.List.{AllByRecursion}
 use Rattle.std.proofs.lemmas.Bool.{ltb-false, or_parts}
 use Rattle.std.proofs.lemmas.List.{length-map}
@@ -17,7 +17,8 @@ use Rattle.oer_forms.specs.Tree.{Tree, Struct, ListOf, Choice, Rows, NoRows, Req
 use Rattle.oer_forms.proofs.Lists.{Reorders-sym, Reorders-all}
 use Rattle.oer_forms.proofs.Trees.{EachRow, by_parts}
 use Rattle.oer_forms.proofs.Sorted.{ascends_sorted, mixed_sorted}
-use Rattle.oer_forms.proofs.Written.{append_octets, behind_are_octets, open_form, quantity_form, quantity_are_octets, tag_form, tag_are_octets, packed_is, counted_bits_form, counted_bits_are_octets}
+use Rattle.asn1_base.proofs.Digits.{append_octets}
+use Rattle.oer_forms.proofs.Written.{behind_are_octets, open_form, quantity_form, quantity_are_octets, tag_form, tag_are_octets, packed_is, counted_bits_form, counted_bits_are_octets}
 use Rattle.oer_forms.proofs.WrittenLeaves.{leaf_form}
 
 not_long : (n : ℕ) → nat_lt usize_max n ≡ false → n ≤ usize_max

@@ -1,6 +1,0 @@
-use Rattle.std.proofs.Common.{◌≡◌, drop}
-use Rattle.asn1_base.specs.Tags.{holds}
-use Rattle.rasn_oer.proofs.choices.is_among.Given as goal
-
-abbrev pub invariant-loop-known : goal.invariant-loop-known
-invariant-loop-known l = holds l.tags l.tag ≡ holds (drop l.known-index l.tags) l.tag
