@@ -1,61 +1,23 @@
 -- Extensible sequences with octet strings.
-use Rattle.std.specs.Prelude.{◌≡◌, true, false, Option, Some, None, List, [], ◌∷◌, refl}
-use Rattle.std.proofs.Common.{subst, sym}
+use Rattle.std.specs.Prelude.{true, false, List, [], ◌∷◌, refl}
 use Rattle.asn1_base.specs.Rows.{Row}
 use Rattle.asn1_base.specs.Texts.{AnyOctets}
 use Rattle.asn1_base.specs.declared.constraints.TheConstants.Constraints.{NONE}
 use Rattle.asn1_base.specs.declared.fields.FieldPresence.TheVariants as presence
-use Rattle.asn1_values.specs.declared.octets.OctetContent.{OctetContent}
-use Rattle.asn1_values.specs.declared.octets.OctetStringType.{OctetStringType}
-use Rattle.oer_forms.specs.Encoding.{IsTree, AreSlot}
-use Rattle.oer_forms.specs.Same.{Alike, AlikeSlot}
-use Rattle.oer_forms.specs.Spelled.{IsAny, IsTextOf, text, text_is, texts_alike, null, null_is, nulls_alike, integer_is, integers_alike}
-use Rattle.oer_forms.specs.Tree.{Tree, Rows, NoRows, Required, Optional, Struct, Slot}
+use Rattle.oer_forms.specs.Encoding.{IsTree}
+use Rattle.oer_forms.specs.Same.{Alike}
+use Rattle.oer_forms.specs.Spelled.{IsAny, text_is, texts_alike, null, null_is, nulls_alike, integer_is, integers_alike}
+use Rattle.oer_forms.specs.Tree.{Tree, Rows, NoRows, Required, Optional, Struct}
 use Rattle.rasn_oer.specs.Components.{slot_of}
-use Rattle.rasn_oer.specs.Parts.{Parts, NoParts, NeededPart, OptionalPart, Admits, OnPresent, AreOf}
+use Rattle.rasn_oer.specs.Parts.{Parts, NoParts, NeededPart, OptionalPart, Admits, AreOf}
 use Rattle.sequence_types.specs.Defaults.{WholePart, integer_slot, option_is, options_alike, option_admitted}
 use Rattle.extensible_types.specs.Extensible.{any_there}
+use Rattle.sequence_types.specs.OctetSlots.{IsOctets, octet_string, octet_slot, OctetPart, octet_option_is, octet_options_alike, octet_option_made, octets_admitted, octet_option_admitted}
 use Rattle.sequence_types.specs.Pairs.{plain_integer}
 use Rattle.sequence_types.specs.Slots.{IfThere, slot_is, slots_alike, slot_made}
 use Rattle.sequence_types.specs.Tags.{context, universal}
 use Rattle.group_types.specs.declared.octet_additions.Omitted.{Omitted}
 use Rattle.group_types.specs.declared.octet_additions.SequenceDuplicatesExtended.{SequenceDuplicatesExtended}
-
--- ---- octet strings
-
-abbrev pub OctetString : Type 0
-OctetString = OctetContent OctetStringType
-
-abbrev pub IsOctets : OctetString → Type 0
-IsOctets = IsTextOf AnyOctets
-
--- the tree of octets whose size no constraint bounds
-abbrev pub octet_string : OctetString → Tree
-octet_string = text AnyOctets NONE
-
-abbrev pub octet_slot : Option OctetString → Slot
-octet_slot o = slot_of octet_string o
-
-abbrev pub OctetPart : Tree → Type 0
-OctetPart = Admits octet_string IsOctets
-
-pub octet_option_is : (o : Option OctetString) → IfThere IsOctets o → AreSlot (octet_slot o)
-octet_option_is o i = slot_is octet_string IsOctets (λ v k. text_is AnyOctets NONE v k) o i
-
-pub octet_options_alike : (o p : Option OctetString) → IfThere IsOctets o → IfThere IsOctets p → AlikeSlot (octet_slot o) (octet_slot p)
-octet_options_alike o p i j = slots_alike octet_string IsOctets (λ v w k l. texts_alike AnyOctets NONE v w) o p i j
-
-pub octet_option_made : (o : Option OctetString) → IfThere IsOctets o → OnPresent OctetPart (octet_slot o)
-octet_option_made o i = slot_made octet_string IsOctets o i
-
--- octets of an admitted tree are octets
-pub octets_admitted : (o : OctetString) → OctetPart (octet_string o) → IsOctets o
-unfolding text
-octets_admitted o p = let e : o ≡ p.value = cc p.is in subst IsOctets (sym e) p.is_value
-
-pub octet_option_admitted : (o : Option OctetString) → OnPresent OctetPart (octet_slot o) → IfThere IsOctets o
-octet_option_admitted None p = tt
-octet_option_admitted (Some o) p = octets_admitted o p
 
 -- ---- Omitted
 

@@ -1,5 +1,6 @@
 //! Extensible sequences with octet strings, optional ones and a required addition.
-ghost use Rattle.group_types.specs.OctetAdditions.{omitted_roots, omitted_parts, omitted_additions, omitted_more, dup_roots, dup_parts, dup_additions, dup_more, IsOctets};
+ghost use Rattle.group_types.specs.OctetAdditions.{omitted_roots, omitted_parts, omitted_additions, omitted_more, dup_roots, dup_parts, dup_additions, dup_more};
+ghost use Rattle.sequence_types.specs.OctetSlots.{IsOctets};
 ghost use Rattle.sequence_types.specs.Slots.{IfThere};
 ghost use Rattle.oer_write.specs.Rows.{InSequence};
 ghost use Rattle.rasn_oer.specs.Parts.{ReadsParts};

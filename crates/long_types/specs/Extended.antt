@@ -9,7 +9,8 @@ use Rattle.rasn_oer.specs.Parts.{Parts, NoParts, OptionalPart, AreOf}
 use Rattle.sequence_types.specs.Defaults.{WholePart, integer_slot, option_is, options_alike, option_admitted}
 use Rattle.sequence_types.specs.Slots.{IfThere}
 use Rattle.sequence_types.specs.Tags.{context}
-use Rattle.long_types.specs.Front.{IsOctets, octet_slot, OctetsPart, octets_is, octets_alike, octets_made, octets_there, IsFront, front_rows, front_is, fronts_alike, front_table, front_parts, front_made, front_admitted}
+use Rattle.sequence_types.specs.OctetSlots.{IsOctets, octet_slot, OctetPart, octet_option_is, octet_options_alike, octet_option_made, octet_option_admitted}
+use Rattle.long_types.specs.Front.{IsFront, front_rows, front_is, fronts_alike, front_table, front_parts, front_made, front_admitted}
 use Rattle.long_types.specs.declared.extended.ExtendedOptional.{ExtendedOptional}
 use Rattle.long_types.specs.declared.extended.ReadAdditions.{ReadAdditions}
 use Rattle.long_types.specs.declared.front.ReadFront.{ReadFront}
@@ -40,11 +41,11 @@ extended_tree v = Struct false true (extended_roots v) (extended_additions v)
 
 pub extended_is : (v : ExtendedOptional) → IsExtended v → IsTree (extended_tree v)
 unfolding extended_tree Rattle.oer_forms.specs.Encoding.IsTree
-extended_is v i = (front_is (extended_first v) NoRows i.front tt, (option_is v.integer4, (octets_is v.octet4 i.octet4, (option_is v.integer5, (octets_is v.octet5 i.octet5, tt)))), (λ e. absurd (cc e)), (λ e. absurd (cc e)))
+extended_is v i = (front_is (extended_first v) NoRows i.front tt, (option_is v.integer4, (octet_option_is v.octet4 i.octet4, (option_is v.integer5, (octet_option_is v.octet5 i.octet5, tt)))), (λ e. absurd (cc e)), (λ e. absurd (cc e)))
 
 pub extended_alike : (v w : ExtendedOptional) → IsExtended v → IsExtended w → Alike (extended_tree v) (extended_tree w)
 unfolding extended_tree Rattle.oer_forms.specs.Same.Alike
-extended_alike v w i j = (refl, refl, fronts_alike (extended_first v) (extended_first w) NoRows NoRows i.front j.front tt, (refl, options_alike v.integer4 w.integer4, (refl, octets_alike v.octet4 w.octet4 i.octet4 j.octet4, (refl, options_alike v.integer5 w.integer5, (refl, octets_alike v.octet5 w.octet5 i.octet5 j.octet5, tt)))))
+extended_alike v w i j = (refl, refl, fronts_alike (extended_first v) (extended_first w) NoRows NoRows i.front j.front tt, (refl, options_alike v.integer4 w.integer4, (refl, octet_options_alike v.octet4 w.octet4 i.octet4 j.octet4, (refl, options_alike v.integer5 w.integer5, (refl, octet_options_alike v.octet5 w.octet5 i.octet5 j.octet5, tt)))))
 
 abbrev pub extended_table : List Row
 extended_table = front_table []
@@ -56,10 +57,10 @@ abbrev pub extended_parts : Parts
 extended_parts = front_parts NoParts
 
 abbrev pub added_parts : Parts
-added_parts = OptionalPart (context 7) WholePart (OptionalPart (context 8) OctetsPart (OptionalPart (context 9) WholePart (OptionalPart (context 10) OctetsPart NoParts)))
+added_parts = OptionalPart (context 7) WholePart (OptionalPart (context 8) OctetPart (OptionalPart (context 9) WholePart (OptionalPart (context 10) OctetPart NoParts)))
 
 pub extended_made : (v : ExtendedOptional) → IsExtended v → AreOf extended_parts (extended_roots v) × AreOf added_parts (extended_additions v)
-extended_made v i = (front_made (extended_first v) NoParts NoRows i.front tt, (refl, option_admitted v.integer4, (refl, octets_made v.octet4 i.octet4, (refl, option_admitted v.integer5, (refl, octets_made v.octet5 i.octet5, tt)))))
+extended_made v i = (front_made (extended_first v) NoParts NoRows i.front tt, (refl, option_admitted v.integer4, (refl, octet_option_made v.octet4 i.octet4, (refl, option_admitted v.integer5, (refl, octet_option_made v.octet5 i.octet5, tt)))))
 
 pub extended_admitted : (v : ExtendedOptional) → AreOf extended_parts (extended_roots v) → AreOf added_parts (extended_additions v) → IsExtended v
-extended_admitted v h (_, _, (_, o4, (_, _, (_, o5, _)))) = record { front = front_admitted (extended_first v) NoParts NoRows h; octet4 = octets_there v.octet4 o4; octet5 = octets_there v.octet5 o5 }
+extended_admitted v h (_, _, (_, o4, (_, _, (_, o5, _)))) = record { front = front_admitted (extended_first v) NoParts NoRows h; octet4 = octet_option_admitted v.octet4 o4; octet5 = octet_option_admitted v.octet5 o5 }

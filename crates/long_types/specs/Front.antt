@@ -1,55 +1,20 @@
 -- The components that several types begin with: an integer, then integers and octet strings in turn, each of which may be absent.
-use Rattle.std.specs.Prelude.{◌≡◌, List, ◌∷◌, Option, Some, None, refl}
-use Rattle.std.proofs.Common.{sym, subst}
-use Rattle.asn1_base.specs.Octets.{Octets}
+use Rattle.std.specs.Prelude.{List, ◌∷◌, refl}
 use Rattle.asn1_base.specs.Rows.{Row}
-use Rattle.asn1_base.specs.Texts.{AnyOctets}
 use Rattle.asn1_base.specs.declared.fields.FieldPresence.TheVariants as presence
 use Rattle.asn1_base.specs.declared.constraints.TheConstants.Constraints.{NONE}
-use Rattle.oer_forms.specs.Encoding.{AreRows, AreSlot}
-use Rattle.oer_forms.specs.Same.{AlikeRows, AlikeSlot}
-use Rattle.oer_forms.specs.Spelled.{IsTextOf, text, text_is, texts_alike, integer_is, integers_alike}
-use Rattle.oer_forms.specs.Tree.{Tree, Rows, Required, Optional, Slot}
-use Rattle.rasn_oer.specs.Components.{slot_of}
-use Rattle.rasn_oer.specs.Parts.{Parts, NeededPart, OptionalPart, Admits, OnPresent, AreOf}
+use Rattle.oer_forms.specs.Encoding.{AreRows}
+use Rattle.oer_forms.specs.Same.{AlikeRows}
+use Rattle.oer_forms.specs.Spelled.{integer_is, integers_alike}
+use Rattle.oer_forms.specs.Tree.{Rows, Required, Optional}
+use Rattle.rasn_oer.specs.Parts.{Parts, NeededPart, OptionalPart, AreOf}
 use Rattle.sequence_types.specs.Defaults.{WholePart, integer_slot, option_is, options_alike, option_admitted, optional_row}
+use Rattle.sequence_types.specs.OctetSlots.{IsOctets, octet_slot, OctetPart, octet_option_is, octet_options_alike, octet_option_made, octet_option_admitted}
 use Rattle.sequence_types.specs.Pairs.{plain_integer}
-use Rattle.sequence_types.specs.Slots.{IfThere, slot_is, slots_alike, slot_made}
+use Rattle.sequence_types.specs.Slots.{IfThere}
 use Rattle.sequence_types.specs.Tags.{context}
 use Rattle.long_types.specs.declared.front.FrontView.{FrontView}
 use Rattle.long_types.specs.declared.front.ReadFront.{ReadFront}
-
--- ---- optional octet strings
-
-abbrev pub IsOctets : Octets → Type 0
-IsOctets = IsTextOf AnyOctets
-
-abbrev pub octet_text : Octets → Tree
-octet_text = text AnyOctets NONE
-
-abbrev pub octet_slot : Option Octets → Slot
-octet_slot o = slot_of octet_text o
-
-abbrev pub OctetsPart : Tree → Type 0
-OctetsPart = Admits octet_text IsOctets
-
-pub octets_is : (o : Option Octets) → IfThere IsOctets o → AreSlot (octet_slot o)
-octets_is o i = slot_is octet_text IsOctets (λ v i. text_is AnyOctets NONE v i) o i
-
-pub octets_alike : (o p : Option Octets) → IfThere IsOctets o → IfThere IsOctets p → AlikeSlot (octet_slot o) (octet_slot p)
-octets_alike o p i j = slots_alike octet_text IsOctets (λ v w i j. texts_alike AnyOctets NONE v w) o p i j
-
-pub octets_made : (o : Option Octets) → IfThere IsOctets o → OnPresent OctetsPart (octet_slot o)
-octets_made o i = slot_made octet_text IsOctets o i
-
-same_octets : (o p : Octets) → octet_text o ≡ octet_text p → o ≡ p
-unfolding text
-same_octets o p e = cc e
-
--- what is admitted by its tree is one that the type admits
-pub octets_there : (o : Option Octets) → OnPresent OctetsPart (octet_slot o) → IfThere IsOctets o
-octets_there None h = tt
-octets_there (Some v) h = subst IsOctets (sym (same_octets v h.value h.is)) h.is_value
 
 -- ---- the components
 
@@ -69,11 +34,11 @@ front_rows f r = Required (context 0) (plain_integer f.value) (Optional (context
 
 pub front_is : (f : ReadFront) (r : Rows) → IsFront f → AreRows r → AreRows (front_rows f r)
 unfolding Rattle.oer_forms.specs.Encoding.IsTree
-front_is f r i k = (integer_is NONE f.value, (option_is f.integer1, (octets_is f.octet1 i.octet1, (option_is f.integer2, (octets_is f.octet2 i.octet2, (option_is f.integer3, (octets_is f.octet3 i.octet3, k)))))))
+front_is f r i k = (integer_is NONE f.value, (option_is f.integer1, (octet_option_is f.octet1 i.octet1, (option_is f.integer2, (octet_option_is f.octet2 i.octet2, (option_is f.integer3, (octet_option_is f.octet3 i.octet3, k)))))))
 
 pub fronts_alike : (f g : ReadFront) (r s : Rows) → IsFront f → IsFront g → AlikeRows r s → AlikeRows (front_rows f r) (front_rows g s)
 unfolding Rattle.oer_forms.specs.Same.Alike
-fronts_alike f g r s i j k = (refl, integers_alike NONE f.value g.value, (refl, options_alike f.integer1 g.integer1, (refl, octets_alike f.octet1 g.octet1 i.octet1 j.octet1, (refl, options_alike f.integer2 g.integer2, (refl, octets_alike f.octet2 g.octet2 i.octet2 j.octet2, (refl, options_alike f.integer3 g.integer3, (refl, octets_alike f.octet3 g.octet3 i.octet3 j.octet3, k)))))))
+fronts_alike f g r s i j k = (refl, integers_alike NONE f.value g.value, (refl, options_alike f.integer1 g.integer1, (refl, octet_options_alike f.octet1 g.octet1 i.octet1 j.octet1, (refl, options_alike f.integer2 g.integer2, (refl, octet_options_alike f.octet2 g.octet2 i.octet2 j.octet2, (refl, options_alike f.integer3 g.integer3, (refl, octet_options_alike f.octet3 g.octet3 i.octet3 j.octet3, k)))))))
 
 -- their table, with rows behind it
 abbrev pub front_table : List Row → List Row
@@ -81,10 +46,10 @@ front_table rows = record { index = 0; tag = context 0; presence = presence.Requ
 
 -- the trees that they may be, with other parts behind them
 abbrev pub front_parts : Parts → Parts
-front_parts ps = NeededPart (context 0) WholePart (OptionalPart (context 1) WholePart (OptionalPart (context 2) OctetsPart (OptionalPart (context 3) WholePart (OptionalPart (context 4) OctetsPart (OptionalPart (context 5) WholePart (OptionalPart (context 6) OctetsPart ps))))))
+front_parts ps = NeededPart (context 0) WholePart (OptionalPart (context 1) WholePart (OptionalPart (context 2) OctetPart (OptionalPart (context 3) WholePart (OptionalPart (context 4) OctetPart (OptionalPart (context 5) WholePart (OptionalPart (context 6) OctetPart ps))))))
 
 pub front_made : (f : ReadFront) (ps : Parts) (r : Rows) → IsFront f → AreOf ps r → AreOf (front_parts ps) (front_rows f r)
-front_made f ps r i k = (refl, record { value = f.value; is_value = refl; is = refl }, (refl, option_admitted f.integer1, (refl, octets_made f.octet1 i.octet1, (refl, option_admitted f.integer2, (refl, octets_made f.octet2 i.octet2, (refl, option_admitted f.integer3, (refl, octets_made f.octet3 i.octet3, k)))))))
+front_made f ps r i k = (refl, record { value = f.value; is_value = refl; is = refl }, (refl, option_admitted f.integer1, (refl, octet_option_made f.octet1 i.octet1, (refl, option_admitted f.integer2, (refl, octet_option_made f.octet2 i.octet2, (refl, option_admitted f.integer3, (refl, octet_option_made f.octet3 i.octet3, k)))))))
 
 pub front_admitted : (f : ReadFront) (ps : Parts) (r : Rows) → AreOf (front_parts ps) (front_rows f r) → IsFront f
-front_admitted f ps r (_, _, (_, _, (_, o1, (_, _, (_, o2, (_, _, (_, o3, _))))))) = record { octet1 = octets_there f.octet1 o1; octet2 = octets_there f.octet2 o2; octet3 = octets_there f.octet3 o3 }
+front_admitted f ps r (_, _, (_, _, (_, o1, (_, _, (_, o2, (_, _, (_, o3, _))))))) = record { octet1 = octet_option_admitted f.octet1 o1; octet2 = octet_option_admitted f.octet2 o2; octet3 = octet_option_admitted f.octet3 o3 }

@@ -1,7 +1,8 @@
 //! The components that several types begin with: an INTEGER and six optional ones, written and read in one call.
 ghost use Rattle.std.specs.Prelude.{◌≡◌, false, OnOk, IfErr};
 ghost use Rattle.oer_forms.specs.Tree.{NoRows};
-ghost use Rattle.long_types.specs.Front.{IsOctets, octet_slot, front_rows, front_parts, seen};
+ghost use Rattle.long_types.specs.Front.{front_rows, front_parts, seen};
+ghost use Rattle.sequence_types.specs.OctetSlots.{IsOctets, octet_slot};
 ghost use Rattle.long_types.specs.Halves.{ReadsFirst};
 ghost use Rattle.sequence_types.specs.Defaults.{integer_slot};
 ghost use Rattle.sequence_types.specs.Slots.{IfThere};

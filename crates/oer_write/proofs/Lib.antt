@@ -10,3 +10,4 @@ pub mod SetRows
 pub mod OctetOrder
 pub mod Gathering
 pub mod AnyOrder
+pub mod Joined

@@ -15,8 +15,8 @@ use asn1_base::{Choice, Constraints, EncodeError, EncodeErrorKind, Tag};
 use leaf_writers::{write_content, write_tag};
 use std::alloc::Global;
 
-/// Whether the tag is one of those.
-fn is_among(tags: &[Tag], tag: Tag) -> bool
+/// Whether the tag is one of a table of alternatives.
+pub fn is_among(tags: &[Tag], tag: Tag) -> bool
     ensures { result ≡ holds tags.now tag }
 {
     for known in tags {

@@ -282,7 +282,7 @@ impl<'input> Decoder<'input> {
         requires { IsConsistent constraints }
         ensures { Adds (D.tree constraints) D.IsValue (D.Answered constraints) self.old (Some tag) result self.new }
     {
-        self.addition(alloc, Some(tag), tag, constraints)
+        self.decode_extension_addition_with_tag_and_constraints(alloc, tag, constraints)
     }
 
     /// Reads an extension addition group, a sequence in one open type (X.696, 16.4), as

@@ -1,13 +1,11 @@
 //! Choices: a closure reads the alternative on a decoder of its own, under the tag that was read.
 
-ghost use Rattle.std.specs.Prelude.{◌≡◌, ◌||◌, ◌^◌, ◌<◌, List, [], true, OnErr, OnOk, IfOk, IfErr, Ok, Err, is_some};
+ghost use Rattle.std.specs.Prelude.{◌≡◌, ◌^◌, ◌<◌, true, OnErr, OnOk, IfOk, IfErr, Ok, Err, is_some};
 ghost use Rattle.std.specs.Option.{option_map};
 ghost use Rattle.asn1_base.specs.Octets.{AreOctets};
-ghost use Rattle.asn1_base.specs.Tags.{holds};
 ghost use Rattle.asn1_base.specs.declared.error.DecodeErrorKind.TheVariants as DecodeErrorKind;
 ghost use Rattle.oer_forms.specs.Reading.{Gives};
 ghost use Rattle.oer_forms.specs.Spelled.{IsConsistent};
-ghost use Rattle.rasn_oer.specs.Answers.{Refuses};
 ghost use Rattle.rasn_oer.specs.Choices.{Chosen, chosen_of, place_at, lent_alternative, chosen_at, behind_at, FnOnceTakesAtMutWith, FnOnceReturnsAtMutWith, ChoiceRead, ChoiceRefused, ChoiceAnswers};
 ghost use Rattle.rasn_oer.specs.Law.{Decodes, IsRear, Promised};
 ghost use Rattle.rasn_oer.specs.State.{State};
@@ -18,19 +16,8 @@ use crate::scopes::one_level_less;
 use asn1_base::{Choice, Constraints, DecodeError, DecodeErrorKind, Tag};
 use leaf_readers::{read_content, read_tag, require_canonical};
 use oer_forms::Spelled;
+use oer_write::is_among;
 use std::alloc::Global;
-
-/// Whether the tag is one of those.
-fn is_among(tags: &[Tag], tag: Tag) -> bool
-    ensures { result ≡ holds tags.now tag }
-{
-    for known in tags {
-        if *known == tag {
-            return true;
-        }
-    }
-    false
-}
 
 /// Whether the tag is one of a root alternative; one of neither table is refused.
 fn place<D: Choice>(tag: Tag) -> Result<bool, DecodeErrorKind>

@@ -1,12 +1,12 @@
 //! Two types that contain each other.
-ghost use Rattle.std.specs.Prelude.{◌≡◌, ◌<◌, OnOk, IfErr};
-ghost use Rattle.oer_forms.specs.Spelled.{IsAny, boolean};
+ghost use Rattle.std.specs.Prelude.{◌<◌, OnOk, IfErr};
+ghost use Rattle.oer_forms.specs.Spelled.{IsAny};
 ghost use Rattle.oer_forms.specs.Tree.{NoRows};
 ghost use Rattle.recursive_types.specs.Links.{link_tree, link_rows, link_choice_tree, link_parts, link_child, link_tag};
 ghost use Rattle.sequence_types.specs.Pairs.{none_of};
 ghost use Rattle.sequence_types.specs.Tags.{context};
 ghost use Rattle.oer_write.specs.Choices.{WritesAlternative};
-ghost use Rattle.oer_write.specs.Rows.{InSequence, optional, slot_of};
+ghost use Rattle.oer_write.specs.Rows.{InSequence};
 ghost use Rattle.oer_write.specs.Written.{Encodes, Refused};
 ghost use Rattle.rasn_oer.specs.Choices.{ReadsAlternative};
 ghost use Rattle.rasn_oer.specs.Law.{Decodes};
@@ -21,6 +21,7 @@ use choice_types::put_alternative;
 use oer_forms::Spelled;
 use oer_write::{Encode, Encoder};
 use rasn_oer::{Decode, Decoder};
+use sequence_types::put_option;
 use std::alloc::Global;
 
 /// `SEQUENCE { a INTEGER OPTIONAL, b LinkChoice }`
@@ -191,20 +192,6 @@ impl Spelled for LinkChoice {
     ghost alike = { λ c k v w i j. link_choices_alike v w };
 }
 
-/// Writes an optional component.
-fn put_option<E: Encode>(
-    encoder: &mut Encoder<'_>,
-    tag: Tag,
-    value: &Option<E>,
-) -> Result<(), EncodeError>
-    ensures { InSequence (optional tag (slot_of (E.tree E.CONSTRAINTS) value.now)) NoRows encoder.old result encoder.new }
-{
-    match value {
-        None => encoder.encode_none_with_tag(tag),
-        Some(value) => encoder.encode_some_with_tag_and_constraints(tag, E::CONSTRAINTS, value),
-    }
-}
-
 /// Writes a link: by its depth.
 #[cycle(encode_link)]
 #[tactic(auto, unfolding(crate::specs::Links::link_tree))]
@@ -217,7 +204,12 @@ fn encode_link(value: &Link, encoder: &mut Encoder<'_>) -> Result<(), EncodeErro
         |encoder: &mut Encoder<'_>| -> Result<(), EncodeError>
             ensures { InSequence (link_rows value.entry.now) NoRows encoder.old result encoder.new }
         {
-            put_option(encoder, Tag::new(Class::Context, 0), &value.a)?;
+            put_option(
+                encoder,
+                Tag::new(Class::Context, 0),
+                Integer::CONSTRAINTS,
+                &value.a,
+            )?;
             encode_link_choice(&value.b, encoder)?;
             Ok(())
         },

@@ -3,3 +3,4 @@ pub mod Slots
 pub mod DefaultSlots
 pub mod Pairs
 pub mod Defaults
+pub mod OctetSlots

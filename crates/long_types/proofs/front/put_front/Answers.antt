@@ -1,9 +1,9 @@
 use Rattle.std.proofs.Common.{Ok}
 use Rattle.std.proofs.lemmas.Result.{err_from_is_err_and}
 use Rattle.oer_forms.specs.Tree.{NoRows, Required, Optional}
-use Rattle.long_types.proofs.Joined.{then_in_sequence}
+use Rattle.oer_write.proofs.Joined.{then_in_sequence}
 use Rattle.sequence_types.specs.Defaults.{integer_slot}
-use Rattle.long_types.specs.Front.{octet_slot}
+use Rattle.sequence_types.specs.OctetSlots.{octet_slot}
 use Rattle.sequence_types.specs.Pairs.{plain_integer}
 use Rattle.sequence_types.specs.Tags.{context}
 use Rattle.long_types.proofs.front.put_front.Goals as goal

@@ -1,6 +1,6 @@
 use Rattle.std.proofs.Common.{Ok}
 use Rattle.oer_forms.specs.Tree.{NoRows, Optional}
-use Rattle.long_types.proofs.Joined.{then_in_sequence}
+use Rattle.oer_write.proofs.Joined.{then_in_sequence}
 use Rattle.sequence_types.specs.Defaults.{integer_slot}
 use Rattle.sequence_types.specs.Tags.{context}
 use Rattle.long_types.proofs.many.put_back.Goals as goal

@@ -1,7 +1,7 @@
 use Rattle.std.proofs.Common.{Ok, subst}
 use Rattle.oer_forms.specs.Tree.{NoRows}
 use Rattle.oer_write.specs.Rows.{InSequence}
-use Rattle.long_types.proofs.Joined.{then_rows}
+use Rattle.oer_write.proofs.Joined.{then_rows}
 use Rattle.long_types.specs.Front.{front_rows}
 use Rattle.long_types.specs.Extended.{extended_roots, extended_additions}
 use Rattle.long_types.specs.declared.front.ReadFront.{ReadFront}
