@@ -1,13 +1,13 @@
 //! Optional components, written by what there is of them.
-ghost use Rattle.std.specs.Prelude.{◌≡◌, false, OnOk, IfErr, IfSome};
+ghost use Rattle.std.specs.Prelude.{◌≡◌, true, false, OnOk, IfErr, IfSome};
 ghost use Rattle.oer_forms.specs.Spelled.{IsConsistent};
 ghost use Rattle.oer_forms.specs.Tree.{NoRows};
-ghost use Rattle.oer_write.specs.Rows.{RowsDone, RowsRefused, optional, slot_of};
+ghost use Rattle.oer_write.specs.Rows.{RowsDone, SetDone, RowsRefused, optional, slot_of};
 
 use asn1_base::{Constraints, EncodeError, Tag};
 use oer_write::{Encode, Encoder};
 
-/// Writes an optional component of a sequence, under constraints that stand in place of the type's own.
+/// Writes an optional component of a sequence or a set, under constraints that stand in place of the type's own.
 ///
 /// Refused by what the value is refused by.
 pub fn put_option<E: Encode>(
@@ -18,6 +18,7 @@ pub fn put_option<E: Encode>(
 ) -> Result<(), EncodeError>
     requires { IsConsistent constraints }
     ensures in_sequence { encoder.old.frame.is_set ≡ false → OnOk result (RowsDone (optional tag (slot_of (E.tree constraints) value.now)) NoRows encoder.old encoder.new) }
+    ensures in_set { encoder.old.frame.is_set ≡ true → OnOk result (SetDone (optional tag (slot_of (E.tree constraints) value.now)) NoRows encoder.old encoder.new) }
     ensures value { OnOk result (IfSome value.now E.IsValue) }
     ensures refused { IfErr result (λ x. RowsRefused (optional tag (slot_of (E.tree constraints) value.now)) NoRows x.kind encoder.old encoder.new) }
 {
