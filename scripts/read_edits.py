@@ -15,6 +15,7 @@ def pairs(edit):
             old = line[len("old: "):]
         elif line.startswith("new:"):
             yield path, old, line[len("new:"):].removeprefix(" ")
+            old = None
 
 
 def faults(folder, edit):
@@ -25,6 +26,9 @@ def faults(folder, edit):
     for path, old, new in found:
         if not path or not old:
             yield "a 'new:' line stands before any 'file:' or 'old:' line"
+            return
+        if os.path.normpath(path) != path or not path.startswith(("src/", "specs/", "proofs/")):
+            yield f"{path} is no file below src/, specs/ or proofs/"
             return
         if not os.path.isfile(f"{folder}/{path}"):
             yield f"there is no file {path}"
