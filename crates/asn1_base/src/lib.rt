@@ -1,21 +1,18 @@
-//! ASN.1 base values: tags, constraints, tables of components, the traits of types, and the kinds of refusal.
+//! All that a type of ASN.1 names: tags, constraints, tables of components, the traits of types, the values of octets,
+//! bits, text, identifiers and times, and the kinds of refusal.
 #![tactic(auto)]
 
-mod codec;
-mod constraints;
-mod error;
-mod fields;
-pub mod laws;
-mod sets;
-mod tag;
-mod traits;
-mod types;
-
-pub use codec::Codec;
-pub use constraints::{Bounded, Constraints, Limits};
-pub use error::{DecodeError, DecodeErrorKind, EncodeError, EncodeErrorKind};
-pub use fields::{Canonised, Field, FieldPresence, Fields, OptionalAndDefaultFields};
-pub use sets::SetOf;
-pub use tag::{Class, Tag};
-pub use traits::{AsnType, Choice, Constructed, Enumerated};
-pub use types::{SequenceOf, Utf8String};
+pub use asn1_core::{
+    AsnType, Bounded, Canonised, Choice, Class, Codec, Constraints, Constructed, DecodeError,
+    DecodeErrorKind, EncodeError, EncodeErrorKind, Enumerated, Field, FieldPresence, Fields,
+    Limits, OptionalAndDefaultFields, SequenceOf, SetOf, Tag, Utf8String, laws,
+};
+pub use asn1_strings::{
+    Any, AnyType, BitString, BmpCharacters, BmpString, CharacterSet, GeneralCharacters,
+    GeneralString, GraphicCharacters, GraphicString, Ia5Characters, Ia5String, NumericCharacters,
+    NumericString, ObjectIdentifier, OctetContent, OctetString, OctetStringType, OctetType,
+    PrintableCharacters, PrintableString, RestrictedString, StringError, TeletexCharacters,
+    TeletexString, VisibleCharacters, VisibleString, is_identifier, object_identifier_as_bytes,
+    object_identifier_from_bytes,
+};
+pub use asn1_times::{Date, GeneralizedTime, TimeError, TimeText, UtcTime};

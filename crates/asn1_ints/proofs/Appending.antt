@@ -1,10 +1,10 @@
 -- Appending octets.
 use Rattle.std.proofs.Common.{◌≡◌, ℕ, ◌<◌, ◌≤◌, true, false, leb, [], ◌∷◌, ◌++◌, length, get_or, cond, sym, ap, subst, ◌∙◌, arith, append-nil, Result, Ok, Err, pos}
 use Rattle.std.specs.Prelude.{is_ok}
-use Rattle.asn1_base.specs.Octets.{Octets}
-use Rattle.asn1_base.specs.Numbers.{number_octets, signed_octets, with_sign}
-use Rattle.asn1_base.proofs.Digits.{number_octets_some}
-use Rattle.asn1_base.proofs.Shortest.{with_sign_low, with_sign_high, signed_octets_of_number}
+use Rattle.asn1_core.specs.Octets.{Octets}
+use Rattle.asn1_core.specs.Numbers.{number_octets, signed_octets, with_sign}
+use Rattle.asn1_core.proofs.Digits.{number_octets_some}
+use Rattle.asn1_core.proofs.Shortest.{with_sign_low, with_sign_high, signed_octets_of_number}
 use Rattle.std.proofs.lemmas.Bool.{leb-true, leb-false}
 use Rattle.asn1_ints.specs.Octets.{Appends}
 

@@ -10,9 +10,9 @@ use Rattle.std.proofs.lemmas.Int.{ints}
 use Rattle.std.proofs.lemmas.Bool.{leb-true, leb-false, false_from_ne_true}
 use Rattle.std.proofs.lemmas.Bool.Decides.{Decides-int_eq}
 use lib.Pointwise.{pointwise}
-use Rattle.asn1_base.specs.Octets.{Octets, AreOctets, unsigned, signed}
-use Rattle.asn1_base.specs.Numbers.{in_i128, signed_octets, complement}
-use Rattle.asn1_base.proofs.Shortest.{IsTight, signed_octets_are}
+use Rattle.asn1_core.specs.Octets.{Octets, AreOctets, unsigned, signed}
+use Rattle.asn1_core.specs.Numbers.{in_i128, signed_octets, complement}
+use Rattle.asn1_core.proofs.Shortest.{IsTight, signed_octets_are}
 use Rattle.asn1_ints.specs.Numbers.{AreLarge, IsNumber, number_value}
 use Rattle.asn1_ints.specs.declared.number.Number.{Number}
 use Rattle.asn1_ints.specs.declared.number.Number.TheVariants.{Small, Large}

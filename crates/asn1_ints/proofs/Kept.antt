@@ -1,9 +1,9 @@
 -- Octets as they are kept.
 use Rattle.std.proofs.Common.{◌≡◌, ◌==◌, [], ◌++◌, false, cond, length, sym, ap, ◌∙◌, ℤ}
 use Rattle.std.specs.Prelude.{Some, None}
-use Rattle.asn1_base.specs.Octets.{Octets, signed}
-use Rattle.asn1_base.specs.Numbers.{in_i128, signed_octets}
-use Rattle.asn1_base.proofs.Shortest.{signed_octets_value}
+use Rattle.asn1_core.specs.Octets.{Octets, signed}
+use Rattle.asn1_core.specs.Numbers.{in_i128, signed_octets}
+use Rattle.asn1_core.proofs.Shortest.{signed_octets_value}
 use Rattle.asn1_ints.specs.Numbers.{AreLarge, if_in_i128}
 use Rattle.asn1_ints.proofs.Limits.{outside_is}
 

@@ -7,10 +7,10 @@ use Rattle.std.proofs.lemmas.Int.{ints}
 use Rattle.std.proofs.lemmas.Int.Digits.{number_more}
 use Rattle.std.proofs.lemmas.Bool.{cases_lt, lt-ltb, le-ltb, le-leb, lt-leb, leb-true, leb-false}
 use Rattle.std.proofs.lemmas.List.{take_all, length-take-le}
-use Rattle.asn1_base.specs.Octets.{Octets, AreOctets, unsigned, signed}
-use Rattle.asn1_base.specs.Numbers.{in_i128}
-use Rattle.asn1_base.proofs.Digits.{unsigned_below, octets_from_each}
-use Rattle.asn1_base.proofs.Complement.{signed_low, signed_high}
+use Rattle.asn1_core.specs.Octets.{Octets, AreOctets, unsigned, signed}
+use Rattle.asn1_core.specs.Numbers.{in_i128}
+use Rattle.asn1_core.proofs.Digits.{unsigned_below, octets_from_each}
+use Rattle.asn1_core.proofs.Complement.{signed_low, signed_high}
 use Rattle.asn1_ints.specs.Numbers.{if_in_i128, if_below}
 use Rattle.asn1_ints.specs.Octets.{in_complement, if_in_u128}
 

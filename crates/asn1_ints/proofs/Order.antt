@@ -7,11 +7,11 @@ use Rattle.std.specs.Cmp.Lexicographic.{slice_cmp}
 use Rattle.std.proofs.lemmas.Int.{ints}
 use Rattle.std.proofs.lemmas.Bool.{cases_lt, cases_eq, cases_order, lt-ltb, le-ltb, eq-eqb, ne_eqb, leb-true, leb-false, le-leb, lt-leb}
 use Rattle.std.proofs.Math.Nat.{mul-le-mul_right, pow-le-pow_right}
-use Rattle.asn1_base.specs.Octets.{Octets, AreOctets, unsigned, signed}
-use Rattle.asn1_base.specs.Numbers.{complement}
-use Rattle.asn1_base.proofs.Digits.{powers, unsigned_cons, unsigned_below}
-use Rattle.asn1_base.proofs.Complement.{length-complement, complement_octets, complement_sum, signed_low, signed_complement}
-use Rattle.asn1_base.proofs.Shortest.{IsTight, tight_complement}
+use Rattle.asn1_core.specs.Octets.{Octets, AreOctets, unsigned, signed}
+use Rattle.asn1_core.specs.Numbers.{complement}
+use Rattle.asn1_core.proofs.Digits.{powers, unsigned_cons, unsigned_below}
+use Rattle.asn1_core.proofs.Complement.{length-complement, complement_octets, complement_sum, signed_low, signed_complement}
+use Rattle.asn1_core.proofs.Shortest.{IsTight, tight_complement}
 
 pub int_less : (a b : ℤ) → a <ℤ b → int_cmp a b ≡ Less
 int_less a b h = let t : int_lt a b ≡ true = grind (arith, ints, h) in rw t refl

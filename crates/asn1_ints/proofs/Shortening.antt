@@ -1,10 +1,10 @@
 -- Leaving out superfluous octets.
 use Rattle.std.proofs.Common.{◌≡◌, ℕ, ◌<◌, true, false, [], ◌∷◌, length, drop, get_or, refl, sym, ap, ◌∙◌, arith}
-use Rattle.asn1_base.specs.Octets.{Octets, unsigned, signed}
-use Rattle.asn1_base.specs.Numbers.{number_octets, signed_octets, has_superfluous_zero, has_superfluous_sign}
-use Rattle.asn1_base.proofs.Digits.{octets_from_each}
-use Rattle.asn1_base.proofs.Shortest.{tight_from_test, signed_octets_signed}
-use Rattle.asn1_base.proofs.Superfluous.{zero_left_out, sign_left_out, number_octets_unsigned}
+use Rattle.asn1_core.specs.Octets.{Octets, unsigned, signed}
+use Rattle.asn1_core.specs.Numbers.{number_octets, signed_octets, has_superfluous_zero, has_superfluous_sign}
+use Rattle.asn1_core.proofs.Digits.{octets_from_each}
+use Rattle.asn1_core.proofs.Shortest.{tight_from_test, signed_octets_signed}
+use Rattle.asn1_core.proofs.Superfluous.{zero_left_out, sign_left_out, number_octets_unsigned}
 use Rattle.asn1_ints.specs.Octets.{KeepsUnsigned, KeepsSigned}
 
 pub keeps_unsigned_at_first : (octets : Octets) → ((i : ℕ) → get_or octets i 0 < 256) → 0 < length octets → KeepsUnsigned octets octets

@@ -1,8 +1,8 @@
 -- Whole numbers as they are kept: in an i128, or in octets.
 use Rattle.std.specs.Prelude.{◌≡◌, ℕ, ℤ, pos, negsuc, ◌-◌, Bool, false, cond, ◌&&◌, int_le, int_lt, Option, Some, None, FitsSigned}
 use Rattle.std.specs.Int.{w128}
-use Rattle.asn1_base.specs.Octets.{Octets, signed}
-use Rattle.asn1_base.specs.Numbers.{in_i128, signed_octets}
+use Rattle.asn1_core.specs.Octets.{Octets, signed}
+use Rattle.asn1_core.specs.Numbers.{in_i128, signed_octets}
 use Rattle.asn1_ints.specs.declared.number.Number.{Number}
 use Rattle.asn1_ints.specs.declared.number.Number.TheVariants.{Small, Large}
 

@@ -1,7 +1,7 @@
 -- The numbers of octets, as they are read and written.
 use Rattle.std.specs.Prelude.{◌≡◌, ℕ, ℤ, pos, ◌-ℤ◌, ◌^◌, ◌<◌, Bool, true, false, cond, nat_lt, length, Option, Some, None}
-use Rattle.asn1_base.specs.Octets.{Octets, AreOctets, unsigned, signed}
-pub use Rattle.asn1_base.specs.Octets.{Appends}
+use Rattle.asn1_core.specs.Octets.{Octets, AreOctets, unsigned, signed}
+pub use Rattle.asn1_core.specs.Octets.{Appends}
 
 -- the number of octets that stand behind a first bit which is set, or not
 abbrev pub in_complement : Bool → Octets → ℤ

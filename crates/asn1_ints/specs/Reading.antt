@@ -1,10 +1,10 @@
 -- Reading a number into a type.
 use Rattle.std.specs.Prelude.{◌≡◌, ℤ, Bool, IsTrue, cond, ◌==◌, length, Option, Some, None, Result, Ok, Err}
-use Rattle.asn1_base.specs.declared.codec.Codec.{Codec}
-use Rattle.asn1_base.specs.declared.error.DecodeError.{DecodeError}
-use Rattle.asn1_base.specs.declared.error.DecodeErrorKind.{DecodeErrorKind}
-use Rattle.asn1_base.specs.declared.error.DecodeErrorKind.TheVariants.{EmptyInteger, IntegerOverflow, OutOfMemory}
-use Rattle.asn1_base.specs.Octets.{Octets}
+use Rattle.asn1_core.specs.declared.codec.Codec.{Codec}
+use Rattle.asn1_core.specs.declared.error.DecodeError.{DecodeError}
+use Rattle.asn1_core.specs.declared.error.DecodeErrorKind.{DecodeErrorKind}
+use Rattle.asn1_core.specs.declared.error.DecodeErrorKind.TheVariants.{EmptyInteger, IntegerOverflow, OutOfMemory}
+use Rattle.asn1_core.specs.Octets.{Octets}
 
 -- the number of octets, where there are some and it is one of the type
 abbrev pub number_in : (ℤ → Bool) → Octets → ℤ → Result ℤ DecodeErrorKind

@@ -2,7 +2,7 @@ ghost use Rattle.std.specs.Prelude.{◌≡◌, ◌&&◌, int_le, cond, Some, Non
 
 use crate::integer::Integer;
 use crate::integer_type::IntegerType;
-use asn1_base::{AsnType, Bounded, Codec, Constraints, DecodeError, Tag};
+use asn1_core::{AsnType, Bounded, Codec, Constraints, DecodeError, Tag};
 use std::alloc::{AllocError, Global};
 use std::marker::{Model, PhantomData};
 
@@ -98,8 +98,8 @@ impl<R> Eq for ConstrainedInteger<R> {
 
 impl<R: IntegerRange> AsnType for ConstrainedInteger<R> {
     ghost use Rattle.std.specs.Prelude.{false};
-    ghost use Rattle.asn1_base.specs.declared.tag.TheConstants.Tag.{INTEGER};
-    ghost use Rattle.asn1_base.specs.Bounds.{values_between};
+    ghost use Rattle.asn1_core.specs.declared.tag.TheConstants.Tag.{INTEGER};
+    ghost use Rattle.asn1_core.specs.Bounds.{values_between};
     ghost use Rattle.asn1_ints.specs.Ranges.{range_is_consistent};
 
     ghost TAG = { INTEGER };
@@ -120,10 +120,6 @@ impl<R: IntegerRange> AsnType for ConstrainedInteger<R> {
     };
 
     ghost consistent = { range_is_consistent R.MIN R.MAX R.holds_number };
-
-    ghost IS_CHOICE = { false };
-
-    const IS_CHOICE: bool = false;
 }
 
 impl<R: IntegerRange> IntegerType for ConstrainedInteger<R> {

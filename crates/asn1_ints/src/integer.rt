@@ -1,6 +1,6 @@
 ghost use Rattle.std.specs.Prelude.{◌≡◌, ◌==◌, pos, Some, None, IfOk, IsOk, cond, length, int_lt, true};
-ghost use Rattle.asn1_base.specs.Octets.{signed, unsigned};
-ghost use Rattle.asn1_base.specs.Numbers.{in_i128, signed_octets};
+ghost use Rattle.asn1_core.specs.Octets.{signed, unsigned};
+ghost use Rattle.asn1_core.specs.Numbers.{in_i128, signed_octets};
 ghost use Rattle.asn1_ints.specs.Numbers.{if_in_i128};
 
 use crate::integer_type::IntegerType;
@@ -9,7 +9,7 @@ use crate::octets::{
     has_sign, i128_of, shortest_signed, shortest_unsigned, unsigned_i128_of, write_i128,
     write_u128, write_with_sign,
 };
-use asn1_base::{AsnType, Codec, Constraints, DecodeError, DecodeErrorKind, Tag};
+use asn1_core::{AsnType, Codec, Constraints, DecodeError, DecodeErrorKind, Tag};
 use std::alloc::{AllocError, Global};
 use std::cmp::Ordering;
 use std::marker::Model;
@@ -157,8 +157,8 @@ impl PartialOrd for Integer {
 
 impl AsnType for Integer {
     ghost use Rattle.std.specs.Prelude.{false, refl};
-    ghost use Rattle.asn1_base.specs.declared.tag.TheConstants.Tag.{INTEGER};
-    ghost use Rattle.asn1_base.specs.declared.constraints.TheConstants.Constraints.{NONE};
+    ghost use Rattle.asn1_core.specs.declared.tag.TheConstants.Tag.{INTEGER};
+    ghost use Rattle.asn1_core.specs.declared.constraints.TheConstants.Constraints.{NONE};
 
     ghost TAG = { INTEGER };
 
@@ -169,10 +169,6 @@ impl AsnType for Integer {
     const CONSTRAINTS: Constraints = Constraints::NONE;
 
     ghost consistent = { refl };
-
-    ghost IS_CHOICE = { false };
-
-    const IS_CHOICE: bool = false;
 }
 
 impl IntegerType for Integer {

@@ -1,11 +1,11 @@
 ghost use Rattle.std.specs.Prelude.{◌≡◌, ℤ, pos, Bool, true, false, int_lt};
-ghost use Rattle.asn1_base.specs.Octets.{signed, unsigned};
-ghost use Rattle.asn1_base.specs.Numbers.{signed_octets, unsigned_octets};
+ghost use Rattle.asn1_core.specs.Octets.{signed, unsigned};
+ghost use Rattle.asn1_core.specs.Numbers.{signed_octets, unsigned_octets};
 ghost use Rattle.asn1_ints.specs.Numbers.{if_in_i128};
 ghost use Rattle.asn1_ints.specs.Octets.{Appends};
 ghost use Rattle.asn1_ints.specs.Reading.{ReadsNumber};
 
-use asn1_base::{AsnType, Codec, DecodeError};
+use asn1_core::{AsnType, Codec, DecodeError};
 use std::alloc::{AllocError, Global};
 
 /// A type that an INTEGER (X.696, 10) is held in.

@@ -1,6 +1,6 @@
 ghost use Rattle.std.specs.Prelude.{◌≡◌, nat_le, slice_index};
 ghost use Rattle.std.specs.Ordering.{int_eq, int_cmp};
-ghost use Rattle.asn1_base.specs.Octets.{signed};
+ghost use Rattle.asn1_core.specs.Octets.{signed};
 ghost use Rattle.asn1_ints.specs.Numbers.{number_value, IsNumber, AreLarge};
 
 use crate::octets::has_sign;

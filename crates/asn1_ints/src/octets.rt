@@ -1,11 +1,11 @@
 ghost use Rattle.std.specs.Prelude.{◌≡◌, ◌<◌, ◌+◌, ◌*◌, ◌*ℤ◌, ◌+ℤ◌, pos, [], ◌^◌, option_map, length, slice_index, nat_le};
-ghost use Rattle.asn1_base.specs.Octets.{unsigned, signed};
-ghost use Rattle.asn1_base.specs.Numbers.{number_octets, signed_octets, has_superfluous_zero, has_superfluous_sign};
+ghost use Rattle.asn1_core.specs.Octets.{unsigned, signed};
+ghost use Rattle.asn1_core.specs.Numbers.{number_octets, signed_octets, has_superfluous_zero, has_superfluous_sign};
 ghost use Rattle.asn1_ints.specs.Numbers.{if_in_i128, if_below};
 ghost use Rattle.asn1_ints.specs.Octets.{in_complement, if_in_u128, Appends};
 ghost use Rattle.asn1_ints.specs.Reading.{value_or_refusal};
 
-use asn1_base::{Codec, DecodeError, DecodeErrorKind};
+use asn1_core::{Codec, DecodeError, DecodeErrorKind};
 use std::alloc::AllocError;
 
 /// Whether the first bit of the octets is set.

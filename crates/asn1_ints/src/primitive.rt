@@ -1,12 +1,12 @@
 ghost use Rattle.std.specs.Prelude.{◌≡◌, ℤ, Bool, true, false, cond, Some, None, option_map};
-ghost use Rattle.asn1_base.specs.Numbers.{in_i128};
+ghost use Rattle.asn1_core.specs.Numbers.{in_i128};
 
 use crate::integer_type::IntegerType;
 use crate::octets::{
     i128_of, signed_u128_of, u128_of, unsigned_i128_of, value_or_refusal, write_i128,
     write_signed_u128, write_u128,
 };
-use asn1_base::{AsnType, Codec, DecodeError};
+use asn1_core::{AsnType, Codec, DecodeError};
 use std::alloc::{AllocError, Global};
 
 /// One of Rust's integer types whose numbers are all in i128.
@@ -280,7 +280,7 @@ impl PrimitiveInteger for isize {
 }
 
 impl PrimitiveInteger for i128 {
-    ghost use Rattle.asn1_base.specs.Numbers.{in_i128};
+    ghost use Rattle.asn1_core.specs.Numbers.{in_i128};
 
     ghost value = { λ n. n };
 

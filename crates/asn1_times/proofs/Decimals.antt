@@ -5,8 +5,8 @@ use Rattle.std.specs.Int.Digits.{number_from_digits}
 use Rattle.std.proofs.Math.Nat.{pow-succ', pow-le-pow_right}
 use Rattle.std.proofs.lemmas.Bool.{and_parts, leb-true}
 use Rattle.std.proofs.lemmas.Int.Digits.{number_more}
-use Rattle.asn1_base.specs.Octets.{Octets}
-use Rattle.asn1_base.specs.Texts.{is_digit}
+use Rattle.asn1_core.specs.Octets.{Octets}
+use Rattle.asn1_core.specs.Texts.{is_digit}
 use Rattle.asn1_times.specs.Times.{decimal}
 
 pub length-decimal : (k n : ℕ) → length (decimal k n) ≡ k

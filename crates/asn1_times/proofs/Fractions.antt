@@ -9,8 +9,8 @@ use Rattle.std.proofs.lemmas.List.Folds.{list_all-append}
 use Rattle.std.proofs.lemmas.Bool.{eq-eqb, ne_eqb, and_from, le-leb, cases_eq}
 use Rattle.std.proofs.lemmas.Nat.{pow-add}
 use Rattle.std.proofs.lemmas.List.{take_more}
-use Rattle.asn1_base.specs.Octets.{Octets}
-use Rattle.asn1_base.specs.Texts.{is_digit, is_fraction, is_ending}
+use Rattle.asn1_core.specs.Octets.{Octets}
+use Rattle.asn1_core.specs.Texts.{is_digit, is_fraction, is_ending}
 use Rattle.asn1_times.specs.Times.{decimal, without_zeros, fraction}
 use Rattle.asn1_times.proofs.Decimals.{value, value_more, digit_parts, digit_at, length-decimal}
 

@@ -11,7 +11,7 @@ use Rattle.std.proofs.lemmas.List.{map-append}
 use Rattle.jiff_core.specs.declared.civil.date.Date.{Date}
 use Rattle.jiff_core.specs.declared.civil.time.Time.{Time}
 use Rattle.jiff_core.specs.declared.civil.datetime.DateTime.{DateTime}
-use Rattle.asn1_base.specs.Octets.{Octets}
+use Rattle.asn1_core.specs.Octets.{Octets}
 use Rattle.asn1_times.specs.Times.{decimal, pairs, year_pairs, day_pairs, clock_pairs, without_zeros, fraction, is_utc_year, UtcOnce, GeneralizedOnce, DateOnce}
 use Rattle.asn1_times.proofs.Decimals.{value, length-decimal}
 use Rattle.asn1_times.proofs.Fractions.{no_zeros, middle}

@@ -9,8 +9,8 @@ use Rattle.jiff_core.specs.Calendar.{days_in_month}
 use Rattle.jiff_core.specs.declared.civil.date.Date.{Date}
 use Rattle.jiff_core.specs.declared.civil.time.Time.{Time}
 use Rattle.jiff_core.specs.declared.civil.datetime.DateTime.{DateTime}
-use Rattle.asn1_base.specs.Octets.{Octets, AreOctets}
-use Rattle.asn1_base.specs.Texts.{is_digit, digits_at, days_of, is_day, is_clock, full_year, is_utc, is_ending, is_generalized, is_date, from_to}
+use Rattle.asn1_core.specs.Octets.{Octets, AreOctets}
+use Rattle.asn1_core.specs.Texts.{is_digit, digits_at, days_of, is_day, is_clock, full_year, is_utc, is_ending, is_generalized, is_date, from_to}
 use Rattle.asn1_times.specs.Times.{two_digits, pairs, year_pairs, day_pairs, clock_pairs, fraction, is_utc_year, utc_text, generalized_text, date_text, HasDay, HasClock, without_zeros, UtcObeys, GeneralizedObeys, DateObeys}
 use Rattle.asn1_times.proofs.Decimals.{value, digit_parts}
 use Rattle.asn1_times.proofs.Fractions.{take_all, ending_obeys, without_zeros_are}

@@ -4,9 +4,9 @@ use Rattle.std.specs.List.{flat_map}
 use Rattle.jiff_core.specs.declared.civil.date.Date.{Date}
 use Rattle.jiff_core.specs.declared.civil.time.Time.{Time}
 use Rattle.jiff_core.specs.declared.civil.datetime.DateTime.{DateTime}
-use Rattle.asn1_base.specs.Octets.{Octets, AreOctets}
-use Rattle.asn1_base.specs.Texts.{Obeys, Utc, Generalized, digits_at, is_day, is_clock}
-use Rattle.asn1_base.specs.Texts.{Date as DateRule}
+use Rattle.asn1_core.specs.Octets.{Octets, AreOctets}
+use Rattle.asn1_core.specs.Texts.{Obeys, Utc, Generalized, digits_at, is_day, is_clock}
+use Rattle.asn1_core.specs.Texts.{Date as DateRule}
 
 -- that many of a number's lowest decimal digits, the highest first
 abbrev pub decimal : ℕ → ℕ → Octets

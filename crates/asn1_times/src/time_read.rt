@@ -1,6 +1,6 @@
 ghost use Rattle.std.specs.Prelude.{◌≡◌, ◌+◌, ◌≤◌, ◌<◌, ◌^◌, ◌++◌, ◌∷◌, [], true, Some, length, take, is_some, IfSome};
 ghost use Rattle.std.specs.List.{list_all};
-ghost use Rattle.asn1_base.specs.Texts.{is_digit, digits_at, is_day, is_clock, full_year, is_fraction, is_ending, is_utc, is_generalized, is_date};
+ghost use Rattle.asn1_core.specs.Texts.{is_digit, digits_at, is_day, is_clock, full_year, is_fraction, is_ending, is_utc, is_generalized, is_date};
 ghost use Rattle.asn1_times.specs.Times.{utc_text, generalized_text, date_text, is_day_at, is_clock_at, fraction, HasDay, HasClock};
 
 use jiff::civil;

@@ -1,13 +1,13 @@
 ghost use Rattle.std.specs.Prelude.{◌≡◌, ◌≢◌, ◌<◌, Some, is_ok, IfOk, IfErr, OnErr};
 ghost use Rattle.std.specs.Option.{ok_or};
-ghost use Rattle.asn1_base.specs.Texts.{is_utc, is_generalized, is_date};
+ghost use Rattle.asn1_core.specs.Texts.{is_utc, is_generalized, is_date};
 ghost use Rattle.asn1_times.specs.Times.{utc_text, generalized_text, date_text};
 ghost use Rattle.jiff_core.specs.declared.civil.datetime.DateTime.{DateTime as PlainTime};
 ghost use Rattle.jiff_core.specs.declared.civil.date.Date.{Date as PlainDate};
 
 use crate::time_read::{date_of, generalized_of, utc_of};
 use crate::time_text::TimeText;
-use asn1_base::{AsnType, Constraints, Tag};
+use asn1_core::{AsnType, Constraints, Tag};
 use jiff::civil;
 use std::marker::Model;
 use thiserror::Error;
@@ -40,8 +40,8 @@ impl Model for UtcTime {
 }
 
 impl AsnType for UtcTime {
-    ghost use Rattle.asn1_base.specs.declared.tag.TheConstants.Tag.{UTC_TIME};
-    ghost use Rattle.asn1_base.specs.declared.constraints.TheConstants.Constraints.{NONE};
+    ghost use Rattle.asn1_core.specs.declared.tag.TheConstants.Tag.{UTC_TIME};
+    ghost use Rattle.asn1_core.specs.declared.constraints.TheConstants.Constraints.{NONE};
     ghost use Rattle.std.specs.Prelude.{false, refl};
 
     ghost TAG = { UTC_TIME };
@@ -53,10 +53,6 @@ impl AsnType for UtcTime {
     const CONSTRAINTS: Constraints = Constraints::NONE;
 
     ghost consistent = { refl };
-
-    ghost IS_CHOICE = { false };
-
-    const IS_CHOICE: bool = false;
 }
 
 impl UtcTime {
@@ -130,8 +126,8 @@ impl Model for GeneralizedTime {
 }
 
 impl AsnType for GeneralizedTime {
-    ghost use Rattle.asn1_base.specs.declared.tag.TheConstants.Tag.{GENERALIZED_TIME};
-    ghost use Rattle.asn1_base.specs.declared.constraints.TheConstants.Constraints.{NONE};
+    ghost use Rattle.asn1_core.specs.declared.tag.TheConstants.Tag.{GENERALIZED_TIME};
+    ghost use Rattle.asn1_core.specs.declared.constraints.TheConstants.Constraints.{NONE};
     ghost use Rattle.std.specs.Prelude.{false, refl};
 
     ghost TAG = { GENERALIZED_TIME };
@@ -143,10 +139,6 @@ impl AsnType for GeneralizedTime {
     const CONSTRAINTS: Constraints = Constraints::NONE;
 
     ghost consistent = { refl };
-
-    ghost IS_CHOICE = { false };
-
-    const IS_CHOICE: bool = false;
 }
 
 impl GeneralizedTime {
@@ -223,8 +215,8 @@ impl Model for Date {
 }
 
 impl AsnType for Date {
-    ghost use Rattle.asn1_base.specs.declared.tag.TheConstants.Tag.{DATE};
-    ghost use Rattle.asn1_base.specs.declared.constraints.TheConstants.Constraints.{NONE};
+    ghost use Rattle.asn1_core.specs.declared.tag.TheConstants.Tag.{DATE};
+    ghost use Rattle.asn1_core.specs.declared.constraints.TheConstants.Constraints.{NONE};
     ghost use Rattle.std.specs.Prelude.{false, refl};
 
     ghost TAG = { DATE };
@@ -236,10 +228,6 @@ impl AsnType for Date {
     const CONSTRAINTS: Constraints = Constraints::NONE;
 
     ghost consistent = { refl };
-
-    ghost IS_CHOICE = { false };
-
-    const IS_CHOICE: bool = false;
 }
 
 impl Date {

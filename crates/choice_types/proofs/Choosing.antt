@@ -1,8 +1,8 @@
 -- Which alternative of a choice has a tag.
 use Rattle.std.proofs.Common.{◌≡◌, ℕ, ℤ, refl, sym, ◌∙◌, ap, arith}
-use Rattle.asn1_base.specs.declared.tag.Class.TheVariants.{Context}
-use Rattle.asn1_base.specs.declared.tag.Tag.{Tag}
-use Rattle.oer_forms.specs.Spelled.{IsAny, boolean}
+use Rattle.asn1_core.specs.declared.tag.Class.TheVariants.{Context}
+use Rattle.asn1_core.specs.declared.tag.Tag.{Tag}
+use Rattle.oer_spec.specs.Spelled.{IsAny, boolean}
 use Rattle.choice_types.specs.Choices.{priority_tag, priority_number, priority_child, priority_tree, wide_tag, wide_number, wide_child, only_tag, only_child, bool_tag, bool_child}
 use Rattle.sequence_types.specs.Pairs.{plain_integer, IsWhole}
 use Rattle.sequence_types.specs.Tags.{context}
@@ -10,7 +10,7 @@ use Rattle.choice_types.specs.declared.choices.PriorityChoice.{PriorityChoice}
 use Rattle.choice_types.specs.declared.choices.WideChoice.{WideChoice}
 use Rattle.choice_types.specs.declared.choices.OnlyChoice.TheVariants.{Only}
 use Rattle.choice_types.specs.declared.choices.BoolChoice.TheVariants.{A, B, C}
-use Rattle.rasn_oer.proofs.Alternatives.{Holds}
+use Rattle.oer_read.proofs.Alternatives.{Holds}
 
 -- a tag of the context-specific class, by its number
 pub context_is : (g : Tag) (n : ℕ) → g.class ≡ Context → g.value ≡ n → context n ≡ g

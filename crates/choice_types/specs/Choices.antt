@@ -1,12 +1,12 @@
 -- Choices of leaves, and a choice that holds a choice.
 use Rattle.std.specs.Prelude.{◌≡◌, ◌<◌, ◌^◌, ℤ, List, [], ◌∷◌, refl}
 use Rattle.std.proofs.Common.{ap, arith}
-use Rattle.asn1_base.specs.declared.constraints.TheConstants.Constraints.{NONE}
-use Rattle.asn1_base.specs.declared.tag.Tag.{Tag}
-use Rattle.oer_forms.specs.Encoding.{IsTree}
-use Rattle.oer_forms.specs.Same.{Alike}
-use Rattle.oer_forms.specs.Spelled.{boolean, integer, boolean_is, integer_is, booleans_alike, integers_alike}
-use Rattle.oer_forms.specs.Tree.{Tree, Choice}
+use Rattle.asn1_core.specs.declared.constraints.TheConstants.Constraints.{NONE}
+use Rattle.asn1_core.specs.declared.tag.Tag.{Tag}
+use Rattle.oer_spec.specs.Encoding.{IsTree}
+use Rattle.oer_spec.specs.Same.{Alike}
+use Rattle.oer_spec.specs.Spelled.{boolean, integer, boolean_is, integer_is, booleans_alike, integers_alike}
+use Rattle.oer_spec.specs.Tree.{Tree, Choice}
 use Rattle.sequence_types.specs.Tags.{context}
 use Rattle.choice_types.specs.declared.choices.PriorityChoice.{PriorityChoice}
 use Rattle.choice_types.specs.declared.choices.PriorityChoice.TheVariants.{Normal, High, Medium}

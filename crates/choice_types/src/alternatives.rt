@@ -1,10 +1,10 @@
 //! What choices share.
 ghost use Rattle.std.specs.Prelude.{OnOk, IfErr};
-ghost use Rattle.oer_forms.specs.Tree.{Choice};
+ghost use Rattle.oer_spec.specs.Tree.{Choice};
 ghost use Rattle.oer_write.specs.Choices.{WritesAlternative};
 ghost use Rattle.oer_write.specs.Written.{Encodes, Refused};
 
-use asn1_base::{Choice, Constraints, EncodeError, Tag};
+use asn1_core::{Choice, Constraints, EncodeError, Tag};
 use oer_write::{Encode, Encoder};
 
 /// Writes the alternative of a choice with that tag, which holds the value.

@@ -1,10 +1,10 @@
 //! Choices of leaves, and a choice that holds a choice.
 use crate::alternatives::put_alternative;
-use asn1_base::{AsnType, Choice, Class, Constraints, DecodeError, EncodeError, Tag};
+use asn1_core::{AsnType, Choice, Class, Constraints, DecodeError, EncodeError, Tag};
 use asn1_ints::Integer;
-use oer_forms::Spelled;
+use oer_read::{Decode, DecodeChoice, Decoder};
+use oer_spec::Spelled;
 use oer_write::{Encode, Encoder};
-use rasn_oer::{Decode, DecodeChoice, Decoder};
 use std::alloc::Global;
 
 /// `CHOICE { normal INTEGER, high INTEGER, ..., medium INTEGER }`
@@ -91,8 +91,8 @@ const BOOL_ADDITIONS: &'static [Tag] = &[Tag {
 
 impl AsnType for PriorityChoice {
     ghost use Rattle.std.specs.Prelude.{true, refl};
-    ghost use Rattle.asn1_base.specs.declared.tag.TheConstants.Tag.{EOC};
-    ghost use Rattle.asn1_base.specs.declared.constraints.TheConstants.Constraints.{NONE};
+    ghost use Rattle.asn1_core.specs.declared.tag.TheConstants.Tag.{EOC};
+    ghost use Rattle.asn1_core.specs.declared.constraints.TheConstants.Constraints.{NONE};
 
     ghost TAG = { EOC };
 
@@ -103,8 +103,6 @@ impl AsnType for PriorityChoice {
     const CONSTRAINTS: Constraints = Constraints::NONE;
 
     ghost consistent = { refl };
-
-    ghost IS_CHOICE = { true };
 
     const IS_CHOICE: bool = true;
 }
@@ -124,18 +122,18 @@ impl Choice for PriorityChoice {
     const EXTENDED_VARIANTS: Option<&'static [Tag]> = Some(PRIORITY_ADDITIONS);
 
     fn root_tags() -> &'static [Tag] {
-        PRIORITY_ROOTS
+        Self::VARIANTS
     }
 
     fn addition_tags() -> Option<&'static [Tag]> {
-        Some(PRIORITY_ADDITIONS)
+        Self::EXTENDED_VARIANTS
     }
 
     ghost distinct = { (refl, (refl, (refl, tt))) };
 }
 
 impl Spelled for PriorityChoice {
-    ghost use Rattle.oer_forms.specs.Spelled.{IsAny};
+    ghost use Rattle.oer_spec.specs.Spelled.{IsAny};
     ghost use Rattle.choice_types.specs.Choices.{priority_tree, priority_is, priorities_alike};
 
     ghost tree = { λ c v. priority_tree v };
@@ -229,8 +227,8 @@ impl Decode for PriorityChoice {
 
 impl AsnType for WideChoice {
     ghost use Rattle.std.specs.Prelude.{true, refl};
-    ghost use Rattle.asn1_base.specs.declared.tag.TheConstants.Tag.{EOC};
-    ghost use Rattle.asn1_base.specs.declared.constraints.TheConstants.Constraints.{NONE};
+    ghost use Rattle.asn1_core.specs.declared.tag.TheConstants.Tag.{EOC};
+    ghost use Rattle.asn1_core.specs.declared.constraints.TheConstants.Constraints.{NONE};
 
     ghost TAG = { EOC };
 
@@ -241,8 +239,6 @@ impl AsnType for WideChoice {
     const CONSTRAINTS: Constraints = Constraints::NONE;
 
     ghost consistent = { refl };
-
-    ghost IS_CHOICE = { true };
 
     const IS_CHOICE: bool = true;
 }
@@ -262,18 +258,18 @@ impl Choice for WideChoice {
     const EXTENDED_VARIANTS: Option<&'static [Tag]> = None;
 
     fn root_tags() -> &'static [Tag] {
-        WIDE_ROOTS
+        Self::VARIANTS
     }
 
     fn addition_tags() -> Option<&'static [Tag]> {
-        None
+        Self::EXTENDED_VARIANTS
     }
 
     ghost distinct = { (refl, (refl, (refl, tt))) };
 }
 
 impl Spelled for WideChoice {
-    ghost use Rattle.oer_forms.specs.Spelled.{IsAny};
+    ghost use Rattle.oer_spec.specs.Spelled.{IsAny};
     ghost use Rattle.choice_types.specs.Choices.{wide_tree, wide_is, wide_alike};
 
     ghost tree = { λ c v. wide_tree v };
@@ -369,8 +365,8 @@ impl Decode for WideChoice {
 
 impl AsnType for OnlyChoice {
     ghost use Rattle.std.specs.Prelude.{true, refl};
-    ghost use Rattle.asn1_base.specs.declared.tag.TheConstants.Tag.{EOC};
-    ghost use Rattle.asn1_base.specs.declared.constraints.TheConstants.Constraints.{NONE};
+    ghost use Rattle.asn1_core.specs.declared.tag.TheConstants.Tag.{EOC};
+    ghost use Rattle.asn1_core.specs.declared.constraints.TheConstants.Constraints.{NONE};
 
     ghost TAG = { EOC };
 
@@ -381,8 +377,6 @@ impl AsnType for OnlyChoice {
     const CONSTRAINTS: Constraints = Constraints::NONE;
 
     ghost consistent = { refl };
-
-    ghost IS_CHOICE = { true };
 
     const IS_CHOICE: bool = true;
 }
@@ -402,18 +396,18 @@ impl Choice for OnlyChoice {
     const EXTENDED_VARIANTS: Option<&'static [Tag]> = None;
 
     fn root_tags() -> &'static [Tag] {
-        ONLY_ROOTS
+        Self::VARIANTS
     }
 
     fn addition_tags() -> Option<&'static [Tag]> {
-        None
+        Self::EXTENDED_VARIANTS
     }
 
     ghost distinct = { (refl, tt) };
 }
 
 impl Spelled for OnlyChoice {
-    ghost use Rattle.oer_forms.specs.Spelled.{IsAny};
+    ghost use Rattle.oer_spec.specs.Spelled.{IsAny};
     ghost use Rattle.choice_types.specs.Choices.{only_tree, only_is, only_alike};
 
     ghost tree = { λ c v. only_tree v };
@@ -489,8 +483,8 @@ impl Decode for OnlyChoice {
 
 impl AsnType for BoolChoice {
     ghost use Rattle.std.specs.Prelude.{true, refl};
-    ghost use Rattle.asn1_base.specs.declared.tag.TheConstants.Tag.{EOC};
-    ghost use Rattle.asn1_base.specs.declared.constraints.TheConstants.Constraints.{NONE};
+    ghost use Rattle.asn1_core.specs.declared.tag.TheConstants.Tag.{EOC};
+    ghost use Rattle.asn1_core.specs.declared.constraints.TheConstants.Constraints.{NONE};
 
     ghost TAG = { EOC };
 
@@ -501,8 +495,6 @@ impl AsnType for BoolChoice {
     const CONSTRAINTS: Constraints = Constraints::NONE;
 
     ghost consistent = { refl };
-
-    ghost IS_CHOICE = { true };
 
     const IS_CHOICE: bool = true;
 }
@@ -522,18 +514,18 @@ impl Choice for BoolChoice {
     const EXTENDED_VARIANTS: Option<&'static [Tag]> = Some(BOOL_ADDITIONS);
 
     fn root_tags() -> &'static [Tag] {
-        BOOL_ROOTS
+        Self::VARIANTS
     }
 
     fn addition_tags() -> Option<&'static [Tag]> {
-        Some(BOOL_ADDITIONS)
+        Self::EXTENDED_VARIANTS
     }
 
     ghost distinct = { (refl, (refl, (refl, tt))) };
 }
 
 impl Spelled for BoolChoice {
-    ghost use Rattle.oer_forms.specs.Spelled.{IsAny};
+    ghost use Rattle.oer_spec.specs.Spelled.{IsAny};
     ghost use Rattle.choice_types.specs.Choices.{bool_choice_tree, bool_choice_is, bool_choices_alike};
 
     ghost tree = { λ c v. bool_choice_tree v };

@@ -1,13 +1,13 @@
 -- Extensible sequences.
 use Rattle.std.specs.Prelude.{Bool, true, false, Option, Some, None, List, [], ◌∷◌, refl}
-use Rattle.asn1_base.specs.Rows.{Row}
-use Rattle.asn1_base.specs.declared.fields.FieldPresence.TheVariants as presence
-use Rattle.oer_forms.specs.Encoding.{IsTree, AreSlot}
-use Rattle.oer_forms.specs.Same.{Alike, AlikeSlot}
-use Rattle.oer_forms.specs.Spelled.{IsAny, boolean, boolean_is, booleans_alike}
-use Rattle.oer_forms.specs.Tree.{Tree, Rows, NoRows, Required, Optional, Struct}
-use Rattle.rasn_oer.specs.Components.{slot_of}
-use Rattle.rasn_oer.specs.Parts.{Parts, NoParts, NeededPart, OptionalPart, Admits, AreOf, OnPresent}
+use Rattle.asn1_core.specs.Rows.{Row}
+use Rattle.asn1_core.specs.declared.fields.FieldPresence.TheVariants as presence
+use Rattle.oer_spec.specs.Encoding.{IsTree, AreSlot}
+use Rattle.oer_spec.specs.Same.{Alike, AlikeSlot}
+use Rattle.oer_spec.specs.Spelled.{IsAny, boolean, boolean_is, booleans_alike}
+use Rattle.oer_spec.specs.Tree.{Tree, Rows, NoRows, Required, Optional, Struct}
+use Rattle.oer_read.specs.Components.{slot_of}
+use Rattle.oer_read.specs.Parts.{Parts, NoParts, NeededPart, OptionalPart, Admits, AreOf, OnPresent}
 use Rattle.sequence_types.specs.Slots.{IfThere, slot_is, slots_alike, slot_made}
 use Rattle.sequence_types.specs.Tags.{context}
 use Rattle.extensible_types.specs.declared.extensible.EmptyExtensible.{EmptyExtensible}
@@ -54,11 +54,11 @@ unfoldable pub sequence1_tree : Sequence1 → Tree
 sequence1_tree s = Struct false true (sequence1_roots s) NoRows
 
 pub sequence1_is : (s : Sequence1) → IsTree (sequence1_tree s)
-unfolding sequence1_tree Rattle.oer_forms.specs.Encoding.IsTree
+unfolding sequence1_tree Rattle.oer_spec.specs.Encoding.IsTree
 sequence1_is s = ((boolean_is s.a, tt), tt, (λ e. absurd (cc e)), (λ e. absurd (cc e)))
 
 pub sequences1_alike : (s t : Sequence1) → Alike (sequence1_tree s) (sequence1_tree t)
-unfolding sequence1_tree Rattle.oer_forms.specs.Same.Alike
+unfolding sequence1_tree Rattle.oer_spec.specs.Same.Alike
 sequences1_alike s t = (refl, refl, (refl, booleans_alike s.a t.a, tt), tt)
 
 pub sequence1_made : (s : Sequence1) → IsAny s → AreOf first_parts (sequence1_roots s) × AreOf NoParts NoRows
@@ -76,11 +76,11 @@ unfoldable pub sequence2_tree : Sequence2 → Tree
 sequence2_tree s = Struct false true (sequence2_roots s) (sequence2_additions s)
 
 pub sequence2_is : (s : Sequence2) → IsTree (sequence2_tree s)
-unfolding sequence2_tree Rattle.oer_forms.specs.Encoding.IsTree
+unfolding sequence2_tree Rattle.oer_spec.specs.Encoding.IsTree
 sequence2_is s = ((boolean_is s.a, tt), (flag_is s.b, (flag_is s.c, tt)), (λ e. absurd (cc e)), (λ e. absurd (cc e)))
 
 pub sequences2_alike : (s t : Sequence2) → Alike (sequence2_tree s) (sequence2_tree t)
-unfolding sequence2_tree Rattle.oer_forms.specs.Same.Alike
+unfolding sequence2_tree Rattle.oer_spec.specs.Same.Alike
 sequences2_alike s t = (refl, refl, (refl, booleans_alike s.a t.a, tt), (refl, flags_alike s.b t.b, (refl, flags_alike s.c t.c, tt)))
 
 abbrev pub sequence2_more : Parts
@@ -101,11 +101,11 @@ unfoldable pub sequence5_tree : Sequence5 → Tree
 sequence5_tree s = Struct false true (sequence5_roots s) (sequence5_additions s)
 
 pub sequence5_is : (s : Sequence5) → IsTree (sequence5_tree s)
-unfolding sequence5_tree Rattle.oer_forms.specs.Encoding.IsTree
+unfolding sequence5_tree Rattle.oer_spec.specs.Encoding.IsTree
 sequence5_is s = ((boolean_is s.a, tt), (flag_is s.b, tt), (λ e. absurd (cc e)), (λ e. absurd (cc e)))
 
 pub sequences5_alike : (s t : Sequence5) → Alike (sequence5_tree s) (sequence5_tree t)
-unfolding sequence5_tree Rattle.oer_forms.specs.Same.Alike
+unfolding sequence5_tree Rattle.oer_spec.specs.Same.Alike
 sequences5_alike s t = (refl, refl, (refl, booleans_alike s.a t.a, tt), (refl, flags_alike s.b t.b, tt))
 
 abbrev pub sequence5_more : Parts
@@ -126,11 +126,11 @@ unfoldable pub outer_tree : Outer → Tree
 outer_tree s = Struct false true (outer_roots s) (outer_additions s)
 
 pub outer_is : (s : Outer) → IsTree (outer_tree s)
-unfolding outer_tree Rattle.oer_forms.specs.Encoding.IsTree
+unfolding outer_tree Rattle.oer_spec.specs.Encoding.IsTree
 outer_is s = ((boolean_is s.a, tt), (slot_is sequence2_tree IsAny (λ v i. sequence2_is v) s.b (any_there s.b), tt), (λ e. absurd (cc e)), (λ e. absurd (cc e)))
 
 pub outers_alike : (s t : Outer) → Alike (outer_tree s) (outer_tree t)
-unfolding outer_tree Rattle.oer_forms.specs.Same.Alike
+unfolding outer_tree Rattle.oer_spec.specs.Same.Alike
 outers_alike s t =
     (refl, refl, (refl, booleans_alike s.a t.a, tt), (refl, slots_alike sequence2_tree IsAny (λ v w i j. sequences2_alike v w) s.b t.b (any_there s.b) (any_there t.b), tt))
 
@@ -146,11 +146,11 @@ unfoldable pub empty_extensible_tree : EmptyExtensible → Tree
 empty_extensible_tree e = Struct false true NoRows NoRows
 
 pub empty_extensible_is : (e : EmptyExtensible) → IsTree (empty_extensible_tree e)
-unfolding empty_extensible_tree Rattle.oer_forms.specs.Encoding.IsTree
+unfolding empty_extensible_tree Rattle.oer_spec.specs.Encoding.IsTree
 empty_extensible_is e = (tt, tt, (λ e. absurd (cc e)), (λ e. absurd (cc e)))
 
 pub empty_extensibles_alike : (d e : EmptyExtensible) → Alike (empty_extensible_tree d) (empty_extensible_tree e)
-unfolding empty_extensible_tree Rattle.oer_forms.specs.Same.Alike
+unfolding empty_extensible_tree Rattle.oer_spec.specs.Same.Alike
 empty_extensibles_alike d e = (refl, refl, tt, tt)
 
 pub empty_extensible_made : (e : EmptyExtensible) → IsAny e → AreOf NoParts NoRows × AreOf NoParts NoRows

@@ -2,17 +2,17 @@
 use Rattle.std.specs.Prelude.{◌≡◌, ℤ, pos, ◌&&◌, Bool, true, false, Option, Some, None, List, [], ◌∷◌, refl}
 use Rattle.std.proofs.Common.{ap, sym, ◌∙◌}
 use Rattle.std.specs.Bool.{Decides, beq}
-use Rattle.asn1_base.specs.Rows.{Row}
-use Rattle.asn1_base.specs.declared.constraints.TheConstants.Constraints.{NONE}
-use Rattle.asn1_base.specs.declared.fields.FieldPresence.TheVariants as presence
-use Rattle.oer_forms.specs.Encoding.{IsTree}
-use Rattle.oer_forms.specs.Same.{Alike, Same, SameSlot}
-use Rattle.oer_forms.specs.Spelled.{IsAny, boolean, boolean_is, booleans_alike, booleans_same, integer_is}
-use Rattle.oer_forms.specs.Tree.{Tree, Rows, NoRows, Required, Default, Struct, Slot, Present}
+use Rattle.asn1_core.specs.Rows.{Row}
+use Rattle.asn1_core.specs.declared.constraints.TheConstants.Constraints.{NONE}
+use Rattle.asn1_core.specs.declared.fields.FieldPresence.TheVariants as presence
+use Rattle.oer_spec.specs.Encoding.{IsTree}
+use Rattle.oer_spec.specs.Same.{Alike, Same, SameSlot}
+use Rattle.oer_spec.specs.Spelled.{IsAny, boolean, boolean_is, booleans_alike, booleans_same, integer_is}
+use Rattle.oer_spec.specs.Tree.{Tree, Rows, NoRows, Required, Default, Struct, Slot, Present}
 use Rattle.oer_write.specs.Rows.{present_unless}
-use Rattle.rasn_oer.specs.Components.{slot_of}
-use Rattle.rasn_oer.specs.Defaults.{IsDefault}
-use Rattle.rasn_oer.specs.Parts.{Parts, NoParts, DefaultPart, Admits, AreOf}
+use Rattle.oer_read.specs.Components.{slot_of}
+use Rattle.oer_read.specs.Defaults.{IsDefault}
+use Rattle.oer_read.specs.Parts.{Parts, NoParts, DefaultPart, Admits, AreOf}
 use Rattle.sequence_types.specs.Defaults.{integer_unless, unless_is, unless_differs, unless_admitted, unless_alike, WholePart}
 use Rattle.sequence_types.specs.DefaultSlots.{AlikeDefaults, default_slot_is, default_slot_differs, default_slot_admitted, default_slots_alike}
 use Rattle.extensible_types.specs.Extensible.{first_parts, sequence1_tree, sequence1_is, sequences1_alike, sequence5_tree, sequence5_is, sequences5_alike}
@@ -44,11 +44,11 @@ unfoldable pub add_def_tree : AddDef → Tree
 add_def_tree v = Struct false true (add_def_roots v) (add_def_additions v)
 
 pub add_def_is : (v : AddDef) → IsTree (add_def_tree v)
-unfolding add_def_tree Rattle.oer_forms.specs.Encoding.IsTree
+unfolding add_def_tree Rattle.oer_spec.specs.Encoding.IsTree
 add_def_is v = ((boolean_is v.a, tt), (integer_is NONE (pos 7), unless_is (pos 7) v.b, unless_differs (pos 7) v.b, tt), (λ e. absurd (cc e)), (λ e. absurd (cc e)))
 
 pub add_defs_alike : (v w : AddDef) → Alike (add_def_tree v) (add_def_tree w)
-unfolding add_def_tree Rattle.oer_forms.specs.Same.Alike
+unfolding add_def_tree Rattle.oer_spec.specs.Same.Alike
 add_defs_alike v w = (refl, refl, (refl, booleans_alike v.a w.a, tt), (let k = unless_alike (pos 7) v.b w.b in (refl, refl, k.itself, k.other, k.own, k.both, tt)))
 
 abbrev pub add_def_more : Parts
@@ -67,7 +67,7 @@ abbrev pub sequence1_eq : Sequence1 → Sequence1 → Bool
 sequence1_eq v w = beq v.a w.a
 
 sequence1_decides : (v w : Sequence1) → Decides (sequence1_eq v w) (Same (sequence1_tree v) (sequence1_tree w))
-unfolding sequence1_tree Rattle.oer_forms.specs.Same.Same
+unfolding sequence1_tree Rattle.oer_spec.specs.Same.Same
 sequence1_decides v w =
     let k = booleans_same v.a w.a in
     ((λ e. (refl, refl, (refl, k.0 e, tt), tt)), (λ s. k.1 s.2.1))
@@ -88,11 +88,11 @@ holder1_differs : (v : Sequence1) → SameSlot (holder1_slot v) (Present (sequen
 holder1_differs v = default_slot_differs sequence1_tree IsAny sequence1_eq sequence1_default sequence1_known v tt
 
 pub holder1_is : (v : Holder1) → IsTree (holder1_tree v)
-unfolding holder1_tree Rattle.oer_forms.specs.Encoding.IsTree
+unfolding holder1_tree Rattle.oer_spec.specs.Encoding.IsTree
 holder1_is v = ((sequence1_is sequence1_default, default_slot_is sequence1_tree IsAny sequence1_eq sequence1_default sequence1_known v.a tt, holder1_differs v.a, tt), tt, (λ e. refl), (λ e. absurd (cc e)))
 
 pub holders1_alike : (v w : Holder1) → Alike (holder1_tree v) (holder1_tree w)
-unfolding holder1_tree Rattle.oer_forms.specs.Same.Alike
+unfolding holder1_tree Rattle.oer_spec.specs.Same.Alike
 holders1_alike v w =
     (refl, refl, (let k = default_slots_alike sequence1_tree IsAny sequence1_eq sequence1_default sequence1_known v.a w.a tt tt in (refl, refl, k.itself, k.other, k.own, k.both, tt)), tt)
 
@@ -117,7 +117,7 @@ abbrev pub sequence5_eq : Sequence5 → Sequence5 → Bool
 sequence5_eq v w = beq v.a w.a && flags_eq v.b w.b
 
 flags_same : (o p : Option Bool) → Decides (flags_eq o p) (SameSlot (slot_of boolean o) (slot_of boolean p))
-unfolding Rattle.oer_forms.specs.Same.Same
+unfolding Rattle.oer_spec.specs.Same.Same
 flags_same None None = ((λ e. tt), (λ s. refl))
 flags_same (Some a) (Some b) = booleans_same a b
 flags_same None (Some b) = ((λ e. absurd (cc e)), (λ s. absurd s))
@@ -134,7 +134,7 @@ true_both true false e f = absurd (cc f)
 true_both false b e f = absurd (cc e)
 
 sequence5_decides : (v w : Sequence5) → Decides (sequence5_eq v w) (Same (sequence5_tree v) (sequence5_tree w))
-unfolding sequence5_tree Rattle.oer_forms.specs.Same.Same
+unfolding sequence5_tree Rattle.oer_spec.specs.Same.Same
 sequence5_decides v w =
     let k = booleans_same v.a w.a in
     let f = flags_same v.b w.b in (
@@ -158,11 +158,11 @@ holder2_differs : (v : Sequence5) → SameSlot (holder2_slot v) (Present (sequen
 holder2_differs v = default_slot_differs sequence5_tree IsAny sequence5_eq sequence5_default sequence5_known v tt
 
 pub holder2_is : (v : Holder2) → IsTree (holder2_tree v)
-unfolding holder2_tree Rattle.oer_forms.specs.Encoding.IsTree
+unfolding holder2_tree Rattle.oer_spec.specs.Encoding.IsTree
 holder2_is v = ((sequence5_is sequence5_default, default_slot_is sequence5_tree IsAny sequence5_eq sequence5_default sequence5_known v.a tt, holder2_differs v.a, tt), tt, (λ e. refl), (λ e. absurd (cc e)))
 
 pub holders2_alike : (v w : Holder2) → Alike (holder2_tree v) (holder2_tree w)
-unfolding holder2_tree Rattle.oer_forms.specs.Same.Alike
+unfolding holder2_tree Rattle.oer_spec.specs.Same.Alike
 holders2_alike v w =
     (refl, refl, (let k = default_slots_alike sequence5_tree IsAny sequence5_eq sequence5_default sequence5_known v.a w.a tt tt in (refl, refl, k.itself, k.other, k.own, k.both, tt)), tt)
 

@@ -1,17 +1,17 @@
 //! Extensible sequences: what a newer version added stands behind an extension bitmap, each addition as an open type.
-ghost use Rattle.oer_forms.specs.Tree.{NoRows};
+ghost use Rattle.oer_spec.specs.Tree.{NoRows};
 ghost use Rattle.extensible_types.specs.Extensible.{first_parts, sequence1_roots, sequence2_roots, sequence2_additions, sequence2_more, sequence5_roots, sequence5_additions, sequence5_more, outer_roots, outer_additions, outer_more};
 ghost use Rattle.sequence_types.specs.Pairs.{none_of};
 ghost use Rattle.oer_write.specs.Rows.{InSequence};
-ghost use Rattle.rasn_oer.specs.Parts.{NoParts, ReadsParts};
+ghost use Rattle.oer_read.specs.Parts.{NoParts, ReadsParts};
 
-use asn1_base::{
+use asn1_core::{
     AsnType, Class, Constraints, Constructed, DecodeError, EncodeError, Field, FieldPresence,
     Fields, Tag,
 };
-use oer_forms::Spelled;
+use oer_read::{Decode, Decoder};
+use oer_spec::Spelled;
 use oer_write::{Encode, Encoder};
-use rasn_oer::{Decode, Decoder};
 use std::alloc::Global;
 
 /// `SEQUENCE { a BOOLEAN, ... }`
@@ -90,8 +90,8 @@ const B_AND_C_FIELDS: &'static [Field<'static>] = &[
 
 impl AsnType for Sequence1 {
     ghost use Rattle.std.specs.Prelude.{false, refl};
-    ghost use Rattle.asn1_base.specs.declared.tag.TheConstants.Tag.{SEQUENCE};
-    ghost use Rattle.asn1_base.specs.declared.constraints.TheConstants.Constraints.{NONE};
+    ghost use Rattle.asn1_core.specs.declared.tag.TheConstants.Tag.{SEQUENCE};
+    ghost use Rattle.asn1_core.specs.declared.constraints.TheConstants.Constraints.{NONE};
 
     ghost TAG = { SEQUENCE };
 
@@ -102,10 +102,6 @@ impl AsnType for Sequence1 {
     const CONSTRAINTS: Constraints = Constraints::NONE;
 
     ghost consistent = { refl };
-
-    ghost IS_CHOICE = { false };
-
-    const IS_CHOICE: bool = false;
 }
 
 impl Constructed<1, 0> for Sequence1 {
@@ -127,18 +123,21 @@ impl Constructed<1, 0> for Sequence1 {
     const EXTENDED_FIELDS: Option<Fields<0>> = Some(Fields { fields: &[] });
 
     fn root_fields() -> &'static [Field<'static>] {
-        A_FIELDS
+        Self::FIELDS.fields
     }
 
     fn addition_fields() -> &'static [Field<'static>] {
-        &[]
+        match Self::EXTENDED_FIELDS {
+            Some(table) => table.fields,
+            None => &[],
+        }
     }
 
     ghost tables = { record { root_count = refl; addition_count = refl; root_indexes = (refl, tt); addition_indexes = tt; only = λ e. absurd (cc e); distinct = λ e. absurd (cc e) } };
 }
 
 impl Spelled for Sequence1 {
-    ghost use Rattle.oer_forms.specs.Spelled.{IsAny};
+    ghost use Rattle.oer_spec.specs.Spelled.{IsAny};
     ghost use Rattle.extensible_types.specs.Extensible.{sequence1_tree, sequence1_is, sequences1_alike};
 
     ghost tree = { λ c v. sequence1_tree v };
@@ -173,8 +172,8 @@ impl Encode for Sequence1 {
 
 impl AsnType for Sequence2 {
     ghost use Rattle.std.specs.Prelude.{false, refl};
-    ghost use Rattle.asn1_base.specs.declared.tag.TheConstants.Tag.{SEQUENCE};
-    ghost use Rattle.asn1_base.specs.declared.constraints.TheConstants.Constraints.{NONE};
+    ghost use Rattle.asn1_core.specs.declared.tag.TheConstants.Tag.{SEQUENCE};
+    ghost use Rattle.asn1_core.specs.declared.constraints.TheConstants.Constraints.{NONE};
 
     ghost TAG = { SEQUENCE };
 
@@ -185,10 +184,6 @@ impl AsnType for Sequence2 {
     const CONSTRAINTS: Constraints = Constraints::NONE;
 
     ghost consistent = { refl };
-
-    ghost IS_CHOICE = { false };
-
-    const IS_CHOICE: bool = false;
 }
 
 impl Constructed<1, 2> for Sequence2 {
@@ -212,18 +207,21 @@ impl Constructed<1, 2> for Sequence2 {
     });
 
     fn root_fields() -> &'static [Field<'static>] {
-        A_FIELDS
+        Self::FIELDS.fields
     }
 
     fn addition_fields() -> &'static [Field<'static>] {
-        B_AND_C_FIELDS
+        match Self::EXTENDED_FIELDS {
+            Some(table) => table.fields,
+            None => &[],
+        }
     }
 
     ghost tables = { record { root_count = refl; addition_count = refl; root_indexes = (refl, tt); addition_indexes = (refl, (refl, tt)); only = λ e. absurd (cc e); distinct = λ e. absurd (cc e) } };
 }
 
 impl Spelled for Sequence2 {
-    ghost use Rattle.oer_forms.specs.Spelled.{IsAny};
+    ghost use Rattle.oer_spec.specs.Spelled.{IsAny};
     ghost use Rattle.extensible_types.specs.Extensible.{sequence2_tree, sequence2_is, sequences2_alike};
 
     ghost tree = { λ c v. sequence2_tree v };
@@ -268,8 +266,8 @@ impl Encode for Sequence2 {
 
 impl AsnType for Sequence5 {
     ghost use Rattle.std.specs.Prelude.{false, refl};
-    ghost use Rattle.asn1_base.specs.declared.tag.TheConstants.Tag.{SEQUENCE};
-    ghost use Rattle.asn1_base.specs.declared.constraints.TheConstants.Constraints.{NONE};
+    ghost use Rattle.asn1_core.specs.declared.tag.TheConstants.Tag.{SEQUENCE};
+    ghost use Rattle.asn1_core.specs.declared.constraints.TheConstants.Constraints.{NONE};
 
     ghost TAG = { SEQUENCE };
 
@@ -280,10 +278,6 @@ impl AsnType for Sequence5 {
     const CONSTRAINTS: Constraints = Constraints::NONE;
 
     ghost consistent = { refl };
-
-    ghost IS_CHOICE = { false };
-
-    const IS_CHOICE: bool = false;
 }
 
 impl Constructed<1, 1> for Sequence5 {
@@ -305,18 +299,21 @@ impl Constructed<1, 1> for Sequence5 {
     const EXTENDED_FIELDS: Option<Fields<1>> = Some(Fields { fields: B_FIELDS });
 
     fn root_fields() -> &'static [Field<'static>] {
-        A_FIELDS
+        Self::FIELDS.fields
     }
 
     fn addition_fields() -> &'static [Field<'static>] {
-        B_FIELDS
+        match Self::EXTENDED_FIELDS {
+            Some(table) => table.fields,
+            None => &[],
+        }
     }
 
     ghost tables = { record { root_count = refl; addition_count = refl; root_indexes = (refl, tt); addition_indexes = (refl, tt); only = λ e. absurd (cc e); distinct = λ e. absurd (cc e) } };
 }
 
 impl Spelled for Sequence5 {
-    ghost use Rattle.oer_forms.specs.Spelled.{IsAny};
+    ghost use Rattle.oer_spec.specs.Spelled.{IsAny};
     ghost use Rattle.extensible_types.specs.Extensible.{sequence5_tree, sequence5_is, sequences5_alike};
 
     ghost tree = { λ c v. sequence5_tree v };
@@ -356,8 +353,8 @@ impl Encode for Sequence5 {
 
 impl AsnType for Outer {
     ghost use Rattle.std.specs.Prelude.{false, refl};
-    ghost use Rattle.asn1_base.specs.declared.tag.TheConstants.Tag.{SEQUENCE};
-    ghost use Rattle.asn1_base.specs.declared.constraints.TheConstants.Constraints.{NONE};
+    ghost use Rattle.asn1_core.specs.declared.tag.TheConstants.Tag.{SEQUENCE};
+    ghost use Rattle.asn1_core.specs.declared.constraints.TheConstants.Constraints.{NONE};
 
     ghost TAG = { SEQUENCE };
 
@@ -368,10 +365,6 @@ impl AsnType for Outer {
     const CONSTRAINTS: Constraints = Constraints::NONE;
 
     ghost consistent = { refl };
-
-    ghost IS_CHOICE = { false };
-
-    const IS_CHOICE: bool = false;
 }
 
 impl Constructed<1, 1> for Outer {
@@ -393,18 +386,21 @@ impl Constructed<1, 1> for Outer {
     const EXTENDED_FIELDS: Option<Fields<1>> = Some(Fields { fields: B_FIELDS });
 
     fn root_fields() -> &'static [Field<'static>] {
-        A_FIELDS
+        Self::FIELDS.fields
     }
 
     fn addition_fields() -> &'static [Field<'static>] {
-        B_FIELDS
+        match Self::EXTENDED_FIELDS {
+            Some(table) => table.fields,
+            None => &[],
+        }
     }
 
     ghost tables = { record { root_count = refl; addition_count = refl; root_indexes = (refl, tt); addition_indexes = (refl, tt); only = λ e. absurd (cc e); distinct = λ e. absurd (cc e) } };
 }
 
 impl Spelled for Outer {
-    ghost use Rattle.oer_forms.specs.Spelled.{IsAny};
+    ghost use Rattle.oer_spec.specs.Spelled.{IsAny};
     ghost use Rattle.extensible_types.specs.Extensible.{outer_tree, outer_is, outers_alike};
 
     ghost tree = { λ c v. outer_tree v };
@@ -444,8 +440,8 @@ impl Encode for Outer {
 
 impl AsnType for EmptyExtensible {
     ghost use Rattle.std.specs.Prelude.{false, refl};
-    ghost use Rattle.asn1_base.specs.declared.tag.TheConstants.Tag.{SEQUENCE};
-    ghost use Rattle.asn1_base.specs.declared.constraints.TheConstants.Constraints.{NONE};
+    ghost use Rattle.asn1_core.specs.declared.tag.TheConstants.Tag.{SEQUENCE};
+    ghost use Rattle.asn1_core.specs.declared.constraints.TheConstants.Constraints.{NONE};
 
     ghost TAG = { SEQUENCE };
 
@@ -456,10 +452,6 @@ impl AsnType for EmptyExtensible {
     const CONSTRAINTS: Constraints = Constraints::NONE;
 
     ghost consistent = { refl };
-
-    ghost IS_CHOICE = { false };
-
-    const IS_CHOICE: bool = false;
 }
 
 impl Constructed<0, 0> for EmptyExtensible {
@@ -480,18 +472,21 @@ impl Constructed<0, 0> for EmptyExtensible {
     const EXTENDED_FIELDS: Option<Fields<0>> = Some(Fields { fields: &[] });
 
     fn root_fields() -> &'static [Field<'static>] {
-        &[]
+        Self::FIELDS.fields
     }
 
     fn addition_fields() -> &'static [Field<'static>] {
-        &[]
+        match Self::EXTENDED_FIELDS {
+            Some(table) => table.fields,
+            None => &[],
+        }
     }
 
     ghost tables = { record { root_count = refl; addition_count = refl; root_indexes = tt; addition_indexes = tt; only = λ e. absurd (cc e); distinct = λ e. absurd (cc e) } };
 }
 
 impl Spelled for EmptyExtensible {
-    ghost use Rattle.oer_forms.specs.Spelled.{IsAny};
+    ghost use Rattle.oer_spec.specs.Spelled.{IsAny};
     ghost use Rattle.extensible_types.specs.Extensible.{empty_extensible_tree, empty_extensible_is, empty_extensibles_alike};
 
     ghost tree = { λ c v. empty_extensible_tree v };
@@ -520,7 +515,7 @@ impl Encode for EmptyExtensible {
     }
 }
 
-#[tactic(auto, using(rasn_oer::proofs::Reading::reading))]
+#[tactic(auto, using(oer_read::proofs::Reading::reading))]
 impl Decode for Sequence1 {
     ghost use Rattle.std.specs.Prelude.{⊤};
 
@@ -544,7 +539,7 @@ impl Decode for Sequence1 {
     }
 }
 
-#[tactic(auto, using(rasn_oer::proofs::Reading::reading))]
+#[tactic(auto, using(oer_read::proofs::Reading::reading))]
 impl Decode for Sequence2 {
     ghost use Rattle.std.specs.Prelude.{⊤};
 
@@ -578,7 +573,7 @@ impl Decode for Sequence2 {
     }
 }
 
-#[tactic(auto, using(rasn_oer::proofs::Reading::reading))]
+#[tactic(auto, using(oer_read::proofs::Reading::reading))]
 impl Decode for Sequence5 {
     ghost use Rattle.std.specs.Prelude.{⊤};
 
@@ -607,7 +602,7 @@ impl Decode for Sequence5 {
     }
 }
 
-#[tactic(auto, using(rasn_oer::proofs::Reading::reading))]
+#[tactic(auto, using(oer_read::proofs::Reading::reading))]
 impl Decode for Outer {
     ghost use Rattle.std.specs.Prelude.{⊤};
 
@@ -636,7 +631,7 @@ impl Decode for Outer {
     }
 }
 
-#[tactic(auto, using(rasn_oer::proofs::Reading::reading))]
+#[tactic(auto, using(oer_read::proofs::Reading::reading))]
 impl Decode for EmptyExtensible {
     ghost use Rattle.std.specs.Prelude.{⊤};
 

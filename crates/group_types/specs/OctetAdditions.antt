@@ -1,15 +1,15 @@
 -- Extensible sequences with octet strings.
 use Rattle.std.specs.Prelude.{true, false, List, [], ◌∷◌, refl}
-use Rattle.asn1_base.specs.Rows.{Row}
-use Rattle.asn1_base.specs.Texts.{AnyOctets}
-use Rattle.asn1_base.specs.declared.constraints.TheConstants.Constraints.{NONE}
-use Rattle.asn1_base.specs.declared.fields.FieldPresence.TheVariants as presence
-use Rattle.oer_forms.specs.Encoding.{IsTree}
-use Rattle.oer_forms.specs.Same.{Alike}
-use Rattle.oer_forms.specs.Spelled.{IsAny, text_is, texts_alike, null, null_is, nulls_alike, integer_is, integers_alike}
-use Rattle.oer_forms.specs.Tree.{Tree, Rows, NoRows, Required, Optional, Struct}
-use Rattle.rasn_oer.specs.Components.{slot_of}
-use Rattle.rasn_oer.specs.Parts.{Parts, NoParts, NeededPart, OptionalPart, Admits, AreOf}
+use Rattle.asn1_core.specs.Rows.{Row}
+use Rattle.asn1_core.specs.Texts.{AnyOctets}
+use Rattle.asn1_core.specs.declared.constraints.TheConstants.Constraints.{NONE}
+use Rattle.asn1_core.specs.declared.fields.FieldPresence.TheVariants as presence
+use Rattle.oer_spec.specs.Encoding.{IsTree}
+use Rattle.oer_spec.specs.Same.{Alike}
+use Rattle.oer_spec.specs.Spelled.{IsAny, text_is, texts_alike, null, null_is, nulls_alike, integer_is, integers_alike}
+use Rattle.oer_spec.specs.Tree.{Tree, Rows, NoRows, Required, Optional, Struct}
+use Rattle.oer_read.specs.Components.{slot_of}
+use Rattle.oer_read.specs.Parts.{Parts, NoParts, NeededPart, OptionalPart, Admits, AreOf}
 use Rattle.sequence_types.specs.Defaults.{WholePart, integer_slot, option_is, options_alike, option_admitted}
 use Rattle.extensible_types.specs.Extensible.{any_there}
 use Rattle.sequence_types.specs.OctetSlots.{IsOctets, octet_string, octet_slot, OctetPart, octet_option_is, octet_options_alike, octet_option_made, octets_admitted, octet_option_admitted}
@@ -34,12 +34,12 @@ abbrev pub IsOmitted : Omitted → Type 0
 IsOmitted v = IfThere IsOctets v.a
 
 pub omitted_is : (v : Omitted) → IsOmitted v → IsTree (omitted_tree v)
-unfolding omitted_tree Rattle.oer_forms.specs.Encoding.IsTree
+unfolding omitted_tree Rattle.oer_spec.specs.Encoding.IsTree
 omitted_is v i =
     ((octet_option_is v.a i, tt), (slot_is null IsAny (λ w k. null_is w) v.omitted (any_there v.omitted), tt), (λ e. absurd (cc e)), (λ e. absurd (cc e)))
 
 pub omitted_alike : (v w : Omitted) → IsOmitted v → IsOmitted w → Alike (omitted_tree v) (omitted_tree w)
-unfolding omitted_tree Rattle.oer_forms.specs.Same.Alike
+unfolding omitted_tree Rattle.oer_spec.specs.Same.Alike
 omitted_alike v w i j =
     (refl, refl, (refl, octet_options_alike v.a w.a i j, tt), (refl, slots_alike null IsAny (λ x y k l. nulls_alike x y) v.omitted w.omitted (any_there v.omitted) (any_there w.omitted), tt))
 
@@ -78,12 +78,12 @@ pub record IsDup (v : SequenceDuplicatesExtended) : Type 0 where
   pub today_octets : IsOctets v.today
 
 pub dup_is : (v : SequenceDuplicatesExtended) → IsDup v → IsTree (dup_tree v)
-unfolding dup_tree Rattle.oer_forms.specs.Encoding.IsTree
+unfolding dup_tree Rattle.oer_spec.specs.Encoding.IsTree
 dup_is v i =
     ((integer_is NONE v.it, (octet_option_is v.is i.is_octets, (option_is v.late, tt))), (text_is AnyOctets NONE v.today i.today_octets, tt), (λ e. absurd (cc e)), (λ e. absurd (cc e)))
 
 pub dups_alike : (v w : SequenceDuplicatesExtended) → IsDup v → IsDup w → Alike (dup_tree v) (dup_tree w)
-unfolding dup_tree Rattle.oer_forms.specs.Same.Alike
+unfolding dup_tree Rattle.oer_spec.specs.Same.Alike
 dups_alike v w i j =
     (refl, refl, (refl, integers_alike NONE v.it w.it, (refl, octet_options_alike v.is w.is i.is_octets j.is_octets, (refl, options_alike v.late w.late, tt))), (refl, texts_alike AnyOctets NONE v.today w.today, tt))
 

@@ -1,19 +1,19 @@
 //! Addition groups: additions of one version, in one open type.
-ghost use Rattle.oer_forms.specs.Tree.{NoRows};
+ghost use Rattle.oer_spec.specs.Tree.{NoRows};
 ghost use Rattle.extensible_types.specs.Extensible.{first_parts};
 ghost use Rattle.group_types.specs.Groups.{sequence4_rows, sequence3_roots, sequence3_additions, sequence3_more, group6_rows, group6_parts, sequence6_roots, sequence6_additions, sequence6_more};
 ghost use Rattle.sequence_types.specs.Pairs.{none_of};
 ghost use Rattle.oer_write.specs.Rows.{InSequence};
-ghost use Rattle.rasn_oer.specs.Parts.{NoParts, ReadsParts};
+ghost use Rattle.oer_read.specs.Parts.{NoParts, ReadsParts};
 
-use asn1_base::{
+use asn1_core::{
     AsnType, Class, Constraints, Constructed, DecodeError, EncodeError, Field, FieldPresence,
     Fields, Tag,
 };
 use extensible_types::A_FIELDS;
-use oer_forms::Spelled;
+use oer_read::{Decode, Decoder};
+use oer_spec::Spelled;
 use oer_write::{Encode, Encoder};
-use rasn_oer::{Decode, Decoder};
 use sequence_types::put_option;
 use std::alloc::Global;
 
@@ -65,8 +65,8 @@ const GROUP_FIELDS: &'static [Field<'static>] = &[Field {
 
 impl AsnType for Sequence4 {
     ghost use Rattle.std.specs.Prelude.{false, refl};
-    ghost use Rattle.asn1_base.specs.declared.tag.TheConstants.Tag.{SEQUENCE};
-    ghost use Rattle.asn1_base.specs.declared.constraints.TheConstants.Constraints.{NONE};
+    ghost use Rattle.asn1_core.specs.declared.tag.TheConstants.Tag.{SEQUENCE};
+    ghost use Rattle.asn1_core.specs.declared.constraints.TheConstants.Constraints.{NONE};
 
     ghost TAG = { SEQUENCE };
 
@@ -77,10 +77,6 @@ impl AsnType for Sequence4 {
     const CONSTRAINTS: Constraints = Constraints::NONE;
 
     ghost consistent = { refl };
-
-    ghost IS_CHOICE = { false };
-
-    const IS_CHOICE: bool = false;
 }
 
 impl Constructed<1, 0> for Sequence4 {
@@ -102,18 +98,21 @@ impl Constructed<1, 0> for Sequence4 {
     const EXTENDED_FIELDS: Option<Fields<0>> = None;
 
     fn root_fields() -> &'static [Field<'static>] {
-        A_FIELDS
+        Self::FIELDS.fields
     }
 
     fn addition_fields() -> &'static [Field<'static>] {
-        &[]
+        match Self::EXTENDED_FIELDS {
+            Some(table) => table.fields,
+            None => &[],
+        }
     }
 
     ghost tables = { record { root_count = refl; addition_count = refl; root_indexes = (refl, tt); addition_indexes = tt; only = λ e. refl; distinct = λ e. absurd (cc e) } };
 }
 
 impl Spelled for Sequence4 {
-    ghost use Rattle.oer_forms.specs.Spelled.{IsAny};
+    ghost use Rattle.oer_spec.specs.Spelled.{IsAny};
     ghost use Rattle.group_types.specs.Groups.{sequence4_tree, sequence4_is, sequences4_alike};
 
     ghost tree = { λ c v. sequence4_tree v };
@@ -146,7 +145,7 @@ impl Encode for Sequence4 {
     }
 }
 
-#[tactic(auto, using(rasn_oer::proofs::Reading::reading))]
+#[tactic(auto, using(oer_read::proofs::Reading::reading))]
 impl Decode for Sequence4 {
     ghost use Rattle.std.specs.Prelude.{⊤};
 
@@ -172,8 +171,8 @@ impl Decode for Sequence4 {
 
 impl AsnType for Sequence3 {
     ghost use Rattle.std.specs.Prelude.{false, refl};
-    ghost use Rattle.asn1_base.specs.declared.tag.TheConstants.Tag.{SEQUENCE};
-    ghost use Rattle.asn1_base.specs.declared.constraints.TheConstants.Constraints.{NONE};
+    ghost use Rattle.asn1_core.specs.declared.tag.TheConstants.Tag.{SEQUENCE};
+    ghost use Rattle.asn1_core.specs.declared.constraints.TheConstants.Constraints.{NONE};
 
     ghost TAG = { SEQUENCE };
 
@@ -184,10 +183,6 @@ impl AsnType for Sequence3 {
     const CONSTRAINTS: Constraints = Constraints::NONE;
 
     ghost consistent = { refl };
-
-    ghost IS_CHOICE = { false };
-
-    const IS_CHOICE: bool = false;
 }
 
 impl Constructed<1, 1> for Sequence3 {
@@ -212,18 +207,21 @@ impl Constructed<1, 1> for Sequence3 {
     });
 
     fn root_fields() -> &'static [Field<'static>] {
-        A_FIELDS
+        Self::FIELDS.fields
     }
 
     fn addition_fields() -> &'static [Field<'static>] {
-        GROUP_FIELDS
+        match Self::EXTENDED_FIELDS {
+            Some(table) => table.fields,
+            None => &[],
+        }
     }
 
     ghost tables = { record { root_count = refl; addition_count = refl; root_indexes = (refl, tt); addition_indexes = (refl, tt); only = λ e. absurd (cc e); distinct = λ e. absurd (cc e) } };
 }
 
 impl Spelled for Sequence3 {
-    ghost use Rattle.oer_forms.specs.Spelled.{IsAny};
+    ghost use Rattle.oer_spec.specs.Spelled.{IsAny};
     ghost use Rattle.group_types.specs.Groups.{sequence3_tree, sequence3_is, sequences3_alike};
 
     ghost tree = { λ c v. sequence3_tree v };
@@ -257,7 +255,7 @@ impl Encode for Sequence3 {
     }
 }
 
-#[tactic(auto, using(rasn_oer::proofs::Reading::reading))]
+#[tactic(auto, using(oer_read::proofs::Reading::reading))]
 impl Decode for Sequence3 {
     ghost use Rattle.std.specs.Prelude.{⊤};
 
@@ -284,8 +282,8 @@ impl Decode for Sequence3 {
 
 impl AsnType for Group6 {
     ghost use Rattle.std.specs.Prelude.{false, refl};
-    ghost use Rattle.asn1_base.specs.declared.tag.TheConstants.Tag.{SEQUENCE};
-    ghost use Rattle.asn1_base.specs.declared.constraints.TheConstants.Constraints.{NONE};
+    ghost use Rattle.asn1_core.specs.declared.tag.TheConstants.Tag.{SEQUENCE};
+    ghost use Rattle.asn1_core.specs.declared.constraints.TheConstants.Constraints.{NONE};
 
     ghost TAG = { SEQUENCE };
 
@@ -296,10 +294,6 @@ impl AsnType for Group6 {
     const CONSTRAINTS: Constraints = Constraints::NONE;
 
     ghost consistent = { refl };
-
-    ghost IS_CHOICE = { false };
-
-    const IS_CHOICE: bool = false;
 }
 
 impl Constructed<1, 0> for Group6 {
@@ -323,18 +317,21 @@ impl Constructed<1, 0> for Group6 {
     const EXTENDED_FIELDS: Option<Fields<0>> = None;
 
     fn root_fields() -> &'static [Field<'static>] {
-        OPTIONAL_A_FIELDS
+        Self::FIELDS.fields
     }
 
     fn addition_fields() -> &'static [Field<'static>] {
-        &[]
+        match Self::EXTENDED_FIELDS {
+            Some(table) => table.fields,
+            None => &[],
+        }
     }
 
     ghost tables = { record { root_count = refl; addition_count = refl; root_indexes = (refl, tt); addition_indexes = tt; only = λ e. refl; distinct = λ e. absurd (cc e) } };
 }
 
 impl Spelled for Group6 {
-    ghost use Rattle.oer_forms.specs.Spelled.{IsAny};
+    ghost use Rattle.oer_spec.specs.Spelled.{IsAny};
     ghost use Rattle.group_types.specs.Groups.{group6_tree, group6_is, groups6_alike};
 
     ghost tree = { λ c v. group6_tree v };
@@ -371,7 +368,7 @@ impl Encode for Group6 {
     }
 }
 
-#[tactic(auto, using(rasn_oer::proofs::Reading::reading))]
+#[tactic(auto, using(oer_read::proofs::Reading::reading))]
 impl Decode for Group6 {
     ghost use Rattle.std.specs.Prelude.{⊤};
 
@@ -400,8 +397,8 @@ impl Decode for Group6 {
 
 impl AsnType for Sequence6 {
     ghost use Rattle.std.specs.Prelude.{false, refl};
-    ghost use Rattle.asn1_base.specs.declared.tag.TheConstants.Tag.{SEQUENCE};
-    ghost use Rattle.asn1_base.specs.declared.constraints.TheConstants.Constraints.{NONE};
+    ghost use Rattle.asn1_core.specs.declared.tag.TheConstants.Tag.{SEQUENCE};
+    ghost use Rattle.asn1_core.specs.declared.constraints.TheConstants.Constraints.{NONE};
 
     ghost TAG = { SEQUENCE };
 
@@ -412,10 +409,6 @@ impl AsnType for Sequence6 {
     const CONSTRAINTS: Constraints = Constraints::NONE;
 
     ghost consistent = { refl };
-
-    ghost IS_CHOICE = { false };
-
-    const IS_CHOICE: bool = false;
 }
 
 impl Constructed<1, 1> for Sequence6 {
@@ -440,18 +433,21 @@ impl Constructed<1, 1> for Sequence6 {
     });
 
     fn root_fields() -> &'static [Field<'static>] {
-        A_FIELDS
+        Self::FIELDS.fields
     }
 
     fn addition_fields() -> &'static [Field<'static>] {
-        GROUP_FIELDS
+        match Self::EXTENDED_FIELDS {
+            Some(table) => table.fields,
+            None => &[],
+        }
     }
 
     ghost tables = { record { root_count = refl; addition_count = refl; root_indexes = (refl, tt); addition_indexes = (refl, tt); only = λ e. absurd (cc e); distinct = λ e. absurd (cc e) } };
 }
 
 impl Spelled for Sequence6 {
-    ghost use Rattle.oer_forms.specs.Spelled.{IsAny};
+    ghost use Rattle.oer_spec.specs.Spelled.{IsAny};
     ghost use Rattle.group_types.specs.Groups.{sequence6_tree, sequence6_is, sequences6_alike};
 
     ghost tree = { λ c v. sequence6_tree v };
@@ -485,7 +481,7 @@ impl Encode for Sequence6 {
     }
 }
 
-#[tactic(auto, using(rasn_oer::proofs::Reading::reading))]
+#[tactic(auto, using(oer_read::proofs::Reading::reading))]
 impl Decode for Sequence6 {
     ghost use Rattle.std.specs.Prelude.{⊤};
 

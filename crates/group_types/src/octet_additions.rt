@@ -3,17 +3,17 @@ ghost use Rattle.group_types.specs.OctetAdditions.{omitted_roots, omitted_parts,
 ghost use Rattle.sequence_types.specs.OctetSlots.{IsOctets};
 ghost use Rattle.sequence_types.specs.Slots.{IfThere};
 ghost use Rattle.oer_write.specs.Rows.{InSequence};
-ghost use Rattle.rasn_oer.specs.Parts.{ReadsParts};
+ghost use Rattle.oer_read.specs.Parts.{ReadsParts};
 
-use asn1_base::{
+use asn1_core::{
     AsnType, Class, Constraints, Constructed, DecodeError, DecodeErrorKind, EncodeError, Field,
     FieldPresence, Fields, Tag,
 };
 use asn1_ints::Integer;
-use asn1_values::OctetString;
-use oer_forms::Spelled;
+use asn1_strings::OctetString;
+use oer_read::{Decode, Decoder};
+use oer_spec::Spelled;
 use oer_write::{Encode, Encoder};
-use rasn_oer::{Decode, Decoder};
 use sequence_types::put_option;
 use std::alloc::Global;
 
@@ -108,8 +108,8 @@ const DUP_ADDED_FIELDS: &'static [Field<'static>] = &[Field {
 
 impl AsnType for Omitted {
     ghost use Rattle.std.specs.Prelude.{false, refl};
-    ghost use Rattle.asn1_base.specs.declared.tag.TheConstants.Tag.{SEQUENCE};
-    ghost use Rattle.asn1_base.specs.declared.constraints.TheConstants.Constraints.{NONE};
+    ghost use Rattle.asn1_core.specs.declared.tag.TheConstants.Tag.{SEQUENCE};
+    ghost use Rattle.asn1_core.specs.declared.constraints.TheConstants.Constraints.{NONE};
 
     ghost TAG = { SEQUENCE };
 
@@ -120,10 +120,6 @@ impl AsnType for Omitted {
     const CONSTRAINTS: Constraints = Constraints::NONE;
 
     ghost consistent = { refl };
-
-    ghost IS_CHOICE = { false };
-
-    const IS_CHOICE: bool = false;
 }
 
 impl Constructed<1, 1> for Omitted {
@@ -149,11 +145,14 @@ impl Constructed<1, 1> for Omitted {
     });
 
     fn root_fields() -> &'static [Field<'static>] {
-        OMITTED_FIELDS
+        Self::FIELDS.fields
     }
 
     fn addition_fields() -> &'static [Field<'static>] {
-        OMITTED_ADDED_FIELDS
+        match Self::EXTENDED_FIELDS {
+            Some(table) => table.fields,
+            None => &[],
+        }
     }
 
     ghost tables = { record { root_count = refl; addition_count = refl; root_indexes = (refl, tt); addition_indexes = (refl, tt); only = λ e. absurd (cc e); distinct = λ e. absurd (cc e) } };
@@ -202,7 +201,7 @@ impl Encode for Omitted {
     }
 }
 
-#[tactic(auto, using(rasn_oer::proofs::Reading::reading))]
+#[tactic(auto, using(oer_read::proofs::Reading::reading))]
 impl Decode for Omitted {
     ghost use Rattle.std.specs.Prelude.{⊤};
 
@@ -236,8 +235,8 @@ impl Decode for Omitted {
 
 impl AsnType for SequenceDuplicatesExtended {
     ghost use Rattle.std.specs.Prelude.{false, refl};
-    ghost use Rattle.asn1_base.specs.declared.tag.TheConstants.Tag.{SEQUENCE};
-    ghost use Rattle.asn1_base.specs.declared.constraints.TheConstants.Constraints.{NONE};
+    ghost use Rattle.asn1_core.specs.declared.tag.TheConstants.Tag.{SEQUENCE};
+    ghost use Rattle.asn1_core.specs.declared.constraints.TheConstants.Constraints.{NONE};
 
     ghost TAG = { SEQUENCE };
 
@@ -248,10 +247,6 @@ impl AsnType for SequenceDuplicatesExtended {
     const CONSTRAINTS: Constraints = Constraints::NONE;
 
     ghost consistent = { refl };
-
-    ghost IS_CHOICE = { false };
-
-    const IS_CHOICE: bool = false;
 }
 
 impl Constructed<3, 1> for SequenceDuplicatesExtended {
@@ -275,11 +270,14 @@ impl Constructed<3, 1> for SequenceDuplicatesExtended {
     });
 
     fn root_fields() -> &'static [Field<'static>] {
-        DUP_FIELDS
+        Self::FIELDS.fields
     }
 
     fn addition_fields() -> &'static [Field<'static>] {
-        DUP_ADDED_FIELDS
+        match Self::EXTENDED_FIELDS {
+            Some(table) => table.fields,
+            None => &[],
+        }
     }
 
     ghost tables = { record { root_count = refl; addition_count = refl; root_indexes = (refl, (refl, (refl, tt))); addition_indexes = (refl, tt); only = λ e. absurd (cc e); distinct = λ e. absurd (cc e) } };
@@ -331,7 +329,7 @@ impl Encode for SequenceDuplicatesExtended {
     }
 }
 
-#[tactic(auto, using(rasn_oer::proofs::Reading::reading))]
+#[tactic(auto, using(oer_read::proofs::Reading::reading))]
 impl Decode for SequenceDuplicatesExtended {
     ghost use Rattle.std.specs.Prelude.{⊤};
 

@@ -1,12 +1,12 @@
 -- A closure's step over components that another call read.
 use Rattle.std.proofs.Common.{◌≡◌, Result, Ok, Err, sym, ap, ◌∙◌, subst, Continue, Break}
 use Rattle.std.specs.Result.{IsErrAnd, result_from_control_flow}
-use Rattle.asn1_base.specs.declared.error.DecodeError.{DecodeError}
-use Rattle.oer_forms.specs.Tree.{Rows}
-use Rattle.rasn_oer.proofs.Steps.{at_ok, at_err}
-use Rattle.rasn_oer.specs.Law.{IsForMemory}
-use Rattle.rasn_oer.specs.Parts.{Parts, Takes, Refuses, Stops, ReadsParts}
-use Rattle.rasn_oer.specs.State.{State}
+use Rattle.asn1_core.specs.declared.error.DecodeError.{DecodeError}
+use Rattle.oer_spec.specs.Tree.{Rows}
+use Rattle.oer_read.proofs.Steps.{at_ok, at_err}
+use Rattle.oer_read.specs.Law.{IsForMemory}
+use Rattle.oer_read.specs.Parts.{Parts, Takes, Refuses, Stops, ReadsParts}
+use Rattle.oer_read.specs.State.{State}
 use Rattle.long_types.specs.Halves.{Passes, ReadsFirst}
 
 module _ {B A : Type 0} (all rest qs : Parts) (first : A → Rows → Rows) where

@@ -1,11 +1,11 @@
 -- A sequence whose additions are optional integers and octet strings.
 use Rattle.std.specs.Prelude.{false, true, List, [], ◌∷◌, refl}
-use Rattle.asn1_base.specs.Rows.{Row}
-use Rattle.asn1_base.specs.declared.fields.FieldPresence.TheVariants as presence
-use Rattle.oer_forms.specs.Encoding.{IsTree}
-use Rattle.oer_forms.specs.Same.{Alike}
-use Rattle.oer_forms.specs.Tree.{Tree, Rows, NoRows, Optional, Struct}
-use Rattle.rasn_oer.specs.Parts.{Parts, NoParts, OptionalPart, AreOf}
+use Rattle.asn1_core.specs.Rows.{Row}
+use Rattle.asn1_core.specs.declared.fields.FieldPresence.TheVariants as presence
+use Rattle.oer_spec.specs.Encoding.{IsTree}
+use Rattle.oer_spec.specs.Same.{Alike}
+use Rattle.oer_spec.specs.Tree.{Tree, Rows, NoRows, Optional, Struct}
+use Rattle.oer_read.specs.Parts.{Parts, NoParts, OptionalPart, AreOf}
 use Rattle.sequence_types.specs.Defaults.{WholePart, integer_slot, option_is, options_alike, option_admitted}
 use Rattle.sequence_types.specs.Slots.{IfThere}
 use Rattle.sequence_types.specs.Tags.{context}
@@ -40,11 +40,11 @@ unfoldable pub extended_tree : ExtendedOptional → Tree
 extended_tree v = Struct false true (extended_roots v) (extended_additions v)
 
 pub extended_is : (v : ExtendedOptional) → IsExtended v → IsTree (extended_tree v)
-unfolding extended_tree Rattle.oer_forms.specs.Encoding.IsTree
+unfolding extended_tree Rattle.oer_spec.specs.Encoding.IsTree
 extended_is v i = (front_is (extended_first v) NoRows i.front tt, (option_is v.integer4, (octet_option_is v.octet4 i.octet4, (option_is v.integer5, (octet_option_is v.octet5 i.octet5, tt)))), (λ e. absurd (cc e)), (λ e. absurd (cc e)))
 
 pub extended_alike : (v w : ExtendedOptional) → IsExtended v → IsExtended w → Alike (extended_tree v) (extended_tree w)
-unfolding extended_tree Rattle.oer_forms.specs.Same.Alike
+unfolding extended_tree Rattle.oer_spec.specs.Same.Alike
 extended_alike v w i j = (refl, refl, fronts_alike (extended_first v) (extended_first w) NoRows NoRows i.front j.front tt, (refl, options_alike v.integer4 w.integer4, (refl, octet_options_alike v.octet4 w.octet4 i.octet4 j.octet4, (refl, options_alike v.integer5 w.integer5, (refl, octet_options_alike v.octet5 w.octet5 i.octet5 j.octet5, tt)))))
 
 abbrev pub extended_table : List Row

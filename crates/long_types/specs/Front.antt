@@ -1,13 +1,13 @@
 -- The components that several types begin with: an integer, then integers and octet strings in turn, each of which may be absent.
 use Rattle.std.specs.Prelude.{List, ◌∷◌, refl}
-use Rattle.asn1_base.specs.Rows.{Row}
-use Rattle.asn1_base.specs.declared.fields.FieldPresence.TheVariants as presence
-use Rattle.asn1_base.specs.declared.constraints.TheConstants.Constraints.{NONE}
-use Rattle.oer_forms.specs.Encoding.{AreRows}
-use Rattle.oer_forms.specs.Same.{AlikeRows}
-use Rattle.oer_forms.specs.Spelled.{integer_is, integers_alike}
-use Rattle.oer_forms.specs.Tree.{Rows, Required, Optional}
-use Rattle.rasn_oer.specs.Parts.{Parts, NeededPart, OptionalPart, AreOf}
+use Rattle.asn1_core.specs.Rows.{Row}
+use Rattle.asn1_core.specs.declared.fields.FieldPresence.TheVariants as presence
+use Rattle.asn1_core.specs.declared.constraints.TheConstants.Constraints.{NONE}
+use Rattle.oer_spec.specs.Encoding.{AreRows}
+use Rattle.oer_spec.specs.Same.{AlikeRows}
+use Rattle.oer_spec.specs.Spelled.{integer_is, integers_alike}
+use Rattle.oer_spec.specs.Tree.{Rows, Required, Optional}
+use Rattle.oer_read.specs.Parts.{Parts, NeededPart, OptionalPart, AreOf}
 use Rattle.sequence_types.specs.Defaults.{WholePart, integer_slot, option_is, options_alike, option_admitted, optional_row}
 use Rattle.sequence_types.specs.OctetSlots.{IsOctets, octet_slot, OctetPart, octet_option_is, octet_options_alike, octet_option_made, octet_option_admitted}
 use Rattle.sequence_types.specs.Pairs.{plain_integer}
@@ -33,11 +33,11 @@ abbrev pub front_rows : ReadFront → Rows → Rows
 front_rows f r = Required (context 0) (plain_integer f.value) (Optional (context 1) (integer_slot f.integer1) (Optional (context 2) (octet_slot f.octet1) (Optional (context 3) (integer_slot f.integer2) (Optional (context 4) (octet_slot f.octet2) (Optional (context 5) (integer_slot f.integer3) (Optional (context 6) (octet_slot f.octet3) r))))))
 
 pub front_is : (f : ReadFront) (r : Rows) → IsFront f → AreRows r → AreRows (front_rows f r)
-unfolding Rattle.oer_forms.specs.Encoding.IsTree
+unfolding Rattle.oer_spec.specs.Encoding.IsTree
 front_is f r i k = (integer_is NONE f.value, (option_is f.integer1, (octet_option_is f.octet1 i.octet1, (option_is f.integer2, (octet_option_is f.octet2 i.octet2, (option_is f.integer3, (octet_option_is f.octet3 i.octet3, k)))))))
 
 pub fronts_alike : (f g : ReadFront) (r s : Rows) → IsFront f → IsFront g → AlikeRows r s → AlikeRows (front_rows f r) (front_rows g s)
-unfolding Rattle.oer_forms.specs.Same.Alike
+unfolding Rattle.oer_spec.specs.Same.Alike
 fronts_alike f g r s i j k = (refl, integers_alike NONE f.value g.value, (refl, options_alike f.integer1 g.integer1, (refl, octet_options_alike f.octet1 g.octet1 i.octet1 j.octet1, (refl, options_alike f.integer2 g.integer2, (refl, octet_options_alike f.octet2 g.octet2 i.octet2 j.octet2, (refl, options_alike f.integer3 g.integer3, (refl, octet_options_alike f.octet3 g.octet3 i.octet3 j.octet3, k)))))))
 
 -- their table, with rows behind it

@@ -1,9 +1,9 @@
 -- A closure's components that are read in two calls, one behind the other.
 use Rattle.std.specs.Prelude.{Result, IfOk}
-use Rattle.asn1_base.specs.declared.error.DecodeError.{DecodeError}
-use Rattle.oer_forms.specs.Tree.{Rows}
-use Rattle.rasn_oer.specs.Parts.{Parts, Takes, Stops}
-use Rattle.rasn_oer.specs.State.{State}
+use Rattle.asn1_core.specs.declared.error.DecodeError.{DecodeError}
+use Rattle.oer_spec.specs.Tree.{Rows}
+use Rattle.oer_read.specs.Parts.{Parts, Takes, Stops}
+use Rattle.oer_read.specs.State.{State}
 
 -- Between s and t the first rows were read: what the rest reads or refuses at t, of a value of B, all of it does at s.
 pub record Passes (B : Type 0) (all rest qs : Parts) (first : Rows → Rows) (s t : State) : Type 0 where

@@ -1,10 +1,10 @@
 -- A sequence of many optional components.
 use Rattle.std.specs.Prelude.{false, List, [], ◌∷◌, refl}
-use Rattle.asn1_base.specs.Rows.{Row}
-use Rattle.oer_forms.specs.Encoding.{IsTree}
-use Rattle.oer_forms.specs.Same.{Alike}
-use Rattle.oer_forms.specs.Tree.{Tree, Rows, NoRows, Optional, Struct}
-use Rattle.rasn_oer.specs.Parts.{Parts, NoParts, OptionalPart, AreOf}
+use Rattle.asn1_core.specs.Rows.{Row}
+use Rattle.oer_spec.specs.Encoding.{IsTree}
+use Rattle.oer_spec.specs.Same.{Alike}
+use Rattle.oer_spec.specs.Tree.{Tree, Rows, NoRows, Optional, Struct}
+use Rattle.oer_read.specs.Parts.{Parts, NoParts, OptionalPart, AreOf}
 use Rattle.sequence_types.specs.Defaults.{WholePart, integer_slot, option_is, options_alike, option_admitted, optional_row}
 use Rattle.sequence_types.specs.Tags.{context}
 use Rattle.long_types.specs.Front.{IsFront, front_rows, front_is, fronts_alike, front_table, front_parts, front_made, front_admitted}
@@ -29,11 +29,11 @@ unfoldable pub many_tree : ManyOptional → Tree
 many_tree v = Struct false false (many_rows v) NoRows
 
 pub many_is : (v : ManyOptional) → IsMany v → IsTree (many_tree v)
-unfolding many_tree Rattle.oer_forms.specs.Encoding.IsTree
+unfolding many_tree Rattle.oer_spec.specs.Encoding.IsTree
 many_is v i = (front_is (many_first v) (many_back v) i (option_is v.integer4, (option_is v.integer5, (option_is v.integer6, (option_is v.integer7, (option_is v.integer8, (option_is v.integer9, tt)))))), tt, (λ e. refl), (λ e. absurd (cc e)))
 
 pub many_alike : (v w : ManyOptional) → IsMany v → IsMany w → Alike (many_tree v) (many_tree w)
-unfolding many_tree Rattle.oer_forms.specs.Same.Alike
+unfolding many_tree Rattle.oer_spec.specs.Same.Alike
 many_alike v w i j = (refl, refl, fronts_alike (many_first v) (many_first w) (many_back v) (many_back w) i j (refl, options_alike v.integer4 w.integer4, (refl, options_alike v.integer5 w.integer5, (refl, options_alike v.integer6 w.integer6, (refl, options_alike v.integer7 w.integer7, (refl, options_alike v.integer8 w.integer8, (refl, options_alike v.integer9 w.integer9, tt)))))), tt)
 
 abbrev pub many_table : List Row

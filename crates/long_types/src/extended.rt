@@ -1,22 +1,22 @@
 //! An extensible sequence of many optional components and additions, written and read in several calls.
 ghost use Rattle.std.specs.Prelude.{◌≡◌};
-ghost use Rattle.oer_forms.specs.Tree.{NoRows};
+ghost use Rattle.oer_spec.specs.Tree.{NoRows};
 ghost use Rattle.long_types.specs.Extended.{extended_first, extended_roots, extended_additions, extended_parts, added_rows, added_parts};
 ghost use Rattle.long_types.specs.Front.{seen};
 ghost use Rattle.sequence_types.specs.Pairs.{none_of};
 ghost use Rattle.oer_write.specs.Rows.{InSequence};
-ghost use Rattle.rasn_oer.specs.Parts.{NoParts, ReadsParts};
+ghost use Rattle.oer_read.specs.Parts.{NoParts, ReadsParts};
 
 use crate::front::{BeginsWithFront, FrontView, look_at, put_front, read_front};
-use asn1_base::{
+use asn1_core::{
     AsnType, Class, Constraints, Constructed, DecodeError, EncodeError, Field, FieldPresence,
     Fields, Tag,
 };
 use asn1_ints::Integer;
-use asn1_values::OctetString;
-use oer_forms::Spelled;
+use asn1_strings::OctetString;
+use oer_read::{Decode, Decoder};
+use oer_spec::Spelled;
 use oer_write::{Encode, Encoder};
-use rasn_oer::{Decode, Decoder};
 use std::alloc::Global;
 
 /// `SEQUENCE { value INTEGER, integer1 INTEGER OPTIONAL, octet1 OCTET STRING OPTIONAL, integer2, octet2, integer3, octet3
@@ -152,8 +152,8 @@ const ADDED_FIELDS: &'static [Field<'static>] = &[
 
 impl AsnType for ExtendedOptional {
     ghost use Rattle.std.specs.Prelude.{false, refl};
-    ghost use Rattle.asn1_base.specs.declared.tag.TheConstants.Tag.{SEQUENCE};
-    ghost use Rattle.asn1_base.specs.declared.constraints.TheConstants.Constraints.{NONE};
+    ghost use Rattle.asn1_core.specs.declared.tag.TheConstants.Tag.{SEQUENCE};
+    ghost use Rattle.asn1_core.specs.declared.constraints.TheConstants.Constraints.{NONE};
 
     ghost TAG = { SEQUENCE };
 
@@ -164,10 +164,6 @@ impl AsnType for ExtendedOptional {
     const CONSTRAINTS: Constraints = Constraints::NONE;
 
     ghost consistent = { refl };
-
-    ghost IS_CHOICE = { false };
-
-    const IS_CHOICE: bool = false;
 }
 
 impl Constructed<7, 4> for ExtendedOptional {
@@ -193,11 +189,14 @@ impl Constructed<7, 4> for ExtendedOptional {
     });
 
     fn root_fields() -> &'static [Field<'static>] {
-        FRONT_FIELDS
+        Self::FIELDS.fields
     }
 
     fn addition_fields() -> &'static [Field<'static>] {
-        ADDED_FIELDS
+        match Self::EXTENDED_FIELDS {
+            Some(table) => table.fields,
+            None => &[],
+        }
     }
 
     ghost tables = { record { root_count = refl; addition_count = refl; root_indexes = (refl, (refl, (refl, (refl, (refl, (refl, (refl, tt))))))); addition_indexes = (refl, (refl, (refl, (refl, tt)))); only = λ e. absurd (cc e); distinct = λ e. absurd (cc e) } };
@@ -216,7 +215,7 @@ impl Spelled for ExtendedOptional {
 }
 
 impl BeginsWithFront for ExtendedOptional {
-    ghost use Rattle.rasn_oer.specs.Parts.{NoParts};
+    ghost use Rattle.oer_read.specs.Parts.{NoParts};
     ghost use Rattle.long_types.specs.Extended.{added_parts};
 
     ghost others = { NoParts };
@@ -325,7 +324,7 @@ fn read_additions(alloc: Global, decoder: &mut Decoder<'_>) -> Result<ReadAdditi
     })
 }
 
-#[tactic(auto, using(rasn_oer::proofs::Reading::reading))]
+#[tactic(auto, using(oer_read::proofs::Reading::reading))]
 impl Decode for ExtendedOptional {
     ghost use Rattle.std.specs.Prelude.{⊤};
 

@@ -1,6 +1,6 @@
 //! The components that several types begin with: an INTEGER and six optional ones, written and read in one call.
 ghost use Rattle.std.specs.Prelude.{◌≡◌, false, OnOk, IfErr};
-ghost use Rattle.oer_forms.specs.Tree.{NoRows};
+ghost use Rattle.oer_spec.specs.Tree.{NoRows};
 ghost use Rattle.long_types.specs.Front.{front_rows, front_parts, seen};
 ghost use Rattle.sequence_types.specs.OctetSlots.{IsOctets, octet_slot};
 ghost use Rattle.long_types.specs.Halves.{ReadsFirst};
@@ -8,13 +8,13 @@ ghost use Rattle.sequence_types.specs.Defaults.{integer_slot};
 ghost use Rattle.sequence_types.specs.Slots.{IfThere};
 ghost use Rattle.sequence_types.specs.Tags.{context};
 ghost use Rattle.oer_write.specs.Rows.{InSequence, RowsDone, RowsRefused, optional};
-ghost use Rattle.rasn_oer.specs.Parts.{Parts};
+ghost use Rattle.oer_read.specs.Parts.{Parts};
 
-use asn1_base::{AsnType, Class, DecodeError, EncodeError, Tag};
+use asn1_core::{AsnType, Class, DecodeError, EncodeError, Tag};
 use asn1_ints::Integer;
-use asn1_values::OctetString;
+use asn1_strings::OctetString;
+use oer_read::{Decode, Decoder};
 use oer_write::Encoder;
-use rasn_oer::{Decode, Decoder};
 use sequence_types::put_option;
 use std::alloc::Global;
 

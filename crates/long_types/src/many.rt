@@ -1,22 +1,22 @@
 //! A sequence of many optional components, written and read in two calls.
 ghost use Rattle.std.specs.Prelude.{◌≡◌};
-ghost use Rattle.oer_forms.specs.Tree.{NoRows};
+ghost use Rattle.oer_spec.specs.Tree.{NoRows};
 ghost use Rattle.long_types.specs.Front.{seen};
 ghost use Rattle.long_types.specs.Many.{many_first, many_back, many_rows, many_parts};
 ghost use Rattle.sequence_types.specs.Pairs.{none_of};
 ghost use Rattle.oer_write.specs.Rows.{InSequence};
-ghost use Rattle.rasn_oer.specs.Parts.{NoParts, ReadsParts};
+ghost use Rattle.oer_read.specs.Parts.{NoParts, ReadsParts};
 
 use crate::front::{BeginsWithFront, FrontView, look_at, put_front, put_integer, read_front};
-use asn1_base::{
+use asn1_core::{
     AsnType, Class, Constraints, Constructed, DecodeError, EncodeError, Field, FieldPresence,
     Fields, Tag,
 };
 use asn1_ints::Integer;
-use asn1_values::OctetString;
-use oer_forms::Spelled;
+use asn1_strings::OctetString;
+use oer_read::{Decode, Decoder};
+use oer_spec::Spelled;
 use oer_write::{Encode, Encoder};
-use rasn_oer::{Decode, Decoder};
 use std::alloc::Global;
 
 /// `SEQUENCE` of an INTEGER and twelve optional components: integers, and three octet strings.
@@ -159,8 +159,8 @@ const MANY_FIELDS: &'static [Field<'static>] = &[
 
 impl AsnType for ManyOptional {
     ghost use Rattle.std.specs.Prelude.{false, refl};
-    ghost use Rattle.asn1_base.specs.declared.tag.TheConstants.Tag.{SEQUENCE};
-    ghost use Rattle.asn1_base.specs.declared.constraints.TheConstants.Constraints.{NONE};
+    ghost use Rattle.asn1_core.specs.declared.tag.TheConstants.Tag.{SEQUENCE};
+    ghost use Rattle.asn1_core.specs.declared.constraints.TheConstants.Constraints.{NONE};
 
     ghost TAG = { SEQUENCE };
 
@@ -171,10 +171,6 @@ impl AsnType for ManyOptional {
     const CONSTRAINTS: Constraints = Constraints::NONE;
 
     ghost consistent = { refl };
-
-    ghost IS_CHOICE = { false };
-
-    const IS_CHOICE: bool = false;
 }
 
 impl Constructed<13, 0> for ManyOptional {
@@ -198,11 +194,14 @@ impl Constructed<13, 0> for ManyOptional {
     const EXTENDED_FIELDS: Option<Fields<0>> = None;
 
     fn root_fields() -> &'static [Field<'static>] {
-        MANY_FIELDS
+        Self::FIELDS.fields
     }
 
     fn addition_fields() -> &'static [Field<'static>] {
-        &[]
+        match Self::EXTENDED_FIELDS {
+            Some(table) => table.fields,
+            None => &[],
+        }
     }
 
     ghost tables = { record { root_count = refl; addition_count = refl; root_indexes = (refl, (refl, (refl, (refl, (refl, (refl, (refl, (refl, (refl, (refl, (refl, (refl, (refl, tt))))))))))))); addition_indexes = tt; only = λ e. refl; distinct = λ e. absurd (cc e) } };
@@ -221,7 +220,7 @@ impl Spelled for ManyOptional {
 }
 
 impl BeginsWithFront for ManyOptional {
-    ghost use Rattle.rasn_oer.specs.Parts.{NoParts};
+    ghost use Rattle.oer_read.specs.Parts.{NoParts};
     ghost use Rattle.long_types.specs.Many.{many_rest};
 
     ghost others = { many_rest };
@@ -282,7 +281,7 @@ impl Encode for ManyOptional {
     }
 }
 
-#[tactic(auto, using(rasn_oer::proofs::Reading::reading))]
+#[tactic(auto, using(oer_read::proofs::Reading::reading))]
 impl Decode for ManyOptional {
     ghost use Rattle.std.specs.Prelude.{⊤};
 

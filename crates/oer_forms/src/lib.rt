@@ -1,9 +1,6 @@
-//! The definitions of what octets spell which value (X.696), and their laws.
+//! The forms of X.696: what octets spell which value, the laws of that relation, and the readers and writers of leaves.
 #![tactic(auto)]
 
-pub mod examples;
-pub mod laws;
 pub mod leaf;
-mod spelled;
 
-pub use spelled::{EqualAsSpelled, Spelled};
+pub use oer_spec::{EqualAsSpelled, Spelled, examples, laws};

@@ -2,9 +2,9 @@
 
 use crate::{Figures, Plan, measure};
 use anyhow::Result;
-use asn1_base::SetOf;
+use asn1_core::SetOf;
 use asn1_ints::Integer;
-use asn1_values::OctetString;
+use asn1_strings::OctetString;
 use oer_types::{ExtendedOptional, Foo, Link, LinkChoice, Nest, Sequence2};
 use std::alloc::Global;
 use std::rt::Clock;

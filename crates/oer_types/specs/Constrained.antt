@@ -1,16 +1,16 @@
 -- A sequence with an optional component that has constraints.
 use Rattle.std.specs.Prelude.{◌≡◌, true, false, List, [], ◌∷◌, Option, Some, None, refl}
 use Rattle.std.proofs.Common.{sym, ap, subst}
-use Rattle.asn1_base.specs.Bounds.{narrowed}
-use Rattle.asn1_base.specs.Octets.{Octets}
-use Rattle.asn1_base.specs.Rows.{Row}
-use Rattle.asn1_base.specs.Texts.{AnyOctets}
-use Rattle.oer_forms.specs.Encoding.{IsTree}
-use Rattle.oer_forms.specs.Same.{Alike}
-use Rattle.oer_forms.specs.Spelled.{IsTextOf, text, text_is, texts_alike}
-use Rattle.oer_forms.specs.Tree.{Tree, Rows, NoRows, Optional, Struct}
-use Rattle.rasn_oer.specs.Components.{slot_of}
-use Rattle.rasn_oer.specs.Parts.{Parts, NoParts, OptionalPart, Admits, OnPresent, AreOf}
+use Rattle.asn1_core.specs.Bounds.{narrowed}
+use Rattle.asn1_core.specs.Octets.{Octets}
+use Rattle.asn1_core.specs.Rows.{Row}
+use Rattle.asn1_core.specs.Texts.{AnyOctets}
+use Rattle.oer_spec.specs.Encoding.{IsTree}
+use Rattle.oer_spec.specs.Same.{Alike}
+use Rattle.oer_spec.specs.Spelled.{IsTextOf, text, text_is, texts_alike}
+use Rattle.oer_spec.specs.Tree.{Tree, Rows, NoRows, Optional, Struct}
+use Rattle.oer_read.specs.Components.{slot_of}
+use Rattle.oer_read.specs.Parts.{Parts, NoParts, OptionalPart, Admits, OnPresent, AreOf}
 use Rattle.sequence_types.specs.Defaults.{optional_row}
 use Rattle.sequence_types.specs.Slots.{IfThere, slot_is, slots_alike, slot_made}
 use Rattle.sequence_types.specs.Tags.{context}
@@ -45,11 +45,11 @@ unfoldable pub constrained_tree : ConstrainedOptions → Tree
 constrained_tree v = Struct false false (constrained_rows v) NoRows
 
 pub constrained_is : (v : ConstrainedOptions) → IsConstrained v → IsTree (constrained_tree v)
-unfolding constrained_tree Rattle.oer_forms.specs.Encoding.IsTree
+unfolding constrained_tree Rattle.oer_spec.specs.Encoding.IsTree
 constrained_is v i = ((slot_is hashed_tree IsHashed (λ w j. text_is AnyOctets (narrowed of_three of_three) w.0 j) v.a i, tt), tt, (λ e. refl), (λ e. absurd (cc e)))
 
 pub constrained_alike : (v w : ConstrainedOptions) → IsConstrained v → IsConstrained w → Alike (constrained_tree v) (constrained_tree w)
-unfolding constrained_tree Rattle.oer_forms.specs.Same.Alike
+unfolding constrained_tree Rattle.oer_spec.specs.Same.Alike
 constrained_alike v w i j = (refl, refl, (refl, slots_alike hashed_tree IsHashed (λ x y k l. texts_alike AnyOctets (narrowed of_three of_three) x.0 y.0) v.a w.a i j, tt), tt)
 
 abbrev pub constrained_table : List Row

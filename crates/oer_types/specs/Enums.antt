@@ -3,7 +3,7 @@ use Rattle.std.specs.Prelude.{◌≡◌, ℤ, pos, negsuc, Bool, true, false, co
 use Rattle.std.specs.Cmp.{signed_Decides}
 use Rattle.std.specs.Ordering.{int_eq}
 use Rattle.std.proofs.Common.{sym, ap, ◌∙◌}
-use Rattle.asn1_base.specs.Numbers.{in_isize}
+use Rattle.asn1_core.specs.Numbers.{in_isize}
 use Rattle.oer_types.specs.declared.enums.Enum3.{Enum3}
 use Rattle.oer_types.specs.declared.enums.Enum3.TheVariants as three
 use Rattle.oer_types.specs.declared.enums.Enum4.{Enum4}

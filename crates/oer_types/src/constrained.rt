@@ -1,19 +1,19 @@
 //! A sequence with an optional component that has constraints.
-ghost use Rattle.oer_forms.specs.Tree.{NoRows};
+ghost use Rattle.oer_spec.specs.Tree.{NoRows};
 ghost use Rattle.oer_types.specs.Constrained.{IsHashed, constrained_rows, constrained_parts};
 ghost use Rattle.sequence_types.specs.Pairs.{none_of};
 ghost use Rattle.sequence_types.specs.Slots.{IfThere};
 ghost use Rattle.oer_write.specs.Rows.{InSequence};
-ghost use Rattle.rasn_oer.specs.Parts.{NoParts, ReadsParts};
+ghost use Rattle.oer_read.specs.Parts.{NoParts, ReadsParts};
 
 use crate::wrappers::HashedId3;
-use asn1_base::{
+use asn1_core::{
     AsnType, Class, Constraints, Constructed, DecodeError, EncodeError, Field, FieldPresence,
     Fields, Tag,
 };
-use oer_forms::Spelled;
+use oer_read::{Decode, Decoder};
+use oer_spec::Spelled;
 use oer_write::{Encode, Encoder};
-use rasn_oer::{Decode, Decoder};
 use sequence_types::put_option;
 use std::alloc::Global;
 
@@ -35,8 +35,8 @@ const CONSTRAINED_FIELDS: &'static [Field<'static>] = &[Field {
 
 impl AsnType for ConstrainedOptions {
     ghost use Rattle.std.specs.Prelude.{false, refl};
-    ghost use Rattle.asn1_base.specs.declared.tag.TheConstants.Tag.{SEQUENCE};
-    ghost use Rattle.asn1_base.specs.declared.constraints.TheConstants.Constraints.{NONE};
+    ghost use Rattle.asn1_core.specs.declared.tag.TheConstants.Tag.{SEQUENCE};
+    ghost use Rattle.asn1_core.specs.declared.constraints.TheConstants.Constraints.{NONE};
 
     ghost TAG = { SEQUENCE };
 
@@ -47,10 +47,6 @@ impl AsnType for ConstrainedOptions {
     const CONSTRAINTS: Constraints = Constraints::NONE;
 
     ghost consistent = { refl };
-
-    ghost IS_CHOICE = { false };
-
-    const IS_CHOICE: bool = false;
 }
 
 impl Constructed<1, 0> for ConstrainedOptions {
@@ -74,11 +70,14 @@ impl Constructed<1, 0> for ConstrainedOptions {
     const EXTENDED_FIELDS: Option<Fields<0>> = None;
 
     fn root_fields() -> &'static [Field<'static>] {
-        CONSTRAINED_FIELDS
+        Self::FIELDS.fields
     }
 
     fn addition_fields() -> &'static [Field<'static>] {
-        &[]
+        match Self::EXTENDED_FIELDS {
+            Some(table) => table.fields,
+            None => &[],
+        }
     }
 
     ghost tables = { record { root_count = refl; addition_count = refl; root_indexes = (refl, tt); addition_indexes = tt; only = λ e. refl; distinct = λ e. absurd (cc e) } };
@@ -134,7 +133,7 @@ impl Encode for ConstrainedOptions {
     }
 }
 
-#[tactic(auto, using(rasn_oer::proofs::Reading::reading))]
+#[tactic(auto, using(oer_read::proofs::Reading::reading))]
 impl Decode for ConstrainedOptions {
     ghost use Rattle.std.specs.Prelude.{⊤};
 

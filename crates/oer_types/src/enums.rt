@@ -1,9 +1,9 @@
 //! Enumerated types.
 
-use asn1_base::{AsnType, Constraints, DecodeError, EncodeError, Enumerated, Tag};
-use oer_forms::Spelled;
+use asn1_core::{AsnType, Constraints, DecodeError, EncodeError, Enumerated, Tag};
+use oer_read::{Decode, Decoder};
+use oer_spec::Spelled;
 use oer_write::{Encode, Encoder};
-use rasn_oer::{Decode, Decoder};
 use std::alloc::Global;
 
 /// `ENUMERATED { red(5), blue(6), green(7) }`
@@ -23,8 +23,8 @@ pub enum Enum4 {
 
 impl AsnType for Enum3 {
     ghost use Rattle.std.specs.Prelude.{false, refl};
-    ghost use Rattle.asn1_base.specs.declared.tag.TheConstants.Tag.{ENUMERATED};
-    ghost use Rattle.asn1_base.specs.declared.constraints.TheConstants.Constraints.{NONE};
+    ghost use Rattle.asn1_core.specs.declared.tag.TheConstants.Tag.{ENUMERATED};
+    ghost use Rattle.asn1_core.specs.declared.constraints.TheConstants.Constraints.{NONE};
 
     ghost TAG = { ENUMERATED };
 
@@ -35,10 +35,6 @@ impl AsnType for Enum3 {
     const CONSTRAINTS: Constraints = Constraints::NONE;
 
     ghost consistent = { refl };
-
-    ghost IS_CHOICE = { false };
-
-    const IS_CHOICE: bool = false;
 }
 
 impl Enumerated for Enum3 {
@@ -73,7 +69,7 @@ impl Enumerated for Enum3 {
 }
 
 impl Spelled for Enum3 {
-    ghost use Rattle.oer_forms.specs.Spelled.{IsAny, enumerated, enumerated_alike, enumerated_is};
+    ghost use Rattle.oer_spec.specs.Spelled.{IsAny, enumerated, enumerated_alike, enumerated_is};
     ghost use Rattle.oer_types.specs.Enums.{color_fits, number_of_color};
 
     ghost tree = { λ c v. enumerated (number_of_color v) };
@@ -99,8 +95,8 @@ impl Encode for Enum3 {
 impl Decode for Enum3 {
     ghost use Rattle.std.specs.Prelude.{false};
     ghost use Rattle.oer_types.specs.Enums.{color_of};
-    ghost use Rattle.rasn_oer.specs.Answers.{LeafAnswers};
-    ghost use Rattle.rasn_oer.specs.Enumerated.{value_at};
+    ghost use Rattle.oer_read.specs.Answers.{LeafAnswers};
+    ghost use Rattle.oer_read.specs.Enumerated.{value_at};
 
     ghost Answered = { λ c s r t. LeafAnswers (λ v. v) false s r t (value_at color_of s.codec s.input) };
 
@@ -116,8 +112,8 @@ impl Decode for Enum3 {
 
 impl AsnType for Enum4 {
     ghost use Rattle.std.specs.Prelude.{false, refl};
-    ghost use Rattle.asn1_base.specs.declared.tag.TheConstants.Tag.{ENUMERATED};
-    ghost use Rattle.asn1_base.specs.declared.constraints.TheConstants.Constraints.{NONE};
+    ghost use Rattle.asn1_core.specs.declared.tag.TheConstants.Tag.{ENUMERATED};
+    ghost use Rattle.asn1_core.specs.declared.constraints.TheConstants.Constraints.{NONE};
 
     ghost TAG = { ENUMERATED };
 
@@ -128,10 +124,6 @@ impl AsnType for Enum4 {
     const CONSTRAINTS: Constraints = Constraints::NONE;
 
     ghost consistent = { refl };
-
-    ghost IS_CHOICE = { false };
-
-    const IS_CHOICE: bool = false;
 }
 
 impl Enumerated for Enum4 {
@@ -164,7 +156,7 @@ impl Enumerated for Enum4 {
 }
 
 impl Spelled for Enum4 {
-    ghost use Rattle.oer_forms.specs.Spelled.{IsAny, enumerated, enumerated_alike, enumerated_is};
+    ghost use Rattle.oer_spec.specs.Spelled.{IsAny, enumerated, enumerated_alike, enumerated_is};
     ghost use Rattle.oer_types.specs.Enums.{answer_fits, number_of_answer};
 
     ghost tree = { λ c v. enumerated (number_of_answer v) };
@@ -190,8 +182,8 @@ impl Encode for Enum4 {
 impl Decode for Enum4 {
     ghost use Rattle.std.specs.Prelude.{false};
     ghost use Rattle.oer_types.specs.Enums.{answer_of};
-    ghost use Rattle.rasn_oer.specs.Answers.{LeafAnswers};
-    ghost use Rattle.rasn_oer.specs.Enumerated.{value_at};
+    ghost use Rattle.oer_read.specs.Answers.{LeafAnswers};
+    ghost use Rattle.oer_read.specs.Enumerated.{value_at};
 
     ghost Answered = { λ c s r t. LeafAnswers (λ v. v) false s r t (value_at answer_of s.codec s.input) };
 

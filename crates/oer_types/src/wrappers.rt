@@ -1,11 +1,11 @@
 //! Wrappers: each narrows the constraints that its content is written and read under.
 
-use asn1_base::{AsnType, Bounded, Constraints, DecodeError, EncodeError, Tag};
+use asn1_core::{AsnType, Bounded, Constraints, DecodeError, EncodeError, Tag};
 use asn1_ints::Integer;
-use asn1_values::OctetString;
-use oer_forms::{EqualAsSpelled, Spelled};
+use asn1_strings::OctetString;
+use oer_read::{Decode, Decoder};
+use oer_spec::{EqualAsSpelled, Spelled};
 use oer_write::{Encode, Encoder};
-use rasn_oer::{Decode, Decoder};
 use std::alloc::Global;
 
 /// `INTEGER (0..MAX)`
@@ -22,7 +22,7 @@ pub struct HashedId3(pub OctetString);
 
 impl AsnType for Positive {
     ghost use Rattle.std.specs.Prelude.{false, refl};
-    ghost use Rattle.asn1_base.specs.declared.tag.TheConstants.Tag.{INTEGER};
+    ghost use Rattle.asn1_core.specs.declared.tag.TheConstants.Tag.{INTEGER};
     ghost use Rattle.oer_types.specs.Wrappers.{from_zero};
 
     ghost TAG = { INTEGER };
@@ -43,15 +43,11 @@ impl AsnType for Positive {
     };
 
     ghost consistent = { refl };
-
-    ghost IS_CHOICE = { false };
-
-    const IS_CHOICE: bool = false;
 }
 
 impl Spelled for Positive {
     ghost use Rattle.std.specs.Prelude.{refl};
-    ghost use Rattle.asn1_base.specs.Bounds.{narrowed};
+    ghost use Rattle.asn1_core.specs.Bounds.{narrowed};
     ghost use Rattle.oer_types.specs.Wrappers.{from_zero, narrowed_consistent};
 
     ghost tree = { λ c v. ⟦<Integer as Spelled>⟧.tree (narrowed from_zero c) v.0 };
@@ -64,8 +60,8 @@ impl Spelled for Positive {
 }
 
 impl EqualAsSpelled for Positive {
-    ghost use Rattle.asn1_base.specs.Bounds.{narrowed};
-    ghost use Rattle.oer_forms.specs.Spelled.{integers_same};
+    ghost use Rattle.asn1_core.specs.Bounds.{narrowed};
+    ghost use Rattle.oer_spec.specs.Spelled.{integers_same};
     ghost use Rattle.oer_types.specs.Wrappers.{from_zero};
 
     ghost eq_is_same = { λ c k v w i j. integers_same (narrowed from_zero c) v.0 w.0 };
@@ -86,7 +82,7 @@ impl Encode for Positive {
 }
 
 impl Decode for Positive {
-    ghost use Rattle.asn1_base.specs.Bounds.{narrowed};
+    ghost use Rattle.asn1_core.specs.Bounds.{narrowed};
     ghost use Rattle.std.specs.Result.{result_map_both};
     ghost use Rattle.oer_types.specs.Wrappers.{from_zero};
 
@@ -129,15 +125,11 @@ impl<T: AsnType> AsnType for Negative<T> {
     };
 
     ghost consistent = { refl };
-
-    ghost IS_CHOICE = { false };
-
-    const IS_CHOICE: bool = false;
 }
 
 impl<T: Spelled> Spelled for Negative<T> {
     ghost use Rattle.std.specs.Prelude.{refl};
-    ghost use Rattle.asn1_base.specs.Bounds.{narrowed};
+    ghost use Rattle.asn1_core.specs.Bounds.{narrowed};
     ghost use Rattle.oer_types.specs.Wrappers.{to_zero, narrowed_consistent};
 
     ghost tree = { λ c v. T.tree (narrowed to_zero c) v.0 };
@@ -151,7 +143,7 @@ impl<T: Spelled> Spelled for Negative<T> {
 
 impl<T: EqualAsSpelled> EqualAsSpelled for Negative<T> {
     ghost use Rattle.std.specs.Prelude.{refl};
-    ghost use Rattle.asn1_base.specs.Bounds.{narrowed};
+    ghost use Rattle.asn1_core.specs.Bounds.{narrowed};
     ghost use Rattle.oer_types.specs.Wrappers.{to_zero, narrowed_consistent};
 
     ghost eq_is_same = { λ c k v w i j. T.eq_is_same (narrowed to_zero c) (narrowed_consistent to_zero c refl k) v.0 w.0 i j };
@@ -172,7 +164,7 @@ impl<T: Encode> Encode for Negative<T> {
 }
 
 impl<T: Decode> Decode for Negative<T> {
-    ghost use Rattle.asn1_base.specs.Bounds.{narrowed};
+    ghost use Rattle.asn1_core.specs.Bounds.{narrowed};
     ghost use Rattle.std.specs.Result.{result_map_both};
     ghost use Rattle.oer_types.specs.Wrappers.{to_zero};
 
@@ -195,7 +187,7 @@ impl<T: Decode> Decode for Negative<T> {
 
 impl AsnType for HashedId3 {
     ghost use Rattle.std.specs.Prelude.{false, refl};
-    ghost use Rattle.asn1_base.specs.declared.tag.TheConstants.Tag.{OCTET_STRING};
+    ghost use Rattle.asn1_core.specs.declared.tag.TheConstants.Tag.{OCTET_STRING};
     ghost use Rattle.oer_types.specs.Wrappers.{of_three};
 
     ghost TAG = { OCTET_STRING };
@@ -210,15 +202,11 @@ impl AsnType for HashedId3 {
     };
 
     ghost consistent = { refl };
-
-    ghost IS_CHOICE = { false };
-
-    const IS_CHOICE: bool = false;
 }
 
 impl Spelled for HashedId3 {
     ghost use Rattle.std.specs.Prelude.{refl};
-    ghost use Rattle.asn1_base.specs.Bounds.{narrowed};
+    ghost use Rattle.asn1_core.specs.Bounds.{narrowed};
     ghost use Rattle.oer_types.specs.Wrappers.{of_three, narrowed_consistent};
 
     ghost tree = { λ c v. ⟦<OctetString as Spelled>⟧.tree (narrowed of_three c) v.0 };
@@ -231,11 +219,11 @@ impl Spelled for HashedId3 {
 }
 
 impl EqualAsSpelled for HashedId3 {
-    ghost use Rattle.asn1_base.specs.Bounds.{narrowed};
+    ghost use Rattle.asn1_core.specs.Bounds.{narrowed};
     ghost use Rattle.std.specs.Prelude.{nat_eq};
     ghost use Rattle.std.specs.Cmp.Lexicographic.{pointwise};
-    ghost use Rattle.asn1_base.specs.Texts.{AnyOctets};
-    ghost use Rattle.oer_forms.specs.Spelled.{beside_nothing, texts_same};
+    ghost use Rattle.asn1_core.specs.Texts.{AnyOctets};
+    ghost use Rattle.oer_spec.specs.Spelled.{beside_nothing, texts_same};
     ghost use Rattle.oer_types.specs.Wrappers.{of_three};
 
     ghost eq_is_same = { λ c k v w i j. beside_nothing (pointwise nat_eq v.0 w.0) (texts_same AnyOctets (narrowed of_three c) v.0 w.0) };
@@ -256,7 +244,7 @@ impl Encode for HashedId3 {
 }
 
 impl Decode for HashedId3 {
-    ghost use Rattle.asn1_base.specs.Bounds.{narrowed};
+    ghost use Rattle.asn1_core.specs.Bounds.{narrowed};
     ghost use Rattle.std.specs.Result.{result_map_both};
     ghost use Rattle.oer_types.specs.Wrappers.{of_three};
 

@@ -3,11 +3,11 @@ use Rattle.std.proofs.Common.{◌≡◌, ℕ, ◌<◌, ◌≤◌, ◌==◌, Bool
 use Rattle.std.specs.Prelude.{nat_le, nat_lt}
 use Rattle.std.specs.List.{AllByRecursion}
 use Rattle.std.proofs.lemmas.Bool.{cases_Bool, cases_order, cond-false, eq-eqb, ne_eqb, lt-ltb, le-ltb, le-leb, leb-true, leb-false}
-use Rattle.asn1_base.specs.Tags.{class_number, tag_le, same_tag, holds, AreDistinct}
-use Rattle.asn1_base.specs.declared.tag.Tag.{Tag}
-use Rattle.oer_forms.specs.Orders.{Stands, Reorders}
-use Rattle.oer_forms.specs.Places.{Item, by_tag}
-use Rattle.oer_forms.proofs.Lists.{Reorders-all, Reorders-sym}
+use Rattle.asn1_core.specs.Tags.{class_number, tag_le, same_tag, holds, AreDistinct}
+use Rattle.asn1_core.specs.declared.tag.Tag.{Tag}
+use Rattle.oer_spec.specs.Orders.{Stands, Reorders}
+use Rattle.oer_spec.specs.Places.{Item, by_tag}
+use Rattle.oer_spec.proofs.Lists.{Reorders-all, Reorders-sym}
 use Rattle.oer_write.specs.Scopes.{item_tags}
 use Rattle.oer_write.proofs.Arranging.{IsOrderTest, tied, of, unique, of_arranged, rises_arranged, left_true, right_true, true_false}
 

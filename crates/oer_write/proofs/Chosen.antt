@@ -2,18 +2,18 @@
 use Rattle.std.proofs.Common.{◌≡◌, ℕ, suc, ◌^◌, ◌<◌, Bool, true, false, not, ◌&&◌, List, ◌++◌, length, refl, ap, sym, ◌∙◌, subst, arith, append_assoc, inl, inr}
 use Rattle.std.specs.Prelude.{nat_lt}
 use Rattle.std.proofs.lemmas.List.{append_cancel_left}
-use Rattle.asn1_base.specs.Octets.{Octets, usize_max}
-use Rattle.asn1_base.specs.Tags.{holds}
-use Rattle.asn1_base.specs.declared.error.EncodeError.{EncodeError}
-use Rattle.asn1_base.specs.declared.error.EncodeErrorKind.{EncodeErrorKind}
-use Rattle.asn1_base.specs.declared.tag.Tag.{Tag}
-use Rattle.oer_forms.specs.Encoding.{fails, open_fails, canonical_octets, IsEncodable}
-use Rattle.oer_forms.specs.Failures.{Fails}
-use Rattle.oer_forms.specs.Leaves.{Failure, BadValue, BadSize, BadIdentifier, BadTime, TooManyEmpty, TooLong}
-use Rattle.oer_forms.specs.Lengths.{tag_octets}
-use Rattle.oer_forms.specs.Places.{choice_octets}
-use Rattle.oer_forms.specs.Tree.{Tree, Choice}
-use Rattle.oer_forms.specs.Writing.{BeginsWith}
+use Rattle.asn1_core.specs.Octets.{Octets, usize_max}
+use Rattle.asn1_core.specs.Tags.{holds}
+use Rattle.asn1_core.specs.declared.error.EncodeError.{EncodeError}
+use Rattle.asn1_core.specs.declared.error.EncodeErrorKind.{EncodeErrorKind}
+use Rattle.asn1_core.specs.declared.tag.Tag.{Tag}
+use Rattle.oer_spec.specs.Encoding.{fails, open_fails, canonical_octets, IsEncodable}
+use Rattle.oer_spec.specs.Failures.{Fails}
+use Rattle.oer_spec.specs.Leaves.{Failure, BadValue, BadSize, BadIdentifier, BadTime, TooManyEmpty, TooLong}
+use Rattle.oer_spec.specs.Lengths.{tag_octets}
+use Rattle.oer_spec.specs.Places.{choice_octets}
+use Rattle.oer_spec.specs.Tree.{Tree, Choice}
+use Rattle.oer_spec.specs.Writing.{BeginsWith}
 use Rattle.oer_write.specs.Choices.{Picks, ContentRefused, Appended, ChoiceDone, ChoiceBroken, alternative_octets, IsKnownToPick}
 use Rattle.oer_write.specs.Written.{Written, append, Keeps, Encodes, Refused}
 use Rattle.oer_write.proofs.Items.{or_false, or_left}

@@ -3,18 +3,18 @@ use Rattle.std.proofs.Common.{◌≡◌, ℕ, zero, suc, ◌+◌, ◌^◌, ◌<�
 use Rattle.std.specs.Prelude.{Contains, nat_lt}
 use Rattle.std.proofs.lemmas.List.{take_more, append_cancel_left, take-append-drop}
 use Rattle.std.proofs.lemmas.List.Elements.{Contains-append_left}
-use Rattle.asn1_base.specs.Octets.{Octets, joined, usize_max}
-use Rattle.asn1_base.specs.declared.error.EncodeError.{EncodeError}
-use Rattle.asn1_base.specs.declared.error.EncodeErrorKind.{EncodeErrorKind}
-use Rattle.asn1_base.specs.declared.error.EncodeErrorKind.TheVariants.{TooManyEmptyElements}
-use Rattle.oer_forms.specs.Encoding.{fails, trees_fail, list_fails, empties, canonical_octets, canonical_elements, IsEncodable}
-use Rattle.oer_forms.specs.Failures.{Fails, failure_of}
-use Rattle.oer_forms.specs.Leaves.{Failure, BadValue, BadSize, BadIdentifier, BadTime, TooManyEmpty, TooLong}
-use Rattle.oer_forms.specs.Lengths.{quantity_octets}
-use Rattle.oer_forms.specs.Places.{list_octets}
-use Rattle.oer_forms.specs.Spelled.{trees_of, list_of, EachValue}
-use Rattle.oer_forms.specs.Tree.{Tree, ListOf}
-use Rattle.oer_forms.specs.Writing.{BeginsWith}
+use Rattle.asn1_core.specs.Octets.{Octets, joined, usize_max}
+use Rattle.asn1_core.specs.declared.error.EncodeError.{EncodeError}
+use Rattle.asn1_core.specs.declared.error.EncodeErrorKind.{EncodeErrorKind}
+use Rattle.asn1_core.specs.declared.error.EncodeErrorKind.TheVariants.{TooManyEmptyElements}
+use Rattle.oer_spec.specs.Encoding.{fails, trees_fail, list_fails, empties, canonical_octets, canonical_elements, IsEncodable}
+use Rattle.oer_spec.specs.Failures.{Fails, failure_of}
+use Rattle.oer_spec.specs.Leaves.{Failure, BadValue, BadSize, BadIdentifier, BadTime, TooManyEmpty, TooLong}
+use Rattle.oer_spec.specs.Lengths.{quantity_octets}
+use Rattle.oer_spec.specs.Places.{list_octets}
+use Rattle.oer_spec.specs.Spelled.{trees_of, list_of, EachValue}
+use Rattle.oer_spec.specs.Tree.{Tree, ListOf}
+use Rattle.oer_spec.specs.Writing.{BeginsWith}
 use Rattle.oer_write.specs.Scopes.{Runs}
 use Rattle.oer_write.specs.Lists.{is_nil, WroteElement, WroteEach, SoFar, ListDone, ListBroken, ElementDone, ElementTooMany, ElementsDone, ElementsBroken, ElementRefused, IsKnownToWriteAt}
 use Rattle.oer_write.specs.Lists as lists

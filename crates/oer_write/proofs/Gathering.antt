@@ -1,19 +1,19 @@
 -- The elements of an unordered list, one after the other, and the tree of the whole.
 use Rattle.std.proofs.Common.{◌≡◌, ℕ, suc, ◌+◌, ◌^◌, ◌<◌, Bool, true, false, cond, List, [], ◌∷◌, ◌++◌, length, take, get_or, map, refl, ap, ap₂, sym, ◌∙◌, subst, arith, ◌⊎◌, inl, inr}
 use Rattle.std.proofs.lemmas.List.{take_more}
-use Rattle.asn1_base.specs.Octets.{Octets, joined}
-use Rattle.asn1_base.specs.declared.error.EncodeErrorKind.{EncodeErrorKind}
-use Rattle.asn1_base.specs.declared.error.EncodeErrorKind.TheVariants.{OutOfMemory}
-use Rattle.oer_forms.specs.Encoding.{IsEncodable, canonical_octets, canonical_elements, empties, fails, trees_fail}
-use Rattle.oer_forms.specs.Failures.{Fails}
-use Rattle.oer_forms.specs.Leaves.{Failure}
-use Rattle.oer_forms.specs.Lengths.{quantity_octets}
-use Rattle.oer_forms.specs.Orders.{Stands, Reorders}
-use Rattle.oer_forms.specs.Places.{sorted, list_octets}
-use Rattle.oer_forms.specs.Spelled.{EachValue, trees_of, list_of}
-use Rattle.oer_forms.specs.Tree.{Tree, ListOf}
-use Rattle.oer_forms.proofs.Lists.{Reorders-length}
-use Rattle.oer_forms.proofs.Sorted.{sorted_mixed}
+use Rattle.asn1_core.specs.Octets.{Octets, joined}
+use Rattle.asn1_core.specs.declared.error.EncodeErrorKind.{EncodeErrorKind}
+use Rattle.asn1_core.specs.declared.error.EncodeErrorKind.TheVariants.{OutOfMemory}
+use Rattle.oer_spec.specs.Encoding.{IsEncodable, canonical_octets, canonical_elements, empties, fails, trees_fail}
+use Rattle.oer_spec.specs.Failures.{Fails}
+use Rattle.oer_spec.specs.Leaves.{Failure}
+use Rattle.oer_spec.specs.Lengths.{quantity_octets}
+use Rattle.oer_spec.specs.Orders.{Stands, Reorders}
+use Rattle.oer_spec.specs.Places.{sorted, list_octets}
+use Rattle.oer_spec.specs.Spelled.{EachValue, trees_of, list_of}
+use Rattle.oer_spec.specs.Tree.{Tree, ListOf}
+use Rattle.oer_spec.proofs.Lists.{Reorders-length}
+use Rattle.oer_spec.proofs.Sorted.{sorted_mixed}
 use Rattle.oer_write.specs.Lists.{is_nil}
 use Rattle.oer_write.specs.Scopes.{Runs}
 use Rattle.oer_write.specs.Unordered.{Gathered, OneMore, OneRefused, IsSameInAnyWalk}

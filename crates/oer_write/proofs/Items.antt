@@ -1,15 +1,15 @@
 -- What rows give, as the canonical items of trees have it.
 use Rattle.std.proofs.Common.{◌≡◌, ℕ, ◌+◌, ◌^◌, ◌<◌, ◌≤◌, Bool, true, false, cond, ◌&&◌, ◌||◌, List, [], ◌∷◌, ◌++◌, length, refl, ap, ap₂, ◌∙◌, arith, map, inl, inr, Some}
 use Rattle.std.specs.Prelude.{nat_lt}
-use Rattle.asn1_base.specs.Octets.{Octets, usize_max, octets_for}
-use Rattle.asn1_base.specs.declared.tag.Tag.{Tag}
-use Rattle.asn1_base.specs.declared.error.EncodeErrorKind.{EncodeErrorKind}
-use Rattle.oer_forms.specs.Encoding.{fails, rows_fail, slot_fails, opens_fail, open_fails, bitmap_fails, canonical_octets, canonical_items, canonical_item}
-use Rattle.oer_forms.specs.Leaves.{Failure, BadValue, BadSize, BadIdentifier, BadTime, TooManyEmpty, TooLong}
-use Rattle.oer_forms.specs.Lengths.{behind_length}
-use Rattle.oer_forms.specs.Places.{Item, needed, presence, bodies, any_bit, additions_octets}
-use Rattle.oer_forms.specs.Tree.{Rows, NoRows, Required, Optional, Default, Slot, Absent, Present}
-use Rattle.oer_forms.specs.Failures.{failure_of}
+use Rattle.asn1_core.specs.Octets.{Octets, usize_max, octets_for}
+use Rattle.asn1_core.specs.declared.tag.Tag.{Tag}
+use Rattle.asn1_core.specs.declared.error.EncodeErrorKind.{EncodeErrorKind}
+use Rattle.oer_spec.specs.Encoding.{fails, rows_fail, slot_fails, opens_fail, open_fails, bitmap_fails, canonical_octets, canonical_items, canonical_item}
+use Rattle.oer_spec.specs.Leaves.{Failure, BadValue, BadSize, BadIdentifier, BadTime, TooManyEmpty, TooLong}
+use Rattle.oer_spec.specs.Lengths.{behind_length}
+use Rattle.oer_spec.specs.Places.{Item, needed, presence, bodies, any_bit, additions_octets}
+use Rattle.oer_spec.specs.Tree.{Rows, NoRows, Required, Optional, Default, Slot, Absent, Present}
+use Rattle.oer_spec.specs.Failures.{failure_of}
 use Rattle.oer_write.specs.Rows.{presence_of, octets_of, items_of, slot_item, slot_octets, slot_open, bitmap_of, opens_of, open_type, is_present, AreEncodable, AreOpenEncodable, IsSlotEncodable, IsOpenSlot, SomeFails, SlotFails}
 use Rattle.oer_write.specs.Scopes.{any_true}
 

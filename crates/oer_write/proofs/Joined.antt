@@ -1,10 +1,10 @@
 -- Rows that are written in two calls, one behind the other.
 use Rattle.std.proofs.Common.{◌≡◌, Bool, true, List, ◌∷◌, ◌++◌, refl, ap, sym, ◌∙◌, append_assoc, Ok, Err, Result, inl, inr}
-use Rattle.asn1_base.specs.Octets.{Octets}
-use Rattle.asn1_base.specs.declared.error.EncodeError.{EncodeError}
-use Rattle.asn1_base.specs.declared.error.EncodeErrorKind.{EncodeErrorKind}
-use Rattle.oer_forms.specs.Encoding.{canonical_octets}
-use Rattle.oer_forms.specs.Tree.{Rows, NoRows, Required, Optional, Default}
+use Rattle.asn1_core.specs.Octets.{Octets}
+use Rattle.asn1_core.specs.declared.error.EncodeError.{EncodeError}
+use Rattle.asn1_core.specs.declared.error.EncodeErrorKind.{EncodeErrorKind}
+use Rattle.oer_spec.specs.Encoding.{canonical_octets}
+use Rattle.oer_spec.specs.Tree.{Rows, NoRows, Required, Optional, Default}
 use Rattle.oer_write.proofs.Keeping.{keeps_then}
 use Rattle.oer_write.specs.Rows.{RowsDone, InSequence, recorded, join, octets_of, presence_of, bitmap_of, opens_of, open_type, slot_octets, slot_open, is_present, AreEncodable, AreOpenEncodable, SomeFails}
 use Rattle.oer_write.specs.Written.{Written, Frame, Keeps}

@@ -1,7 +1,7 @@
 -- What two calls, one after the other, leave of an encoder.
 use Rattle.std.proofs.Common.{◌++◌, ap, ◌∙◌, append_assoc}
-use Rattle.asn1_base.specs.Octets.{Octets}
-use Rattle.oer_forms.specs.Writing.{BeginsWith}
+use Rattle.asn1_core.specs.Octets.{Octets}
+use Rattle.oer_spec.specs.Writing.{BeginsWith}
 use Rattle.oer_write.specs.Written.{Written, Keeps}
 
 begins_then : (a b c : Octets) → BeginsWith a b → BeginsWith b c → BeginsWith a c

@@ -7,10 +7,10 @@ use Rattle.std.specs.declared.alloc.Global.{Global}
 use Rattle.std.specs.declared.cmp.Ordering.{Ordering}
 use Rattle.std.specs.declared.cmp.Ordering.TheVariants.{Less, Equal, Greater}
 use Rattle.std.proofs.lemmas.Bool.{cases_order, cond-true, cond-false, eq-eqb, ne_eqb, lt-ltb, le-ltb}
-use Rattle.asn1_base.specs.Octets.{Octets}
-use Rattle.oer_forms.specs.Orders.{octets_le}
-use Rattle.oer_forms.specs.Places.{put_octets, sorted}
-use Rattle.oer_forms.proofs.Sorted.{le_total, le_trans'}
+use Rattle.asn1_core.specs.Octets.{Octets}
+use Rattle.oer_spec.specs.Orders.{octets_le}
+use Rattle.oer_spec.specs.Places.{put_octets, sorted}
+use Rattle.oer_spec.proofs.Sorted.{le_total, le_trans'}
 use Rattle.oer_write.specs.Unordered.{octets_in}
 use Rattle.oer_write.proofs.Arranging.{IsOrderTest, put, arranged}
 

@@ -2,20 +2,20 @@
 use Rattle.std.proofs.Common.{◌≡◌, ◌/◌, ℕ, ℤ, List, length, Bool, true, false, cond, inl, inr, refl, sym, ap, ◌∙◌, Option, Some, None}
 use Rattle.std.specs.Prelude.{Result, IfErr}
 use Rattle.std.proofs.lemmas.Result.{IfErr-weaker}
-use Rattle.asn1_base.specs.Bounds.{size_bounds, value_bounds}
-use Rattle.asn1_base.specs.Octets.{Octets}
-use Rattle.asn1_base.specs.Texts.{Rule}
-use Rattle.asn1_base.specs.declared.constraints.Constraints.{Constraints}
-use Rattle.asn1_base.specs.declared.error.EncodeError.{EncodeError}
-use Rattle.asn1_base.specs.declared.error.EncodeErrorKind.{EncodeErrorKind}
-use Rattle.asn1_base.specs.declared.error.EncodeErrorKind.TheVariants.{ValueConstraintNotSatisfied, SizeConstraintNotSatisfied, InvalidObjectIdentifier, TimeNotRepresentable, LengthExceedsPlatformSize}
-use Rattle.oer_forms.specs.Encoding.{fails}
-use Rattle.oer_forms.specs.Failures.{Fails, failure_of, first_failure}
-use Rattle.oer_forms.specs.Leaves.{Failure, BadValue, BadSize, BadTime, TooLong, leaf_fails, unit_of}
-use Rattle.oer_forms.specs.Spelled.{IsIdentifier, bit_string, identifier, integer, text, time, unsized_text}
-use Rattle.oer_forms.specs.TimeTexts.{time_content}
-use Rattle.oer_forms.specs.Tree.{Leaf, Boolean, Null, Enum, Int, Bits, Text, Written, Civil, Primitive}
-use Rattle.oer_forms.specs.WritingTexts.{identifier_leaf}
+use Rattle.asn1_core.specs.Bounds.{size_bounds, value_bounds}
+use Rattle.asn1_core.specs.Octets.{Octets}
+use Rattle.asn1_core.specs.Texts.{Rule}
+use Rattle.asn1_core.specs.declared.constraints.Constraints.{Constraints}
+use Rattle.asn1_core.specs.declared.error.EncodeError.{EncodeError}
+use Rattle.asn1_core.specs.declared.error.EncodeErrorKind.{EncodeErrorKind}
+use Rattle.asn1_core.specs.declared.error.EncodeErrorKind.TheVariants.{ValueConstraintNotSatisfied, SizeConstraintNotSatisfied, InvalidObjectIdentifier, TimeNotRepresentable, LengthExceedsPlatformSize}
+use Rattle.oer_spec.specs.Encoding.{fails}
+use Rattle.oer_spec.specs.Failures.{Fails, failure_of, first_failure}
+use Rattle.oer_spec.specs.Leaves.{Failure, BadValue, BadSize, BadTime, TooLong, leaf_fails, unit_of}
+use Rattle.oer_spec.specs.Spelled.{IsIdentifier, bit_string, identifier, integer, text, time, unsized_text}
+use Rattle.oer_spec.specs.TimeTexts.{time_content}
+use Rattle.oer_spec.specs.Tree.{Leaf, Boolean, Null, Enum, Int, Bits, Text, Written, Civil, Primitive}
+use Rattle.oer_spec.specs.WritingTexts.{identifier_leaf}
 use Rattle.oer_write.specs.Written as state
 
 abbrev LeafFails : Leaf → EncodeErrorKind → Type 0

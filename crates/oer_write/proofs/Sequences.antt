@@ -1,13 +1,13 @@
 -- From what the closure of a sequence writes to what the sequence writes.
 use Rattle.std.proofs.Common.{◌≡◌, ℕ, ◌^◌, ◌<◌, Bool, false, List, length, refl, ap, ap₂, sym, ◌∙◌, ◌⊎◌, inl, inr}
 use Rattle.std.proofs.lemmas.List.{append_cancel_left, length-map}
-use Rattle.asn1_base.specs.Octets.{Octets}
-use Rattle.asn1_base.specs.declared.error.EncodeError.{EncodeError}
-use Rattle.asn1_base.specs.declared.error.EncodeErrorKind.{EncodeErrorKind}
-use Rattle.oer_forms.specs.Encoding.{fails, rows_fail, canonical_octets, IsEncodable}
-use Rattle.oer_forms.specs.Places.{Item, any_bit, extension_octets}
-use Rattle.oer_forms.specs.Tree.{Rows, Struct}
-use Rattle.oer_forms.specs.Failures.{Fails}
+use Rattle.asn1_core.specs.Octets.{Octets}
+use Rattle.asn1_core.specs.declared.error.EncodeError.{EncodeError}
+use Rattle.asn1_core.specs.declared.error.EncodeErrorKind.{EncodeErrorKind}
+use Rattle.oer_spec.specs.Encoding.{fails, rows_fail, canonical_octets, IsEncodable}
+use Rattle.oer_spec.specs.Places.{Item, any_bit, extension_octets}
+use Rattle.oer_spec.specs.Tree.{Rows, Struct}
+use Rattle.oer_spec.specs.Failures.{Fails}
 use Rattle.oer_write.specs.Rows.{RowsDone, IsKnownToWrite, presence_of, octets_of, items_of, bitmap_of, opens_of, AreEncodable, AreOpenEncodable, SomeFails, recorded}
 use Rattle.oer_write.specs.Scopes.{Runs, Closed, Broken, sequence_octets, extension_of, any_true}
 use Rattle.oer_write.specs.Written.{Written, Frame, fresh, append, Encodes, Refused}

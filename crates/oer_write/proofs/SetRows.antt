@@ -1,9 +1,9 @@
 -- From what the closure of a set writes to what the set writes.
 use Rattle.std.proofs.Common.{◌≡◌, ℕ, ◌^◌, ◌<◌, Bool, true, length, refl, ap, sym, ◌∙◌, inl, inr}
-use Rattle.asn1_base.specs.Octets.{Octets}
-use Rattle.asn1_base.specs.declared.error.EncodeError.{EncodeError}
-use Rattle.oer_forms.specs.Encoding.{canonical_octets}
-use Rattle.oer_forms.specs.Tree.{Rows, Struct}
+use Rattle.asn1_core.specs.Octets.{Octets}
+use Rattle.asn1_core.specs.declared.error.EncodeError.{EncodeError}
+use Rattle.oer_spec.specs.Encoding.{canonical_octets}
+use Rattle.oer_spec.specs.Tree.{Rows, Struct}
 use Rattle.oer_write.specs.Rows.{SetDone, IsKnownToWriteSet, items_of, bitmap_of, opens_of}
 use Rattle.oer_write.specs.Scopes.{Runs, SetClosed, Broken, set_octets}
 use Rattle.oer_write.specs.Written.{Written, Frame, fresh, append, Encodes, Refused}

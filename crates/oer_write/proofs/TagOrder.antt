@@ -3,8 +3,8 @@ use Rattle.std.proofs.Common.{◌≡◌, ℕ, ◌+◌, ◌*◌, ◌^◌, ◌<◌
 use Rattle.std.specs.Prelude.{nat_le, nat_lt}
 use Rattle.std.specs.Ordering.{is_lt, nat_cmp}
 use Rattle.std.proofs.lemmas.Bool.{cases_order, cond-true, cond-false, eq-eqb, ne_eqb, lt-ltb, le-ltb, le-leb, lt-leb, leb-true, leb-false}
-use Rattle.asn1_base.specs.Tags.{class_number, tag_le}
-use Rattle.oer_forms.specs.Places.{Item, put_by_tag, by_tag}
+use Rattle.asn1_core.specs.Tags.{class_number, tag_le}
+use Rattle.oer_spec.specs.Places.{Item, put_by_tag, by_tag}
 use Rattle.oer_write.specs.Seen.{item}
 use Rattle.oer_write.specs.declared.component.Component.{Component}
 use Rattle.oer_write.proofs.Arranging.{IsOrderTest, put, arranged}

@@ -2,12 +2,12 @@
 use Rattle.std.specs.Prelude.{◌≡◌, ℕ, ◌+◌, ◌^◌, ◌<◌, Bool, true, false, cond, List, [], ◌∷◌, ◌++◌, ◌⊎◌, ⊤, length, take, Result, Ok, Err, Contains}
 use Rattle.std.specs.Borrow.{Bor, MutBor}
 use Rattle.std.specs.Fn.{Shared}
-use Rattle.asn1_base.specs.Octets.{Octets, joined}
-use Rattle.asn1_base.specs.declared.error.EncodeError.{EncodeError}
-use Rattle.asn1_base.specs.declared.error.EncodeErrorKind.TheVariants.{OutOfMemory, TooManyEmptyElements}
-use Rattle.oer_forms.specs.Encoding.{empties}
-use Rattle.oer_forms.specs.Lengths.{quantity_octets}
-use Rattle.oer_forms.specs.Tree.{Tree}
+use Rattle.asn1_core.specs.Octets.{Octets, joined}
+use Rattle.asn1_core.specs.declared.error.EncodeError.{EncodeError}
+use Rattle.asn1_core.specs.declared.error.EncodeErrorKind.TheVariants.{OutOfMemory, TooManyEmptyElements}
+use Rattle.oer_spec.specs.Encoding.{empties}
+use Rattle.oer_spec.specs.Lengths.{quantity_octets}
+use Rattle.oer_spec.specs.Tree.{Tree}
 use Rattle.oer_write.specs.Scopes.{Runs}
 use Rattle.oer_write.specs.Written.{Written, append, Keeps, WritesTree}
 

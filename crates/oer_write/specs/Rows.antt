@@ -1,15 +1,15 @@
 -- What the closure of a scope does, row by row.
 use Rattle.std.specs.Prelude.{◌≡◌, ◌≤◌, Bool, true, false, List, [], ◌∷◌, ◌++◌, ◌⊎◌, ⊤, length, Result, Ok, Err, Option, Some, None}
-use Rattle.asn1_base.specs.Octets.{Octets, usize_max}
-use Rattle.asn1_base.specs.declared.error.EncodeError.{EncodeError}
-use Rattle.asn1_base.specs.declared.error.EncodeErrorKind.{EncodeErrorKind}
-use Rattle.asn1_base.specs.declared.error.EncodeErrorKind.TheVariants.{OutOfMemory}
-use Rattle.asn1_base.specs.declared.tag.Tag.{Tag}
-use Rattle.oer_forms.specs.Encoding.{IsEncodable, canonical_octets}
-use Rattle.oer_forms.specs.Lengths.{behind_length}
-use Rattle.oer_forms.specs.Places.{Item, needed, present, absent}
-use Rattle.oer_forms.specs.Tree.{Tree, Rows, NoRows, Required, Optional, Default, Slot, Absent, Present}
-use Rattle.oer_forms.specs.Failures.{Fails}
+use Rattle.asn1_core.specs.Octets.{Octets, usize_max}
+use Rattle.asn1_core.specs.declared.error.EncodeError.{EncodeError}
+use Rattle.asn1_core.specs.declared.error.EncodeErrorKind.{EncodeErrorKind}
+use Rattle.asn1_core.specs.declared.error.EncodeErrorKind.TheVariants.{OutOfMemory}
+use Rattle.asn1_core.specs.declared.tag.Tag.{Tag}
+use Rattle.oer_spec.specs.Encoding.{IsEncodable, canonical_octets}
+use Rattle.oer_spec.specs.Lengths.{behind_length}
+use Rattle.oer_spec.specs.Places.{Item, needed, present, absent}
+use Rattle.oer_spec.specs.Tree.{Tree, Rows, NoRows, Required, Optional, Default, Slot, Absent, Present}
+use Rattle.oer_spec.specs.Failures.{Fails}
 use Rattle.oer_write.specs.Scopes.{Runs}
 use Rattle.oer_write.specs.Written.{Written, Frame, Keeps}
 

@@ -2,14 +2,14 @@
 use Rattle.std.specs.Prelude.{◌≡◌, ◌^◌, ◌<◌, Bool, true, false, cond, ◌||◌, List, [], ◌∷◌, ◌++◌, ◌⊎◌, length, map, Result, Ok, Err}
 use Rattle.std.specs.Borrow.{MutBor}
 use Rattle.std.specs.Fn.{Once, FnOnceReturnsAtMut}
-use Rattle.asn1_base.specs.Octets.{Octets, pack}
-use Rattle.asn1_base.specs.declared.error.EncodeError.{EncodeError}
-use Rattle.asn1_base.specs.declared.error.EncodeErrorKind.TheVariants.{OutOfMemory}
-use Rattle.asn1_base.specs.Tags.{AreDistinct}
-use Rattle.asn1_base.specs.declared.tag.Tag.{Tag}
-use Rattle.oer_forms.specs.Lengths.{counted_bits}
-use Rattle.oer_forms.specs.Orders.{Reorders}
-use Rattle.oer_forms.specs.Places.{Item, extension_bit, presence, bodies, by_tag}
+use Rattle.asn1_core.specs.Octets.{Octets, pack}
+use Rattle.asn1_core.specs.declared.error.EncodeError.{EncodeError}
+use Rattle.asn1_core.specs.declared.error.EncodeErrorKind.TheVariants.{OutOfMemory}
+use Rattle.asn1_core.specs.Tags.{AreDistinct}
+use Rattle.asn1_core.specs.declared.tag.Tag.{Tag}
+use Rattle.oer_spec.specs.Lengths.{counted_bits}
+use Rattle.oer_spec.specs.Orders.{Reorders}
+use Rattle.oer_spec.specs.Places.{Item, extension_bit, presence, bodies, by_tag}
 use Rattle.oer_write.specs.Written.{Written, Frame, fresh, append, Keeps}
 
 -- how a closure may leave an encoder that it was lent

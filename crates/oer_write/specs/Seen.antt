@@ -1,6 +1,6 @@
 -- How an encoder is seen.
 use Rattle.std.specs.Prelude.{cond, map, [], ◌∷◌}
-use Rattle.oer_forms.specs.Places.{Item}
+use Rattle.oer_spec.specs.Places.{Item}
 use Rattle.oer_write.specs.Written.{Written, Frame, closed}
 use Rattle.oer_write.specs.declared.component.Component.{Component}
 use Rattle.oer_write.specs.declared.scope.Scope.{Scope}

@@ -1,15 +1,15 @@
 -- The elements of an unordered list, each written on its own.
 use Rattle.std.specs.Prelude.{◌≡◌, ℕ, ◌+◌, ◌<◌, true, false, cond, List, [], ◌∷◌, ◌++◌, ◌⊎◌, map, Vec}
-use Rattle.asn1_base.specs.declared.error.EncodeErrorKind.{EncodeErrorKind}
-use Rattle.asn1_base.specs.declared.error.EncodeErrorKind.TheVariants.{OutOfMemory, TooManyEmptyElements}
-use Rattle.oer_forms.specs.Failures.{Fails}
+use Rattle.asn1_core.specs.declared.error.EncodeErrorKind.{EncodeErrorKind}
+use Rattle.asn1_core.specs.declared.error.EncodeErrorKind.TheVariants.{OutOfMemory, TooManyEmptyElements}
+use Rattle.oer_spec.specs.Failures.{Fails}
 use Rattle.oer_write.specs.Lists.{is_nil}
 use Rattle.std.specs.declared.alloc.Global.{Global}
-use Rattle.asn1_base.specs.Octets.{Octets}
-use Rattle.oer_forms.specs.Encoding.{IsEncodable, canonical_octets, empties}
-use Rattle.oer_forms.specs.Orders.{Reorders}
-use Rattle.oer_forms.specs.Spelled.{EachValue, list_of}
-use Rattle.oer_forms.specs.Tree.{Tree}
+use Rattle.asn1_core.specs.Octets.{Octets}
+use Rattle.oer_spec.specs.Encoding.{IsEncodable, canonical_octets, empties}
+use Rattle.oer_spec.specs.Orders.{Reorders}
+use Rattle.oer_spec.specs.Spelled.{EachValue, list_of}
+use Rattle.oer_spec.specs.Tree.{Tree}
 
 abbrev pub octets_in : Vec ℕ Global → Octets
 octets_in v = v.items

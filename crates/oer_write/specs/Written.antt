@@ -1,15 +1,15 @@
 -- What contracts see of an encoder: the octets written, and the open scopes.
 use Rattle.std.specs.Prelude.{◌≡◌, ℕ, Bool, true, false, List, [], ◌++◌, ◌⊎◌, Some, Result, Ok, Err}
-use Rattle.asn1_base.specs.Octets.{Octets}
-use Rattle.asn1_base.specs.declared.error.EncodeError.{EncodeError}
-use Rattle.asn1_base.specs.declared.error.EncodeErrorKind.{EncodeErrorKind}
-use Rattle.asn1_base.specs.declared.error.EncodeErrorKind.TheVariants.{OutOfMemory}
-use Rattle.oer_forms.specs.Encoding.{IsEncodable, canonical_octets}
-use Rattle.oer_forms.specs.Places.{Item}
-use Rattle.oer_forms.specs.Tree.{Leaf, Tree}
-use Rattle.oer_forms.specs.Writing.{BeginsWith}
-use Rattle.oer_forms.specs.Failures.{Fails, first_failure}
-use Rattle.oer_forms.specs.WritingTexts.{identifier_failure}
+use Rattle.asn1_core.specs.Octets.{Octets}
+use Rattle.asn1_core.specs.declared.error.EncodeError.{EncodeError}
+use Rattle.asn1_core.specs.declared.error.EncodeErrorKind.{EncodeErrorKind}
+use Rattle.asn1_core.specs.declared.error.EncodeErrorKind.TheVariants.{OutOfMemory}
+use Rattle.oer_spec.specs.Encoding.{IsEncodable, canonical_octets}
+use Rattle.oer_spec.specs.Places.{Item}
+use Rattle.oer_spec.specs.Tree.{Leaf, Tree}
+use Rattle.oer_spec.specs.Writing.{BeginsWith}
+use Rattle.oer_spec.specs.Failures.{Fails, first_failure}
+use Rattle.oer_spec.specs.WritingTexts.{identifier_failure}
 
 -- A scope: whether it is open, what kind it is, and what was recorded in it so far.
 pub record Frame : Type 0 where

@@ -1,17 +1,17 @@
 //! Extension additions of the open scope: each that is present is written as an open type.
 ghost use Rattle.std.specs.Prelude.{◌≡◌, true, false, List, [], ◌∷◌, ◌++◌, OnOk, IfErr, IfSome};
-ghost use Rattle.asn1_base.specs.declared.error.EncodeErrorKind.TheVariants.{OutOfMemory};
-ghost use Rattle.oer_forms.specs.Spelled.{IsConsistent};
-ghost use Rattle.oer_forms.specs.Tree.{NoRows, Present, Absent};
-ghost use Rattle.oer_forms.specs.Writing.{Appends};
+ghost use Rattle.asn1_core.specs.declared.error.EncodeErrorKind.TheVariants.{OutOfMemory};
+ghost use Rattle.oer_spec.specs.Spelled.{IsConsistent};
+ghost use Rattle.oer_spec.specs.Tree.{NoRows, Present, Absent};
+ghost use Rattle.oer_spec.specs.Writing.{Appends};
 ghost use Rattle.oer_write.specs.Rows.{RowsDone, SetDone, RowsRefused, optional, defaulted, present_unless, slot_of, open_type};
 ghost use Rattle.oer_write.specs.Written.{Keeps};
 
 use crate::encode::Encode;
 use crate::encoder::Encoder;
 use crate::rows::content_of;
-use asn1_base::{Constraints, EncodeError, EncodeErrorKind, Tag};
-use leaf_writers::write_content;
+use asn1_core::{Constraints, EncodeError, EncodeErrorKind, Tag};
+use oer_leaf_write::write_content;
 
 /// Appends an open type (X.696, 30).
 #[tactic(auto, unfolding(crate::specs::Rows::open_type))]

@@ -1,18 +1,18 @@
 //! Choices: a tag, and the alternative that the closure writes.
 ghost use Rattle.std.specs.Prelude.{◌≡◌, ◌^◌, ◌<◌, Bool, true, false, ◌++◌, length, OnOk, IfOk, IfErr};
-ghost use Rattle.asn1_base.specs.Tags.{holds};
-ghost use Rattle.asn1_base.specs.declared.error.EncodeErrorKind.TheVariants.{OutOfMemory};
-ghost use Rattle.oer_forms.specs.Lengths.{behind_length, tag_octets};
-ghost use Rattle.oer_forms.specs.Tree.{Tree, Choice};
-ghost use Rattle.oer_forms.specs.Writing.{Appends, BeginsWith};
+ghost use Rattle.asn1_core.specs.Tags.{holds};
+ghost use Rattle.asn1_core.specs.declared.error.EncodeErrorKind.TheVariants.{OutOfMemory};
+ghost use Rattle.oer_spec.specs.Lengths.{behind_length, tag_octets};
+ghost use Rattle.oer_spec.specs.Tree.{Tree, Choice};
+ghost use Rattle.oer_spec.specs.Writing.{Appends, BeginsWith};
 ghost use Rattle.oer_write.specs.Choices.{PromisePick, PicksTag, ContentDone, ContentRefused, Appended, ChoiceDone, ChoiceBroken, IsKnownToPick};
 ghost use Rattle.oer_write.specs.Written.{append, Keeps, Encodes, Refused};
 
 use crate::enc::EncoderOptions;
 use crate::encoder::Encoder;
 use crate::scope::Scope;
-use asn1_base::{Choice, Constraints, EncodeError, EncodeErrorKind, Tag};
-use leaf_writers::{write_content, write_tag};
+use asn1_core::{Choice, Constraints, EncodeError, EncodeErrorKind, Tag};
+use oer_leaf_write::{write_content, write_tag};
 use std::alloc::Global;
 
 /// Whether the tag is one of a table of alternatives.

@@ -1,8 +1,8 @@
 //! A root component of a set, written on its own.
 ghost use Rattle.std.specs.Prelude.{◌≡◌, ◌+◌, ◌*◌, ◌^◌, ◌<◌};
-ghost use Rattle.asn1_base.specs.Tags.{class_number};
+ghost use Rattle.asn1_core.specs.Tags.{class_number};
 
-use asn1_base::{Class, Tag};
+use asn1_core::{Class, Tag};
 
 /// A root component of a set.
 #[derive(Drop)]

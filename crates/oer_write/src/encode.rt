@@ -1,12 +1,12 @@
 //! The trait of the types that are written.
 ghost use Rattle.std.specs.Prelude.{◌≡◌, true, OnOk, IfErr};
-ghost use Rattle.oer_forms.specs.Spelled.{IsConsistent};
+ghost use Rattle.oer_spec.specs.Spelled.{IsConsistent};
 ghost use Rattle.oer_write.specs.Written.{Encodes, Refused};
 
 use crate::encoder::Encoder;
-use asn1_base::{Constraints, EncodeError, Tag};
-use asn1_values::{Any, BitString, OctetString};
-use oer_forms::Spelled;
+use asn1_core::{Constraints, EncodeError, Tag};
+use asn1_strings::{Any, BitString, OctetString};
+use oer_spec::Spelled;
 
 /// A type whose values are written.
 ///
@@ -28,7 +28,7 @@ pub trait Encode: Spelled {
         ensures refused { IfErr result (λ x. Refused (Self.tree constraints self.now) x.kind encoder.old encoder.new) };
 
     /// Writes the value under the type's own constraints.
-    fn encode(&self, encoder: &mut Encoder<'_>) -> Result<(), EncodeError>
+    final fn encode(&self, encoder: &mut Encoder<'_>) -> Result<(), EncodeError>
         ensures done { OnOk result (Encodes (Self.tree Self.CONSTRAINTS self.now) encoder.old encoder.new) }
         ensures value { OnOk result (Self.IsValue self.now) }
         ensures refused { IfErr result (λ x. Refused (Self.tree Self.CONSTRAINTS self.now) x.kind encoder.old encoder.new) }
@@ -37,7 +37,7 @@ pub trait Encode: Spelled {
     }
 
     /// Writes the value with another tag, under the type's own constraints.
-    fn encode_with_tag(&self, encoder: &mut Encoder<'_>, tag: Tag) -> Result<(), EncodeError>
+    final fn encode_with_tag(&self, encoder: &mut Encoder<'_>, tag: Tag) -> Result<(), EncodeError>
         ensures done { OnOk result (Encodes (Self.tree Self.CONSTRAINTS self.now) encoder.old encoder.new) }
         ensures value { OnOk result (Self.IsValue self.now) }
         ensures refused { IfErr result (λ x. Refused (Self.tree Self.CONSTRAINTS self.now) x.kind encoder.old encoder.new) }
@@ -46,7 +46,7 @@ pub trait Encode: Spelled {
     }
 
     /// Writes the value under constraints that stand in place of the type's own.
-    fn encode_with_constraints(
+    final fn encode_with_constraints(
         &self,
         encoder: &mut Encoder<'_>,
         constraints: Constraints,
@@ -60,7 +60,7 @@ pub trait Encode: Spelled {
     }
 
     /// Whether there is a value: always.
-    fn is_present(&self) -> bool
+    final fn is_present(&self) -> bool
         ensures { result ≡ true }
     {
         true

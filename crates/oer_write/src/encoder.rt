@@ -1,12 +1,12 @@
 //! The encoder.
 ghost use Rattle.std.specs.Prelude.{◌≡◌, false, List, [], ◌++◌, length, cond};
-ghost use Rattle.asn1_base.specs.declared.codec.Codec.TheVariants.{Coer};
+ghost use Rattle.asn1_core.specs.declared.codec.Codec.TheVariants.{Coer};
 ghost use Rattle.oer_write.specs.Seen.{frame_of};
 ghost use Rattle.oer_write.specs.Written.{Written, closed};
 
 use crate::enc::EncoderOptions;
 use crate::scope::Scope;
-use asn1_base::Codec;
+use asn1_core::Codec;
 use std::alloc::Global;
 use std::marker::Model;
 

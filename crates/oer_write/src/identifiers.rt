@@ -1,13 +1,13 @@
 //! Object identifiers.
 ghost use Rattle.std.specs.Prelude.{OnOk, IfErr};
-ghost use Rattle.oer_forms.specs.Spelled.{IsIdentifier, identifier};
+ghost use Rattle.oer_spec.specs.Spelled.{IsIdentifier, identifier};
 ghost use Rattle.oer_write.specs.Written.{Encodes, Refused, RefusedIdentifier};
 
 use crate::encode::Encode;
 use crate::encoder::Encoder;
-use asn1_base::{Constraints, EncodeError, Tag};
-use asn1_values::ObjectIdentifier;
-use leaf_writers::write_object_identifier;
+use asn1_core::{Constraints, EncodeError, Tag};
+use asn1_strings::ObjectIdentifier;
+use oer_leaf_write::write_object_identifier;
 
 impl<'buffer> Encoder<'buffer> {
     /// Writes an OBJECT IDENTIFIER (X.696, 21) by its arcs: a length, and the contents octets.
@@ -24,7 +24,7 @@ impl<'buffer> Encoder<'buffer> {
         self.put_arcs(value)
     }
 
-    #[tactic(auto, unfolding(oer_forms::specs::Spelled::identifier, oer_forms::specs::Encoding::canonical_octets, oer_forms::specs::Encoding::fails))]
+    #[tactic(auto, unfolding(oer_spec::specs::Spelled::identifier, oer_spec::specs::Encoding::canonical_octets, oer_spec::specs::Encoding::fails))]
     fn put_arcs(&mut self, value: &[u32]) -> Result<(), EncodeError>
         ensures done { OnOk result (Encodes (identifier value.now) self.old self.new) }
         ensures value { OnOk result (IsIdentifier value.now) }

@@ -1,7 +1,7 @@
 //! Integers are written by the value constraint.
 use crate::encode::Encode;
 use crate::encoder::Encoder;
-use asn1_base::{Constraints, EncodeError, Tag};
+use asn1_core::{Constraints, EncodeError, Tag};
 use asn1_ints::{ConstrainedInteger, Integer, IntegerRange};
 
 impl Encode for i8 {

@@ -1,21 +1,21 @@
 //! Values without parts.
 ghost use Rattle.std.specs.Prelude.{◌≡◌, true, OnOk, IfErr};
-ghost use Rattle.asn1_base.specs.declared.error.EncodeErrorKind.TheVariants.{OutOfMemory};
-ghost use Rattle.asn1_base.specs.Bounds.{value_bounds};
-ghost use Rattle.oer_forms.specs.Tree.{Int};
-ghost use Rattle.oer_forms.specs.Spelled.{boolean, enumerated, integer, null};
+ghost use Rattle.asn1_core.specs.declared.error.EncodeErrorKind.TheVariants.{OutOfMemory};
+ghost use Rattle.asn1_core.specs.Bounds.{value_bounds};
+ghost use Rattle.oer_spec.specs.Tree.{Int};
+ghost use Rattle.oer_spec.specs.Spelled.{boolean, enumerated, integer, null};
 ghost use Rattle.oer_write.specs.Written.{Encodes, Keeps, Refused, RefusedLeaf};
 
 use crate::encoder::Encoder;
-use asn1_base::{Constraints, EncodeError, Enumerated, Tag};
+use asn1_core::{Constraints, EncodeError, Enumerated, Tag};
 use asn1_ints::IntegerType;
-use leaf_writers::{write_bool, write_enumerated, write_integer};
+use oer_leaf_write::{write_bool, write_enumerated, write_integer};
 
 impl<'buffer> Encoder<'buffer> {
     /// Writes a BOOLEAN (X.696, 9): FF for true, 00 for false.
     ///
     /// Refused for want of memory alone.
-    #[tactic(auto, unfolding(oer_forms::specs::Spelled::boolean, oer_forms::specs::Encoding::canonical_octets, oer_forms::specs::Encoding::fails))]
+    #[tactic(auto, unfolding(oer_spec::specs::Spelled::boolean, oer_spec::specs::Encoding::canonical_octets, oer_spec::specs::Encoding::fails))]
     pub fn encode_bool(&mut self, _tag: Tag, value: bool) -> Result<(), EncodeError>
         ensures done { OnOk result (Encodes (boolean value) self.old self.new) }
         ensures refused { IfErr result (λ x. (x.kind ≡ OutOfMemory) × Keeps self.old self.new) }
@@ -27,7 +27,7 @@ impl<'buffer> Encoder<'buffer> {
     /// Writes NULL (X.696, 15): no octets.
     ///
     /// Never refused.
-    #[tactic(auto, unfolding(oer_forms::specs::Spelled::null, oer_forms::specs::Encoding::canonical_octets, oer_forms::specs::Encoding::fails))]
+    #[tactic(auto, unfolding(oer_spec::specs::Spelled::null, oer_spec::specs::Encoding::canonical_octets, oer_spec::specs::Encoding::fails))]
     pub fn encode_null(&mut self, _tag: Tag) -> Result<(), EncodeError>
         ensures done { OnOk result (Encodes (null tt) self.old self.new) }
         ensures refused { IfErr result (λ x. (x.kind ≡ OutOfMemory) × Keeps self.old self.new) }
@@ -39,7 +39,7 @@ impl<'buffer> Encoder<'buffer> {
     /// octets of the number.
     ///
     /// Refused for want of memory alone.
-    #[tactic(auto, unfolding(oer_forms::specs::Spelled::enumerated, oer_forms::specs::Encoding::canonical_octets, oer_forms::specs::Encoding::fails))]
+    #[tactic(auto, unfolding(oer_spec::specs::Spelled::enumerated, oer_spec::specs::Encoding::canonical_octets, oer_spec::specs::Encoding::fails))]
     pub fn encode_enumerated<E: Enumerated>(
         &mut self,
         _tag: Tag,
@@ -71,7 +71,7 @@ impl<'buffer> Encoder<'buffer> {
         self.put_integer(constraints, value)
     }
 
-    #[tactic(auto, unfolding(oer_forms::specs::Spelled::integer, oer_forms::specs::Encoding::canonical_octets, oer_forms::specs::Encoding::fails))]
+    #[tactic(auto, unfolding(oer_spec::specs::Spelled::integer, oer_spec::specs::Encoding::canonical_octets, oer_spec::specs::Encoding::fails))]
     fn put_integer<I: IntegerType>(
         &mut self,
         constraints: Constraints,

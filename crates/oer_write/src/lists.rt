@@ -1,19 +1,19 @@
 //! Lists: a quantity and the elements, written straight behind the octets of before.
 ghost use Rattle.std.specs.Prelude.{◌≡◌, ◌+◌, ◌<◌, ◌⊎◌, Bool, true, false, List, ◌++◌, length, Contains, Err, OnOk, IfOk, IfErr};
-ghost use Rattle.asn1_base.specs.Octets.{Octets};
-ghost use Rattle.asn1_base.specs.declared.error.EncodeErrorKind.TheVariants.{OutOfMemory};
-ghost use Rattle.oer_forms.specs.Lengths.{quantity_octets};
-ghost use Rattle.oer_forms.specs.Spelled.{list_of, EachValue};
-ghost use Rattle.oer_forms.specs.Tree.{Tree};
-ghost use Rattle.oer_forms.specs.Writing.{BeginsWith};
+ghost use Rattle.asn1_core.specs.Octets.{Octets};
+ghost use Rattle.asn1_core.specs.declared.error.EncodeErrorKind.TheVariants.{OutOfMemory};
+ghost use Rattle.oer_spec.specs.Lengths.{quantity_octets};
+ghost use Rattle.oer_spec.specs.Spelled.{list_of, EachValue};
+ghost use Rattle.oer_spec.specs.Tree.{Tree};
+ghost use Rattle.oer_spec.specs.Writing.{BeginsWith};
 ghost use Rattle.oer_write.specs.Lists.{is_nil, TakesElement, PromiseAt, WroteElement, IsOrderlyAt, IsOrderlyHere, ElementDone, ElementTooMany, ElementsDone, ElementsBroken, ListDone, ListBroken, IsKnownToWriteAt};
 ghost use Rattle.oer_write.specs.Written.{append, closed, Keeps, Encodes, Refused, WritesTree};
 
 use crate::encode::Encode;
 use crate::encoder::Encoder;
 use crate::scope::Scope;
-use asn1_base::{Constraints, EncodeError, EncodeErrorKind, Tag};
-use leaf_writers::write_quantity;
+use asn1_core::{Constraints, EncodeError, EncodeErrorKind, Tag};
+use oer_leaf_write::write_quantity;
 
 /// At most so many elements of one list may take no octets (the project's own choice).
 pub(crate) const MAX_EMPTY_ELEMENTS: u32 = 65536;

@@ -1,10 +1,10 @@
 //! Components of the open scope: required, optional and default ones.
 ghost use Rattle.std.specs.Prelude.{◌≡◌, ◌^◌, ◌<◌, Bool, true, false, List, [], ◌∷◌, ◌++◌, ◌⊎◌, length, OnOk, IfOk, IfErr};
-ghost use Rattle.asn1_base.specs.declared.error.EncodeErrorKind.TheVariants.{OutOfMemory};
-ghost use Rattle.oer_forms.specs.Encoding.{IsEncodable, canonical_octets};
-ghost use Rattle.oer_forms.specs.Spelled.{IsConsistent};
-ghost use Rattle.oer_forms.specs.Tree.{NoRows, Present, Absent};
-ghost use Rattle.oer_forms.specs.Failures.{Fails};
+ghost use Rattle.asn1_core.specs.declared.error.EncodeErrorKind.TheVariants.{OutOfMemory};
+ghost use Rattle.oer_spec.specs.Encoding.{IsEncodable, canonical_octets};
+ghost use Rattle.oer_spec.specs.Spelled.{IsConsistent};
+ghost use Rattle.oer_spec.specs.Tree.{NoRows, Present, Absent};
+ghost use Rattle.oer_spec.specs.Failures.{Fails};
 ghost use Rattle.oer_write.specs.Rows.{RowsDone, SetDone, RowsRefused, required, optional, defaulted, present_unless};
 ghost use Rattle.oer_write.specs.Written.{Keeps, Encodes, Refused};
 
@@ -12,7 +12,7 @@ use crate::component::Component;
 use crate::enc::EncoderOptions;
 use crate::encode::Encode;
 use crate::encoder::Encoder;
-use asn1_base::{Constraints, EncodeError, EncodeErrorKind, Tag};
+use asn1_core::{Constraints, EncodeError, EncodeErrorKind, Tag};
 use std::alloc::Global;
 
 /// The octets of a value on its own.

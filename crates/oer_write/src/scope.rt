@@ -1,15 +1,15 @@
 //! What is recorded in an open scope, and how it is written as the scope closes.
 ghost use Rattle.std.specs.Prelude.{◌≡◌, ◌++◌};
-ghost use Rattle.asn1_base.specs.Octets.{pack};
-ghost use Rattle.oer_forms.specs.Places.{extension_bit};
-ghost use Rattle.oer_forms.specs.Writing.{Appends};
+ghost use Rattle.asn1_core.specs.Octets.{pack};
+ghost use Rattle.oer_spec.specs.Places.{extension_bit};
+ghost use Rattle.oer_spec.specs.Writing.{Appends};
 ghost use Rattle.oer_write.specs.Scopes.{any_true, extension_of, sequence_octets};
 ghost use Rattle.oer_write.specs.Seen.{frame_of, item};
 ghost use Rattle.oer_write.specs.Written.{fresh, closed};
 
 use crate::component::Component;
-use asn1_base::EncodeErrorKind;
-use leaf_writers::{write_bitmap, write_preamble};
+use asn1_core::EncodeErrorKind;
+use oer_leaf_write::{write_bitmap, write_preamble};
 use std::alloc::Global;
 
 /// What was recorded in a scope so far.

@@ -1,7 +1,7 @@
 //! Scopes: closures that write the components of a sequence, each scope in a buffer of its own.
 ghost use Rattle.std.specs.Prelude.{◌≡◌, false, OnOk, IfOk, IfErr};
-ghost use Rattle.asn1_base.specs.declared.error.EncodeErrorKind.TheVariants.{OutOfMemory};
-ghost use Rattle.oer_forms.specs.Tree.{Rows, Struct};
+ghost use Rattle.asn1_core.specs.declared.error.EncodeErrorKind.TheVariants.{OutOfMemory};
+ghost use Rattle.oer_spec.specs.Tree.{Rows, Struct};
 ghost use Rattle.oer_write.specs.Rows.{IsKnownToWrite};
 ghost use Rattle.oer_write.specs.Scopes.{Promise, IsOrderly, RanInScope, Closed, Stopped, Broken};
 ghost use Rattle.oer_write.specs.Seen.{frame_of};
@@ -9,7 +9,7 @@ ghost use Rattle.oer_write.specs.Written.{Keeps, Encodes, Refused};
 
 use crate::encoder::Encoder;
 use crate::scope::Scope;
-use asn1_base::{Constructed, EncodeError, Tag};
+use asn1_core::{Constructed, EncodeError, Tag};
 use std::alloc::Global;
 
 /// What a closure left of a scope.

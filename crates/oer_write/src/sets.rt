@@ -1,9 +1,9 @@
 //! Sets: root components in the order of their tags, whatever the order in which they are handed in.
 ghost use Rattle.std.specs.Prelude.{◌≡◌, ◌++◌, true, map, OnOk, IfErr};
-ghost use Rattle.asn1_base.specs.declared.error.EncodeErrorKind.TheVariants.{OutOfMemory};
-ghost use Rattle.oer_forms.specs.Places.{bodies, by_tag, presence};
-ghost use Rattle.oer_forms.specs.Tree.{Rows, Struct};
-ghost use Rattle.oer_forms.specs.Writing.{Appends, BeginsWith};
+ghost use Rattle.asn1_core.specs.declared.error.EncodeErrorKind.TheVariants.{OutOfMemory};
+ghost use Rattle.oer_spec.specs.Places.{bodies, by_tag, presence};
+ghost use Rattle.oer_spec.specs.Tree.{Rows, Struct};
+ghost use Rattle.oer_spec.specs.Writing.{Appends, BeginsWith};
 ghost use Rattle.oer_write.specs.Rows.{IsKnownToWriteSet};
 ghost use Rattle.oer_write.specs.Scopes.{Promise, IsOrderly, IsSameInAnyOrder, SetClosed, Broken, set_octets};
 ghost use Rattle.oer_write.specs.Seen.{frame_of, item};
@@ -13,7 +13,7 @@ use crate::component::Component;
 use crate::encoder::Encoder;
 use crate::scope::Scope;
 use crate::scopes::run;
-use asn1_base::{Constructed, EncodeError, EncodeErrorKind, Tag};
+use asn1_core::{Constructed, EncodeError, EncodeErrorKind, Tag};
 use std::alloc::Global;
 
 /// Sorts components by their tags.

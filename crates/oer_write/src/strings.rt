@@ -1,13 +1,13 @@
 //! Character strings are written under the size constraint.
 ghost use Rattle.std.specs.Prelude.{◌≡◌, string_bytes};
-ghost use Rattle.asn1_base.specs.Octets.{AreOctets};
-ghost use Rattle.asn1_base.specs.Texts.{Utf8};
-ghost use Rattle.oer_forms.specs.Spelled.{IsTextOf};
+ghost use Rattle.asn1_core.specs.Octets.{AreOctets};
+ghost use Rattle.asn1_core.specs.Texts.{Utf8};
+ghost use Rattle.oer_spec.specs.Spelled.{IsTextOf};
 
 use crate::encode::Encode;
 use crate::encoder::Encoder;
-use asn1_base::{Constraints, EncodeError, Tag, Utf8String};
-use asn1_values::{CharacterSet, RestrictedString};
+use asn1_core::{Constraints, EncodeError, Tag, Utf8String};
+use asn1_strings::{CharacterSet, RestrictedString};
 
 /// The text, whose octets obey the rule of texts.
 fn text_of(value: &Utf8String) -> &str

@@ -1,20 +1,20 @@
 //! Strings: bit strings, octet strings, open types' octets and character strings.
 ghost use Rattle.std.specs.Prelude.{◌≡◌, None, OnOk, IfErr};
-ghost use Rattle.asn1_base.specs.Bounds.{size_bounds};
-ghost use Rattle.asn1_base.specs.Texts.{AnyOctets, Utf8, Visible, General, Graphic, Ia5, Printable, Numeric, Teletex, Bmp};
-ghost use Rattle.oer_forms.specs.Spelled.{bit_string, text, unsized_text};
-ghost use Rattle.oer_forms.specs.Tree.{Bits, Text, Written};
+ghost use Rattle.asn1_core.specs.Bounds.{size_bounds};
+ghost use Rattle.asn1_core.specs.Texts.{AnyOctets, Utf8, Visible, General, Graphic, Ia5, Printable, Numeric, Teletex, Bmp};
+ghost use Rattle.oer_spec.specs.Spelled.{bit_string, text, unsized_text};
+ghost use Rattle.oer_spec.specs.Tree.{Bits, Text, Written};
 ghost use Rattle.oer_write.specs.Written.{Encodes, Refused, RefusedLeaf};
 
 use crate::encoder::Encoder;
-use asn1_base::{Constraints, EncodeError, Tag};
-use asn1_values::{
+use asn1_core::{Constraints, EncodeError, Tag};
+use asn1_strings::{
     Any, BitString, BmpCharacters, BmpString, CharacterSet, GeneralCharacters, GeneralString,
     GraphicCharacters, GraphicString, Ia5Characters, Ia5String, NumericCharacters, NumericString,
     PrintableCharacters, PrintableString, RestrictedString, TeletexCharacters, TeletexString,
     VisibleCharacters, VisibleString,
 };
-use leaf_writers::{write_any, write_bit_string, write_octet_string, write_text, write_utf8};
+use oer_leaf_write::{write_any, write_bit_string, write_octet_string, write_text, write_utf8};
 
 impl<'buffer> Encoder<'buffer> {
     /// Writes a BIT STRING (X.696, 13).
@@ -36,12 +36,12 @@ impl<'buffer> Encoder<'buffer> {
         self.put_bits(constraints, value)
     }
 
-    #[tactic(auto, unfolding(oer_forms::specs::Spelled::bit_string, oer_forms::specs::Encoding::canonical_octets, oer_forms::specs::Encoding::fails))]
+    #[tactic(auto, unfolding(oer_spec::specs::Spelled::bit_string, oer_spec::specs::Encoding::canonical_octets, oer_spec::specs::Encoding::fails))]
     fn put_bits(&mut self, constraints: Constraints, value: &BitString) -> Result<(), EncodeError>
         ensures done { OnOk result (Encodes (bit_string constraints value.now) self.old self.new) }
         ensures refused { IfErr result (λ x. RefusedLeaf (Bits (size_bounds constraints) value.now) x.kind self.old self.new) }
     {
-        write_bit_string(value, constraints, &mut *self.output)?;
+        write_bit_string(constraints, value, &mut *self.output)?;
         Ok(())
     }
 
@@ -64,12 +64,12 @@ impl<'buffer> Encoder<'buffer> {
         self.put_octets(constraints, value)
     }
 
-    #[tactic(auto, unfolding(oer_forms::specs::Spelled::text, oer_forms::specs::Encoding::canonical_octets, oer_forms::specs::Encoding::fails))]
+    #[tactic(auto, unfolding(oer_spec::specs::Spelled::text, oer_spec::specs::Encoding::canonical_octets, oer_spec::specs::Encoding::fails))]
     fn put_octets(&mut self, constraints: Constraints, value: &[u8]) -> Result<(), EncodeError>
         ensures done { OnOk result (Encodes (text AnyOctets constraints value.now) self.old self.new) }
         ensures refused { IfErr result (λ x. RefusedLeaf (Text AnyOctets (size_bounds constraints) (Written value.now)) x.kind self.old self.new) }
     {
-        write_octet_string(value, constraints, &mut *self.output)?;
+        write_octet_string(constraints, value, &mut *self.output)?;
         Ok(())
     }
 
@@ -85,7 +85,7 @@ impl<'buffer> Encoder<'buffer> {
         self.put_any(value)
     }
 
-    #[tactic(auto, unfolding(oer_forms::specs::Spelled::unsized_text, oer_forms::specs::Encoding::canonical_octets, oer_forms::specs::Encoding::fails))]
+    #[tactic(auto, unfolding(oer_spec::specs::Spelled::unsized_text, oer_spec::specs::Encoding::canonical_octets, oer_spec::specs::Encoding::fails))]
     fn put_any(&mut self, value: &Any) -> Result<(), EncodeError>
         ensures done { OnOk result (Encodes (unsized_text AnyOctets value.now) self.old self.new) }
         ensures refused { IfErr result (λ x. RefusedLeaf (Text AnyOctets None (Written value.now)) x.kind self.old self.new) }
@@ -113,12 +113,12 @@ impl<'buffer> Encoder<'buffer> {
         self.put_utf8(constraints, value)
     }
 
-    #[tactic(auto, unfolding(oer_forms::specs::Spelled::text, oer_forms::specs::Encoding::canonical_octets, oer_forms::specs::Encoding::fails))]
+    #[tactic(auto, unfolding(oer_spec::specs::Spelled::text, oer_spec::specs::Encoding::canonical_octets, oer_spec::specs::Encoding::fails))]
     fn put_utf8(&mut self, constraints: Constraints, value: &str) -> Result<(), EncodeError>
         ensures done { OnOk result (Encodes (text Utf8 constraints value.now) self.old self.new) }
         ensures refused { IfErr result (λ x. RefusedLeaf (Text Utf8 (size_bounds constraints) (Written value.now)) x.kind self.old self.new) }
     {
-        write_utf8(value, constraints, &mut *self.output)?;
+        write_utf8(constraints, value, &mut *self.output)?;
         Ok(())
     }
 
@@ -274,7 +274,7 @@ impl<'buffer> Encoder<'buffer> {
         self.put_text::<BmpCharacters>(constraints, value)
     }
 
-    #[tactic(auto, unfolding(oer_forms::specs::Spelled::text, oer_forms::specs::Encoding::canonical_octets, oer_forms::specs::Encoding::fails))]
+    #[tactic(auto, unfolding(oer_spec::specs::Spelled::text, oer_spec::specs::Encoding::canonical_octets, oer_spec::specs::Encoding::fails))]
     fn put_text<C: CharacterSet>(
         &mut self,
         constraints: Constraints,
@@ -283,7 +283,7 @@ impl<'buffer> Encoder<'buffer> {
         ensures done { OnOk result (Encodes (text C.rule constraints value.now) self.old self.new) }
         ensures refused { IfErr result (λ x. RefusedLeaf (Text C.rule (size_bounds constraints) (Written value.now)) x.kind self.old self.new) }
     {
-        write_text(value, constraints, &mut *self.output)?;
+        write_text(constraints, value, &mut *self.output)?;
         Ok(())
     }
 

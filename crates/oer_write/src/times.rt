@@ -1,18 +1,18 @@
 //! Times and days, by their texts.
 ghost use Rattle.std.specs.Prelude.{ℕ, List, None, OnOk, IfErr};
-ghost use Rattle.asn1_base.specs.Texts.{Utc, Generalized, Date as DateRule};
+ghost use Rattle.asn1_core.specs.Texts.{Utc, Generalized, Date as DateRule};
 ghost use Rattle.asn1_times.specs.Times.{utc_text, generalized_text, date_text};
-ghost use Rattle.oer_forms.specs.Spelled.{date, day_fields, generalized_time, moment_fields, time, utc_time};
-ghost use Rattle.oer_forms.specs.TimeTexts.{time_content};
-ghost use Rattle.oer_forms.specs.Tree.{Text};
+ghost use Rattle.oer_spec.specs.Spelled.{date, day_fields, generalized_time, moment_fields, time, utc_time};
+ghost use Rattle.oer_spec.specs.TimeTexts.{time_content};
+ghost use Rattle.oer_spec.specs.Tree.{Text};
 ghost use Rattle.oer_write.specs.Written.{Encodes, Refused, RefusedLeaf};
 
 use crate::encode::Encode;
 use crate::encoder::Encoder;
-use asn1_base::{Constraints, EncodeError, Tag};
+use asn1_core::{Constraints, EncodeError, Tag};
 use asn1_times::{Date, GeneralizedTime, UtcTime};
-use leaf_writers::write_time;
-use oer_forms::leaf::TimeType;
+use oer_leaf_write::write_time;
+use oer_spec::leaf::TimeType;
 
 impl<'buffer> Encoder<'buffer> {
     /// Writes a UTCTime (X.696, 29): a length, and the text.
@@ -56,7 +56,7 @@ impl<'buffer> Encoder<'buffer> {
     }
 
     /// Writes a value by its text.
-    #[tactic(auto, unfolding(oer_forms::specs::Spelled::time, oer_forms::specs::Encoding::canonical_octets, oer_forms::specs::Encoding::fails))]
+    #[tactic(auto, unfolding(oer_spec::specs::Spelled::time, oer_spec::specs::Encoding::canonical_octets, oer_spec::specs::Encoding::fails))]
     fn put_time<T: TimeType>(&mut self, value: &T) -> Result<(), EncodeError>
         ensures done { (fields : List ℕ) → OnOk result (Encodes (time T.rule (T.text value.now) fields) self.old self.new) }
         ensures refused { (fields : List ℕ) → IfErr result (λ x. RefusedLeaf (Text T.rule None (time_content (T.text value.now) fields)) x.kind self.old self.new) }

@@ -1,12 +1,12 @@
 //! Unordered lists: the elements in the order of their octets.
 ghost use Rattle.std.specs.Prelude.{◌≡◌, ℕ, ◌+◌, ◌<◌, List, [], ◌∷◌, ◌++◌, ◌⊎◌, cond, Bool, true, false, map, OnOk, IfOk, IfErr};
-ghost use Rattle.asn1_base.specs.Octets.{joined};
-ghost use Rattle.asn1_base.specs.declared.error.EncodeErrorKind.TheVariants.{OutOfMemory, TooManyEmptyElements};
-ghost use Rattle.oer_forms.specs.Failures.{Fails};
-ghost use Rattle.oer_forms.specs.Lengths.{quantity_octets};
-ghost use Rattle.oer_forms.specs.Places.{sorted};
-ghost use Rattle.oer_forms.specs.Spelled.{list_of, EachValue};
-ghost use Rattle.oer_forms.specs.Writing.{Appends, BeginsWith};
+ghost use Rattle.asn1_core.specs.Octets.{joined};
+ghost use Rattle.asn1_core.specs.declared.error.EncodeErrorKind.TheVariants.{OutOfMemory, TooManyEmptyElements};
+ghost use Rattle.oer_spec.specs.Failures.{Fails};
+ghost use Rattle.oer_spec.specs.Lengths.{quantity_octets};
+ghost use Rattle.oer_spec.specs.Places.{sorted};
+ghost use Rattle.oer_spec.specs.Spelled.{list_of, EachValue};
+ghost use Rattle.oer_spec.specs.Writing.{Appends, BeginsWith};
 ghost use Rattle.oer_write.specs.Lists.{is_nil};
 ghost use Rattle.oer_write.specs.Unordered.{octets_in, Gathered, OneMore, OneRefused, IsSameInAnyWalk};
 ghost use Rattle.oer_write.specs.Written.{append, Keeps, Encodes, Refused};
@@ -15,8 +15,8 @@ use crate::encode::Encode;
 use crate::encoder::Encoder;
 use crate::lists::MAX_EMPTY_ELEMENTS;
 use crate::rows::content_of;
-use asn1_base::{Constraints, EncodeError, EncodeErrorKind, SetOf, Tag};
-use leaf_writers::write_quantity;
+use asn1_core::{Constraints, EncodeError, EncodeErrorKind, SetOf, Tag};
+use oer_leaf_write::write_quantity;
 use std::alloc::Global;
 
 /// The count of elements without octets, with one more element.

@@ -1,14 +1,14 @@
 -- What is left of what a closure was lent.
 use Rattle.std.proofs.Common.{List, [], Option, Some, None, Result, Ok, Err, sym, ap}
 use Rattle.std.specs.Result.{OnOk}
-use Rattle.asn1_base.specs.declared.error.DecodeError.{DecodeError}
-use Rattle.asn1_base.specs.declared.tag.Tag.{Tag}
-use Rattle.oer_forms.specs.Tree.{Tree}
-use Rattle.rasn_oer.proofs.AdditionRows.{passes}
-use Rattle.rasn_oer.specs.Additions.{Adds}
-use Rattle.rasn_oer.specs.Components.{Asks}
-use Rattle.rasn_oer.specs.Law.{IsRear}
-use Rattle.rasn_oer.specs.State.{State}
+use Rattle.asn1_core.specs.declared.error.DecodeError.{DecodeError}
+use Rattle.asn1_core.specs.declared.tag.Tag.{Tag}
+use Rattle.oer_spec.specs.Tree.{Tree}
+use Rattle.oer_read.proofs.AdditionRows.{passes}
+use Rattle.oer_read.specs.Additions.{Adds}
+use Rattle.oer_read.specs.Components.{Asks}
+use Rattle.oer_read.specs.Law.{IsRear}
+use Rattle.oer_read.specs.State.{State}
 
 pub asks_rear : {A : Type 0} (tree : A → Tree) (IsValue : A → Type 0) (Says : State → Result A DecodeError → State → Type 0) (s : State) (g : Tag) (answer : Result (Option A) DecodeError) (t : State)
     → Asks tree IsValue Says s g answer t → OnOk answer (IsRear s.input t.input)

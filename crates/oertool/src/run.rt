@@ -1,7 +1,7 @@
 //! The program over any writer.
 
 use crate::known::{OnType, with_type};
-use asn1_base::Codec;
+use asn1_core::Codec;
 use hex::FromHexError;
 use oer_write::Encode;
 use rasn_oer::{Decode, coer, oer};

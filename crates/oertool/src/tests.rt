@@ -18,7 +18,7 @@ mod words;
 
 use crate::known::{OnType, with_type};
 use crate::run::{Status, run};
-use asn1_base::{Codec, DecodeError, DecodeErrorKind};
+use asn1_core::{Codec, DecodeError, DecodeErrorKind};
 use asn1_ints::Integer;
 use oer_types::{Empty, Nested, Pair};
 use oer_write::Encode;

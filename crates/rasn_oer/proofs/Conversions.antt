@@ -1,16 +1,16 @@
 -- From what reading and writing promise to the calls that do both.
 use Rattle.std.proofs.Common.{◌≡◌, ℕ, ◌≤◌, [], ◌++◌, refl, sym, ap, subst, ◌∙◌, append-nil}
-use Rattle.asn1_base.specs.Octets.{Octets}
-use Rattle.asn1_base.specs.declared.codec.Codec.{Codec}
-use Rattle.asn1_base.specs.declared.codec.Codec.TheVariants.{Oer, Coer}
-use Rattle.oer_forms.proofs.Canonical.{same_octets}
-use Rattle.oer_forms.proofs.Readable.{form_levels}
-use Rattle.oer_forms.proofs.Within.{canonical_within_lenient}
-use Rattle.oer_forms.specs.Encoding.{IsTree, IsEncodable, IsEncoding, canonical_octets, levels}
-use Rattle.oer_forms.specs.Mode.{Lenient, mode_of}
-use Rattle.oer_forms.specs.Same.{Same}
-use Rattle.oer_forms.specs.Tree.{Tree}
-use Rattle.oer_forms.specs.Versions.{Drops}
+use Rattle.asn1_core.specs.Octets.{Octets}
+use Rattle.asn1_core.specs.declared.codec.Codec.{Codec}
+use Rattle.asn1_core.specs.declared.codec.Codec.TheVariants.{Oer, Coer}
+use Rattle.oer_spec.proofs.Canonical.{same_octets}
+use Rattle.oer_spec.proofs.Readable.{form_levels}
+use Rattle.oer_spec.proofs.Within.{canonical_within_lenient}
+use Rattle.oer_spec.specs.Encoding.{IsTree, IsEncodable, IsEncoding, canonical_octets, levels}
+use Rattle.oer_spec.specs.Mode.{Lenient, mode_of}
+use Rattle.oer_spec.specs.Same.{Same}
+use Rattle.oer_spec.specs.Tree.{Tree}
+use Rattle.oer_spec.specs.Versions.{Drops}
 use Rattle.rasn_oer.specs.Conversions.{Canonicalised, ReadAsOlder, NoneIsOlder}
 use Rattle.rasn_oer.specs.Headline.{is_settled, Begins, Decoded, HasNone, Written}
 use Rattle.rasn_oer.proofs.Entries.{written_in}

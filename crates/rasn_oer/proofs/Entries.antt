@@ -1,24 +1,24 @@
 -- What the law of reading gives to the entry calls, by the laws of the definitions.
 use Rattle.std.proofs.Common.{◌≡◌, ℕ, ◌≤◌, ◌++◌, sym, ◌∙◌, subst}
-use Rattle.asn1_base.specs.Octets.{Octets}
-use Rattle.asn1_base.specs.declared.codec.Codec.{Codec}
-use Rattle.asn1_base.specs.declared.codec.Codec.TheVariants.{Oer, Coer}
-use Rattle.oer_forms.specs.Encoding.{IsTree, IsEncodable, IsEncoding, canonical_octets, levels}
-use Rattle.oer_forms.specs.Mode.{mode_of}
-use Rattle.oer_forms.specs.Same.{Same, Alike}
-use Rattle.oer_forms.specs.Tree.{Tree}
-use Rattle.oer_forms.specs.Versions.{Drops}
-use Rattle.oer_forms.proofs.Canonical.{own_is_canonical, same_octets}
-use Rattle.oer_forms.proofs.Skips.{skips_lenient, skips_canonical}
-use Rattle.oer_forms.proofs.Unambiguous.{unique}
-use Rattle.oer_forms.proofs.Unique.{cancel}
-use Rattle.oer_forms.proofs.Within.{own_sized_within_canonical, canonical_within_lenient}
-use Rattle.oer_forms.proofs.WrittenTrees.{spelt}
-use Rattle.asn1_base.specs.declared.error.DecodeError.{DecodeError}
-use Rattle.asn1_base.specs.declared.error.DecodeErrorKind.TheVariants.{OutOfMemory}
+use Rattle.asn1_core.specs.Octets.{Octets}
+use Rattle.asn1_core.specs.declared.codec.Codec.{Codec}
+use Rattle.asn1_core.specs.declared.codec.Codec.TheVariants.{Oer, Coer}
+use Rattle.oer_spec.specs.Encoding.{IsTree, IsEncodable, IsEncoding, canonical_octets, levels}
+use Rattle.oer_spec.specs.Mode.{mode_of}
+use Rattle.oer_spec.specs.Same.{Same, Alike}
+use Rattle.oer_spec.specs.Tree.{Tree}
+use Rattle.oer_spec.specs.Versions.{Drops}
+use Rattle.oer_spec.proofs.Canonical.{own_is_canonical, same_octets}
+use Rattle.oer_spec.proofs.Skips.{skips_lenient, skips_canonical}
+use Rattle.oer_spec.proofs.Unambiguous.{unique}
+use Rattle.oer_spec.proofs.Unique.{cancel}
+use Rattle.oer_spec.proofs.Within.{own_sized_within_canonical, canonical_within_lenient}
+use Rattle.oer_spec.proofs.WrittenTrees.{spelt}
+use Rattle.asn1_core.specs.declared.error.DecodeError.{DecodeError}
+use Rattle.asn1_core.specs.declared.error.DecodeErrorKind.TheVariants.{OutOfMemory}
 use Rattle.rasn_oer.specs.Headline.{is_settled, Begins, Decoded, HasNone}
-use Rattle.rasn_oer.specs.Law.{Reads, RefusedBy}
-use Rattle.rasn_oer.specs.State.{State, closed}
+use Rattle.oer_read.specs.Law.{Reads, RefusedBy}
+use Rattle.oer_read.specs.State.{State, closed}
 
 -- what is written is read in both modes
 pub written_in : (m : Codec) (t : Tree) (d : ℕ) → IsTree t → IsEncodable t → levels t ≤ d → IsEncoding (mode_of m) d (canonical_octets t) t

@@ -2,16 +2,16 @@
 use Rattle.std.specs.Prelude.{◌≡◌, ℕ, ◌≤◌, ◌++◌, ◌⊎◌, Result, Ok, Err, Vec}
 use Rattle.std.specs.Borrow.{Bor}
 use Rattle.std.specs.declared.alloc.Global.{Global}
-use Rattle.asn1_base.specs.Octets.{Octets}
-use Rattle.asn1_base.specs.declared.codec.Codec.{Codec}
-use Rattle.asn1_base.specs.declared.codec.Codec.TheVariants.{Oer, Coer}
-use Rattle.asn1_base.specs.declared.error.DecodeErrorKind.TheVariants as decode
-use Rattle.asn1_base.specs.declared.error.EncodeErrorKind.TheVariants as encode
-use Rattle.oer_forms.specs.Encoding.{IsEncodable, canonical_octets, levels}
-use Rattle.oer_forms.specs.Failures.{Fails}
-use Rattle.oer_forms.specs.Same.{Same}
-use Rattle.oer_forms.specs.Tree.{Tree}
-use Rattle.oer_forms.specs.Versions.{Drops}
+use Rattle.asn1_core.specs.Octets.{Octets}
+use Rattle.asn1_core.specs.declared.codec.Codec.{Codec}
+use Rattle.asn1_core.specs.declared.codec.Codec.TheVariants.{Oer, Coer}
+use Rattle.asn1_core.specs.declared.error.DecodeErrorKind.TheVariants as decode
+use Rattle.asn1_core.specs.declared.error.EncodeErrorKind.TheVariants as encode
+use Rattle.oer_spec.specs.Encoding.{IsEncodable, canonical_octets, levels}
+use Rattle.oer_spec.specs.Failures.{Fails}
+use Rattle.oer_spec.specs.Same.{Same}
+use Rattle.oer_spec.specs.Tree.{Tree}
+use Rattle.oer_spec.specs.Versions.{Drops}
 use Rattle.rasn_oer.specs.Headline.{is_settled, Begins, Decoded, HasNone, Written}
 use Rattle.rasn_oer.specs.declared.codec_error.CodecError.{CodecError}
 use Rattle.rasn_oer.specs.declared.codec_error.CodecError.TheVariants.{Decode, Encode}

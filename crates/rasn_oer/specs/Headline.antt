@@ -1,18 +1,18 @@
 -- What the entry calls promise.
 use Rattle.std.specs.Prelude.{◌≡◌, ℕ, ◌≤◌, Bool, true, false, ◌++◌, ◌⊎◌, Result, Ok, Err}
-use Rattle.asn1_base.specs.Octets.{Octets}
-use Rattle.asn1_base.specs.declared.codec.Codec.{Codec}
-use Rattle.asn1_base.specs.declared.error.DecodeError.{DecodeError}
-use Rattle.asn1_base.specs.declared.error.EncodeError.{EncodeError}
-use Rattle.asn1_base.specs.declared.error.DecodeErrorKind.TheVariants as decode
-use Rattle.asn1_base.specs.declared.error.EncodeErrorKind.TheVariants as encode
-use Rattle.asn1_base.specs.declared.codec.Codec.TheVariants.{Oer, Coer}
-use Rattle.oer_forms.specs.Encoding.{IsTree, IsEncodable, IsEncoding, canonical_octets, levels}
-use Rattle.oer_forms.specs.Failures.{Fails}
-use Rattle.oer_forms.specs.Mode.{OwnSized, mode_of}
-use Rattle.oer_forms.specs.Same.{Same}
-use Rattle.oer_forms.specs.Tree.{Tree}
-use Rattle.oer_forms.specs.Versions.{Drops}
+use Rattle.asn1_core.specs.Octets.{Octets}
+use Rattle.asn1_core.specs.declared.codec.Codec.{Codec}
+use Rattle.asn1_core.specs.declared.error.DecodeError.{DecodeError}
+use Rattle.asn1_core.specs.declared.error.EncodeError.{EncodeError}
+use Rattle.asn1_core.specs.declared.error.DecodeErrorKind.TheVariants as decode
+use Rattle.asn1_core.specs.declared.error.EncodeErrorKind.TheVariants as encode
+use Rattle.asn1_core.specs.declared.codec.Codec.TheVariants.{Oer, Coer}
+use Rattle.oer_spec.specs.Encoding.{IsTree, IsEncodable, IsEncoding, canonical_octets, levels}
+use Rattle.oer_spec.specs.Failures.{Fails}
+use Rattle.oer_spec.specs.Mode.{OwnSized, mode_of}
+use Rattle.oer_spec.specs.Same.{Same}
+use Rattle.oer_spec.specs.Tree.{Tree}
+use Rattle.oer_spec.specs.Versions.{Drops}
 use Rattle.std.specs.Borrow.{Bor}
 use Rattle.std.specs.Prelude.{Vec}
 use Rattle.std.specs.declared.alloc.Global.{Global}

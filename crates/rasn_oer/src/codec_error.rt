@@ -1,4 +1,4 @@
-use asn1_base::{DecodeError, EncodeError};
+use asn1_core::{DecodeError, EncodeError};
 use thiserror::Error;
 
 /// Why a call that reads and writes refused.

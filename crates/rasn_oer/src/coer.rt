@@ -1,15 +1,15 @@
 //! Canonical octet encoding rules (X.696): canonical reading, and canonical writing.
-ghost use Rattle.asn1_base.specs.declared.codec.Codec.TheVariants.{Coer};
-ghost use Rattle.oer_forms.specs.Spelled.{IsConsistent};
+ghost use Rattle.asn1_core.specs.declared.codec.Codec.TheVariants.{Coer};
+ghost use Rattle.oer_spec.specs.Spelled.{IsConsistent};
 ghost use Rattle.rasn_oer.specs.Conversions.{IsAsOlder};
 ghost use Rattle.rasn_oer.specs.Headline.{IsAppended, IsRead, IsReadAlone, IsWritten};
 
-use crate::de::DecoderOptions;
-use crate::decode::Decode;
 use crate::entry::{append_value, decode_value, encode_value};
 pub use crate::oer::{CodecError, Decoder, Encoder, EncodingRules, de, enc};
 use crate::recode::older_value;
-use asn1_base::{Constraints, DecodeError, EncodeError};
+use asn1_core::{Constraints, DecodeError, EncodeError};
+use oer_read::Decode;
+use oer_read::de::DecoderOptions;
 use oer_write::Encode;
 use std::alloc::Global;
 

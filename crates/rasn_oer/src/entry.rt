@@ -1,12 +1,11 @@
 //! What both modules' calls come down to: one function for each direction.
-ghost use Rattle.asn1_base.specs.declared.codec.Codec.{Codec};
-ghost use Rattle.oer_forms.specs.Spelled.{IsConsistent};
+ghost use Rattle.asn1_core.specs.declared.codec.Codec.{Codec};
+ghost use Rattle.oer_spec.specs.Spelled.{IsConsistent};
 ghost use Rattle.rasn_oer.specs.Headline.{IsAppended, IsWritten, IsRead};
 
-use crate::de::DecoderOptions;
-use crate::decode::Decode;
-use crate::decoder::Decoder;
-use asn1_base::{Constraints, DecodeError, EncodeError};
+use asn1_core::{Constraints, DecodeError, EncodeError};
+use oer_read::de::DecoderOptions;
+use oer_read::{Decode, Decoder};
 use oer_write::enc::EncoderOptions;
 use oer_write::{Encode, Encoder};
 use std::alloc::Global;

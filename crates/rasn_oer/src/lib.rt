@@ -1,34 +1,13 @@
-//! Reading by the octet encoding rules (X.696): the decoder, its scopes, and the trait of types that are read.
+//! The octet encoding rules (X.696): values to octets and octets to values, by the basic rules (`oer`) and by the
+//! canonical ones (`coer`), and all that a type or its user names beside them.
 #![tactic(auto)]
 
-mod additions;
-mod boxes;
-mod choices;
 mod codec_error;
 pub mod coer;
-pub mod de;
-mod decode;
-mod decoder;
-mod defaults;
 mod entry;
-mod integers;
-mod leaves;
-mod lists;
-mod octets;
 pub mod oer;
-mod owned;
 mod recode;
-mod rows;
-mod scopes;
-mod sets;
-mod strings;
-mod times;
-mod unordered;
-mod values;
 
-pub use choices::DecodeChoice;
-pub use de::DecoderOptions;
-pub use decode::Decode;
-pub use decoder::Decoder;
-pub use oer_forms::{Spelled, laws};
-pub use oer_write::{Encode, Encoder};
+pub use oer_read::{Decode, DecodeChoice, Decoder, DecoderOptions, de};
+pub use oer_spec::{Spelled, laws};
+pub use oer_write::{Encode, Encoder, enc};

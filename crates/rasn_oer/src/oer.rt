@@ -1,17 +1,16 @@
 //! Basic octet encoding rules (X.696): lenient reading, and canonical writing.
-ghost use Rattle.asn1_base.specs.declared.codec.Codec.TheVariants.{Oer};
-ghost use Rattle.oer_forms.specs.Spelled.{IsConsistent};
+ghost use Rattle.asn1_core.specs.declared.codec.Codec.TheVariants.{Oer};
+ghost use Rattle.oer_spec.specs.Spelled.{IsConsistent};
 ghost use Rattle.rasn_oer.specs.Conversions.{IsAsOlder, IsCanonicalised};
 ghost use Rattle.rasn_oer.specs.Headline.{IsAppended, IsRead, IsReadAlone, IsWritten};
 
 pub use crate::codec_error::CodecError;
-pub use crate::de;
-use crate::de::DecoderOptions;
-use crate::decode::Decode;
-pub use crate::decoder::Decoder;
 use crate::entry::{append_value, decode_value, encode_value};
 use crate::recode::{canonical_value, older_value};
-use asn1_base::{Constraints, DecodeError, EncodeError};
+use asn1_core::{Constraints, DecodeError, EncodeError};
+use oer_read::Decode;
+use oer_read::de::DecoderOptions;
+pub use oer_read::{Decoder, de};
 use oer_write::Encode;
 pub use oer_write::{Encoder, EncodingRules, enc};
 use std::alloc::Global;

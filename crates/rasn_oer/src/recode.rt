@@ -2,9 +2,9 @@
 ghost use Rattle.rasn_oer.specs.Conversions.{IsAsOlder, IsCanonicalised};
 
 use crate::codec_error::CodecError;
-use crate::de::DecoderOptions;
-use crate::decode::Decode;
 use crate::entry::{decode_value, encode_value};
+use oer_read::Decode;
+use oer_read::de::DecoderOptions;
 use oer_write::Encode;
 use std::alloc::Global;
 

@@ -1,10 +1,10 @@
 -- The rows of a sequence whose default is nested lists, by a comparison with a value that is the default.
 use Rattle.std.proofs.Common.{◌≡◌, Result, Ok, Err, ap, ap₂, sym, ◌∙◌, subst}
 use Rattle.std.specs.Result.{IsErrAnd}
-use Rattle.asn1_base.specs.declared.error.EncodeError.{EncodeError}
-use Rattle.asn1_base.specs.declared.error.EncodeErrorKind.{EncodeErrorKind}
-use Rattle.asn1_base.specs.declared.tag.Tag.{Tag}
-use Rattle.oer_forms.specs.Tree.{Tree, Rows, NoRows, Default, Slot}
+use Rattle.asn1_core.specs.declared.error.EncodeError.{EncodeError}
+use Rattle.asn1_core.specs.declared.error.EncodeErrorKind.{EncodeErrorKind}
+use Rattle.asn1_core.specs.declared.tag.Tag.{Tag}
+use Rattle.oer_spec.specs.Tree.{Tree, Rows, NoRows, Default, Slot}
 use Rattle.oer_write.specs.Rows.{RowsDone, RowsRefused, WritesRows, defaulted, present_unless}
 use Rattle.oer_write.specs.Written.{Written}
 use Rattle.recursive_types.specs.DeepDefaults.{deep_lists, deep_slot, deep_default_rows, nest_compared}

@@ -1,15 +1,15 @@
 -- The alternatives of the choice in a link.
 use Rattle.std.proofs.Common.{◌≡◌, Bool, [], refl, arith}
-use Rattle.asn1_base.specs.declared.tag.Tag.{Tag}
-use Rattle.oer_forms.specs.Spelled.{IsAny, boolean}
+use Rattle.asn1_core.specs.declared.tag.Tag.{Tag}
+use Rattle.oer_spec.specs.Spelled.{IsAny, boolean}
 use Rattle.choice_types.proofs.Choosing.{other}
 use Rattle.recursive_types.specs.Links.{link_choice_tree, link_tree, link_tag, link_child, link_chosen, link_small, link_choice_is, link_roots}
 use Rattle.sequence_types.specs.Tags.{context}
 use Rattle.recursive_types.specs.declared.links.Link.{Link}
 use Rattle.recursive_types.specs.declared.links.LinkChoice.{LinkChoice, A, B'}
 use Rattle.recursive_types.specs.declared.links.LinkChoice.TheViews.{B, roll-Link}
-use Rattle.rasn_oer.proofs.Alternatives.{Holds}
-use Rattle.rasn_oer.proofs.ChoiceLaw.{AreChosen}
+use Rattle.oer_read.proofs.Alternatives.{Holds}
+use Rattle.oer_read.proofs.ChoiceLaw.{AreChosen}
 
 pub links_are_chosen : AreChosen link_choice_tree IsAny link_roots [] link_tag link_child
 links_are_chosen = record { is = link_chosen; small = λ v i. link_small v; is_tree = λ v i. link_choice_is v }

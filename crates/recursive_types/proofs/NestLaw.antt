@@ -1,16 +1,16 @@
 -- A nest is read as its items.
 use Rattle.std.proofs.Common.{◌≡◌, Result, Ok, Err, true, refl}
-use Rattle.asn1_base.specs.declared.error.DecodeError.{DecodeError}
-use Rattle.oer_forms.specs.Spelled.{EachValue, IsAny, list_of}
+use Rattle.asn1_core.specs.declared.error.DecodeError.{DecodeError}
+use Rattle.oer_spec.specs.Spelled.{EachValue, IsAny, list_of}
 use Rattle.recursive_types.specs.Nests.{nest_tree, nest_of, nest_items, nest_is, each_any}
 use Rattle.recursive_types.specs.declared.nests.Nest.{Nest}
 use Rattle.recursive_types.specs.declared.nests.Nest.TheOpen.{Nest-F}
 use Rattle.recursive_types.specs.declared.nests.Nest.TheViews.{out-Nest, roll-Nest}
-use Rattle.rasn_oer.proofs.Alternatives.{Holds, alternative_read, alternative_stops}
-use Rattle.rasn_oer.proofs.ListLaw.{list_law}
-use Rattle.rasn_oer.specs.Law.{Decodes}
-use Rattle.rasn_oer.specs.Lists.{ListRead, ListRefused}
-use Rattle.rasn_oer.specs.State.{State}
+use Rattle.oer_read.proofs.Alternatives.{Holds, alternative_read, alternative_stops}
+use Rattle.oer_read.proofs.ListLaw.{list_law}
+use Rattle.oer_read.specs.Law.{Decodes}
+use Rattle.oer_read.specs.Lists.{ListRead, ListRefused}
+use Rattle.oer_read.specs.State.{State}
 
 nest_holds : Holds {A = Nest} {B = Nest-F Nest} nest_tree IsAny (λ x. list_of true nest_tree x.items.items) (λ x. EachValue IsAny x.items.items) roll-Nest
 nest_holds = record { is = λ x i. tt; same = nest_of; only = λ v i. (out-Nest v, nest_items v, each_any (out-Nest v).items.items) }

@@ -1,7 +1,7 @@
 -- A list that holds nested lists alone is nested once more.
 use Rattle.std.proofs.Common.{◌≡◌, ℕ, zero, suc, ◌+◌, add-one, true, List, [], ◌∷◌, refl, ap, sym, ◌∙◌}
-use Rattle.oer_forms.specs.Spelled.{list_of}
-use Rattle.oer_forms.specs.Tree.{Tree, ListOf, NoTrees, More}
+use Rattle.oer_spec.specs.Spelled.{list_of}
+use Rattle.oer_spec.specs.Tree.{Tree, ListOf, NoTrees, More}
 use Rattle.recursive_types.specs.NestedLists.{nested_lists}
 use Rattle.recursive_types.specs.Nests.{nest_tree, nest_of}
 use Rattle.recursive_types.specs.declared.nests.Nest.{Nest}

@@ -1,26 +1,26 @@
 -- What the readers of a sequence and of the choice in it promise.
 use Rattle.std.proofs.Common.{◌≡◌, ℕ, ◌≤◌, ◌^◌, Bool, true, false, [], Result, Ok, Err, pos, refl, arith}
 use Rattle.std.specs.Prelude.{◌&&◌, not, int_lt, int_le}
-use Rattle.asn1_base.specs.Numbers.{in_i128}
+use Rattle.asn1_core.specs.Numbers.{in_i128}
 use Rattle.std.proofs.lemmas.Bool.{and_parts, and_from, leb-true, le-leb, lt-ltb}
-use Rattle.asn1_base.specs.Octets.{Octets}
-use Rattle.asn1_base.specs.declared.error.DecodeError.{DecodeError}
-use Rattle.asn1_base.specs.declared.tag.Tag.{Tag}
+use Rattle.asn1_core.specs.Octets.{Octets}
+use Rattle.asn1_core.specs.declared.error.DecodeError.{DecodeError}
+use Rattle.asn1_core.specs.declared.tag.Tag.{Tag}
 use Rattle.asn1_ints.specs.Numbers.{is_below}
-use Rattle.oer_forms.specs.Encoding.{IsEncoding}
-use Rattle.oer_forms.specs.Leaves.{BadValue}
-use Rattle.oer_forms.specs.Mode.{Mode}
-use Rattle.oer_forms.specs.Spelled.{IsAny, boolean, null, integer}
+use Rattle.oer_spec.specs.Encoding.{IsEncoding}
+use Rattle.oer_spec.specs.Leaves.{BadValue}
+use Rattle.oer_spec.specs.Mode.{Mode}
+use Rattle.oer_spec.specs.Spelled.{IsAny, boolean, null, integer}
 use Rattle.choice_types.proofs.Choosing.{other}
 use Rattle.sequence_types.specs.Tags.{context}
 use Rattle.recursive_types.specs.TopLevels.{small_number, test_tree, top_tree, test_tag, test_child, test_chosen, test_small, test_is, test_roots}
 use Rattle.recursive_types.specs.declared.top_levels.TestChoice.{TestChoice, Number1, Number2, Number3'}
 use Rattle.recursive_types.specs.declared.top_levels.TestChoice.TheViews.{Number3, roll-TopLevel}
 use Rattle.recursive_types.specs.declared.top_levels.TopLevel.{TopLevel}
-use Rattle.rasn_oer.proofs.Alternatives.{Holds}
-use Rattle.rasn_oer.proofs.ChoiceLaw.{AreChosen}
-use Rattle.rasn_oer.specs.Law.{Decodes}
-use Rattle.rasn_oer.specs.State.{State}
+use Rattle.oer_read.proofs.Alternatives.{Holds}
+use Rattle.oer_read.proofs.ChoiceLaw.{AreChosen}
+use Rattle.oer_read.specs.Law.{Decodes}
+use Rattle.oer_read.specs.State.{State}
 
 -- ---- the number
 

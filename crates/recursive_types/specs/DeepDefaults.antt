@@ -1,15 +1,15 @@
 -- A sequence whose default is as deep as what is read may be.
 use Rattle.std.specs.Prelude.{◌≡◌, ℕ, Bool, true, false, List, [], ◌∷◌, refl}
 use Rattle.std.proofs.Common.{ap, sym}
-use Rattle.asn1_base.specs.Rows.{Row}
-use Rattle.asn1_base.specs.declared.fields.FieldPresence.TheVariants as presence
-use Rattle.oer_forms.specs.Encoding.{IsTree, AreSlot}
-use Rattle.oer_forms.specs.Same.{Same, SameSlot, Alike, AlikeSlot, OnSlot}
-use Rattle.oer_forms.specs.Spelled.{IsAny}
-use Rattle.oer_forms.specs.Tree.{Tree, Rows, NoRows, Default, Struct, Slot, Present}
+use Rattle.asn1_core.specs.Rows.{Row}
+use Rattle.asn1_core.specs.declared.fields.FieldPresence.TheVariants as presence
+use Rattle.oer_spec.specs.Encoding.{IsTree, AreSlot}
+use Rattle.oer_spec.specs.Same.{Same, SameSlot, Alike, AlikeSlot, OnSlot}
+use Rattle.oer_spec.specs.Spelled.{IsAny}
+use Rattle.oer_spec.specs.Tree.{Tree, Rows, NoRows, Default, Struct, Slot, Present}
 use Rattle.oer_write.specs.Rows.{present_unless}
-use Rattle.rasn_oer.specs.Defaults.{IsDefault}
-use Rattle.rasn_oer.specs.Parts.{Parts, NoParts, DefaultPart, Admits, OnPresent, AreOf}
+use Rattle.oer_read.specs.Defaults.{IsDefault}
+use Rattle.oer_read.specs.Parts.{Parts, NoParts, DefaultPart, Admits, OnPresent, AreOf}
 use Rattle.recursive_types.specs.NestedLists.{nested_lists, is_nested, nested_decided, equal_to_nested, nested_is, nested_alike, nest_like_nested, nested_like_nest}
 use Rattle.recursive_types.specs.Nests.{nest_tree, nest_is, nests_alike}
 use Rattle.recursive_types.specs.SameNests.{nest_eq, nests_same}
@@ -33,7 +33,7 @@ module _ (n : ℕ) where
   nest_compared v d e = ap (λ (b : Bool). present_unless b (nest_tree v)) (sym (equal_to_nested n v d e))
 
   present_is : (b : Bool) (v : Nest) → AreSlot (present_unless b (nest_tree v))
-  unfolding Rattle.oer_forms.specs.Encoding.IsTree
+  unfolding Rattle.oer_spec.specs.Encoding.IsTree
   present_is true v = tt
   present_is false v = nest_is v
 
@@ -41,7 +41,7 @@ module _ (n : ℕ) where
   unless_is v = present_is (is_nested n v) v
 
   present_differs : (b : Bool) (v : Nest) → is_nested n v ≡ b → SameSlot (present_unless b (nest_tree v)) (Present (nested_lists n)) → ⊥
-  unfolding Rattle.oer_forms.specs.Same.Same
+  unfolding Rattle.oer_spec.specs.Same.Same
   present_differs true v e x = x
   present_differs false v e x = absurd (cc (e, (nested_decided n v).1 x))
 
@@ -60,12 +60,12 @@ module _ (n : ℕ) where
   present_other false w = nested_like_nest n w
 
   present_own : (b : Bool) (v : Nest) → AlikeSlot (present_unless b (nest_tree v)) (Present (nested_lists n))
-  unfolding Rattle.oer_forms.specs.Same.Alike
+  unfolding Rattle.oer_spec.specs.Same.Alike
   present_own true v = tt
   present_own false v = nest_like_nested n v
 
   present_both : (b c : Bool) (v w : Nest) → AlikeSlot (present_unless b (nest_tree v)) (present_unless c (nest_tree w))
-  unfolding Rattle.oer_forms.specs.Same.Alike
+  unfolding Rattle.oer_spec.specs.Same.Alike
   present_both true c v w = tt
   present_both false true v w = tt
   present_both false false v w = nests_alike v w
@@ -86,11 +86,11 @@ unfoldable pub deep_default_tree : DeepDefault → Tree
 deep_default_tree v = Struct false false (deep_default_rows v) NoRows
 
 pub deep_default_is : (v : DeepDefault) → IsTree (deep_default_tree v)
-unfolding deep_default_tree Rattle.oer_forms.specs.Encoding.IsTree
+unfolding deep_default_tree Rattle.oer_spec.specs.Encoding.IsTree
 deep_default_is v = ((nested_is 127, unless_is 127 v.n, unless_differs 127 v.n, tt), tt, (λ e. refl), (λ e. absurd (cc e)))
 
 pub deep_defaults_alike : (v w : DeepDefault) → Alike (deep_default_tree v) (deep_default_tree w)
-unfolding deep_default_tree Rattle.oer_forms.specs.Same.Alike
+unfolding deep_default_tree Rattle.oer_spec.specs.Same.Alike
 deep_defaults_alike v w =
     (refl, refl, (refl, refl, nested_alike 127, present_other 127 (is_nested 127 w.n) w.n, present_own 127 (is_nested 127 v.n) v.n, present_both 127 (is_nested 127 v.n) (is_nested 127 w.n) v.n w.n, tt), tt)
 

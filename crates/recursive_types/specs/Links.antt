@@ -1,20 +1,20 @@
 -- The trees of two types that contain each other.
 use Rattle.std.specs.Prelude.{◌≡◌, ◌<◌, ◌^◌, ℤ, false, Option, Some, None, List, [], ◌∷◌, refl}
 use Rattle.std.proofs.Common.{ap, arith}
-use Rattle.asn1_base.specs.Rows.{Row}
-use Rattle.asn1_base.specs.declared.constraints.TheConstants.Constraints.{NONE}
-use Rattle.asn1_base.specs.declared.fields.FieldPresence.TheVariants as presence
-use Rattle.asn1_base.specs.declared.tag.Tag.{Tag}
-use Rattle.oer_forms.specs.Encoding.{IsTree, AreSlot}
-use Rattle.oer_forms.specs.Same.{Alike, AlikeSlot}
-use Rattle.oer_forms.specs.Spelled.{IsAny, boolean, boolean_is, booleans_alike, integer_is, integers_alike}
-use Rattle.oer_forms.specs.Tree.{Tree, Choice, Struct, Rows, NoRows, Required, Optional}
+use Rattle.asn1_core.specs.Rows.{Row}
+use Rattle.asn1_core.specs.declared.constraints.TheConstants.Constraints.{NONE}
+use Rattle.asn1_core.specs.declared.fields.FieldPresence.TheVariants as presence
+use Rattle.asn1_core.specs.declared.tag.Tag.{Tag}
+use Rattle.oer_spec.specs.Encoding.{IsTree, AreSlot}
+use Rattle.oer_spec.specs.Same.{Alike, AlikeSlot}
+use Rattle.oer_spec.specs.Spelled.{IsAny, boolean, boolean_is, booleans_alike, integer_is, integers_alike}
+use Rattle.oer_spec.specs.Tree.{Tree, Choice, Struct, Rows, NoRows, Required, Optional}
 use Rattle.sequence_types.specs.Pairs.{plain_integer, IsWhole}
 use Rattle.sequence_types.specs.Tags.{context}
 use Rattle.recursive_types.specs.declared.links.Link.{Link}
 use Rattle.recursive_types.specs.declared.links.LinkChoice.{LinkChoice, A, B'}
-use Rattle.rasn_oer.specs.Components.{slot_of}
-use Rattle.rasn_oer.specs.Parts.{Parts, NoParts, NeededPart, OptionalPart, Admits, AreOf, OnPresent}
+use Rattle.oer_read.specs.Components.{slot_of}
+use Rattle.oer_read.specs.Parts.{Parts, NoParts, NeededPart, OptionalPart, Admits, AreOf, OnPresent}
 
 abbrev pub link_roots : List Tag
 link_roots = context 0 ∷ context 1 ∷ []

@@ -3,10 +3,10 @@ use Rattle.std.specs.Prelude.{◌≡◌, ℕ, zero, suc, Bool, true, false, List
 use Rattle.std.specs.Bool.{Decides}
 use Rattle.std.proofs.Common.{sym, subst}
 use Rattle.std.proofs.lemmas.Bool.Decides.{same_from_decides}
-use Rattle.oer_forms.specs.Encoding.{IsTree}
-use Rattle.oer_forms.specs.Same.{Same, Alike, AlikeTrees, EachTree}
-use Rattle.oer_forms.specs.Spelled.{trees_of, list_of}
-use Rattle.oer_forms.specs.Tree.{Tree, ListOf, NoTrees, More}
+use Rattle.oer_spec.specs.Encoding.{IsTree}
+use Rattle.oer_spec.specs.Same.{Same, Alike, AlikeTrees, EachTree}
+use Rattle.oer_spec.specs.Spelled.{trees_of, list_of}
+use Rattle.oer_spec.specs.Tree.{Tree, ListOf, NoTrees, More}
 use Rattle.recursive_types.specs.Nests.{nest_tree, nest_items}
 use Rattle.recursive_types.specs.SameNests.{nest_eq, nests_same}
 use Rattle.recursive_types.specs.declared.nests.Nest.{Nest}

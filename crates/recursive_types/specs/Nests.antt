@@ -1,10 +1,10 @@
 -- The tree of a list of itself.
 use Rattle.std.specs.Prelude.{◌≡◌, true, List, [], ◌∷◌, map, refl}
 use Rattle.std.proofs.Common.{ap, sym, subst, ◌∙◌}
-use Rattle.oer_forms.specs.Encoding.{IsTree, AreTrees}
-use Rattle.oer_forms.specs.Same.{Alike, AlikeTrees, EachTree}
-use Rattle.oer_forms.specs.Spelled.{EachValue, IsAny, trees_of, list_of}
-use Rattle.oer_forms.specs.Tree.{Tree, ListOf, Trees, More}
+use Rattle.oer_spec.specs.Encoding.{IsTree, AreTrees}
+use Rattle.oer_spec.specs.Same.{Alike, AlikeTrees, EachTree}
+use Rattle.oer_spec.specs.Spelled.{EachValue, IsAny, trees_of, list_of}
+use Rattle.oer_spec.specs.Tree.{Tree, ListOf, Trees, More}
 use Rattle.recursive_types.specs.declared.nests.Nest.{Nest}
 use Rattle.recursive_types.specs.declared.nests.Nest.TheOpen.{Nest-F}
 use Rattle.recursive_types.specs.declared.nests.Nest.TheViews.{out-Nest, roll-Nest}

@@ -4,9 +4,9 @@ use Rattle.std.specs.Bool.{Decides}
 use Rattle.std.specs.Cmp.Lexicographic.{pointwise}
 use Rattle.std.proofs.Common.{ap, sym, subst, ◌∙◌}
 use Rattle.std.proofs.lemmas.Bool.Decides.{Decides-and}
-use Rattle.oer_forms.specs.Same.{Same, SameTrees}
-use Rattle.oer_forms.specs.Spelled.{trees_of, list_of}
-use Rattle.oer_forms.specs.Tree.{Tree}
+use Rattle.oer_spec.specs.Same.{Same, SameTrees}
+use Rattle.oer_spec.specs.Spelled.{trees_of, list_of}
+use Rattle.oer_spec.specs.Tree.{Tree}
 use Rattle.recursive_types.specs.Nests.{nest_tree, nest_of, nest_items}
 use Rattle.recursive_types.specs.contracts.nests.NestPartialEq.TheImpl.{ghosts}
 use Rattle.recursive_types.specs.contracts.nests.NestPartialEq.TheImpl.Laws.{is}

@@ -1,17 +1,17 @@
 -- The trees of a sequence and the choice in it, which may hold such a sequence.
 use Rattle.std.specs.Prelude.{◌≡◌, ◌<◌, ◌^◌, ℕ, false, List, [], ◌∷◌, pos, refl}
 use Rattle.std.proofs.Common.{ap, arith}
-use Rattle.asn1_base.specs.Bounds.{values_between}
-use Rattle.asn1_base.specs.declared.constraints.Constraints.{Constraints}
-use Rattle.asn1_base.specs.declared.tag.Tag.{Tag}
-use Rattle.oer_forms.specs.Encoding.{IsTree}
-use Rattle.oer_forms.specs.Same.{Alike}
-use Rattle.oer_forms.specs.Spelled.{IsAny, boolean, boolean_is, booleans_alike, null, null_is, nulls_alike, integer, integer_is, integers_alike}
-use Rattle.oer_forms.specs.Tree.{Tree, Choice, Struct, Rows, NoRows, Required}
+use Rattle.asn1_core.specs.Bounds.{values_between}
+use Rattle.asn1_core.specs.declared.constraints.Constraints.{Constraints}
+use Rattle.asn1_core.specs.declared.tag.Tag.{Tag}
+use Rattle.oer_spec.specs.Encoding.{IsTree}
+use Rattle.oer_spec.specs.Same.{Alike}
+use Rattle.oer_spec.specs.Spelled.{IsAny, boolean, boolean_is, booleans_alike, null, null_is, nulls_alike, integer, integer_is, integers_alike}
+use Rattle.oer_spec.specs.Tree.{Tree, Choice, Struct, Rows, NoRows, Required}
 use Rattle.sequence_types.specs.Tags.{context}
 use Rattle.recursive_types.specs.declared.top_levels.TopLevel.{TopLevel}
 use Rattle.recursive_types.specs.declared.top_levels.TestChoice.{TestChoice, Number1, Number2, Number3'}
-use Rattle.rasn_oer.specs.Parts.{Parts, NoParts, NeededPart, Admits, AreOf}
+use Rattle.oer_read.specs.Parts.{Parts, NoParts, NeededPart, Admits, AreOf}
 
 abbrev pub one_to_eight : Constraints
 one_to_eight = values_between (pos 1) (pos 8)

@@ -1,20 +1,20 @@
 //! A sequence whose default is as deep as what is read may be.
 ghost use Rattle.std.specs.Prelude.{◌≡◌, IfOk};
-ghost use Rattle.oer_forms.specs.Tree.{NoRows};
+ghost use Rattle.oer_spec.specs.Tree.{NoRows};
 ghost use Rattle.recursive_types.specs.DeepDefaults.{deep_lists, deep_default_rows, deep_default_parts};
 ghost use Rattle.recursive_types.specs.Nests.{nest_tree};
 ghost use Rattle.sequence_types.specs.Pairs.{none_of};
 ghost use Rattle.oer_write.specs.Rows.{InSequence};
-ghost use Rattle.rasn_oer.specs.Parts.{NoParts, ReadsParts};
+ghost use Rattle.oer_read.specs.Parts.{NoParts, ReadsParts};
 
 use crate::nests::Nest;
-use asn1_base::{
+use asn1_core::{
     AsnType, Class, Constraints, Constructed, DecodeError, DecodeErrorKind, EncodeError,
     EncodeErrorKind, Field, FieldPresence, Fields, Tag,
 };
-use oer_forms::Spelled;
+use oer_read::{Decode, Decoder};
+use oer_spec::Spelled;
 use oer_write::{Encode, Encoder};
-use rasn_oer::{Decode, Decoder};
 use std::alloc::{AllocError, Global};
 
 /// `SEQUENCE { n Nest DEFAULT 128 lists in one another }`
@@ -57,8 +57,8 @@ const DEEP_DEFAULT_FIELDS: &'static [Field<'static>] = &[Field {
 
 impl AsnType for DeepDefault {
     ghost use Rattle.std.specs.Prelude.{false, refl};
-    ghost use Rattle.asn1_base.specs.declared.tag.TheConstants.Tag.{SEQUENCE};
-    ghost use Rattle.asn1_base.specs.declared.constraints.TheConstants.Constraints.{NONE};
+    ghost use Rattle.asn1_core.specs.declared.tag.TheConstants.Tag.{SEQUENCE};
+    ghost use Rattle.asn1_core.specs.declared.constraints.TheConstants.Constraints.{NONE};
 
     ghost TAG = { SEQUENCE };
 
@@ -69,10 +69,6 @@ impl AsnType for DeepDefault {
     const CONSTRAINTS: Constraints = Constraints::NONE;
 
     ghost consistent = { refl };
-
-    ghost IS_CHOICE = { false };
-
-    const IS_CHOICE: bool = false;
 }
 
 impl Constructed<1, 0> for DeepDefault {
@@ -96,18 +92,21 @@ impl Constructed<1, 0> for DeepDefault {
     const EXTENDED_FIELDS: Option<Fields<0>> = None;
 
     fn root_fields() -> &'static [Field<'static>] {
-        DEEP_DEFAULT_FIELDS
+        Self::FIELDS.fields
     }
 
     fn addition_fields() -> &'static [Field<'static>] {
-        &[]
+        match Self::EXTENDED_FIELDS {
+            Some(table) => table.fields,
+            None => &[],
+        }
     }
 
     ghost tables = { record { root_count = refl; addition_count = refl; root_indexes = (refl, tt); addition_indexes = tt; only = λ e. refl; distinct = λ e. absurd (cc e) } };
 }
 
 impl Spelled for DeepDefault {
-    ghost use Rattle.oer_forms.specs.Spelled.{IsAny};
+    ghost use Rattle.oer_spec.specs.Spelled.{IsAny};
     ghost use Rattle.recursive_types.specs.DeepDefaults.{deep_default_tree, deep_default_is, deep_defaults_alike};
 
     ghost tree = { λ c v. deep_default_tree v };
@@ -151,7 +150,7 @@ impl Encode for DeepDefault {
     }
 }
 
-#[tactic(auto, using(rasn_oer::proofs::Reading::reading))]
+#[tactic(auto, using(oer_read::proofs::Reading::reading))]
 impl Decode for DeepDefault {
     ghost use Rattle.std.specs.Prelude.{⊤};
 

@@ -1,26 +1,26 @@
 //! Two types that contain each other.
 ghost use Rattle.std.specs.Prelude.{◌<◌, OnOk, IfErr};
-ghost use Rattle.oer_forms.specs.Spelled.{IsAny};
-ghost use Rattle.oer_forms.specs.Tree.{NoRows};
+ghost use Rattle.oer_spec.specs.Spelled.{IsAny};
+ghost use Rattle.oer_spec.specs.Tree.{NoRows};
 ghost use Rattle.recursive_types.specs.Links.{link_tree, link_rows, link_choice_tree, link_parts, link_child, link_tag};
 ghost use Rattle.sequence_types.specs.Pairs.{none_of};
 ghost use Rattle.sequence_types.specs.Tags.{context};
 ghost use Rattle.oer_write.specs.Choices.{WritesAlternative};
 ghost use Rattle.oer_write.specs.Rows.{InSequence};
 ghost use Rattle.oer_write.specs.Written.{Encodes, Refused};
-ghost use Rattle.rasn_oer.specs.Choices.{ReadsAlternative};
-ghost use Rattle.rasn_oer.specs.Law.{Decodes};
-ghost use Rattle.rasn_oer.specs.Parts.{NoParts, ReadsParts};
+ghost use Rattle.oer_read.specs.Choices.{ReadsAlternative};
+ghost use Rattle.oer_read.specs.Law.{Decodes};
+ghost use Rattle.oer_read.specs.Parts.{NoParts, ReadsParts};
 
-use asn1_base::{
+use asn1_core::{
     AsnType, Choice, Class, Constraints, Constructed, DecodeError, DecodeErrorKind, EncodeError,
     Field, FieldPresence, Fields, Tag,
 };
 use asn1_ints::Integer;
 use choice_types::put_alternative;
-use oer_forms::Spelled;
+use oer_read::{Decode, Decoder};
+use oer_spec::Spelled;
 use oer_write::{Encode, Encoder};
-use rasn_oer::{Decode, Decoder};
 use sequence_types::put_option;
 use std::alloc::Global;
 
@@ -74,8 +74,8 @@ const LINK_ROOTS: &'static [Tag] = &[
 
 impl AsnType for Link {
     ghost use Rattle.std.specs.Prelude.{false, refl};
-    ghost use Rattle.asn1_base.specs.declared.tag.TheConstants.Tag.{SEQUENCE};
-    ghost use Rattle.asn1_base.specs.declared.constraints.TheConstants.Constraints.{NONE};
+    ghost use Rattle.asn1_core.specs.declared.tag.TheConstants.Tag.{SEQUENCE};
+    ghost use Rattle.asn1_core.specs.declared.constraints.TheConstants.Constraints.{NONE};
 
     ghost TAG = { SEQUENCE };
 
@@ -86,10 +86,6 @@ impl AsnType for Link {
     const CONSTRAINTS: Constraints = Constraints::NONE;
 
     ghost consistent = { refl };
-
-    ghost IS_CHOICE = { false };
-
-    const IS_CHOICE: bool = false;
 }
 
 impl Constructed<2, 0> for Link {
@@ -113,11 +109,14 @@ impl Constructed<2, 0> for Link {
     const EXTENDED_FIELDS: Option<Fields<0>> = None;
 
     fn root_fields() -> &'static [Field<'static>] {
-        LINK_FIELDS
+        Self::FIELDS.fields
     }
 
     fn addition_fields() -> &'static [Field<'static>] {
-        &[]
+        match Self::EXTENDED_FIELDS {
+            Some(table) => table.fields,
+            None => &[],
+        }
     }
 
     ghost tables = { record { root_count = refl; addition_count = refl; root_indexes = (refl, (refl, tt)); addition_indexes = tt; only = λ e. refl; distinct = λ e. absurd (cc e) } };
@@ -137,8 +136,8 @@ impl Spelled for Link {
 
 impl AsnType for LinkChoice {
     ghost use Rattle.std.specs.Prelude.{true, refl};
-    ghost use Rattle.asn1_base.specs.declared.tag.TheConstants.Tag.{EOC};
-    ghost use Rattle.asn1_base.specs.declared.constraints.TheConstants.Constraints.{NONE};
+    ghost use Rattle.asn1_core.specs.declared.tag.TheConstants.Tag.{EOC};
+    ghost use Rattle.asn1_core.specs.declared.constraints.TheConstants.Constraints.{NONE};
 
     ghost TAG = { EOC };
 
@@ -149,8 +148,6 @@ impl AsnType for LinkChoice {
     const CONSTRAINTS: Constraints = Constraints::NONE;
 
     ghost consistent = { refl };
-
-    ghost IS_CHOICE = { true };
 
     const IS_CHOICE: bool = true;
 }
@@ -170,11 +167,11 @@ impl Choice for LinkChoice {
     const EXTENDED_VARIANTS: Option<&'static [Tag]> = None;
 
     fn root_tags() -> &'static [Tag] {
-        LINK_ROOTS
+        Self::VARIANTS
     }
 
     fn addition_tags() -> Option<&'static [Tag]> {
-        None
+        Self::EXTENDED_VARIANTS
     }
 
     ghost distinct = { (refl, (refl, tt)) };

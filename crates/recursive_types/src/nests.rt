@@ -1,15 +1,15 @@
 //! A list of itself.
 ghost use Rattle.std.specs.Prelude.{◌<◌, OnOk, IfErr};
-ghost use Rattle.oer_forms.specs.Spelled.{IsAny};
+ghost use Rattle.oer_spec.specs.Spelled.{IsAny};
 ghost use Rattle.recursive_types.specs.Nests.{nest_tree};
 ghost use Rattle.recursive_types.specs.declared.nests.Nest.{size-Nest};
 ghost use Rattle.oer_write.specs.Written.{WritesTree, Encodes, Refused};
-ghost use Rattle.rasn_oer.specs.Law.{Decodes};
+ghost use Rattle.oer_read.specs.Law.{Decodes};
 
-use asn1_base::{AsnType, Constraints, DecodeError, EncodeError, Tag};
-use oer_forms::{EqualAsSpelled, Spelled};
+use asn1_core::{AsnType, Constraints, DecodeError, EncodeError, Tag};
+use oer_read::{Decode, Decoder};
+use oer_spec::{EqualAsSpelled, Spelled};
 use oer_write::{Encode, Encoder};
-use rasn_oer::{Decode, Decoder};
 use std::alloc::Global;
 
 /// `Nest ::= SEQUENCE OF Nest`
@@ -20,8 +20,8 @@ pub struct Nest {
 
 impl AsnType for Nest {
     ghost use Rattle.std.specs.Prelude.{false, refl};
-    ghost use Rattle.asn1_base.specs.declared.tag.TheConstants.Tag.{SEQUENCE};
-    ghost use Rattle.asn1_base.specs.declared.constraints.TheConstants.Constraints.{NONE};
+    ghost use Rattle.asn1_core.specs.declared.tag.TheConstants.Tag.{SEQUENCE};
+    ghost use Rattle.asn1_core.specs.declared.constraints.TheConstants.Constraints.{NONE};
 
     ghost TAG = { SEQUENCE };
 
@@ -32,10 +32,6 @@ impl AsnType for Nest {
     const CONSTRAINTS: Constraints = Constraints::NONE;
 
     ghost consistent = { refl };
-
-    ghost IS_CHOICE = { false };
-
-    const IS_CHOICE: bool = false;
 }
 
 impl Spelled for Nest {

@@ -1,25 +1,25 @@
 //! A sequence and the choice in it, which may hold such a sequence.
 ghost use Rattle.std.specs.Prelude.{◌≡◌, ◌<◌, OnOk, IfErr};
-ghost use Rattle.oer_forms.specs.Spelled.{IsAny};
-ghost use Rattle.oer_forms.specs.Tree.{NoRows};
+ghost use Rattle.oer_spec.specs.Spelled.{IsAny};
+ghost use Rattle.oer_spec.specs.Tree.{NoRows};
 ghost use Rattle.sequence_types.specs.Pairs.{none_of};
 ghost use Rattle.sequence_types.specs.Tags.{context};
 ghost use Rattle.recursive_types.specs.TopLevels.{top_tree, top_rows, top_parts, test_tree, test_child, test_tag, small_number};
 ghost use Rattle.oer_write.specs.Choices.{WritesAlternative};
 ghost use Rattle.oer_write.specs.Rows.{InSequence};
 ghost use Rattle.oer_write.specs.Written.{Encodes, Refused};
-ghost use Rattle.rasn_oer.specs.Choices.{ReadsAlternative};
-ghost use Rattle.rasn_oer.specs.Law.{Decodes};
-ghost use Rattle.rasn_oer.specs.Parts.{NoParts, ReadsParts};
+ghost use Rattle.oer_read.specs.Choices.{ReadsAlternative};
+ghost use Rattle.oer_read.specs.Law.{Decodes};
+ghost use Rattle.oer_read.specs.Parts.{NoParts, ReadsParts};
 
-use asn1_base::{
+use asn1_core::{
     AsnType, Bounded, Choice, Class, Constraints, Constructed, DecodeError, DecodeErrorKind,
     EncodeError, Field, FieldPresence, Fields, Tag,
 };
 use choice_types::put_alternative;
-use oer_forms::Spelled;
+use oer_read::{Decode, Decoder};
+use oer_spec::Spelled;
 use oer_write::{Encode, Encoder};
-use rasn_oer::{Decode, Decoder};
 use std::alloc::Global;
 
 /// `SEQUENCE { test INTEGER (1..8), choice TestChoice }`
@@ -89,8 +89,8 @@ const TEST_ROOTS: &'static [Tag] = &[
 
 impl AsnType for TopLevel {
     ghost use Rattle.std.specs.Prelude.{false, refl};
-    ghost use Rattle.asn1_base.specs.declared.tag.TheConstants.Tag.{SEQUENCE};
-    ghost use Rattle.asn1_base.specs.declared.constraints.TheConstants.Constraints.{NONE};
+    ghost use Rattle.asn1_core.specs.declared.tag.TheConstants.Tag.{SEQUENCE};
+    ghost use Rattle.asn1_core.specs.declared.constraints.TheConstants.Constraints.{NONE};
 
     ghost TAG = { SEQUENCE };
 
@@ -101,10 +101,6 @@ impl AsnType for TopLevel {
     const CONSTRAINTS: Constraints = Constraints::NONE;
 
     ghost consistent = { refl };
-
-    ghost IS_CHOICE = { false };
-
-    const IS_CHOICE: bool = false;
 }
 
 impl Constructed<2, 0> for TopLevel {
@@ -126,11 +122,14 @@ impl Constructed<2, 0> for TopLevel {
     const EXTENDED_FIELDS: Option<Fields<0>> = None;
 
     fn root_fields() -> &'static [Field<'static>] {
-        TOP_FIELDS
+        Self::FIELDS.fields
     }
 
     fn addition_fields() -> &'static [Field<'static>] {
-        &[]
+        match Self::EXTENDED_FIELDS {
+            Some(table) => table.fields,
+            None => &[],
+        }
     }
 
     ghost tables = { record { root_count = refl; addition_count = refl; root_indexes = (refl, (refl, tt)); addition_indexes = tt; only = λ e. refl; distinct = λ e. absurd (cc e) } };
@@ -150,8 +149,8 @@ impl Spelled for TopLevel {
 
 impl AsnType for TestChoice {
     ghost use Rattle.std.specs.Prelude.{true, refl};
-    ghost use Rattle.asn1_base.specs.declared.tag.TheConstants.Tag.{EOC};
-    ghost use Rattle.asn1_base.specs.declared.constraints.TheConstants.Constraints.{NONE};
+    ghost use Rattle.asn1_core.specs.declared.tag.TheConstants.Tag.{EOC};
+    ghost use Rattle.asn1_core.specs.declared.constraints.TheConstants.Constraints.{NONE};
 
     ghost TAG = { EOC };
 
@@ -162,8 +161,6 @@ impl AsnType for TestChoice {
     const CONSTRAINTS: Constraints = Constraints::NONE;
 
     ghost consistent = { refl };
-
-    ghost IS_CHOICE = { true };
 
     const IS_CHOICE: bool = true;
 }
@@ -183,11 +180,11 @@ impl Choice for TestChoice {
     const EXTENDED_VARIANTS: Option<&'static [Tag]> = None;
 
     fn root_tags() -> &'static [Tag] {
-        TEST_ROOTS
+        Self::VARIANTS
     }
 
     fn addition_tags() -> Option<&'static [Tag]> {
-        None
+        Self::EXTENDED_VARIANTS
     }
 
     ghost distinct = { (refl, (refl, (refl, tt))) };

@@ -1,11 +1,11 @@
 -- What is kept of the slots of components with a default.
 use Rattle.std.specs.Prelude.{◌≡◌, Bool, true, false, refl}
-use Rattle.oer_forms.specs.Encoding.{IsTree, AreSlot}
-use Rattle.oer_forms.specs.Same.{SameSlot, Alike, AlikeSlot, OnSlot}
-use Rattle.oer_forms.specs.Tree.{Tree, Slot, Present}
+use Rattle.oer_spec.specs.Encoding.{IsTree, AreSlot}
+use Rattle.oer_spec.specs.Same.{SameSlot, Alike, AlikeSlot, OnSlot}
+use Rattle.oer_spec.specs.Tree.{Tree, Slot, Present}
 use Rattle.oer_write.specs.Rows.{present_unless}
-use Rattle.rasn_oer.specs.Defaults.{IsDefault}
-use Rattle.rasn_oer.specs.Parts.{Admits, OnPresent}
+use Rattle.oer_read.specs.Defaults.{IsDefault}
+use Rattle.oer_read.specs.Parts.{Admits, OnPresent}
 
 module _ {A : Type 0} (tree : A → Tree) (IsValue : A → Type 0) (eq : A → A → Bool) (default : A) (known : IsDefault tree IsValue eq default) where
   -- the slot of a value: absent where it is equal to the default
@@ -13,7 +13,7 @@ module _ {A : Type 0} (tree : A → Tree) (IsValue : A → Type 0) (eq : A → A
   default_slot v = present_unless (eq v default) (tree v)
 
   present_is : (b : Bool) (v : A) → IsValue v → AreSlot (present_unless b (tree v))
-  unfolding Rattle.oer_forms.specs.Encoding.IsTree
+  unfolding Rattle.oer_spec.specs.Encoding.IsTree
   present_is true v i = tt
   present_is false v i = known.is_tree v i
 
@@ -21,7 +21,7 @@ module _ {A : Type 0} (tree : A → Tree) (IsValue : A → Type 0) (eq : A → A
   default_slot_is v i = present_is (eq v default) v i
 
   present_differs : (b : Bool) (v : A) → IsValue v → eq v default ≡ b → SameSlot (present_unless b (tree v)) (Present (tree default)) → ⊥
-  unfolding Rattle.oer_forms.specs.Same.Same
+  unfolding Rattle.oer_spec.specs.Same.Same
   present_differs true v i e x = x
   present_differs false v i e x = absurd (cc (e, (known.decides v default i known.value).1 x))
 
@@ -47,12 +47,12 @@ module _ {A : Type 0} (tree : A → Tree) (IsValue : A → Type 0) (eq : A → A
   present_other false w j = known.alike default w known.value j
 
   present_own : (b : Bool) (v : A) → IsValue v → AlikeSlot (present_unless b (tree v)) (Present (tree default))
-  unfolding Rattle.oer_forms.specs.Same.Alike
+  unfolding Rattle.oer_spec.specs.Same.Alike
   present_own true v i = tt
   present_own false v i = known.alike v default i known.value
 
   present_both : (b c : Bool) (v w : A) → IsValue v → IsValue w → AlikeSlot (present_unless b (tree v)) (present_unless c (tree w))
-  unfolding Rattle.oer_forms.specs.Same.Alike
+  unfolding Rattle.oer_spec.specs.Same.Alike
   present_both true c v w i j = tt
   present_both false true v w i j = tt
   present_both false false v w i j = known.alike v w i j

@@ -1,17 +1,17 @@
 -- Sequences of components with a default, and of optional ones.
 use Rattle.std.specs.Prelude.{ℕ, ℤ, pos, false, List, [], ◌∷◌, Option, Some, None, refl}
 use Rattle.std.specs.Ordering.{int_eq}
-use Rattle.asn1_base.specs.Rows.{Row}
-use Rattle.asn1_base.specs.declared.fields.FieldPresence.TheVariants as presence
-use Rattle.asn1_base.specs.declared.constraints.TheConstants.Constraints.{NONE}
-use Rattle.oer_forms.specs.Encoding.{IsTree, AreSlot}
-use Rattle.oer_forms.specs.Same.{Alike, AlikeSlot, SameSlot}
-use Rattle.oer_forms.specs.Spelled.{IsAny, integer_is, integers_alike, integers_same}
-use Rattle.oer_forms.specs.Tree.{Tree, Rows, NoRows, Optional, Default, Struct, Slot, Present}
+use Rattle.asn1_core.specs.Rows.{Row}
+use Rattle.asn1_core.specs.declared.fields.FieldPresence.TheVariants as presence
+use Rattle.asn1_core.specs.declared.constraints.TheConstants.Constraints.{NONE}
+use Rattle.oer_spec.specs.Encoding.{IsTree, AreSlot}
+use Rattle.oer_spec.specs.Same.{Alike, AlikeSlot, SameSlot}
+use Rattle.oer_spec.specs.Spelled.{IsAny, integer_is, integers_alike, integers_same}
+use Rattle.oer_spec.specs.Tree.{Tree, Rows, NoRows, Optional, Default, Struct, Slot, Present}
 use Rattle.oer_write.specs.Rows.{present_unless}
-use Rattle.rasn_oer.specs.Components.{slot_of}
-use Rattle.rasn_oer.specs.Defaults.{IsDefault}
-use Rattle.rasn_oer.specs.Parts.{Parts, NoParts, OptionalPart, DefaultPart, Admits, OnPresent, AreOf}
+use Rattle.oer_read.specs.Components.{slot_of}
+use Rattle.oer_read.specs.Defaults.{IsDefault}
+use Rattle.oer_read.specs.Parts.{Parts, NoParts, OptionalPart, DefaultPart, Admits, OnPresent, AreOf}
 use Rattle.sequence_types.specs.Pairs.{IsWhole, plain_integer}
 use Rattle.sequence_types.specs.DefaultSlots.{AlikeDefaults, default_slot_is, default_slot_differs, default_slot_admitted, default_slots_alike}
 use Rattle.sequence_types.specs.Slots.{IfThere, slot_is, slots_alike, slot_made}
@@ -80,11 +80,11 @@ unfoldable pub default_integer_tree : DefaultInteger → Tree
 default_integer_tree v = Struct false false (default_integer_rows v) NoRows
 
 pub default_integer_is : (v : DefaultInteger) → IsTree (default_integer_tree v)
-unfolding default_integer_tree Rattle.oer_forms.specs.Encoding.IsTree
+unfolding default_integer_tree Rattle.oer_spec.specs.Encoding.IsTree
 default_integer_is v = ((integer_is NONE (pos 0), unless_is (pos 0) v.a, unless_differs (pos 0) v.a, tt), tt, (λ e. refl), (λ e. absurd (cc e)))
 
 pub default_integers_alike : (v w : DefaultInteger) → Alike (default_integer_tree v) (default_integer_tree w)
-unfolding default_integer_tree Rattle.oer_forms.specs.Same.Alike
+unfolding default_integer_tree Rattle.oer_spec.specs.Same.Alike
 default_integers_alike v w = (refl, refl, (let k = unless_alike (pos 0) v.a w.a in (refl, refl, k.itself, k.other, k.own, k.both, tt)), tt)
 
 abbrev pub default_integer_table : List Row
@@ -105,11 +105,11 @@ unfoldable pub default_and_optional_tree : DefaultAndOptional → Tree
 default_and_optional_tree v = Struct false false (default_and_optional_rows v) NoRows
 
 pub default_and_optional_is : (v : DefaultAndOptional) → IsTree (default_and_optional_tree v)
-unfolding default_and_optional_tree Rattle.oer_forms.specs.Encoding.IsTree
+unfolding default_and_optional_tree Rattle.oer_spec.specs.Encoding.IsTree
 default_and_optional_is v = ((integer_is NONE (pos 0), unless_is (pos 0) v.a, unless_differs (pos 0) v.a, (option_is v.b, tt)), tt, (λ e. refl), (λ e. absurd (cc e)))
 
 pub defaults_and_optionals_alike : (v w : DefaultAndOptional) → Alike (default_and_optional_tree v) (default_and_optional_tree w)
-unfolding default_and_optional_tree Rattle.oer_forms.specs.Same.Alike
+unfolding default_and_optional_tree Rattle.oer_spec.specs.Same.Alike
 defaults_and_optionals_alike v w = (refl, refl, (let k = unless_alike (pos 0) v.a w.a in (refl, refl, k.itself, k.other, k.own, k.both, (refl, options_alike v.b w.b, tt))), tt)
 
 abbrev pub default_and_optional_table : List Row
@@ -130,11 +130,11 @@ unfoldable pub all_default_tree : AllDefault → Tree
 all_default_tree v = Struct false false (all_default_rows v) NoRows
 
 pub all_default_is : (v : AllDefault) → IsTree (all_default_tree v)
-unfolding all_default_tree Rattle.oer_forms.specs.Encoding.IsTree
+unfolding all_default_tree Rattle.oer_spec.specs.Encoding.IsTree
 all_default_is v = ((integer_is NONE (pos 0), unless_is (pos 0) v.a, unless_differs (pos 0) v.a, (integer_is NONE (pos 1), unless_is (pos 1) v.b, unless_differs (pos 1) v.b, tt)), tt, (λ e. refl), (λ e. absurd (cc e)))
 
 pub all_defaults_alike : (v w : AllDefault) → Alike (all_default_tree v) (all_default_tree w)
-unfolding all_default_tree Rattle.oer_forms.specs.Same.Alike
+unfolding all_default_tree Rattle.oer_spec.specs.Same.Alike
 all_defaults_alike v w = (refl, refl, (let k = unless_alike (pos 0) v.a w.a in (refl, refl, k.itself, k.other, k.own, k.both, (let k = unless_alike (pos 1) v.b w.b in (refl, refl, k.itself, k.other, k.own, k.both, tt)))), tt)
 
 abbrev pub all_default_table : List Row
@@ -155,11 +155,11 @@ unfoldable pub all_optional_tree : AllOptional → Tree
 all_optional_tree v = Struct false false (all_optional_rows v) NoRows
 
 pub all_optional_is : (v : AllOptional) → IsTree (all_optional_tree v)
-unfolding all_optional_tree Rattle.oer_forms.specs.Encoding.IsTree
+unfolding all_optional_tree Rattle.oer_spec.specs.Encoding.IsTree
 all_optional_is v = ((option_is v.a, (option_is v.b, tt)), tt, (λ e. refl), (λ e. absurd (cc e)))
 
 pub all_optionals_alike : (v w : AllOptional) → Alike (all_optional_tree v) (all_optional_tree w)
-unfolding all_optional_tree Rattle.oer_forms.specs.Same.Alike
+unfolding all_optional_tree Rattle.oer_spec.specs.Same.Alike
 all_optionals_alike v w = (refl, refl, (refl, options_alike v.a w.a, (refl, options_alike v.b w.b, tt)), tt)
 
 abbrev pub all_optional_table : List Row

@@ -1,15 +1,15 @@
 -- Octet strings whose size no constraint bounds, and components of them that may be absent.
 use Rattle.std.specs.Prelude.{◌≡◌, Option, Some, None}
 use Rattle.std.proofs.Common.{subst, sym}
-use Rattle.asn1_base.specs.Octets.{Octets}
-use Rattle.asn1_base.specs.Texts.{AnyOctets}
-use Rattle.asn1_base.specs.declared.constraints.TheConstants.Constraints.{NONE}
-use Rattle.oer_forms.specs.Encoding.{AreSlot}
-use Rattle.oer_forms.specs.Same.{AlikeSlot}
-use Rattle.oer_forms.specs.Spelled.{IsTextOf, text, text_is, texts_alike}
-use Rattle.oer_forms.specs.Tree.{Tree, Slot}
-use Rattle.rasn_oer.specs.Components.{slot_of}
-use Rattle.rasn_oer.specs.Parts.{Admits, OnPresent}
+use Rattle.asn1_core.specs.Octets.{Octets}
+use Rattle.asn1_core.specs.Texts.{AnyOctets}
+use Rattle.asn1_core.specs.declared.constraints.TheConstants.Constraints.{NONE}
+use Rattle.oer_spec.specs.Encoding.{AreSlot}
+use Rattle.oer_spec.specs.Same.{AlikeSlot}
+use Rattle.oer_spec.specs.Spelled.{IsTextOf, text, text_is, texts_alike}
+use Rattle.oer_spec.specs.Tree.{Tree, Slot}
+use Rattle.oer_read.specs.Components.{slot_of}
+use Rattle.oer_read.specs.Parts.{Admits, OnPresent}
 use Rattle.sequence_types.specs.Slots.{IfThere, slot_is, slots_alike, slot_made}
 
 abbrev pub IsOctets : Octets → Type 0

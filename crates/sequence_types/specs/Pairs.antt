@@ -1,13 +1,13 @@
 -- Sequences of required components.
 use Rattle.std.specs.Prelude.{◌≡◌, ℤ, Bool, true, false, List, [], ◌∷◌, refl}
-use Rattle.asn1_base.specs.Rows.{Row}
-use Rattle.asn1_base.specs.declared.fields.FieldPresence.TheVariants as presence
-use Rattle.asn1_base.specs.declared.constraints.TheConstants.Constraints.{NONE}
-use Rattle.oer_forms.specs.Encoding.{IsTree}
-use Rattle.oer_forms.specs.Same.{Alike}
-use Rattle.oer_forms.specs.Spelled.{IsAny, boolean, integer, boolean_is, integer_is, booleans_alike, integers_alike}
-use Rattle.oer_forms.specs.Tree.{Tree, Rows, NoRows, Required, Struct}
-use Rattle.rasn_oer.specs.Parts.{Parts, NoParts, NeededPart, Admits, AreOf}
+use Rattle.asn1_core.specs.Rows.{Row}
+use Rattle.asn1_core.specs.declared.fields.FieldPresence.TheVariants as presence
+use Rattle.asn1_core.specs.declared.constraints.TheConstants.Constraints.{NONE}
+use Rattle.oer_spec.specs.Encoding.{IsTree}
+use Rattle.oer_spec.specs.Same.{Alike}
+use Rattle.oer_spec.specs.Spelled.{IsAny, boolean, integer, boolean_is, integer_is, booleans_alike, integers_alike}
+use Rattle.oer_spec.specs.Tree.{Tree, Rows, NoRows, Required, Struct}
+use Rattle.oer_read.specs.Parts.{Parts, NoParts, NeededPart, Admits, AreOf}
 use Rattle.sequence_types.specs.Tags.{context}
 use Rattle.sequence_types.specs.declared.pairs.Pair.{Pair}
 use Rattle.sequence_types.specs.declared.pairs.Nested.{Nested}
@@ -20,11 +20,11 @@ unfoldable pub pair_tree : Pair → Tree
 pair_tree p = Struct false false (pair_rows p) NoRows
 
 pub pair_is : (p : Pair) → IsTree (pair_tree p)
-unfolding pair_tree Rattle.oer_forms.specs.Encoding.IsTree
+unfolding pair_tree Rattle.oer_spec.specs.Encoding.IsTree
 pair_is p = ((integer_is NONE p.a, (integer_is NONE p.b, tt)), tt, (λ e. refl), (λ e. absurd (cc e)))
 
 pub pairs_alike : (p q : Pair) → Alike (pair_tree p) (pair_tree q)
-unfolding pair_tree Rattle.oer_forms.specs.Same.Alike
+unfolding pair_tree Rattle.oer_spec.specs.Same.Alike
 pairs_alike p q = (refl, refl, (refl, integers_alike NONE p.a q.a, (refl, integers_alike NONE p.b q.b, tt)), tt)
 
 abbrev pub nested_rows : Nested → Rows
@@ -34,22 +34,22 @@ unfoldable pub nested_tree : Nested → Tree
 nested_tree n = Struct false false (nested_rows n) NoRows
 
 pub nested_is : (n : Nested) → IsTree (nested_tree n)
-unfolding nested_tree Rattle.oer_forms.specs.Encoding.IsTree
+unfolding nested_tree Rattle.oer_spec.specs.Encoding.IsTree
 nested_is n = ((boolean_is n.a, (pair_is n.b, tt)), tt, (λ e. refl), (λ e. absurd (cc e)))
 
 pub nested_alike : (m n : Nested) → Alike (nested_tree m) (nested_tree n)
-unfolding nested_tree Rattle.oer_forms.specs.Same.Alike
+unfolding nested_tree Rattle.oer_spec.specs.Same.Alike
 nested_alike m n = (refl, refl, (refl, booleans_alike m.a n.a, (refl, pairs_alike m.b n.b, tt)), tt)
 
 unfoldable pub empty_tree : Empty → Tree
 empty_tree e = Struct false false NoRows NoRows
 
 pub empty_is : (e : Empty) → IsTree (empty_tree e)
-unfolding empty_tree Rattle.oer_forms.specs.Encoding.IsTree
+unfolding empty_tree Rattle.oer_spec.specs.Encoding.IsTree
 empty_is e = (tt, tt, (λ e. refl), (λ e. absurd (cc e)))
 
 pub empties_alike : (d e : Empty) → Alike (empty_tree d) (empty_tree e)
-unfolding empty_tree Rattle.oer_forms.specs.Same.Alike
+unfolding empty_tree Rattle.oer_spec.specs.Same.Alike
 empties_alike d e = (refl, refl, tt, tt)
 
 -- ---- tables

@@ -1,7 +1,7 @@
 -- Tags of components.
 use Rattle.std.specs.Prelude.{ℕ}
-use Rattle.asn1_base.specs.declared.tag.Class.TheVariants.{Context, Universal}
-use Rattle.asn1_base.specs.declared.tag.Tag.{Tag}
+use Rattle.asn1_core.specs.declared.tag.Class.TheVariants.{Context, Universal}
+use Rattle.asn1_core.specs.declared.tag.Tag.{Tag}
 
 -- counted in the context-specific class
 abbrev pub context : ℕ → Tag

@@ -1,19 +1,19 @@
 //! Sequences of components with a default, and of optional ones.
-ghost use Rattle.oer_forms.specs.Tree.{NoRows};
+ghost use Rattle.oer_spec.specs.Tree.{NoRows};
 ghost use Rattle.sequence_types.specs.Defaults.{default_integer_rows, default_integer_parts, default_and_optional_rows, default_and_optional_parts, all_default_rows, all_default_parts, all_optional_rows, all_optional_parts};
 ghost use Rattle.sequence_types.specs.Pairs.{none_of};
 ghost use Rattle.oer_write.specs.Rows.{InSequence};
-ghost use Rattle.rasn_oer.specs.Parts.{NoParts, ReadsParts};
+ghost use Rattle.oer_read.specs.Parts.{NoParts, ReadsParts};
 
 use crate::options::put_option;
-use asn1_base::{
+use asn1_core::{
     AsnType, Class, Constraints, Constructed, DecodeError, EncodeError, Field, FieldPresence,
     Fields, Tag,
 };
 use asn1_ints::Integer;
-use oer_forms::Spelled;
+use oer_read::{Decode, Decoder};
+use oer_spec::Spelled;
 use oer_write::{Encode, Encoder};
-use rasn_oer::{Decode, Decoder};
 use std::alloc::Global;
 
 /// `SEQUENCE { a INTEGER DEFAULT 0 }`
@@ -55,8 +55,8 @@ const DEFAULT_INTEGER_FIELDS: &'static [Field<'static>] = &[Field {
 
 impl AsnType for DefaultInteger {
     ghost use Rattle.std.specs.Prelude.{false, refl};
-    ghost use Rattle.asn1_base.specs.declared.tag.TheConstants.Tag.{SEQUENCE};
-    ghost use Rattle.asn1_base.specs.declared.constraints.TheConstants.Constraints.{NONE};
+    ghost use Rattle.asn1_core.specs.declared.tag.TheConstants.Tag.{SEQUENCE};
+    ghost use Rattle.asn1_core.specs.declared.constraints.TheConstants.Constraints.{NONE};
 
     ghost TAG = { SEQUENCE };
 
@@ -67,10 +67,6 @@ impl AsnType for DefaultInteger {
     const CONSTRAINTS: Constraints = Constraints::NONE;
 
     ghost consistent = { refl };
-
-    ghost IS_CHOICE = { false };
-
-    const IS_CHOICE: bool = false;
 }
 
 impl Constructed<1, 0> for DefaultInteger {
@@ -94,18 +90,21 @@ impl Constructed<1, 0> for DefaultInteger {
     const EXTENDED_FIELDS: Option<Fields<0>> = None;
 
     fn root_fields() -> &'static [Field<'static>] {
-        DEFAULT_INTEGER_FIELDS
+        Self::FIELDS.fields
     }
 
     fn addition_fields() -> &'static [Field<'static>] {
-        &[]
+        match Self::EXTENDED_FIELDS {
+            Some(table) => table.fields,
+            None => &[],
+        }
     }
 
     ghost tables = { record { root_count = refl; addition_count = refl; root_indexes = (refl, tt); addition_indexes = tt; only = λ e. refl; distinct = λ e. absurd (cc e) } };
 }
 
 impl Spelled for DefaultInteger {
-    ghost use Rattle.oer_forms.specs.Spelled.{IsAny};
+    ghost use Rattle.oer_spec.specs.Spelled.{IsAny};
     ghost use Rattle.sequence_types.specs.Defaults.{default_integer_tree, default_integer_is, default_integers_alike};
 
     ghost tree = { λ c v. default_integer_tree v };
@@ -142,7 +141,7 @@ impl Encode for DefaultInteger {
     }
 }
 
-#[tactic(auto, using(rasn_oer::proofs::Reading::reading))]
+#[tactic(auto, using(oer_read::proofs::Reading::reading))]
 impl Decode for DefaultInteger {
     ghost use Rattle.std.specs.Prelude.{⊤};
 
@@ -193,8 +192,8 @@ const DEFAULT_AND_OPTIONAL_FIELDS: &'static [Field<'static>] = &[
 
 impl AsnType for DefaultAndOptional {
     ghost use Rattle.std.specs.Prelude.{false, refl};
-    ghost use Rattle.asn1_base.specs.declared.tag.TheConstants.Tag.{SEQUENCE};
-    ghost use Rattle.asn1_base.specs.declared.constraints.TheConstants.Constraints.{NONE};
+    ghost use Rattle.asn1_core.specs.declared.tag.TheConstants.Tag.{SEQUENCE};
+    ghost use Rattle.asn1_core.specs.declared.constraints.TheConstants.Constraints.{NONE};
 
     ghost TAG = { SEQUENCE };
 
@@ -205,10 +204,6 @@ impl AsnType for DefaultAndOptional {
     const CONSTRAINTS: Constraints = Constraints::NONE;
 
     ghost consistent = { refl };
-
-    ghost IS_CHOICE = { false };
-
-    const IS_CHOICE: bool = false;
 }
 
 impl Constructed<2, 0> for DefaultAndOptional {
@@ -232,18 +227,21 @@ impl Constructed<2, 0> for DefaultAndOptional {
     const EXTENDED_FIELDS: Option<Fields<0>> = None;
 
     fn root_fields() -> &'static [Field<'static>] {
-        DEFAULT_AND_OPTIONAL_FIELDS
+        Self::FIELDS.fields
     }
 
     fn addition_fields() -> &'static [Field<'static>] {
-        &[]
+        match Self::EXTENDED_FIELDS {
+            Some(table) => table.fields,
+            None => &[],
+        }
     }
 
     ghost tables = { record { root_count = refl; addition_count = refl; root_indexes = (refl, (refl, tt)); addition_indexes = tt; only = λ e. refl; distinct = λ e. absurd (cc e) } };
 }
 
 impl Spelled for DefaultAndOptional {
-    ghost use Rattle.oer_forms.specs.Spelled.{IsAny};
+    ghost use Rattle.oer_spec.specs.Spelled.{IsAny};
     ghost use Rattle.sequence_types.specs.Defaults.{default_and_optional_tree, default_and_optional_is, defaults_and_optionals_alike};
 
     ghost tree = { λ c v. default_and_optional_tree v };
@@ -286,7 +284,7 @@ impl Encode for DefaultAndOptional {
     }
 }
 
-#[tactic(auto, using(rasn_oer::proofs::Reading::reading))]
+#[tactic(auto, using(oer_read::proofs::Reading::reading))]
 impl Decode for DefaultAndOptional {
     ghost use Rattle.std.specs.Prelude.{⊤};
 
@@ -341,8 +339,8 @@ const ALL_DEFAULT_FIELDS: &'static [Field<'static>] = &[
 
 impl AsnType for AllDefault {
     ghost use Rattle.std.specs.Prelude.{false, refl};
-    ghost use Rattle.asn1_base.specs.declared.tag.TheConstants.Tag.{SEQUENCE};
-    ghost use Rattle.asn1_base.specs.declared.constraints.TheConstants.Constraints.{NONE};
+    ghost use Rattle.asn1_core.specs.declared.tag.TheConstants.Tag.{SEQUENCE};
+    ghost use Rattle.asn1_core.specs.declared.constraints.TheConstants.Constraints.{NONE};
 
     ghost TAG = { SEQUENCE };
 
@@ -353,10 +351,6 @@ impl AsnType for AllDefault {
     const CONSTRAINTS: Constraints = Constraints::NONE;
 
     ghost consistent = { refl };
-
-    ghost IS_CHOICE = { false };
-
-    const IS_CHOICE: bool = false;
 }
 
 impl Constructed<2, 0> for AllDefault {
@@ -380,18 +374,21 @@ impl Constructed<2, 0> for AllDefault {
     const EXTENDED_FIELDS: Option<Fields<0>> = None;
 
     fn root_fields() -> &'static [Field<'static>] {
-        ALL_DEFAULT_FIELDS
+        Self::FIELDS.fields
     }
 
     fn addition_fields() -> &'static [Field<'static>] {
-        &[]
+        match Self::EXTENDED_FIELDS {
+            Some(table) => table.fields,
+            None => &[],
+        }
     }
 
     ghost tables = { record { root_count = refl; addition_count = refl; root_indexes = (refl, (refl, tt)); addition_indexes = tt; only = λ e. refl; distinct = λ e. absurd (cc e) } };
 }
 
 impl Spelled for AllDefault {
-    ghost use Rattle.oer_forms.specs.Spelled.{IsAny};
+    ghost use Rattle.oer_spec.specs.Spelled.{IsAny};
     ghost use Rattle.sequence_types.specs.Defaults.{all_default_tree, all_default_is, all_defaults_alike};
 
     ghost tree = { λ c v. all_default_tree v };
@@ -434,7 +431,7 @@ impl Encode for AllDefault {
     }
 }
 
-#[tactic(auto, using(rasn_oer::proofs::Reading::reading))]
+#[tactic(auto, using(oer_read::proofs::Reading::reading))]
 impl Decode for AllDefault {
     ghost use Rattle.std.specs.Prelude.{⊤};
 
@@ -490,8 +487,8 @@ const ALL_OPTIONAL_FIELDS: &'static [Field<'static>] = &[
 
 impl AsnType for AllOptional {
     ghost use Rattle.std.specs.Prelude.{false, refl};
-    ghost use Rattle.asn1_base.specs.declared.tag.TheConstants.Tag.{SEQUENCE};
-    ghost use Rattle.asn1_base.specs.declared.constraints.TheConstants.Constraints.{NONE};
+    ghost use Rattle.asn1_core.specs.declared.tag.TheConstants.Tag.{SEQUENCE};
+    ghost use Rattle.asn1_core.specs.declared.constraints.TheConstants.Constraints.{NONE};
 
     ghost TAG = { SEQUENCE };
 
@@ -502,10 +499,6 @@ impl AsnType for AllOptional {
     const CONSTRAINTS: Constraints = Constraints::NONE;
 
     ghost consistent = { refl };
-
-    ghost IS_CHOICE = { false };
-
-    const IS_CHOICE: bool = false;
 }
 
 impl Constructed<2, 0> for AllOptional {
@@ -529,18 +522,21 @@ impl Constructed<2, 0> for AllOptional {
     const EXTENDED_FIELDS: Option<Fields<0>> = None;
 
     fn root_fields() -> &'static [Field<'static>] {
-        ALL_OPTIONAL_FIELDS
+        Self::FIELDS.fields
     }
 
     fn addition_fields() -> &'static [Field<'static>] {
-        &[]
+        match Self::EXTENDED_FIELDS {
+            Some(table) => table.fields,
+            None => &[],
+        }
     }
 
     ghost tables = { record { root_count = refl; addition_count = refl; root_indexes = (refl, (refl, tt)); addition_indexes = tt; only = λ e. refl; distinct = λ e. absurd (cc e) } };
 }
 
 impl Spelled for AllOptional {
-    ghost use Rattle.oer_forms.specs.Spelled.{IsAny};
+    ghost use Rattle.oer_spec.specs.Spelled.{IsAny};
     ghost use Rattle.sequence_types.specs.Defaults.{all_optional_tree, all_optional_is, all_optionals_alike};
 
     ghost tree = { λ c v. all_optional_tree v };
@@ -583,7 +579,7 @@ impl Encode for AllOptional {
     }
 }
 
-#[tactic(auto, using(rasn_oer::proofs::Reading::reading))]
+#[tactic(auto, using(oer_read::proofs::Reading::reading))]
 impl Decode for AllOptional {
     ghost use Rattle.std.specs.Prelude.{⊤};
 

@@ -1,10 +1,10 @@
 //! Optional components, written by what there is of them.
 ghost use Rattle.std.specs.Prelude.{◌≡◌, true, false, OnOk, IfErr, IfSome};
-ghost use Rattle.oer_forms.specs.Spelled.{IsConsistent};
-ghost use Rattle.oer_forms.specs.Tree.{NoRows};
+ghost use Rattle.oer_spec.specs.Spelled.{IsConsistent};
+ghost use Rattle.oer_spec.specs.Tree.{NoRows};
 ghost use Rattle.oer_write.specs.Rows.{RowsDone, SetDone, RowsRefused, optional, slot_of};
 
-use asn1_base::{Constraints, EncodeError, Tag};
+use asn1_core::{Constraints, EncodeError, Tag};
 use oer_write::{Encode, Encoder};
 
 /// Writes an optional component of a sequence or a set, under constraints that stand in place of the type's own.

@@ -4,28 +4,28 @@ use Rattle.std.specs.Option.{option_map}
 use Rattle.std.specs.Ordering.{int_eq}
 use Rattle.std.specs.List.{AllByRecursion}
 use Rattle.std.specs.Result.{IfOk, IfErr, OnErr}
-use Rattle.asn1_base.specs.Rows.{Row}
-use Rattle.asn1_base.specs.Tags.{by_tag}
-use Rattle.asn1_base.specs.declared.constraints.TheConstants.Constraints.{NONE}
-use Rattle.asn1_base.specs.declared.error.DecodeError.{DecodeError}
-use Rattle.asn1_base.specs.declared.tag.Tag.{Tag}
-use Rattle.oer_forms.specs.Encoding.{IsTree}
-use Rattle.oer_forms.specs.Same.{Same, Alike}
-use Rattle.oer_forms.specs.Spelled.{IsAny, boolean, integer_is, integers_alike, integers_same}
-use Rattle.oer_forms.specs.Tree.{Rows, NoRows, Optional, Present}
+use Rattle.asn1_core.specs.Rows.{Row}
+use Rattle.asn1_core.specs.Tags.{by_tag}
+use Rattle.asn1_core.specs.declared.constraints.TheConstants.Constraints.{NONE}
+use Rattle.asn1_core.specs.declared.error.DecodeError.{DecodeError}
+use Rattle.asn1_core.specs.declared.tag.Tag.{Tag}
+use Rattle.oer_spec.specs.Encoding.{IsTree}
+use Rattle.oer_spec.specs.Same.{Same, Alike}
+use Rattle.oer_spec.specs.Spelled.{IsAny, boolean, integer_is, integers_alike, integers_same}
+use Rattle.oer_spec.specs.Tree.{Rows, NoRows, Optional, Present}
 use Rattle.oer_write.specs.Rows.{present_unless}
-use Rattle.rasn_oer.specs.Components.{slot_of}
-use Rattle.rasn_oer.specs.Defaults.{IsDefault}
-use Rattle.rasn_oer.specs.Law.{Decodes, IsForMemory, IsRear}
-use Rattle.rasn_oer.specs.Parts.{NoParts, OptionalPart, Admits, OnPresent}
-use Rattle.rasn_oer.specs.SetRows.{found, slot_of_found}
-use Rattle.rasn_oer.specs.Sets.{Call, SetRead, SetRefused}
-use Rattle.rasn_oer.specs.State.{State}
-use Rattle.rasn_oer.proofs.Alternatives.{Holds}
-use Rattle.rasn_oer.proofs.SetAdditions.{OneAdded, one_addition, asks_rear}
-use Rattle.rasn_oer.proofs.SetFound.{found_push, found_behind, AreApart, AllOut, SlotIs, found_agrees, required_found}
-use Rattle.rasn_oer.proofs.SetLaw.{Agrees, Came, set_law}
-use Rattle.rasn_oer.proofs.SetOrder.{all_by_tag}
+use Rattle.oer_read.specs.Components.{slot_of}
+use Rattle.oer_read.specs.Defaults.{IsDefault}
+use Rattle.oer_read.specs.Law.{Decodes, IsForMemory, IsRear}
+use Rattle.oer_read.specs.Parts.{NoParts, OptionalPart, Admits, OnPresent}
+use Rattle.oer_read.specs.SetRows.{found, slot_of_found}
+use Rattle.oer_read.specs.Sets.{Call, SetRead, SetRefused}
+use Rattle.oer_read.specs.State.{State}
+use Rattle.oer_read.proofs.Alternatives.{Holds}
+use Rattle.oer_read.proofs.SetAdditions.{OneAdded, one_addition, asks_rear}
+use Rattle.oer_read.proofs.SetFound.{found_push, found_behind, AreApart, AllOut, SlotIs, found_agrees, required_found}
+use Rattle.oer_read.proofs.SetLaw.{Agrees, Came, set_law}
+use Rattle.oer_read.proofs.SetOrder.{all_by_tag}
 use Rattle.sequence_types.specs.Defaults.{integer_slot, integer_unless, unless_differs}
 use Rattle.extensible_types.specs.Extensible.{flag_made}
 use Rattle.set_types.specs.Mixed.{mixed_table, mixed_row, mixed_additions, mixed_tree, mixed_index, mixed_field_tree, IsMixedAt, mixed_eq, mixed_default, mixed_slot, MixedReads, MixedMade, MixedAnswer, mixed_put, MixedSoFar, MixedIs}

@@ -2,27 +2,27 @@
 use Rattle.std.proofs.Common.{◌≡◌, ◌<◌, ◌++◌, ℕ, zero, suc, ℤ, Bool, false, Option, Some, None, Result, Ok, Err, List, [], ◌∷◌, refl, sym, ap, ◌∙◌, arith, pos, length}
 use Rattle.std.specs.Option.{option_map}
 use Rattle.std.specs.List.{AllByRecursion}
-use Rattle.asn1_base.specs.Rows.{Row}
-use Rattle.asn1_base.specs.Tags.{by_tag}
-use Rattle.oer_forms.specs.Tree.{Rows, NoRows, Slot, Present}
+use Rattle.asn1_core.specs.Rows.{Row}
+use Rattle.asn1_core.specs.Tags.{by_tag}
+use Rattle.oer_spec.specs.Tree.{Rows, NoRows, Slot, Present}
 use Rattle.sequence_types.specs.Pairs.{plain_integer, IsWhole}
 use Rattle.set_types.specs.Sets.{application, foo_table, foo_tree, FooAnswer, foo_index, foo_number, foo_field_tree, foo_field_at, IsFooAt, foo_slot, foo_put, FooMade}
 use Rattle.set_types.specs.declared.sets.Foo.{Foo}
 use Rattle.set_types.specs.declared.sets.FooField.{FooField}
 use Rattle.set_types.specs.declared.sets.FooField.TheVariants.{A, B, C}
-use Rattle.rasn_oer.specs.Components.{slot_of}
-use Rattle.rasn_oer.specs.Parts.{Admits, OnPresent}
-use Rattle.rasn_oer.specs.SetRows.{slot_of_found}
-use Rattle.rasn_oer.proofs.Alternatives.{Holds}
-use Rattle.rasn_oer.proofs.SetFound.{found_push, AreApart, SlotIs, found_agrees, NoneAdded, no_additions, none_out}
-use Rattle.rasn_oer.proofs.SetLaw.{Agrees, Came, set_law}
-use Rattle.rasn_oer.proofs.SetOrder.{all_by_tag}
-use Rattle.rasn_oer.specs.Law.{Decodes, IsForMemory}
-use Rattle.rasn_oer.specs.Parts.{NoParts}
-use Rattle.rasn_oer.specs.Sets.{Call, SetRead, SetRefused}
-use Rattle.rasn_oer.specs.State.{State}
-use Rattle.asn1_base.specs.declared.error.DecodeError.{DecodeError}
-use Rattle.oer_forms.specs.Spelled.{IsAny}
+use Rattle.oer_read.specs.Components.{slot_of}
+use Rattle.oer_read.specs.Parts.{Admits, OnPresent}
+use Rattle.oer_read.specs.SetRows.{slot_of_found}
+use Rattle.oer_read.proofs.Alternatives.{Holds}
+use Rattle.oer_read.proofs.SetFound.{found_push, AreApart, SlotIs, found_agrees, NoneAdded, no_additions, none_out}
+use Rattle.oer_read.proofs.SetLaw.{Agrees, Came, set_law}
+use Rattle.oer_read.proofs.SetOrder.{all_by_tag}
+use Rattle.oer_read.specs.Law.{Decodes, IsForMemory}
+use Rattle.oer_read.specs.Parts.{NoParts}
+use Rattle.oer_read.specs.Sets.{Call, SetRead, SetRefused}
+use Rattle.oer_read.specs.State.{State}
+use Rattle.asn1_core.specs.declared.error.DecodeError.{DecodeError}
+use Rattle.oer_spec.specs.Spelled.{IsAny}
 use Rattle.sequence_types.specs.Tags.{context}
 use Rattle.std.specs.Result.{IfOk, IfErr, OnErr}
 

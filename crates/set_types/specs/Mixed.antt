@@ -2,21 +2,21 @@
 use Rattle.std.specs.Prelude.{◌≡◌, ℕ, zero, suc, ℤ, pos, Bool, true, false, List, [], ◌∷◌, Option, Some, None, Result, Ok, Err, refl, ⊤, unwrap_or}
 use Rattle.std.specs.Option.{option_map}
 use Rattle.std.specs.Ordering.{int_eq}
-use Rattle.asn1_base.specs.Rows.{Row}
-use Rattle.asn1_base.specs.declared.constraints.TheConstants.Constraints.{NONE}
-use Rattle.asn1_base.specs.declared.error.DecodeError.{DecodeError}
-use Rattle.asn1_base.specs.declared.fields.FieldPresence.TheVariants as presence
-use Rattle.asn1_base.specs.declared.tag.Tag.{Tag}
-use Rattle.oer_forms.specs.Encoding.{IsTree}
-use Rattle.oer_forms.specs.Reading.{bool_at}
-use Rattle.oer_forms.specs.Same.{Alike}
-use Rattle.oer_forms.specs.Spelled.{IsAny, boolean, boolean_is, booleans_alike, integer_is}
-use Rattle.oer_forms.specs.Tree.{Tree, Rows, NoRows, Required, Optional, Default, Struct, Slot, Present}
-use Rattle.rasn_oer.specs.Answers.{LeafAnswers}
-use Rattle.rasn_oer.specs.Components.{slot_of}
-use Rattle.rasn_oer.specs.Law.{Decodes}
-use Rattle.rasn_oer.specs.SetRows.{found, ReadsDefault, AsksAddition}
-use Rattle.rasn_oer.specs.State.{State}
+use Rattle.asn1_core.specs.Rows.{Row}
+use Rattle.asn1_core.specs.declared.constraints.TheConstants.Constraints.{NONE}
+use Rattle.asn1_core.specs.declared.error.DecodeError.{DecodeError}
+use Rattle.asn1_core.specs.declared.fields.FieldPresence.TheVariants as presence
+use Rattle.asn1_core.specs.declared.tag.Tag.{Tag}
+use Rattle.oer_spec.specs.Encoding.{IsTree}
+use Rattle.oer_spec.specs.Reading.{bool_at}
+use Rattle.oer_spec.specs.Same.{Alike}
+use Rattle.oer_spec.specs.Spelled.{IsAny, boolean, boolean_is, booleans_alike, integer_is}
+use Rattle.oer_spec.specs.Tree.{Tree, Rows, NoRows, Required, Optional, Default, Struct, Slot, Present}
+use Rattle.oer_read.specs.Answers.{LeafAnswers}
+use Rattle.oer_read.specs.Components.{slot_of}
+use Rattle.oer_read.specs.Law.{Decodes}
+use Rattle.oer_read.specs.SetRows.{found, ReadsDefault, AsksAddition}
+use Rattle.oer_read.specs.State.{State}
 use Rattle.sequence_types.specs.Defaults.{integer_slot, integer_unless, option_is, options_alike, unless_is, unless_differs, unless_alike}
 use Rattle.extensible_types.specs.Extensible.{flag_is, flags_alike}
 use Rattle.sequence_types.specs.Pairs.{plain_integer}
@@ -43,11 +43,11 @@ unfoldable pub mixed_tree : MixedSet → Tree
 mixed_tree v = Struct true true (mixed_roots v) (mixed_additions v)
 
 pub mixed_is : (v : MixedSet) → IsTree (mixed_tree v)
-unfolding mixed_tree Rattle.oer_forms.specs.Encoding.IsTree
+unfolding mixed_tree Rattle.oer_spec.specs.Encoding.IsTree
 mixed_is v = ((boolean_is v.x, (option_is v.y, (integer_is NONE (pos 0), unless_is (pos 0) v.z, unless_differs (pos 0) v.z, tt))), (flag_is v.n, tt), (λ e. absurd (cc e)), (λ e. (refl, (refl, (refl, tt)))))
 
 pub mixed_alike : (v w : MixedSet) → Alike (mixed_tree v) (mixed_tree w)
-unfolding mixed_tree Rattle.oer_forms.specs.Same.Alike
+unfolding mixed_tree Rattle.oer_spec.specs.Same.Alike
 mixed_alike v w = (refl, refl, (refl, booleans_alike v.x w.x, (refl, options_alike v.y w.y, (let k = unless_alike (pos 0) v.z w.z in (refl, refl, k.itself, k.other, k.own, k.both, tt)))), (refl, flags_alike v.n w.n, tt))
 
 -- ---- its components

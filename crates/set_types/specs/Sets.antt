@@ -1,16 +1,16 @@
 -- Sets.
 use Rattle.std.specs.Prelude.{◌≡◌, ℕ, zero, suc, ℤ, true, false, List, [], ◌∷◌, Some, Result, Ok, Err, refl}
 use Rattle.std.specs.Option.{option_map}
-use Rattle.asn1_base.specs.Rows.{Row}
-use Rattle.asn1_base.specs.declared.error.DecodeError.{DecodeError}
-use Rattle.asn1_base.specs.declared.fields.FieldPresence.TheVariants as presence
-use Rattle.asn1_base.specs.declared.tag.Class.TheVariants.{Application}
-use Rattle.asn1_base.specs.declared.tag.Tag.{Tag}
-use Rattle.oer_forms.specs.Encoding.{IsTree}
-use Rattle.oer_forms.specs.Same.{Alike}
-use Rattle.oer_forms.specs.Tree.{Tree, Rows, NoRows, Optional, Struct, Slot}
-use Rattle.rasn_oer.specs.Components.{slot_of}
-use Rattle.rasn_oer.specs.SetRows.{found}
+use Rattle.asn1_core.specs.Rows.{Row}
+use Rattle.asn1_core.specs.declared.error.DecodeError.{DecodeError}
+use Rattle.asn1_core.specs.declared.fields.FieldPresence.TheVariants as presence
+use Rattle.asn1_core.specs.declared.tag.Class.TheVariants.{Application}
+use Rattle.asn1_core.specs.declared.tag.Tag.{Tag}
+use Rattle.oer_spec.specs.Encoding.{IsTree}
+use Rattle.oer_spec.specs.Same.{Alike}
+use Rattle.oer_spec.specs.Tree.{Tree, Rows, NoRows, Optional, Struct, Slot}
+use Rattle.oer_read.specs.Components.{slot_of}
+use Rattle.oer_read.specs.SetRows.{found}
 use Rattle.sequence_types.specs.Pairs.{plain_integer}
 use Rattle.sequence_types.specs.Defaults.{option_is, options_alike}
 use Rattle.sequence_types.specs.Tags.{context}
@@ -33,11 +33,11 @@ unfoldable pub foo_tree : Foo → Tree
 foo_tree f = Struct true false (foo_rows f) NoRows
 
 pub foo_is : (f : Foo) → IsTree (foo_tree f)
-unfolding foo_tree Rattle.oer_forms.specs.Encoding.IsTree
+unfolding foo_tree Rattle.oer_spec.specs.Encoding.IsTree
 foo_is f = ((option_is f.a, (option_is f.b, (option_is f.c, tt))), tt, (λ e. refl), (λ e. (refl, (refl, (refl, tt)))))
 
 pub foos_alike : (f g : Foo) → Alike (foo_tree f) (foo_tree g)
-unfolding foo_tree Rattle.oer_forms.specs.Same.Alike
+unfolding foo_tree Rattle.oer_spec.specs.Same.Alike
 foos_alike f g = (refl, refl, (refl, options_alike f.a g.a, (refl, options_alike f.b g.b, (refl, options_alike f.c g.c, tt))), tt)
 
 -- a component's row, and its tree

@@ -1,21 +1,21 @@
 //! A set with a required component, an optional one, one with a default, and an extension addition.
 ghost use Rattle.std.specs.Prelude.{◌≡◌, pos};
-ghost use Rattle.oer_forms.specs.Spelled.{IsAny, boolean};
+ghost use Rattle.oer_spec.specs.Spelled.{IsAny, boolean};
 ghost use Rattle.set_types.specs.Mixed.{mixed_roots, mixed_additions, mixed_field_tree, mixed_eq, IsMixedAt, boolean_says, MixedReads, mixed_put, MixedSoFar, MixedIs, MixedAnswer};
 ghost use Rattle.set_types.specs.declared.mixed.MixedField.TheVariants as mixed_field;
 ghost use Rattle.oer_write.specs.Rows.{InSet};
-ghost use Rattle.rasn_oer.specs.Law.{Decodes};
-ghost use Rattle.rasn_oer.specs.SetRows.{ReadsDefault, AsksAddition};
+ghost use Rattle.oer_read.specs.Law.{Decodes};
+ghost use Rattle.oer_read.specs.SetRows.{ReadsDefault, AsksAddition};
 
 use crate::sets::put_set_option;
-use asn1_base::{
+use asn1_core::{
     AsnType, Class, Codec, Constraints, Constructed, DecodeError, DecodeErrorKind, EncodeError,
     Field, FieldPresence, Fields, Tag,
 };
 use asn1_ints::Integer;
-use oer_forms::Spelled;
+use oer_read::{Decode, Decoder};
+use oer_spec::Spelled;
 use oer_write::{Encode, Encoder};
-use rasn_oer::{Decode, Decoder};
 use std::alloc::Global;
 
 /// `SET { x [2] BOOLEAN, y [1] INTEGER OPTIONAL, z [APPLICATION 1] INTEGER DEFAULT 0, ..., n [0] BOOLEAN OPTIONAL }`
@@ -87,8 +87,8 @@ const MIXED_ADDITIONS: &'static [Field<'static>] = &[Field {
 
 impl AsnType for MixedSet {
     ghost use Rattle.std.specs.Prelude.{false, refl};
-    ghost use Rattle.asn1_base.specs.declared.tag.TheConstants.Tag.{SET};
-    ghost use Rattle.asn1_base.specs.declared.constraints.TheConstants.Constraints.{NONE};
+    ghost use Rattle.asn1_core.specs.declared.tag.TheConstants.Tag.{SET};
+    ghost use Rattle.asn1_core.specs.declared.constraints.TheConstants.Constraints.{NONE};
 
     ghost TAG = { SET };
 
@@ -99,10 +99,6 @@ impl AsnType for MixedSet {
     const CONSTRAINTS: Constraints = Constraints::NONE;
 
     ghost consistent = { refl };
-
-    ghost IS_CHOICE = { false };
-
-    const IS_CHOICE: bool = false;
 }
 
 impl Constructed<3, 1> for MixedSet {
@@ -128,18 +124,21 @@ impl Constructed<3, 1> for MixedSet {
     });
 
     fn root_fields() -> &'static [Field<'static>] {
-        MIXED_FIELDS
+        Self::FIELDS.fields
     }
 
     fn addition_fields() -> &'static [Field<'static>] {
-        MIXED_ADDITIONS
+        match Self::EXTENDED_FIELDS {
+            Some(table) => table.fields,
+            None => &[],
+        }
     }
 
     ghost tables = { record { root_count = refl; addition_count = refl; root_indexes = (refl, (refl, (refl, tt))); addition_indexes = (refl, tt); only = λ e. absurd (cc e); distinct = λ e. (refl, (refl, (refl, tt))) } };
 }
 
 impl Spelled for MixedSet {
-    ghost use Rattle.oer_forms.specs.Spelled.{IsAny};
+    ghost use Rattle.oer_spec.specs.Spelled.{IsAny};
     ghost use Rattle.set_types.specs.Mixed.{mixed_tree, mixed_is, mixed_alike};
 
     ghost tree = { λ c v. mixed_tree v };

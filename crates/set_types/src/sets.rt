@@ -1,19 +1,19 @@
 //! Sets: components in the order of their tags, whatever the order of the text.
 ghost use Rattle.std.specs.Prelude.{◌≡◌, ◌<◌, true, OnOk, IfErr};
-ghost use Rattle.oer_forms.specs.Spelled.{IsConsistent};
-ghost use Rattle.oer_forms.specs.Tree.{NoRows};
+ghost use Rattle.oer_spec.specs.Spelled.{IsConsistent};
+ghost use Rattle.oer_spec.specs.Tree.{NoRows};
 ghost use Rattle.set_types.specs.Sets.{foo_rows, foo_field_at, foo_field_tree, IsFooAt, foo_put, FooMade, FooAnswer};
 ghost use Rattle.oer_write.specs.Rows.{InSet, SetDone, RowsRefused, optional, slot_of};
-ghost use Rattle.rasn_oer.specs.Law.{Decodes};
+ghost use Rattle.oer_read.specs.Law.{Decodes};
 
-use asn1_base::{
+use asn1_core::{
     AsnType, Class, Constraints, Constructed, DecodeError, DecodeErrorKind, EncodeError, Field,
     FieldPresence, Fields, Tag,
 };
 use asn1_ints::Integer;
-use oer_forms::Spelled;
+use oer_read::{Decode, Decoder};
+use oer_spec::Spelled;
 use oer_write::{Encode, Encoder};
-use rasn_oer::{Decode, Decoder};
 use std::alloc::Global;
 
 /// `SET { a [444] INTEGER OPTIONAL, b [5] INTEGER OPTIONAL, c [APPLICATION 9] INTEGER OPTIONAL }`
@@ -64,8 +64,8 @@ const FOO_FIELDS: &'static [Field<'static>] = &[
 
 impl AsnType for Foo {
     ghost use Rattle.std.specs.Prelude.{false, refl};
-    ghost use Rattle.asn1_base.specs.declared.tag.TheConstants.Tag.{SET};
-    ghost use Rattle.asn1_base.specs.declared.constraints.TheConstants.Constraints.{NONE};
+    ghost use Rattle.asn1_core.specs.declared.tag.TheConstants.Tag.{SET};
+    ghost use Rattle.asn1_core.specs.declared.constraints.TheConstants.Constraints.{NONE};
 
     ghost TAG = { SET };
 
@@ -76,10 +76,6 @@ impl AsnType for Foo {
     const CONSTRAINTS: Constraints = Constraints::NONE;
 
     ghost consistent = { refl };
-
-    ghost IS_CHOICE = { false };
-
-    const IS_CHOICE: bool = false;
 }
 
 impl Constructed<3, 0> for Foo {
@@ -101,18 +97,21 @@ impl Constructed<3, 0> for Foo {
     const EXTENDED_FIELDS: Option<Fields<0>> = None;
 
     fn root_fields() -> &'static [Field<'static>] {
-        FOO_FIELDS
+        Self::FIELDS.fields
     }
 
     fn addition_fields() -> &'static [Field<'static>] {
-        &[]
+        match Self::EXTENDED_FIELDS {
+            Some(table) => table.fields,
+            None => &[],
+        }
     }
 
     ghost tables = { record { root_count = refl; addition_count = refl; root_indexes = (refl, (refl, (refl, tt))); addition_indexes = tt; only = λ e. refl; distinct = λ e. (refl, (refl, (refl, tt))) } };
 }
 
 impl Spelled for Foo {
-    ghost use Rattle.oer_forms.specs.Spelled.{IsAny};
+    ghost use Rattle.oer_spec.specs.Spelled.{IsAny};
     ghost use Rattle.set_types.specs.Sets.{foo_tree, foo_is, foos_alike};
 
     ghost tree = { λ c v. foo_tree v };

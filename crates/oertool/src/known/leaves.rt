@@ -1,8 +1,8 @@
 use crate::known::OnType;
-use asn1_base::Utf8String;
+use asn1_core::Utf8String;
 use asn1_ints::Integer;
+use asn1_strings::{BitString, ObjectIdentifier, OctetString};
 use asn1_times::{Date, GeneralizedTime, UtcTime};
-use asn1_values::{BitString, ObjectIdentifier, OctetString};
 use oer_types::{Enum4, GreatPositive, Small};
 
 /// Does it with the type without parts of that word; the work again where none has it.

@@ -1,5 +1,5 @@
 use crate::known::OnType;
-use asn1_base::SetOf;
+use asn1_core::SetOf;
 use asn1_ints::Integer;
 use oer_types::{
     DeepDefault, DefaultAndOptional, DefaultInteger, Empty, EmptyExtensible, ExtendedOptional, Foo,

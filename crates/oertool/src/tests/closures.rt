@@ -1,8 +1,8 @@
 //! Closures that ask what they are not to ask, or not all of it.
 ghost use Rattle.std.specs.Prelude.{OnOk};
-ghost use Rattle.rasn_oer.specs.Law.{IsRear};
+ghost use Rattle.oer_read.specs.Law.{IsRear};
 
-use asn1_base::{AsnType, Class, Codec, DecodeError, DecodeErrorKind, Tag};
+use asn1_core::{AsnType, Class, Codec, DecodeError, DecodeErrorKind, Tag};
 use asn1_ints::Integer;
 use oer_types::{AllOptional, MixedSet, Sequence1};
 use rasn_oer::{Decode, Decoder, DecoderOptions};

@@ -1,5 +1,5 @@
-use asn1_base::{Codec, DecodeError, DecodeErrorKind};
-use asn1_values::OctetString;
+use asn1_core::{Codec, DecodeError, DecodeErrorKind};
+use asn1_strings::OctetString;
 use oer_types::{DefaultInteger, Holder1, Holder2, Outer, Sequence1, Sequence2, Sequence5};
 use rasn_oer::coer::CodecError;
 use rasn_oer::{coer, oer};

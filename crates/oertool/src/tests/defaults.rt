@@ -1,9 +1,9 @@
 //! Components with a default, optional ones, and boxes.
 use crate::tests::integer;
 use crate::tests::spelled::is_spelled;
-use asn1_base::{AsnType, Constraints, DecodeError, DecodeErrorKind};
+use asn1_core::{AsnType, Constraints, DecodeError, DecodeErrorKind};
 use asn1_ints::Integer;
-use asn1_values::OctetString;
+use asn1_strings::OctetString;
 use oer_types::{AllDefault, AllOptional, ConstrainedOptions, DeepDefault, HashedId3, Nest};
 use rasn_oer::{Decoder, DecoderOptions, coer, oer};
 use std::alloc::{AllocError, Global};

@@ -1,8 +1,8 @@
 //! Additions with a default, many optional ones, and a required addition that is missing.
 use crate::tests::integer;
 use crate::tests::spelled::is_spelled;
-use asn1_base::{Codec, DecodeError, DecodeErrorKind, Tag};
-use asn1_values::OctetString;
+use asn1_core::{Codec, DecodeError, DecodeErrorKind, Tag};
+use asn1_strings::OctetString;
 use oer_types::{AddDef, ExtendedOptional, SequenceDuplicatesExtended};
 use rasn_oer::{coer, oer};
 use std::process::Abort;

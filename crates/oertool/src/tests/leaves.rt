@@ -3,12 +3,12 @@ use crate::tests::codec_of;
 use crate::tests::leaf_vectors::TYPE_ROWS;
 use crate::tests::spelled::there;
 use crate::tests::words::{UnderConstraints, sizes, with_word};
-use asn1_base::{
+use asn1_core::{
     Codec, Constraints, DecodeErrorKind, EncodeError, EncodeErrorKind, Enumerated, Tag,
 };
 use asn1_ints::Integer;
+use asn1_strings::{BitString, BmpString, ObjectIdentifier, OctetString};
 use asn1_times::{GeneralizedTime, UtcTime};
-use asn1_values::{BitString, BmpString, ObjectIdentifier, OctetString};
 use oer_types::{Enum3, HashedId3, Negative, Positive};
 use oer_write::enc::EncoderOptions;
 use oer_write::{Encode, Encoder};

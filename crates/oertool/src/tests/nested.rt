@@ -1,7 +1,7 @@
 //! Choices, and types that contain themselves.
 use crate::tests::integer;
 use crate::tests::spelled::is_spelled;
-use asn1_base::{Class, Codec, DecodeError, DecodeErrorKind, Tag};
+use asn1_core::{Class, Codec, DecodeError, DecodeErrorKind, Tag};
 use oer_types::{BoolChoice, Link, LinkChoice, PriorityChoice, WideChoice};
 use rasn_oer::{coer, oer};
 use std::test::Fail;

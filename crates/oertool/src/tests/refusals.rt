@@ -1,11 +1,11 @@
 //! Refusals and their fields, and what is left then: at the front of an input, and behind a boolean.
-ghost use Rattle.oer_forms.specs.Spelled.{IsConsistent};
+ghost use Rattle.oer_spec.specs.Spelled.{IsConsistent};
 
 use crate::tests::codec_of;
 use crate::tests::leaf_vectors::TYPE_ROWS;
 use crate::tests::vectors::ROWS;
 use crate::tests::words::{UnderConstraints, with_word};
-use asn1_base::{Codec, Constraints};
+use asn1_core::{Codec, Constraints};
 use oer_write::Encode;
 use rasn_oer::{Decode, Decoder, DecoderOptions};
 use std::alloc::Global;

@@ -1,9 +1,9 @@
 //! Sequences, sets, choices and lists, and their octets.
 use crate::tests::integer;
 use crate::tests::spelled::{is_read_as, spells};
-use asn1_base::{EncodeErrorKind, SetOf};
+use asn1_core::{EncodeErrorKind, SetOf};
 use asn1_ints::{ConstrainedInteger, Integer, IntegerRange};
-use asn1_values::OctetString;
+use asn1_strings::OctetString;
 use oer_types::{
     DefaultAndOptional, DefaultInteger, EmptyExtensible, Foo, Group6, Holder1, Holder2,
     ManyOptional, MixedSet, Nest, Omitted, OnlyChoice, Outer, PriorityChoice, Sequence1, Sequence2,

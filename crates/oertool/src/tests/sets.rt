@@ -2,16 +2,16 @@
 ghost use Rattle.std.specs.Prelude.{pos, true, false, OnOk};
 ghost use Rattle.sequence_types.specs.Defaults.{integer_unless};
 ghost use Rattle.sequence_types.specs.Pairs.{plain_integer};
-ghost use Rattle.oer_forms.specs.Spelled.{boolean};
-ghost use Rattle.oer_forms.specs.Tree.{NoRows, Required, Optional, Default, Present, Struct};
+ghost use Rattle.oer_spec.specs.Spelled.{boolean};
+ghost use Rattle.oer_spec.specs.Tree.{NoRows, Required, Optional, Default, Present, Struct};
 ghost use Rattle.sequence_types.specs.Tags.{context};
 ghost use Rattle.set_types.specs.Sets.{application};
 ghost use Rattle.oer_write.specs.Rows.{InSet};
 ghost use Rattle.oer_write.specs.Written.{Encodes};
 
-use asn1_base::{AsnType, Class, EncodeError, SetOf, Tag};
+use asn1_core::{AsnType, Class, EncodeError, SetOf, Tag};
 use asn1_ints::Integer;
-use asn1_values::OctetString;
+use asn1_strings::OctetString;
 use oer_types::MixedSet;
 use oer_write::Encoder;
 use oer_write::enc::EncoderOptions;

@@ -1,6 +1,6 @@
 //! Values and octets side by side: what each test of a value shows.
 use crate::tests::codec_of;
-use asn1_base::{Codec, Constraints};
+use asn1_core::{Codec, Constraints};
 use oer_write::Encode;
 use rasn_oer::{Decode, coer, oer};
 use std::alloc::Global;

@@ -1,24 +1,24 @@
 //! Every call, trait, constant and derive of the codec's crate, by its public path.
 ghost use Rattle.std.specs.Prelude.{OnOk};
-ghost use Rattle.oer_forms.specs.Spelled.{boolean};
-ghost use Rattle.oer_forms.specs.Tree.{NoRows};
+ghost use Rattle.oer_spec.specs.Spelled.{boolean};
+ghost use Rattle.oer_spec.specs.Tree.{NoRows};
 ghost use Rattle.oer_write.specs.Choices.{WritesAlternative};
 ghost use Rattle.oer_write.specs.Rows.{InSequence};
 ghost use Rattle.oer_write.specs.Written.{WritesTree};
-ghost use Rattle.rasn_oer.specs.Law.{Decodes, IsRear};
+ghost use Rattle.oer_read.specs.Law.{Decodes, IsRear};
 ghost use Rattle.sequence_types.specs.Pairs.{pair_rows, plain_integer};
 
 use crate::tests::integer;
 use crate::tests::spelled::there;
-use asn1_base::{
+use asn1_core::{
     AsnType, Class, Codec, Constraints, DecodeError, DecodeErrorKind, EncodeError, SetOf, Tag,
 };
 use asn1_ints::Integer;
-use asn1_times::{Date, GeneralizedTime, UtcTime};
-use asn1_values::{
+use asn1_strings::{
     Any, BitString, BmpString, GeneralString, GraphicString, Ia5String, NumericString,
     PrintableString, TeletexString, VisibleString,
 };
+use asn1_times::{Date, GeneralizedTime, UtcTime};
 use oer_types::{Enum3, Pair, PriorityChoice, Sequence1, Sequence4};
 use rasn_oer::oer::de::DecoderOptions;
 use rasn_oer::oer::enc::{EncoderOptions, ITU_T_X696_OER_EDITION};

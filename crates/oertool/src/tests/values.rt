@@ -2,10 +2,10 @@
 use crate::tests::integer;
 use crate::tests::spelled::{is_read_as, spells, spells_under, there};
 use crate::tests::words::{extensible, sizes, values};
-use asn1_base::{Bounded, Constraints};
+use asn1_core::{Bounded, Constraints};
 use asn1_ints::Integer;
+use asn1_strings::{Any, BitString, BmpString, ObjectIdentifier, OctetString};
 use asn1_times::{Date, GeneralizedTime, UtcTime};
-use asn1_values::{Any, BitString, BmpString, ObjectIdentifier, OctetString};
 use oer_types::{Enum3, Enum4, GreatPositive, HashedId3, Negative, Positive};
 use std::alloc::Global;
 use std::test::Fail;

@@ -1,8 +1,8 @@
 //! Types by a word, under constraints: those without a word of the program, and behind them those with one.
 use crate::known::{OnType, with_type};
-use asn1_base::{AsnType, Bounded, Constraints, SetOf};
+use asn1_core::{AsnType, Bounded, Constraints, SetOf};
 use asn1_ints::Integer;
-use asn1_values::{
+use asn1_strings::{
     Any, BitString, BmpString, GeneralString, GraphicString, Ia5String, NumericString, OctetString,
     PrintableString, TeletexString, VisibleString,
 };

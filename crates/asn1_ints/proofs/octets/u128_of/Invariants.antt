@@ -1,5 +1,5 @@
 use Rattle.std.proofs.Common.{◌≡◌, ◌<◌, ◌^◌, take}
-use Rattle.asn1_base.specs.Octets.{unsigned}
+use Rattle.asn1_core.specs.Octets.{unsigned}
 use Rattle.asn1_ints.proofs.octets.u128_of.Given as goal
 
 abbrev pub invariant-loop-octet : goal.invariant-loop-octet

@@ -2,9 +2,9 @@ use Rattle.std.proofs.Common.{ap, ◌∙◌}
 use Rattle.std.specs.Prelude.{FitsSigned}
 use Rattle.std.specs.Int.{w128}
 use Rattle.std.proofs.lemmas.Int.{to_z-of_z}
-use Rattle.asn1_base.specs.Octets.{signed}
-use Rattle.asn1_base.specs.Numbers.{signed_octets}
-use Rattle.asn1_base.proofs.Fixed.{signed_of_i128}
+use Rattle.asn1_core.specs.Octets.{signed}
+use Rattle.asn1_core.specs.Numbers.{signed_octets}
+use Rattle.asn1_core.proofs.Fixed.{signed_of_i128}
 use Rattle.asn1_ints.proofs.Appending.{appended}
 use Rattle.asn1_ints.proofs.octets.write_i128.Goals as goal
 

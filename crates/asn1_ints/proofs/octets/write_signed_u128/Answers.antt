@@ -1,7 +1,7 @@
 use Rattle.std.proofs.Common.{ap, ◌∙◌, subst, arith, pos}
-use Rattle.asn1_base.specs.Octets.{unsigned}
-use Rattle.asn1_base.specs.Numbers.{signed_octets}
-use Rattle.asn1_base.proofs.Fixed.{bytes_value}
+use Rattle.asn1_core.specs.Octets.{unsigned}
+use Rattle.asn1_core.specs.Numbers.{signed_octets}
+use Rattle.asn1_core.proofs.Fixed.{bytes_value}
 use Rattle.asn1_ints.specs.Octets.{Appends}
 use Rattle.asn1_ints.proofs.octets.write_signed_u128.Goals as goal
 

@@ -1,7 +1,7 @@
 use Rattle.std.proofs.Common.{ap, ◌∙◌, arith}
-use Rattle.asn1_base.specs.Octets.{unsigned}
-use Rattle.asn1_base.specs.Numbers.{number_octets}
-use Rattle.asn1_base.proofs.Fixed.{bytes_value}
+use Rattle.asn1_core.specs.Octets.{unsigned}
+use Rattle.asn1_core.specs.Numbers.{number_octets}
+use Rattle.asn1_core.proofs.Fixed.{bytes_value}
 use Rattle.asn1_ints.proofs.Appending.{appended}
 use Rattle.asn1_ints.proofs.octets.write_u128.Goals as goal
 

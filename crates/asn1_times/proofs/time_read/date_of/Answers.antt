@@ -1,6 +1,6 @@
 use Rattle.std.proofs.Common.{subst, sym}
 use Rattle.std.specs.Prelude.{Option, Some, None, IfSome}
-use Rattle.asn1_base.specs.Texts.{digits_at}
+use Rattle.asn1_core.specs.Texts.{digits_at}
 use Rattle.asn1_times.specs.Times.{HasDay}
 use Rattle.asn1_times.proofs.TimeTexts.{date_written}
 use Rattle.asn1_times.proofs.time_read.date_of.Goals as goal

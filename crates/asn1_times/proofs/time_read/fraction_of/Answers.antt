@@ -1,6 +1,6 @@
 use Rattle.std.proofs.Common.{◌≡◌, ◌*◌, length, ap, ap₂, sym, ◌∙◌, true, arith}
 use Rattle.std.specs.List.{list_all}
-use Rattle.asn1_base.specs.Texts.{is_digit}
+use Rattle.asn1_core.specs.Texts.{is_digit}
 use Rattle.asn1_times.specs.Times.{fraction}
 use Rattle.asn1_times.proofs.Decimals.{value}
 use Rattle.asn1_times.proofs.Fractions.{scaled_small, fraction_is, take_all}

@@ -1,7 +1,7 @@
 use Rattle.std.proofs.Common.{◌≡◌, ◌∙◌, ap, ap₂, subst, sym, true, false, drop}
 use Rattle.std.specs.Prelude.{◌&&◌, is_some}
 use Rattle.std.proofs.Math.Bool.{and-true}
-use Rattle.asn1_base.specs.Texts.{digits_at, is_day, is_clock, is_ending}
+use Rattle.asn1_core.specs.Texts.{digits_at, is_day, is_clock, is_ending}
 use Rattle.asn1_times.specs.Times.{HasDay, HasClock}
 use Rattle.asn1_times.proofs.TimeTexts.{generalized_written, generalized_rest, tail_is}
 use Rattle.asn1_times.proofs.time_read.generalized_of.Goals as goal

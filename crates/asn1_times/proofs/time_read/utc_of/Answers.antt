@@ -1,5 +1,5 @@
 use Rattle.std.proofs.Common.{◌∙◌, ap, subst, sym}
-use Rattle.asn1_base.specs.Texts.{digits_at, full_year}
+use Rattle.asn1_core.specs.Texts.{digits_at, full_year}
 use Rattle.asn1_times.specs.Times.{HasDay, HasClock}
 use Rattle.asn1_times.proofs.TimeTexts.{utc_written}
 use Rattle.asn1_times.proofs.time_read.utc_of.Goals as goal

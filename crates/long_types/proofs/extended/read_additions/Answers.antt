@@ -1,7 +1,7 @@
 use Rattle.std.proofs.Common.{refl}
-use Rattle.rasn_oer.proofs.AdditionSteps.{addition_read, addition_passed, addition_stops}
-use Rattle.rasn_oer.proofs.Reading.{reading}
-use Rattle.rasn_oer.proofs.Steps.{leaves, ends, done}
+use Rattle.oer_read.proofs.AdditionSteps.{addition_read, addition_passed, addition_stops}
+use Rattle.oer_read.proofs.Reading.{reading}
+use Rattle.oer_read.proofs.Steps.{leaves, ends, done}
 use Rattle.sequence_types.specs.OctetSlots.{IsOctets, octet_string}
 use Rattle.sequence_types.specs.Pairs.{IsWhole, plain_integer}
 use Rattle.sequence_types.specs.Tags.{context}

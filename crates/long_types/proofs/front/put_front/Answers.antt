@@ -1,6 +1,6 @@
 use Rattle.std.proofs.Common.{Ok}
 use Rattle.std.proofs.lemmas.Result.{err_from_is_err_and}
-use Rattle.oer_forms.specs.Tree.{NoRows, Required, Optional}
+use Rattle.oer_spec.specs.Tree.{NoRows, Required, Optional}
 use Rattle.oer_write.proofs.Joined.{then_in_sequence}
 use Rattle.sequence_types.specs.Defaults.{integer_slot}
 use Rattle.sequence_types.specs.OctetSlots.{octet_slot}

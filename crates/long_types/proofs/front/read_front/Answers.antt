@@ -1,7 +1,7 @@
 use Rattle.std.proofs.Common.{refl}
-use Rattle.rasn_oer.proofs.OptionalSteps.{optional_read, optional_passed, optional_stops}
-use Rattle.rasn_oer.proofs.Reading.{reading}
-use Rattle.rasn_oer.proofs.Steps.{needed_read, needed_passed}
+use Rattle.oer_read.proofs.OptionalSteps.{optional_read, optional_passed, optional_stops}
+use Rattle.oer_read.proofs.Reading.{reading}
+use Rattle.oer_read.proofs.Steps.{needed_read, needed_passed}
 use Rattle.sequence_types.specs.OctetSlots.{IsOctets, octet_string}
 use Rattle.sequence_types.specs.Pairs.{IsWhole, plain_integer}
 use Rattle.sequence_types.specs.Tags.{context}

@@ -1,5 +1,5 @@
 use Rattle.std.proofs.Common.{Ok}
-use Rattle.oer_forms.specs.Tree.{NoRows, Optional}
+use Rattle.oer_spec.specs.Tree.{NoRows, Optional}
 use Rattle.oer_write.proofs.Joined.{then_in_sequence}
 use Rattle.sequence_types.specs.Defaults.{integer_slot}
 use Rattle.sequence_types.specs.Tags.{context}

@@ -1,5 +1,5 @@
 use Rattle.std.proofs.Common.{◌≡◌, drop}
-use Rattle.asn1_base.specs.Tags.{holds}
+use Rattle.asn1_core.specs.Tags.{holds}
 use Rattle.oer_write.proofs.choices.is_among.Given as goal
 
 abbrev pub invariant-loop-known : goal.invariant-loop-known

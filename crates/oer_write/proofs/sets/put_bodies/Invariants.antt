@@ -1,6 +1,6 @@
 use Rattle.std.proofs.Common.{◌≡◌, ◌++◌, drop, map}
-use Rattle.oer_forms.specs.Places.{bodies}
-use Rattle.oer_forms.specs.Writing.{BeginsWith}
+use Rattle.oer_spec.specs.Places.{bodies}
+use Rattle.oer_spec.specs.Writing.{BeginsWith}
 use Rattle.oer_write.specs.Seen.{item}
 use Rattle.oer_write.proofs.sets.put_bodies.Given as goal
 

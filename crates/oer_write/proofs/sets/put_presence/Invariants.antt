@@ -1,5 +1,5 @@
 use Rattle.std.proofs.Common.{◌≡◌, ◌++◌, drop, map}
-use Rattle.oer_forms.specs.Places.{presence}
+use Rattle.oer_spec.specs.Places.{presence}
 use Rattle.oer_write.specs.Seen.{item}
 use Rattle.oer_write.proofs.sets.put_presence.Given as goal
 

@@ -1,6 +1,6 @@
 use Rattle.std.proofs.Common.{◌≡◌, ◌++◌, drop, map}
-use Rattle.asn1_base.specs.Octets.{joined}
-use Rattle.oer_forms.specs.Writing.{BeginsWith}
+use Rattle.asn1_core.specs.Octets.{joined}
+use Rattle.oer_spec.specs.Writing.{BeginsWith}
 use Rattle.oer_write.specs.Unordered.{octets_in}
 use Rattle.oer_write.proofs.unordered.put_contents.Given as goal
 

@@ -1,17 +1,17 @@
 use Rattle.std.proofs.Common.{rules, refl, ap, ◌∙◌, ◌<◌, [], false}
-use Rattle.oer_forms.specs.Spelled.{IsAny}
+use Rattle.oer_spec.specs.Spelled.{IsAny}
 use Rattle.choice_types.proofs.Choosing.{context_is}
 use Rattle.recursive_types.proofs.LinkLaw.{links_are_chosen, end_holds, link_only, link_boxed}
 use Rattle.recursive_types.specs.Links.{link_parts, link_rows, link_table, link_tree, link_made, link_choice_tree, link_roots, link_tag, link_child}
 use Rattle.sequence_types.specs.Pairs.{none_of}
-use Rattle.rasn_oer.proofs.Alternatives.{alternative_read, alternative_stops, alternative_made, alternative_refused, alternative_law}
-use Rattle.rasn_oer.proofs.ChoiceLaw.{choice_law, promise_with}
-use Rattle.rasn_oer.proofs.Levels.{opened_levels, chosen_levels}
-use Rattle.rasn_oer.proofs.Promises.{promise_of}
-use Rattle.rasn_oer.proofs.Reading.{reading}
-use Rattle.rasn_oer.proofs.SequenceLaw.{sequence_law}
-use Rattle.rasn_oer.specs.Choices.{ReadsAlternative}
-use Rattle.rasn_oer.specs.Parts.{NoParts, ReadsParts}
+use Rattle.oer_read.proofs.Alternatives.{alternative_read, alternative_stops, alternative_made, alternative_refused, alternative_law}
+use Rattle.oer_read.proofs.ChoiceLaw.{choice_law, promise_with}
+use Rattle.oer_read.proofs.Levels.{opened_levels, chosen_levels}
+use Rattle.oer_read.proofs.Promises.{promise_of}
+use Rattle.oer_read.proofs.Reading.{reading}
+use Rattle.oer_read.proofs.SequenceLaw.{sequence_law}
+use Rattle.oer_read.specs.Choices.{ReadsAlternative}
+use Rattle.oer_read.specs.Parts.{NoParts, ReadsParts}
 use Rattle.recursive_types.proofs.links.+decode_link.Goals as goal
 
 -- ---- the levels fall

@@ -1,9 +1,9 @@
 use Rattle.std.proofs.lemmas.Result.{err_from_is_err_and}
-use Rattle.oer_forms.specs.Spelled.{IsAny}
+use Rattle.oer_spec.specs.Spelled.{IsAny}
 use Rattle.recursive_types.specs.Nests.{nest_tree}
 use Rattle.recursive_types.proofs.NestLaw.{nest_read, nest_refused}
-use Rattle.rasn_oer.proofs.Promises.{promise_of_fn, decodes_rear}
-use Rattle.rasn_oer.specs.Law.{Decodes}
+use Rattle.oer_read.proofs.Promises.{promise_of_fn, decodes_rear}
+use Rattle.oer_read.specs.Law.{Decodes}
 use Rattle.recursive_types.proofs.nests.+decode_nest+fn-decode_nest-decode_sequence_of_with.Goals as goal
 
 pub decode_sequence_of_with-requires-clause-keeps : goal.decode_sequence_of_with-requires-clause-keeps

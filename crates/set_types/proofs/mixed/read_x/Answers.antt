@@ -1,9 +1,9 @@
 use Rattle.std.proofs.Common.{◌≡◌, refl}
-use Rattle.oer_forms.specs.Spelled.{IsAny, boolean}
+use Rattle.oer_spec.specs.Spelled.{IsAny, boolean}
 use Rattle.set_types.specs.Mixed.{mixed_field_tree, IsMixedAt}
 use Rattle.set_types.specs.declared.mixed.MixedField.TheVariants.{X}
 use Rattle.set_types.proofs.MixedParts.{x_holds}
-use Rattle.rasn_oer.proofs.Alternatives.{alternative_read, alternative_stops}
+use Rattle.oer_read.proofs.Alternatives.{alternative_read, alternative_stops}
 use Rattle.set_types.proofs.mixed.read_x.Goals as goal
 
 pub returns-in-Err : goal.returns-in-Err

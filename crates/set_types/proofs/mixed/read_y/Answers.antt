@@ -3,7 +3,7 @@ use Rattle.set_types.specs.Mixed.{mixed_field_tree, IsMixedAt}
 use Rattle.sequence_types.specs.Pairs.{plain_integer, IsWhole}
 use Rattle.set_types.specs.declared.mixed.MixedField.TheVariants.{Y}
 use Rattle.set_types.proofs.MixedParts.{y_holds}
-use Rattle.rasn_oer.proofs.Alternatives.{alternative_read, alternative_stops}
+use Rattle.oer_read.proofs.Alternatives.{alternative_read, alternative_stops}
 use Rattle.set_types.proofs.mixed.read_y.Goals as goal
 
 pub returns-in-Err : goal.returns-in-Err

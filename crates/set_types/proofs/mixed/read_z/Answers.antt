@@ -1,11 +1,11 @@
 use Rattle.std.proofs.Common.{◌≡◌, ◌∙◌, inl, inr, refl, sym, ap, Err}
-use Rattle.asn1_base.specs.declared.codec.Codec.{Codec}
+use Rattle.asn1_core.specs.declared.codec.Codec.{Codec}
 use Rattle.set_types.specs.Mixed.{mixed_field_tree, IsMixedAt}
 use Rattle.sequence_types.specs.Pairs.{plain_integer, IsWhole}
 use Rattle.set_types.specs.declared.mixed.MixedField.TheVariants.{Z}
 use Rattle.set_types.proofs.MixedParts.{z_holds}
-use Rattle.rasn_oer.specs.State.{State}
-use Rattle.rasn_oer.proofs.Alternatives.{alternative_read, alternative_stops}
+use Rattle.oer_read.specs.State.{State}
+use Rattle.oer_read.proofs.Alternatives.{alternative_read, alternative_stops}
 use Rattle.set_types.proofs.mixed.read_z.Goals as goal
 
 pub returns-in-Err : goal.returns-in-Err

@@ -2,7 +2,7 @@ use Rattle.std.proofs.Common.{◌≡◌, ◌<◌, refl, arith}
 use Rattle.sequence_types.specs.Pairs.{plain_integer, IsWhole}
 use Rattle.set_types.specs.Sets.{foo_field_tree, foo_field_at, IsFooAt}
 use Rattle.set_types.proofs.SetParts.{foo_holds}
-use Rattle.rasn_oer.proofs.Alternatives.{alternative_read, alternative_stops}
+use Rattle.oer_read.proofs.Alternatives.{alternative_read, alternative_stops}
 use Rattle.set_types.proofs.sets.read_foo_field.Goals as goal
 
 pub returns-in-Err : goal.returns-in-Err

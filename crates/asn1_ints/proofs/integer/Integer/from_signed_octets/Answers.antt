@@ -1,5 +1,5 @@
 use Rattle.std.proofs.Common.{sym, ◌∙◌}
-use Rattle.asn1_base.specs.Octets.{signed}
+use Rattle.asn1_core.specs.Octets.{signed}
 use Rattle.asn1_ints.proofs.Kept.{are_large, some_value}
 use Rattle.asn1_ints.proofs.integer.Integer.from_signed_octets.Goals as goal
 

@@ -1,6 +1,6 @@
 use Rattle.std.proofs.Common.{◌≡◌, sym, ◌∙◌, pos}
-use Rattle.asn1_base.specs.Octets.{unsigned}
-use Rattle.asn1_base.specs.Numbers.{signed_octets}
+use Rattle.asn1_core.specs.Octets.{unsigned}
+use Rattle.asn1_core.specs.Numbers.{signed_octets}
 use Rattle.asn1_ints.proofs.Kept.{are_large, some_value, alone}
 use Rattle.asn1_ints.proofs.integer.Integer.from_unsigned_octets.Goals as goal
 

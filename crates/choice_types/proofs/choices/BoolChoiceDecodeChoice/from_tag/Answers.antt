@@ -1,5 +1,5 @@
 use Rattle.choice_types.proofs.Choosing.{context_is, first_holds, second_holds, third_holds}
-use Rattle.rasn_oer.proofs.Alternatives.{alternative_read, alternative_stops}
+use Rattle.oer_read.proofs.Alternatives.{alternative_read, alternative_stops}
 use Rattle.choice_types.proofs.choices.BoolChoiceDecodeChoice.from_tag.Goals as goal
 
 pub returns-in_err-decode-in-Context-eq0-clause-law : goal.returns-in_err-decode-in-Context-eq0-clause-law

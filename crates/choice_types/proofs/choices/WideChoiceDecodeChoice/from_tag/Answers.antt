@@ -1,7 +1,7 @@
 use Rattle.std.proofs.Common.{refl}
 use Rattle.choice_types.specs.declared.choices.WideChoice.TheVariants.{Normal, High, Medium}
 use Rattle.choice_types.proofs.Choosing.{context_is, wide_holds}
-use Rattle.rasn_oer.proofs.Alternatives.{alternative_read, alternative_stops}
+use Rattle.oer_read.proofs.Alternatives.{alternative_read, alternative_stops}
 use Rattle.choice_types.proofs.choices.WideChoiceDecodeChoice.from_tag.Goals as goal
 
 pub returns-in_err-decode-in-Context-eq0-clause-law : goal.returns-in_err-decode-in-Context-eq0-clause-law

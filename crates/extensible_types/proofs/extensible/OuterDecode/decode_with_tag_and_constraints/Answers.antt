@@ -1,8 +1,8 @@
 use Rattle.std.proofs.Common.{refl, true}
-use Rattle.oer_forms.specs.Spelled.{IsAny}
+use Rattle.oer_spec.specs.Spelled.{IsAny}
 use Rattle.extensible_types.specs.Extensible.{first_parts, outer_more, outer_roots, outer_additions, a_rows, b_rows, outer_made, outer_tree}
-use Rattle.rasn_oer.proofs.Promises.{promise_of}
-use Rattle.rasn_oer.proofs.SequenceLaw.{sequence_law}
+use Rattle.oer_read.proofs.Promises.{promise_of}
+use Rattle.oer_read.proofs.SequenceLaw.{sequence_law}
 use Rattle.extensible_types.proofs.extensible.OuterDecode.decode_with_tag_and_constraints.Goals as goal
 
 pub returns-clause-law : goal.returns-clause-law

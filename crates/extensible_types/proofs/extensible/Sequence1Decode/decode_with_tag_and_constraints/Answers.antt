@@ -1,10 +1,10 @@
 use Rattle.std.proofs.Common.{refl, [], true}
-use Rattle.oer_forms.specs.Spelled.{IsAny}
+use Rattle.oer_spec.specs.Spelled.{IsAny}
 use Rattle.extensible_types.specs.Extensible.{first_parts, sequence1_roots, a_rows, sequence1_made, sequence1_tree}
 use Rattle.sequence_types.specs.Pairs.{none_of}
-use Rattle.rasn_oer.proofs.Promises.{promise_of}
-use Rattle.rasn_oer.proofs.SequenceLaw.{sequence_law}
-use Rattle.rasn_oer.specs.Parts.{NoParts}
+use Rattle.oer_read.proofs.Promises.{promise_of}
+use Rattle.oer_read.proofs.SequenceLaw.{sequence_law}
+use Rattle.oer_read.specs.Parts.{NoParts}
 use Rattle.extensible_types.proofs.extensible.Sequence1Decode.decode_with_tag_and_constraints.Goals as goal
 
 pub returns-clause-law : goal.returns-clause-law

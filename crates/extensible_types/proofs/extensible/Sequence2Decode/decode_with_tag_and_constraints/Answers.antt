@@ -1,8 +1,8 @@
 use Rattle.std.proofs.Common.{refl, true}
-use Rattle.oer_forms.specs.Spelled.{IsAny}
+use Rattle.oer_spec.specs.Spelled.{IsAny}
 use Rattle.extensible_types.specs.Extensible.{first_parts, sequence2_more, sequence2_roots, sequence2_additions, a_rows, b_and_c_rows, sequence2_made, sequence2_tree}
-use Rattle.rasn_oer.proofs.Promises.{promise_of}
-use Rattle.rasn_oer.proofs.SequenceLaw.{sequence_law}
+use Rattle.oer_read.proofs.Promises.{promise_of}
+use Rattle.oer_read.proofs.SequenceLaw.{sequence_law}
 use Rattle.extensible_types.proofs.extensible.Sequence2Decode.decode_with_tag_and_constraints.Goals as goal
 
 pub returns-clause-law : goal.returns-clause-law

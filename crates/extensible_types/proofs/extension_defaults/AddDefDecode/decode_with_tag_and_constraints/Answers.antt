@@ -1,9 +1,9 @@
 use Rattle.std.proofs.Common.{refl, true}
-use Rattle.oer_forms.specs.Spelled.{IsAny}
+use Rattle.oer_spec.specs.Spelled.{IsAny}
 use Rattle.extensible_types.specs.Extensible.{first_parts, a_rows}
 use Rattle.extensible_types.specs.ExtensionDefaults.{add_def_more, add_def_roots, add_def_additions, default_b_rows, add_def_made, add_def_tree}
-use Rattle.rasn_oer.proofs.Promises.{promise_of}
-use Rattle.rasn_oer.proofs.SequenceLaw.{sequence_law}
+use Rattle.oer_read.proofs.Promises.{promise_of}
+use Rattle.oer_read.proofs.SequenceLaw.{sequence_law}
 use Rattle.extensible_types.proofs.extension_defaults.AddDefDecode.decode_with_tag_and_constraints.Goals as goal
 
 pub returns-clause-law : goal.returns-clause-law

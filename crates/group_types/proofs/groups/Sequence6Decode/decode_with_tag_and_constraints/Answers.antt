@@ -1,9 +1,9 @@
 use Rattle.std.proofs.Common.{refl, true}
-use Rattle.oer_forms.specs.Spelled.{IsAny}
+use Rattle.oer_spec.specs.Spelled.{IsAny}
 use Rattle.extensible_types.specs.Extensible.{first_parts, a_rows}
 use Rattle.group_types.specs.Groups.{sequence6_more, sequence6_roots, sequence6_additions, group_rows, sequence6_made, sequence6_tree}
-use Rattle.rasn_oer.proofs.Promises.{promise_of}
-use Rattle.rasn_oer.proofs.SequenceLaw.{sequence_law}
+use Rattle.oer_read.proofs.Promises.{promise_of}
+use Rattle.oer_read.proofs.SequenceLaw.{sequence_law}
 use Rattle.group_types.proofs.groups.Sequence6Decode.decode_with_tag_and_constraints.Goals as goal
 
 pub returns-clause-law : goal.returns-clause-law

@@ -1,7 +1,7 @@
 use Rattle.std.proofs.Common.{refl, true}
 use Rattle.group_types.specs.OctetAdditions.{IsOmitted, omitted_admitted, omitted_parts, omitted_more, omitted_roots, omitted_additions, omitted_table, omitted_added, omitted_made, omitted_tree}
-use Rattle.rasn_oer.proofs.Promises.{promise_of}
-use Rattle.rasn_oer.proofs.SequenceLaw.{sequence_law}
+use Rattle.oer_read.proofs.Promises.{promise_of}
+use Rattle.oer_read.proofs.SequenceLaw.{sequence_law}
 use Rattle.group_types.proofs.octet_additions.OmittedDecode.decode_with_tag_and_constraints.Goals as goal
 
 pub returns-clause-law : goal.returns-clause-law

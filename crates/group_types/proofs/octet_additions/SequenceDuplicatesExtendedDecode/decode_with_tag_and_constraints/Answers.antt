@@ -1,7 +1,7 @@
 use Rattle.std.proofs.Common.{refl, true}
 use Rattle.group_types.specs.OctetAdditions.{IsDup, dup_admitted, dup_parts, dup_more, dup_roots, dup_additions, dup_table, dup_added, dup_made, dup_tree}
-use Rattle.rasn_oer.proofs.Promises.{promise_of}
-use Rattle.rasn_oer.proofs.SequenceLaw.{sequence_law}
+use Rattle.oer_read.proofs.Promises.{promise_of}
+use Rattle.oer_read.proofs.SequenceLaw.{sequence_law}
 use Rattle.group_types.proofs.octet_additions.SequenceDuplicatesExtendedDecode.decode_with_tag_and_constraints.Goals as goal
 
 pub returns-clause-law : goal.returns-clause-law

@@ -1,8 +1,8 @@
 use Rattle.std.proofs.Common.{refl, true}
 use Rattle.long_types.specs.Extended.{IsExtended, extended_parts, added_parts, extended_roots, extended_additions, extended_tree, extended_made, extended_admitted, extended_table, added_table}
-use Rattle.rasn_oer.proofs.Promises.{promise_of}
-use Rattle.rasn_oer.proofs.SequenceLaw.{sequence_law}
-use Rattle.rasn_oer.specs.Parts.{ReadsParts}
+use Rattle.oer_read.proofs.Promises.{promise_of}
+use Rattle.oer_read.proofs.SequenceLaw.{sequence_law}
+use Rattle.oer_read.specs.Parts.{ReadsParts}
 use Rattle.long_types.proofs.extended.ExtendedOptionalDecode.decode_with_tag_and_constraints.Goals as goal
 
 pub decode_sequence-requires-clause-keeps : goal.decode_sequence-requires-clause-keeps

@@ -1,5 +1,5 @@
 use Rattle.std.proofs.Common.{subst}
-use Rattle.oer_forms.specs.Tree.{NoRows}
+use Rattle.oer_spec.specs.Tree.{NoRows}
 use Rattle.long_types.specs.Many.{many_rows, many_tree}
 use Rattle.oer_write.specs.Rows.{InSequence}
 use Rattle.oer_write.specs.Written.{Written}

@@ -1,9 +1,9 @@
 use Rattle.std.proofs.Common.{refl, [], false}
 use Rattle.oer_types.specs.Constrained.{IsConstrained, constrained_parts, constrained_rows, constrained_tree, constrained_made, constrained_admitted, constrained_table}
 use Rattle.sequence_types.specs.Pairs.{none_of}
-use Rattle.rasn_oer.proofs.Promises.{promise_of}
-use Rattle.rasn_oer.proofs.SequenceLaw.{sequence_law}
-use Rattle.rasn_oer.specs.Parts.{NoParts, ReadsParts}
+use Rattle.oer_read.proofs.Promises.{promise_of}
+use Rattle.oer_read.proofs.SequenceLaw.{sequence_law}
+use Rattle.oer_read.specs.Parts.{NoParts, ReadsParts}
 use Rattle.oer_types.proofs.constrained.ConstrainedOptionsDecode.decode_with_tag_and_constraints.Goals as goal
 
 pub decode_sequence-requires-clause-keeps : goal.decode_sequence-requires-clause-keeps

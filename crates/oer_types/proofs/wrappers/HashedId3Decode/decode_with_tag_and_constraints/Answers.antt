@@ -1,10 +1,10 @@
 use Rattle.std.proofs.Common.{refl}
-use Rattle.asn1_base.specs.Bounds.{narrowed}
-use Rattle.asn1_base.specs.Texts.{AnyOctets}
-use Rattle.oer_forms.specs.Spelled.{IsTextOf, text}
+use Rattle.asn1_core.specs.Bounds.{narrowed}
+use Rattle.asn1_core.specs.Texts.{AnyOctets}
+use Rattle.oer_spec.specs.Spelled.{IsTextOf, text}
 use Rattle.oer_types.specs.Wrappers.{of_three}
 use Rattle.oer_types.specs.declared.wrappers.HashedId3.{HashedId3}
-use Rattle.rasn_oer.proofs.Wrapped.{wrapped_read, wrapped_refused}
+use Rattle.oer_read.proofs.Wrapped.{wrapped_read, wrapped_refused}
 use Rattle.oer_types.proofs.wrappers.HashedId3Decode.decode_with_tag_and_constraints.Goals as goal
 
 pub returns-in-Ok-clause-law : goal.returns-in-Ok-clause-law

@@ -1,8 +1,8 @@
 use Rattle.std.proofs.Common.{refl}
-use Rattle.asn1_base.specs.Bounds.{narrowed}
+use Rattle.asn1_core.specs.Bounds.{narrowed}
 use Rattle.oer_types.specs.Wrappers.{to_zero}
 use Rattle.oer_types.specs.declared.wrappers.Negative.{Negative}
-use Rattle.rasn_oer.proofs.Wrapped.{wrapped_read, wrapped_refused}
+use Rattle.oer_read.proofs.Wrapped.{wrapped_read, wrapped_refused}
 use Rattle.oer_types.proofs.wrappers.NegativeDecode.decode_with_tag_and_constraints.Goals as goal
 
 pub returns-in-Ok-clause-law : goal.returns-in-Ok-clause-law

@@ -1,9 +1,9 @@
 use Rattle.std.proofs.Common.{◌≡◌, Bool, true, refl}
-use Rattle.asn1_base.specs.Bounds.{narrowed}
-use Rattle.oer_forms.specs.Spelled.{integer}
+use Rattle.asn1_core.specs.Bounds.{narrowed}
+use Rattle.oer_spec.specs.Spelled.{integer}
 use Rattle.oer_types.specs.Wrappers.{from_zero}
 use Rattle.oer_types.specs.declared.wrappers.Positive.{Positive}
-use Rattle.rasn_oer.proofs.Wrapped.{wrapped_read, wrapped_refused}
+use Rattle.oer_read.proofs.Wrapped.{wrapped_read, wrapped_refused}
 use Rattle.oer_types.proofs.wrappers.PositiveDecode.decode_with_tag_and_constraints.Goals as goal
 
 pub returns-in-Ok-clause-law : goal.returns-in-Ok-clause-law

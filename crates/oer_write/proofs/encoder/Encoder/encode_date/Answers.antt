@@ -1,6 +1,6 @@
-use Rattle.asn1_base.specs.Texts.{Date}
+use Rattle.asn1_core.specs.Texts.{Date}
 use Rattle.asn1_times.specs.Times.{date_text}
-use Rattle.oer_forms.specs.Spelled.{day_fields}
+use Rattle.oer_spec.specs.Spelled.{day_fields}
 use Rattle.oer_write.proofs.Refusals.{time_by_law}
 use Rattle.oer_write.proofs.encoder.Encoder.encode_date.Goals as goal
 

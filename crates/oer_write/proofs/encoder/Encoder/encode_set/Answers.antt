@@ -1,7 +1,7 @@
 use Rattle.std.proofs.lemmas.Result.{on_ok_weaker, IfErr-weaker}
 use Rattle.std.proofs.Common.{List, ap, ◌++◌}
-use Rattle.asn1_base.specs.Octets.{pack}
-use Rattle.oer_forms.specs.Places.{Item, extension_bit, presence, bodies}
+use Rattle.asn1_core.specs.Octets.{pack}
+use Rattle.oer_spec.specs.Places.{Item, extension_bit, presence, bodies}
 use Rattle.oer_write.specs.Scopes.{any_true, extension_of}
 use Rattle.oer_write.proofs.AnyOrder.{any_order}
 use Rattle.oer_write.proofs.SetRows.{set_done, set_refused}

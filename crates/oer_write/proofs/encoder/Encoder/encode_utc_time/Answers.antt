@@ -1,6 +1,6 @@
-use Rattle.asn1_base.specs.Texts.{Utc}
+use Rattle.asn1_core.specs.Texts.{Utc}
 use Rattle.asn1_times.specs.Times.{utc_text}
-use Rattle.oer_forms.specs.Spelled.{moment_fields}
+use Rattle.oer_spec.specs.Spelled.{moment_fields}
 use Rattle.oer_write.proofs.Refusals.{time_by_law}
 use Rattle.oer_write.proofs.encoder.Encoder.encode_utc_time.Goals as goal
 

@@ -1,7 +1,7 @@
 use Rattle.std.proofs.Common.{◌≡◌, ◌^◌, ◌<◌, length, rules}
 use Rattle.std.proofs.lemmas.Result.{on_ok_weaker, IfErr-weaker}
-use Rattle.asn1_base.specs.declared.error.EncodeError.{EncodeError}
-use Rattle.oer_forms.specs.Lengths.{quantity_octets}
+use Rattle.asn1_core.specs.declared.error.EncodeError.{EncodeError}
+use Rattle.oer_spec.specs.Lengths.{quantity_octets}
 use Rattle.oer_write.specs.Lists.{PromiseAt, ElementsDone, ElementsBroken}
 use Rattle.oer_write.specs.Written.{append}
 use Rattle.oer_write.proofs.Elements.{list_appended, list_broken}

@@ -1,7 +1,7 @@
 use Rattle.std.proofs.Common.{◌≡◌, ◌++◌, ◌^◌, ◌<◌, length, map, rules}
-use Rattle.asn1_base.specs.Octets.{joined}
-use Rattle.oer_forms.specs.Lengths.{quantity_octets}
-use Rattle.oer_forms.specs.Places.{sorted}
+use Rattle.asn1_core.specs.Octets.{joined}
+use Rattle.oer_spec.specs.Lengths.{quantity_octets}
+use Rattle.oer_spec.specs.Places.{sorted}
 use Rattle.oer_write.specs.Unordered.{octets_in}
 use Rattle.oer_write.specs.Written.{append}
 use Rattle.oer_write.proofs.Gathering.{unordered_done}

@@ -1,7 +1,7 @@
 use Rattle.std.proofs.Common.{◌≡◌, true, refl, rules}
 use Rattle.std.proofs.lemmas.Result.{on_ok_weaker, IfErr-weaker}
-use Rattle.asn1_base.specs.declared.error.EncodeError.{EncodeError}
-use Rattle.oer_forms.specs.Lengths.{tag_octets}
+use Rattle.asn1_core.specs.declared.error.EncodeError.{EncodeError}
+use Rattle.oer_spec.specs.Lengths.{tag_octets}
 use Rattle.oer_write.specs.Choices.{PromisePick, Appended, ContentRefused}
 use Rattle.oer_write.specs.Written.{append}
 use Rattle.oer_write.proofs.Chosen.{root_done, root_broken}

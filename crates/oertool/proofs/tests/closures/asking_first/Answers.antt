@@ -1,6 +1,6 @@
 use Rattle.std.specs.Result.{OnOk}
-use Rattle.rasn_oer.proofs.Promises.{promise_of}
-use Rattle.rasn_oer.specs.Law.{IsRear}
+use Rattle.oer_read.proofs.Promises.{promise_of}
+use Rattle.oer_read.specs.Law.{IsRear}
 use Rattle.oertool.proofs.tests.closures.asking_first.Goals as goal
 
 pub decode_sequence-requires-clause-keeps : goal.decode_sequence-requires-clause-keeps

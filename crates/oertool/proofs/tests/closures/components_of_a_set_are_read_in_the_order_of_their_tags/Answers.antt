@@ -1,6 +1,6 @@
 use Rattle.std.specs.Result.{OnOk}
-use Rattle.rasn_oer.proofs.SetPromises.{promise_of_field}
-use Rattle.rasn_oer.specs.Law.{IsRear}
+use Rattle.oer_read.proofs.SetPromises.{promise_of_field}
+use Rattle.oer_read.specs.Law.{IsRear}
 use Rattle.oertool.proofs.tests.closures.components_of_a_set_are_read_in_the_order_of_their_tags.Goals as goal
 
 pub decode_set-requires-clause-keeps : goal.decode_set-requires-clause-keeps

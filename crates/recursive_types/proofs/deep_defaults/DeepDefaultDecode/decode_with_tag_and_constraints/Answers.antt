@@ -1,10 +1,10 @@
 use Rattle.std.proofs.Common.{refl, [], false}
-use Rattle.oer_forms.specs.Spelled.{IsAny}
+use Rattle.oer_spec.specs.Spelled.{IsAny}
 use Rattle.recursive_types.specs.DeepDefaults.{deep_default_parts, deep_default_rows, deep_default_tree, deep_default_made, deep_default_table}
 use Rattle.sequence_types.specs.Pairs.{none_of}
-use Rattle.rasn_oer.proofs.Promises.{promise_of}
-use Rattle.rasn_oer.proofs.SequenceLaw.{sequence_law}
-use Rattle.rasn_oer.specs.Parts.{NoParts, ReadsParts}
+use Rattle.oer_read.proofs.Promises.{promise_of}
+use Rattle.oer_read.proofs.SequenceLaw.{sequence_law}
+use Rattle.oer_read.specs.Parts.{NoParts, ReadsParts}
 use Rattle.recursive_types.proofs.deep_defaults.DeepDefaultDecode.decode_with_tag_and_constraints.Goals as goal
 
 pub decode_sequence-requires-clause-keeps : goal.decode_sequence-requires-clause-keeps

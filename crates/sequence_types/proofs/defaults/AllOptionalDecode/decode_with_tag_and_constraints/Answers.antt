@@ -1,10 +1,10 @@
 use Rattle.std.proofs.Common.{refl, [], false}
-use Rattle.oer_forms.specs.Spelled.{IsAny}
+use Rattle.oer_spec.specs.Spelled.{IsAny}
 use Rattle.sequence_types.specs.Defaults.{all_optional_parts, all_optional_rows, all_optional_tree, all_optional_made, all_optional_table}
 use Rattle.sequence_types.specs.Pairs.{none_of}
-use Rattle.rasn_oer.proofs.Promises.{promise_of}
-use Rattle.rasn_oer.proofs.SequenceLaw.{sequence_law}
-use Rattle.rasn_oer.specs.Parts.{NoParts, ReadsParts}
+use Rattle.oer_read.proofs.Promises.{promise_of}
+use Rattle.oer_read.proofs.SequenceLaw.{sequence_law}
+use Rattle.oer_read.specs.Parts.{NoParts, ReadsParts}
 use Rattle.sequence_types.proofs.defaults.AllOptionalDecode.decode_with_tag_and_constraints.Goals as goal
 
 pub decode_sequence-requires-clause-keeps : goal.decode_sequence-requires-clause-keeps

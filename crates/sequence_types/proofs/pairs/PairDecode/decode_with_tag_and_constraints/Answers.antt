@@ -1,9 +1,9 @@
 use Rattle.std.proofs.Common.{refl, [], false}
-use Rattle.oer_forms.specs.Spelled.{IsAny}
+use Rattle.oer_spec.specs.Spelled.{IsAny}
 use Rattle.sequence_types.specs.Pairs.{pair_parts, pair_rows, none_of, pair_tree, pair_made, two_rows}
-use Rattle.rasn_oer.proofs.Promises.{promise_of}
-use Rattle.rasn_oer.proofs.SequenceLaw.{sequence_law}
-use Rattle.rasn_oer.specs.Parts.{NoParts, ReadsParts}
+use Rattle.oer_read.proofs.Promises.{promise_of}
+use Rattle.oer_read.proofs.SequenceLaw.{sequence_law}
+use Rattle.oer_read.specs.Parts.{NoParts, ReadsParts}
 use Rattle.sequence_types.proofs.pairs.PairDecode.decode_with_tag_and_constraints.Goals as goal
 
 pub decode_sequence-requires-clause-keeps : goal.decode_sequence-requires-clause-keeps

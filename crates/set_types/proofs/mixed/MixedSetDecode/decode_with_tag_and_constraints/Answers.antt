@@ -1,7 +1,7 @@
 use Rattle.std.proofs.Common.{Ok}
 use Rattle.set_types.specs.Mixed.{boolean_says, MixedReads, MixedAnswer}
 use Rattle.set_types.proofs.MixedParts.{mixed_law, mixed_rear}
-use Rattle.rasn_oer.proofs.SetPromises.{promise_of_field, promise_of_fields}
+use Rattle.oer_read.proofs.SetPromises.{promise_of_field, promise_of_fields}
 use Rattle.set_types.proofs.mixed.MixedSetDecode.decode_with_tag_and_constraints.Goals as goal
 
 pub decode_set-requires-clause-keeps : goal.decode_set-requires-clause-keeps

@@ -1,7 +1,7 @@
 use Rattle.set_types.specs.Sets.{foo_field_tree, IsFooAt, FooAnswer}
 use Rattle.set_types.proofs.SetParts.{foo_law}
-use Rattle.rasn_oer.specs.Law.{Decodes}
-use Rattle.rasn_oer.proofs.SetPromises.{promise_of_field, promise_of_fields}
+use Rattle.oer_read.specs.Law.{Decodes}
+use Rattle.oer_read.proofs.SetPromises.{promise_of_field, promise_of_fields}
 use Rattle.set_types.proofs.sets.FooDecode.decode_with_tag_and_constraints.Goals as goal
 
 pub returns-clause-law : goal.returns-clause-law

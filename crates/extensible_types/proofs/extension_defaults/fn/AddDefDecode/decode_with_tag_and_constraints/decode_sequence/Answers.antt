@@ -1,4 +1,4 @@
-use Rattle.rasn_oer.proofs.Reading.{reading}
+use Rattle.oer_read.proofs.Reading.{reading}
 use Rattle.sequence_types.specs.Defaults.{whole_default}
 use Rattle.extensible_types.proofs.extension_defaults.fn.AddDefDecode.decode_with_tag_and_constraints.decode_sequence.Goals as goal
 

@@ -1,4 +1,4 @@
-use Rattle.rasn_oer.proofs.Reading.{reading}
+use Rattle.oer_read.proofs.Reading.{reading}
 use Rattle.extensible_types.specs.ExtensionDefaults.{sequence5_known}
 use Rattle.extensible_types.proofs.extension_defaults.fn.Holder2Decode.decode_with_tag_and_constraints.decode_sequence.Goals as goal
 

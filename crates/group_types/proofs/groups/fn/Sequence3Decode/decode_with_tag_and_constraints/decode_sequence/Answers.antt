@@ -1,4 +1,4 @@
-use Rattle.rasn_oer.proofs.Reading.{reading}
+use Rattle.oer_read.proofs.Reading.{reading}
 use Rattle.group_types.proofs.groups.fn.Sequence3Decode.decode_with_tag_and_constraints.decode_sequence.Goals as goal
 
 pub returns-in_err-a : goal.returns-in_err-a

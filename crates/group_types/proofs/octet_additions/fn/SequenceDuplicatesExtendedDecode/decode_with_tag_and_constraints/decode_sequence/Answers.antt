@@ -1,7 +1,7 @@
-use Rattle.rasn_oer.proofs.AdditionSteps.{needed_addition_read, needed_addition_absent, needed_addition_stops, gives_up}
-use Rattle.rasn_oer.proofs.OptionalSteps.{optional_read, optional_passed}
-use Rattle.rasn_oer.proofs.Reading.{reading}
-use Rattle.rasn_oer.proofs.Steps.{needed_read, needed_passed, done, ends, leaves}
+use Rattle.oer_read.proofs.AdditionSteps.{needed_addition_read, needed_addition_absent, needed_addition_stops, gives_up}
+use Rattle.oer_read.proofs.OptionalSteps.{optional_read, optional_passed}
+use Rattle.oer_read.proofs.Reading.{reading}
+use Rattle.oer_read.proofs.Steps.{needed_read, needed_passed, done, ends, leaves}
 use Rattle.group_types.proofs.octet_additions.fn.SequenceDuplicatesExtendedDecode.decode_with_tag_and_constraints.decode_sequence.Goals as goal
 
 pub returns-in_err-it : goal.returns-in_err-it

@@ -3,9 +3,9 @@ use Rattle.long_types.proofs.Halves.{first_read, first_passed, first_stops, last
 use Rattle.long_types.specs.Extended.{extended_parts, added_parts, added_rows}
 use Rattle.long_types.specs.Front.{front_rows}
 use Rattle.sequence_types.specs.Pairs.{none_of}
-use Rattle.rasn_oer.proofs.Reading.{reading}
-use Rattle.rasn_oer.proofs.Steps.{leaves, ends}
-use Rattle.rasn_oer.specs.Parts.{NoParts}
+use Rattle.oer_read.proofs.Reading.{reading}
+use Rattle.oer_read.proofs.Steps.{leaves, ends}
+use Rattle.oer_read.specs.Parts.{NoParts}
 use Rattle.long_types.proofs.extended.fn.ExtendedOptionalDecode.decode_with_tag_and_constraints.decode_sequence.Goals as goal
 
 pub returns-in_err-first : goal.returns-in_err-first

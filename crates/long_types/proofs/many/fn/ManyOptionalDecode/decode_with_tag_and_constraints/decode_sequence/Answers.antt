@@ -1,12 +1,12 @@
 use Rattle.std.proofs.Common.{refl}
-use Rattle.rasn_oer.proofs.OptionalSteps.{optional_read, optional_passed, optional_stops}
-use Rattle.rasn_oer.proofs.Reading.{reading}
+use Rattle.oer_read.proofs.OptionalSteps.{optional_read, optional_passed, optional_stops}
+use Rattle.oer_read.proofs.Reading.{reading}
 use Rattle.long_types.specs.Front.{front_rows}
 use Rattle.long_types.specs.Many.{many_parts, many_rest}
 use Rattle.sequence_types.specs.Pairs.{IsWhole, plain_integer}
 use Rattle.sequence_types.specs.Tags.{context}
-use Rattle.rasn_oer.proofs.Steps.{leaves, ends, done}
-use Rattle.rasn_oer.specs.Parts.{NoParts}
+use Rattle.oer_read.proofs.Steps.{leaves, ends, done}
+use Rattle.oer_read.specs.Parts.{NoParts}
 use Rattle.long_types.proofs.Halves.{first_read, first_passed, first_stops}
 use Rattle.long_types.proofs.many.fn.ManyOptionalDecode.decode_with_tag_and_constraints.decode_sequence.Goals as goal
 

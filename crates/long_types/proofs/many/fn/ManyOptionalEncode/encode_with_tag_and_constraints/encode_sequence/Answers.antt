@@ -1,5 +1,5 @@
 use Rattle.std.proofs.Common.{Ok, subst}
-use Rattle.oer_forms.specs.Tree.{NoRows}
+use Rattle.oer_spec.specs.Tree.{NoRows}
 use Rattle.oer_write.specs.Rows.{InSequence}
 use Rattle.oer_write.proofs.Joined.{then_in_sequence}
 use Rattle.long_types.specs.Front.{front_rows}

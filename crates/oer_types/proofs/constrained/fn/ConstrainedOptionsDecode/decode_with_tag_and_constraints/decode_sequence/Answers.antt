@@ -1,5 +1,5 @@
-use Rattle.rasn_oer.proofs.OptionalSteps.{optional_read, optional_stops}
-use Rattle.rasn_oer.proofs.Reading.{reading}
+use Rattle.oer_read.proofs.OptionalSteps.{optional_read, optional_stops}
+use Rattle.oer_read.proofs.Reading.{reading}
 use Rattle.oer_types.specs.Constrained.{IsHashed, hashed_tree}
 use Rattle.oer_types.proofs.constrained.fn.ConstrainedOptionsDecode.decode_with_tag_and_constraints.decode_sequence.Goals as goal
 

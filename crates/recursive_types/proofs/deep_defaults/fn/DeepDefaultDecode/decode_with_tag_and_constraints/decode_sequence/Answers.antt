@@ -1,5 +1,5 @@
 use Rattle.std.proofs.Common.{sym}
-use Rattle.rasn_oer.proofs.Reading.{reading}
+use Rattle.oer_read.proofs.Reading.{reading}
 use Rattle.recursive_types.specs.DeepDefaults.{nest_known}
 use Rattle.recursive_types.proofs.DeepDefaultLaw.{slot_compared}
 use Rattle.recursive_types.proofs.deep_defaults.fn.DeepDefaultDecode.decode_with_tag_and_constraints.decode_sequence.Goals as goal

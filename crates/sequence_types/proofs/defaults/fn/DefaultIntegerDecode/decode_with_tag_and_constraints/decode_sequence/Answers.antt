@@ -1,4 +1,4 @@
-use Rattle.rasn_oer.proofs.Reading.{reading}
+use Rattle.oer_read.proofs.Reading.{reading}
 use Rattle.sequence_types.specs.Defaults.{whole_default}
 use Rattle.sequence_types.proofs.defaults.fn.DefaultIntegerDecode.decode_with_tag_and_constraints.decode_sequence.Goals as goal
 

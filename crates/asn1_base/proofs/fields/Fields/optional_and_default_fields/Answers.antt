@@ -1,5 +1,0 @@
-use Rattle.asn1_base.proofs.SortedByTag.{map-optional_fields}
-use Rattle.asn1_base.proofs.fields.Fields.optional_and_default_fields.Goals as goal
-
-pub returns-clause-rows : goal.returns-clause-rows
-returns-clause-rows g c = map-optional_fields c.args.self.now.fields.now

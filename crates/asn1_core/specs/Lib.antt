@@ -1,0 +1,13 @@
+pub mod Kinds
+pub mod Tags
+pub mod Rows
+pub mod Octets
+pub mod Numbers
+pub mod Texts
+pub mod Bounds
+pub mod Narrowing
+pub mod TagOrder
+pub mod NextRow
+pub mod Tables
+pub mod Multisets
+pub mod MultisetLaws

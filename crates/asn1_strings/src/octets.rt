@@ -1,0 +1,122 @@
+ghost use Rattle.std.specs.Prelude.{◌≡◌, ◌==◌, length, IfOk};
+ghost use Rattle.asn1_core.specs.Octets.{AreOctets};
+
+use asn1_core::{AsnType, Constraints, Tag};
+use bytes::Bytes;
+use std::alloc::{AllocError, Global};
+use std::marker::{Model, PhantomData};
+
+/// An ASN.1 type whose values are octets.
+pub trait OctetType: Drop {
+    ghost use Rattle.asn1_core.specs.declared.tag.Tag.{Tag};
+
+    ghost TAG: { Tag };
+
+    /// The type's tag.
+    const TAG: Tag;
+}
+
+/// The type OCTET STRING.
+#[derive(Drop)]
+pub enum OctetStringType {}
+
+/// An open type.
+#[derive(Drop)]
+pub enum AnyType {}
+
+impl OctetType for OctetStringType {
+    ghost use Rattle.asn1_core.specs.declared.tag.TheConstants.Tag.{OCTET_STRING};
+
+    ghost TAG = { OCTET_STRING };
+
+    const TAG: Tag = Tag::OCTET_STRING;
+}
+
+impl OctetType for AnyType {
+    ghost use Rattle.asn1_core.specs.declared.tag.TheConstants.Tag.{EOC};
+
+    ghost TAG = { EOC };
+
+    const TAG: Tag = Tag::EOC;
+}
+
+/// Octets: a value of OCTET STRING, or the content of an open type.
+#[derive_where(Debug, PartialEq, Eq)]
+#[derive(Drop)]
+pub struct OctetContent<K: OctetType> {
+    octets: Bytes,
+    kind: PhantomData<K>,
+}
+
+/// OCTET STRING (X.680, clause 23).
+pub type OctetString = OctetContent<OctetStringType>;
+
+/// The octets of an open type (X.681, 14.2), uninterpreted.
+pub type Any = OctetContent<AnyType>;
+
+impl<K: OctetType> Model for OctetContent<K> {
+    ghost use Rattle.std.specs.Prelude.{List, ℕ};
+
+    ghost Value = { List ℕ };
+
+    ghost view = { λ s. s.octets };
+
+    ghost inverse = { λ v. record { octets = v; kind = record {} } };
+}
+
+impl<K: OctetType> AsnType for OctetContent<K> {
+    ghost use Rattle.asn1_core.specs.declared.constraints.TheConstants.Constraints.{NONE};
+    ghost use Rattle.std.specs.Prelude.{false, refl};
+
+    ghost TAG = { K.TAG };
+
+    const TAG: Tag = K::TAG;
+
+    ghost CONSTRAINTS = { NONE };
+
+    const CONSTRAINTS: Constraints = Constraints::NONE;
+
+    ghost consistent = { refl };
+}
+
+impl<K: OctetType> OctetContent<K> {
+    /// A copy of the octets.
+    pub fn from_slice(alloc: Global, octets: &[u8]) -> Result<OctetContent<K>, AllocError>
+        ensures { IfOk result (λ s. s ≡ octets.now) }
+    {
+        Ok(OctetContent {
+            octets: Bytes::copy_from_slice(alloc, octets)?,
+            kind: PhantomData,
+        })
+    }
+
+    /// The octets.
+    pub fn as_bytes(&self) -> &[u8]
+        ensures value { result.now ≡ self.now }
+        ensures octets { AreOctets self.now }
+    {
+        each_below_256(self.octets.as_slice())
+    }
+
+    /// How many octets there are.
+    pub fn len(&self) -> usize
+        ensures { result ≡ length self.now }
+    {
+        self.octets.len()
+    }
+
+    /// Whether there is no octet.
+    pub fn is_empty(&self) -> bool
+        ensures { result ≡ (length self.now == 0) }
+    {
+        self.octets.is_empty()
+    }
+}
+
+/// The same octets: a clause then knows that each is a whole number below 256.
+pub(crate) fn each_below_256(octets: &[u8]) -> &[u8]
+    ensures value { result.now ≡ octets.now }
+    ensures octets { AreOctets octets.now }
+{
+    octets
+}

@@ -1,7 +1,0 @@
-use Rattle.asn1_base.specs.Bounds.{size_bounds}
-use Rattle.leaf_readers.proofs.ReadBitStrings.{bit_string_reads}
-use Rattle.leaf_readers.proofs.ReadMemory.{front_or_memory}
-use Rattle.leaf_readers.proofs.bit_strings.read_bit_string.Goals as goal
-
-pub returns-clause-relation : goal.returns-clause-relation
-returns-clause-relation c = front_or_memory (bit_string_reads (size_bounds c.args.constraints) c.args.codec) _ c.args.input.now c.read_owned_bits.result c.type_inv.input c.read_owned_bits.ensures

@@ -1,9 +1,0 @@
-use Rattle.leaf_readers.proofs.ReadValues.{identifier_ok, identifier_err}
-use Rattle.oer_forms.proofs.Steps.{are_octets}
-use Rattle.leaf_readers.proofs.identifiers.identifier_of.Goals as goal
-
-pub returns-in-Ok-clause-function : goal.returns-in-Ok-clause-function
-returns-in-Ok-clause-function c = identifier_ok c.args.octets.now c.in-Ok.value c.in-Ok.ensures.ok
-
-pub returns-in-Err-clause-function : goal.returns-in-Err-clause-function
-returns-in-Err-clause-function c = identifier_err c.args.octets.now c.in-Err.field-0.kind (are_octets c.args.octets.now c.type_inv.octets) c.in-Err.ensures.err

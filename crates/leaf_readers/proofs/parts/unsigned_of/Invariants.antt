@@ -1,6 +1,0 @@
-use Rattle.std.proofs.Common.{◌≡◌, take}
-use Rattle.asn1_base.specs.Octets.{unsigned}
-use Rattle.leaf_readers.proofs.parts.unsigned_of.Given as goal
-
-abbrev pub invariant-loop-octet : goal.invariant-loop-octet
-invariant-loop-octet l = l.n ≡ unsigned (take l.octet-index l.octets)

@@ -1,6 +1,0 @@
-use Rattle.leaf_readers.proofs.ReadPlaces.{bitmap_reads}
-use Rattle.oer_forms.proofs.Steps.{front_of}
-use Rattle.leaf_readers.proofs.places.read_bitmap.Goals as goal
-
-pub returns-clause-relation : goal.returns-clause-relation
-returns-clause-relation c = front_of (bitmap_reads c.args.codec) _ c.args.input.now c.bitmap.result c.type_inv.input c.bitmap.ensures.function

@@ -1,6 +1,0 @@
-use Rattle.leaf_readers.proofs.ReadPlaces.{preamble_reads}
-use Rattle.oer_forms.proofs.Steps.{front_of}
-use Rattle.leaf_readers.proofs.places.read_preamble.Goals as goal
-
-pub returns-clause-relation : goal.returns-clause-relation
-returns-clause-relation c = front_of (preamble_reads c.args.bits) _ c.args.input.now c.preamble.result c.type_inv.input c.preamble.ensures.function

@@ -1,9 +1,0 @@
-use Rattle.std.proofs.Common.{◌≡◌, ◌≤◌, length}
-use Rattle.asn1_base.specs.Octets.{AreOctets, unsigned}
-use Rattle.leaf_writers.proofs.lengths.without_leading_zeros.Given as goal
-
-abbrev pub invariant-loop-rest : goal.invariant-loop-rest
-invariant-loop-rest l = record { octets : AreOctets l.rest; same : unsigned l.rest ≡ unsigned l.octets; count : length l.rest ≤ length l.octets }
-
-abbrev pub decreases-loop-rest : goal.decreases-loop-rest
-decreases-loop-rest l = length l.rest

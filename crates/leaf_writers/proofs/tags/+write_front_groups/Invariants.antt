@@ -1,4 +1,0 @@
-use Rattle.leaf_writers.proofs.tags.+write_front_groups.Given as goal
-
-abbrev pub decreases-write_front_groups : goal.decreases-write_front_groups
-decreases-write_front_groups l = l.number

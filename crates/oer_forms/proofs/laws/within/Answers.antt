@@ -1,5 +1,0 @@
-use Rattle.oer_forms.proofs.Within.{own_sized_within_canonical, canonical_within_lenient}
-use Rattle.oer_forms.proofs.laws.within.Goals as goal
-
-pub returns : goal.returns
-returns c = record { own_sized = λ d o t i f. own_sized_within_canonical t d o f; canonical = λ d o t i f. canonical_within_lenient t d o f }

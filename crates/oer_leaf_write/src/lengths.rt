@@ -1,0 +1,51 @@
+ghost use Rattle.std.specs.Prelude.{◌≡◌, ◌≤◌, length};
+ghost use Rattle.std.specs.Int.Digits.{digits_of};
+ghost use Rattle.asn1_core.specs.Octets.{unsigned};
+ghost use Rattle.oer_spec.specs.Lengths.{length_octets, behind_length};
+ghost use Rattle.oer_spec.specs.Writing.{Appends};
+
+use asn1_core::EncodeErrorKind;
+
+/// The octets from the first on that isn't 00.
+#[tactic(auto, using(oer_spec::proofs::Digits::unsigned_zero, oer_spec::proofs::Digits::digits_no_zero, oer_spec::proofs::Digits::tail_octets, oer_spec::proofs::Steps::are_octets))]
+pub(crate) fn without_leading_zeros(octets: &[u8]) -> &[u8]
+    ensures digits { result.now ≡ digits_of 256 (unsigned octets.now) }
+    ensures count { length result.now ≤ length octets.now }
+{
+    let mut rest = octets;
+    while let [first, tail @ ..] = rest {
+        if *first != 0 {
+            return rest;
+        }
+        rest = tail;
+    }
+    rest
+}
+
+/// Appends a length: one octet below 128; else an octet 128 + k and the number's k octets (X.696, 8.6).
+///
+/// Refused only for want of memory.
+pub fn write_length(length: usize, out: &mut Vec<u8>) -> Result<(), EncodeErrorKind>
+    ensures { Appends result (length_octets length) out.old.items out.new.items }
+{
+    if length < 128 {
+        out.push(length as u8)?;
+        return Ok(());
+    }
+    let octets = (length as u64).to_be_bytes();
+    let digits = without_leading_zeros(&octets);
+    out.push(128 + digits.len() as u8)?;
+    out.extend_from_slice(digits)?;
+    Ok(())
+}
+
+/// Appends a length and that many octets (X.696, 8.6 and 30).
+///
+/// Refused only for want of memory.
+pub fn write_content(content: &[u8], out: &mut Vec<u8>) -> Result<(), EncodeErrorKind>
+    ensures { Appends result (behind_length content.now) out.old.items out.new.items }
+{
+    write_length(content.len(), out)?;
+    out.extend_from_slice(content)?;
+    Ok(())
+}

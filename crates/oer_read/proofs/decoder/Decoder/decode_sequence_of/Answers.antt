@@ -1,0 +1,21 @@
+use Rattle.oer_read.specs.Law.{Decodes}
+use Rattle.oer_read.proofs.ListLaw.{list_law, list_is_short}
+use Rattle.oer_read.proofs.ListSteps.{list_answers}
+use Rattle.oer_read.proofs.Promises.{promise_of_fn, decodes_rear}
+use Rattle.oer_read.proofs.decoder.Decoder.decode_sequence_of.Goals as goal
+
+pub decode_sequence_of_with-requires-clause-keeps : goal.decode_sequence_of_with-requires-clause-keeps
+decode_sequence_of_with-requires-clause-keeps g c rest v after k =
+    decodes_rear (g.D.Spelled.tree g.D.AsnType.CONSTRAINTS) g.D.Spelled.IsValue _ v after (promise_of_fn _ _ (λ s r t. Decodes (g.D.Spelled.tree g.D.AsnType.CONSTRAINTS) g.D.Spelled.IsValue s r t) (λ p q r k. k.law) _ _ _ k)
+
+pub returns-clause-law : goal.returns-clause-law
+returns-clause-law g c =
+    list_law (g.D.Spelled.tree g.D.AsnType.CONSTRAINTS) g.D.Spelled.IsValue _ (promise_of_fn _ _ _ (λ p q r k. k.law)) (g.D.Spelled.is_tree g.D.AsnType.CONSTRAINTS g.D.AsnType.consistent) (λ v. v.items) _ _ _ c.decode_sequence_of_with.ensures.read c.decode_sequence_of_with.ensures.refused c.decode_sequence_of_with.ensures.unchanged
+
+pub returns-clause-answered : goal.returns-clause-answered
+returns-clause-answered g c =
+    list_answers _ _ (promise_of_fn _ _ _ (λ p q r k. k)) _ _ _ _ c.decode_sequence_of_with.ensures.read c.decode_sequence_of_with.ensures.refused
+
+pub returns-clause-few : goal.returns-clause-few
+returns-clause-few g c =
+    λ takes. list_is_short (g.D.Spelled.tree g.D.AsnType.CONSTRAINTS) g.D.Spelled.IsValue _ (promise_of_fn _ _ _ (λ p q r k. k.law)) (g.D.Spelled.is_tree g.D.AsnType.CONSTRAINTS g.D.AsnType.consistent) (λ v. v.items) _ _ _ c.decode_sequence_of_with.ensures.read takes

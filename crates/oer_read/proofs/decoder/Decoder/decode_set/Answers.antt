@@ -1,0 +1,50 @@
+use Rattle.std.proofs.Common.{refl}
+use Rattle.oer_read.specs.Sets.{NotClosed, NotMade, FieldReturns}
+use Rattle.oer_read.proofs.Openings.{closed_rear, rear_trans, rear_are_octets}
+use Rattle.oer_read.proofs.SetSteps.{ran_rear, set_opened_rear, refused_or_memory}
+use Rattle.oer_read.proofs.decoder.Decoder.decode_set.Goals as goal
+
+pub returns-in-Err-read_fields-clause-refused : goal.returns-in-Err-read_fields-clause-refused
+returns-in-Err-read_fields-clause-refused g c =
+    let o = rw (c.root_fields-roots.ensures, c.addition_fields-additions.ensures, c.IS_EXTENSIBLE.ensures) at c.in-Ok.ensures.state in
+    let k = rw (c.root_fields-roots.ensures, c.addition_fields-additions.ensures) at c.in-Err-read_fields.ensures.err in
+    refused_or_memory _ _ _ _ _ _ _ _ _ o k
+
+pub returns-in-Err-close-clause-refused : goal.returns-in-Err-close-clause-refused
+returns-in-Err-close-clause-refused g c =
+    let o = rw (c.root_fields-roots.ensures, c.addition_fields-additions.ensures, c.IS_EXTENSIBLE.ensures) at c.in-Ok.ensures.state in
+    let k = rw (c.root_fields-roots.ensures, c.addition_fields-additions.ensures) at c.in-Ok-read_fields.ensures.ok in
+    NotClosed _ _ _ _ o k (rw c.refusal-in-Err-close.ensures c.in-Err-close.ensures) (rw c.refusal-in-Err-close.ensures refl)
+
+pub returns-in-Err-field_fn-clause-refused : goal.returns-in-Err-field_fn-clause-refused
+returns-in-Err-field_fn-clause-refused g c =
+    let o = rw (c.root_fields-roots.ensures, c.addition_fields-additions.ensures, c.IS_EXTENSIBLE.ensures) at c.in-Ok.ensures.state in
+    let k = rw (c.root_fields-roots.ensures, c.addition_fields-additions.ensures) at c.in-Ok-read_fields.ensures.ok in
+    NotMade _ _ _ _ _ o k c.in-Ok-close.ensures (record { handed = _; holds = refl; met = c.in-Err-field_fn.ensures })
+
+pub returns-clause-read : goal.returns-clause-read
+returns-clause-read g c =
+    let o = rw (c.root_fields-roots.ensures, c.addition_fields-additions.ensures, c.IS_EXTENSIBLE.ensures) at c.in-Ok.ensures.state in
+    let k = rw (c.root_fields-roots.ensures, c.addition_fields-additions.ensures) at c.in-Ok-read_fields.ensures.ok in
+    record {
+      lent = _;
+      bits = _;
+      opened = o;
+      fields = _;
+      after = _;
+      ran = k;
+      rest = _;
+      closed = c.in-Ok-close.ensures;
+      made = record { handed = _; holds = refl; met = c.in-Ok-field_fn.ensures };
+      left = c.set_remaining.ensures;
+      octets = c.open_set.ensures.octets;
+    }
+
+pub returns-clause-rear : goal.returns-clause-rear
+returns-clause-rear g c =
+    let fits = c.open_set.ensures.octets in
+    let first = set_opened_rear _ _ _ _ _ _ fits c.in-Ok.ensures.state in
+    let second = ran_rear (FieldReturns g.D.Fn c.args.decode_fn) c.requires.keeps _ _ _ _ c.in-Ok-read_fields.ensures.ok in
+    let both = rear_trans _ _ _ first second in
+    let third = closed_rear _ _ (rear_are_octets _ _ both fits) c.in-Ok-close.ensures in
+    rw c.set_remaining.ensures (rear_trans _ _ _ both third)

@@ -1,0 +1,11 @@
+use Rattle.asn1_core.specs.Bounds.{size_bounds}
+use Rattle.asn1_core.specs.Octets.{Octets}
+use Rattle.asn1_core.specs.Texts.{AnyOctets}
+use Rattle.oer_spec.specs.Spelled.{text}
+use Rattle.oer_read.proofs.TextLaws.{octets_law, sized}
+use Rattle.oer_read.proofs.decoder.Decoder.own_octet_string.Goals as goal
+
+pub returns-clause-law : goal.returns-clause-law
+returns-clause-law c =
+    octets_law (λ (o : Octets). o) AnyOctets (size_bounds c.args.constraints) (text AnyOctets c.args.constraints) (sized AnyOctets c.args.constraints) (λ o. tt) c.args.self.now _ _ _
+    (rw (c.codec.ensures, c.remaining.ensures) at c.read_own_octets-answer.ensures.relation) c.take.ensures

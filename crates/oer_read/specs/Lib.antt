@@ -1,0 +1,15 @@
+pub mod State
+pub mod Law
+pub mod Parts
+pub mod Scopes
+pub mod Components
+pub mod Lists
+pub mod Unordered
+pub mod Sets
+pub mod SetRows
+pub mod Additions
+pub mod Choices
+pub mod Defaults
+pub mod Seen
+pub mod Answers
+pub mod Enumerated

@@ -1,0 +1,300 @@
+//! Extension additions: each is asked by its bit of the extension bitmap, in the order of the table.
+
+ghost use Rattle.std.specs.Prelude.{◌≡◌, ◌≢◌, [], OnOk, not, get_or, false, drop, List, Bool, Option, Some, None, map, Ok, Err, IfOk, IfErr};
+ghost use Rattle.std.specs.Option.{option_map};
+ghost use Rattle.asn1_core.specs.Octets.{AreOctets};
+ghost use Rattle.asn1_core.specs.Rows.{row, may_be_absent};
+ghost use Rattle.oer_spec.specs.Reading.{Gives};
+ghost use Rattle.oer_spec.specs.Spelled.{IsConsistent};
+ghost use Rattle.oer_leaf_read.specs.Views.{bits_left};
+ghost use Rattle.oer_read.specs.Additions.{row_present, all_present, with_bitmap, bitmap_first, mapped_at, next_place, open_content, bits_now, addition_at, behind_place, inside, OpenRead, OpenRefused, Adds};
+ghost use Rattle.oer_read.specs.State.{places_of};
+
+use crate::de::DecoderOptions;
+use crate::decode::Decode;
+use crate::decoder::{Decoder, OpenScope};
+use crate::scopes::{missing, next_bit};
+use asn1_core::{
+    Codec, Constraints, Constructed, DecodeError, DecodeErrorKind, Field, FieldPresence, Tag,
+};
+use oer_leaf_read::{BitSlice, read_bitmap, read_content};
+use std::alloc::Global;
+
+/// An addition whose bit is not set has to be one that may be absent.
+fn require_row(field: &Field<'_>, bit: bool) -> Result<(), DecodeErrorKind>
+    ensures { Gives (λ x. x) result (row_present (record { tag = field.now.tag; needed = not (may_be_absent field.now.presence) }) bit) }
+{
+    match field.presence {
+        FieldPresence::Required if !bit => {
+            Err(DecodeErrorKind::RequiredExtensionNotPresent { tag: field.tag })
+        }
+        FieldPresence::Required | FieldPresence::Optional | FieldPresence::Default => Ok(()),
+    }
+}
+
+/// Each required addition has its bit set, else the first that has not is missing.
+fn require_present(rows: &[Field<'_>], bits: BitSlice<'_>) -> Result<(), DecodeErrorKind>
+    ensures { Gives (λ x. x) result (all_present (places_of (map row rows.now)) (bits_left bits.entry)) }
+{
+    let mut left = rows;
+    let mut bits = bits;
+    while let [field, later @ ..] = left {
+        let (bit, rest) = next_bit(bits);
+        require_row(field, bit)?;
+        left = later;
+        bits = rest;
+    }
+    Ok(())
+}
+
+/// The row of the next addition, which has to have that tag.
+fn require_next<'a>(
+    tag: Option<Tag>,
+    extensible: bool,
+    rows: &'a [Field<'a>],
+) -> Result<(), DecodeErrorKind>
+    ensures { Gives (λ x. x) result (next_place tag extensible (places_of (map row rows.now))) }
+{
+    match (extensible, rows) {
+        (true, [field, ..]) => match tag {
+            Some(tag) if field.tag != tag => Err(missing(tag)),
+            Some(_) | None => Ok(()),
+        },
+        (true, []) | (false, _) => Err(DecodeErrorKind::TypeNotExtensible),
+    }
+}
+
+impl<'input> Decoder<'input> {
+    /// The same decoder behind a bitmap.
+    fn with_bitmap(&self, bits: BitSlice<'input>, rest: &'input [u8]) -> Decoder<'input>
+        ensures { result ≡ with_bitmap self.now (bits_left bits.entry) rest.entry.now }
+    {
+        Decoder {
+            input: rest,
+            options: self.options,
+            scope: OpenScope {
+                is_set: self.scope.is_set,
+                roots: self.scope.roots,
+                presence: self.scope.presence,
+                extensible: self.scope.extensible,
+                extended: self.scope.extended,
+                additions: self.scope.additions,
+                bitmap: Some(bits),
+            },
+        }
+    }
+
+    /// The decoder behind the bitmap, which is read where it was not yet.
+    #[tactic(auto, unfolding(crate::specs::Additions::mapped_at))]
+    fn mapped(&self) -> Result<Decoder<'input>, DecodeErrorKind>
+        ensures { Gives (λ d. d) result (mapped_at self.now) }
+    {
+        match self.scope.bitmap {
+            Some(bits) => Ok(self.with_bitmap(bits, self.input)),
+            None if self.scope.extended => {
+                let (bits, rest): (BitSlice<'input>, &'input [u8]) = read_bitmap(
+                    self.options.codec,
+                    self.input,
+                )?;
+                require_present(self.scope.additions, bits)?;
+                Ok(self.with_bitmap(bits, rest))
+            }
+            None => {
+                let bits: BitSlice<'input> = BitSlice::new(&[], 0);
+                require_present(self.scope.additions, bits)?;
+                Ok(self.with_bitmap(bits, self.input))
+            }
+        }
+    }
+}
+
+impl<'input> Decoder<'input> {
+    /// The bits of the bitmap that are left.
+    fn bits_now(&self) -> BitSlice<'input>
+        ensures { bits_left result ≡ bits_now self.now.frame.bitmap }
+    {
+        match self.scope.bitmap {
+            Some(bits) => bits,
+            None => BitSlice::new(&[], 0),
+        }
+    }
+
+    /// The decoder behind the next addition's row.
+    fn behind_place(&self, bits: BitSlice<'input>, rest: &'input [u8]) -> Decoder<'input>
+        requires { bits_left bits ≡ drop 1 (bits_now self.now.frame.bitmap) }
+        ensures { result ≡ behind_place self.now rest.entry.now }
+    {
+        let additions: &'input [Field<'input>] = match self.scope.additions {
+            [] => self.scope.additions,
+            [_, later @ ..] => later,
+        };
+        Decoder {
+            input: rest,
+            options: self.options,
+            scope: OpenScope {
+                is_set: self.scope.is_set,
+                roots: self.scope.roots,
+                presence: self.scope.presence,
+                extensible: self.scope.extensible,
+                extended: self.scope.extended,
+                additions,
+                bitmap: Some(bits),
+            },
+        }
+    }
+
+    /// The next addition's octets, where its bit is set, and the decoder behind it.
+    fn open_content(&self) -> Result<(Option<&'input [u8]>, Decoder<'input>), DecodeErrorKind>
+        ensures { Gives (λ x. (option_map (λ o. o.now) x.0, x.1)) result (open_content self.now (get_or (bits_now self.now.frame.bitmap) 0 false)) }
+    {
+        let (bit, bits): (bool, BitSlice<'input>) = next_bit(self.bits_now());
+        if bit {
+            let (content, rest): (&'input [u8], &'input [u8]) = read_content(
+                self.codec(),
+                self.remaining(),
+            )?;
+            Ok((Some(content), self.behind_place(bits, rest)))
+        } else {
+            Ok((None, self.behind_place(bits, self.remaining())))
+        }
+    }
+
+    /// The next addition: its row, the bitmap, and its octets, where its bit is set.
+    #[tactic(auto, unfolding(crate::specs::Additions::addition_at))]
+    fn next_addition(
+        &self,
+        tag: Option<Tag>,
+    ) -> Result<(Option<&'input [u8]>, Decoder<'input>), DecodeErrorKind>
+        ensures { Gives (λ x. (option_map (λ o. o.now) x.0, x.1)) result (addition_at self.now tag) }
+    {
+        require_next(tag, self.scope.extensible, self.scope.additions)?;
+        let mapped: Decoder<'input> = self.mapped()?;
+        let (content, behind): (Option<&'input [u8]>, Decoder<'input>) = mapped.open_content()?;
+        Ok((content, behind))
+    }
+
+    /// A decoder of an open type's octets.
+    pub(crate) fn inside(&self, content: &'input [u8]) -> Decoder<'input>
+        ensures { result ≡ inside self.now content.entry.now }
+    {
+        Decoder {
+            input: content,
+            options: self.options,
+            scope: OpenScope::closed(),
+        }
+    }
+
+    /// Canonically no octets of an open type are left over.
+    pub(crate) fn require_whole(&self, rest: &[u8]) -> Result<(), DecodeError>
+        ensures ok { OnOk result (self.now.codec ≡ Codec.Coer → rest.now ≡ []) }
+        ensures err { IfErr result (λ e. (rest.now ≢ []) × (self.now.codec ≡ Codec.Coer) × (e ≡ record { kind = DecodeErrorKind.NotValidCanonicalEncoding; codec = self.now.codec })) }
+    {
+        match (self.codec(), rest) {
+            (Codec::Coer, [_, ..]) => {
+                Err(self.refusal(DecodeErrorKind::NotValidCanonicalEncoding))
+            }
+            (Codec::Coer, []) | (Codec::Oer, _) => Ok(()),
+        }
+    }
+
+    /// The value in an open type's octets, of which canonically none may be left over.
+    pub(crate) fn open_type<D: Decode>(
+        &self,
+        alloc: Global,
+        content: &'input [u8],
+        tag: Tag,
+        constraints: Constraints,
+    ) -> Result<D, DecodeError>
+        requires { IsConsistent constraints }
+        ensures ok { IfOk result (OpenRead (D.tree constraints) D.IsValue (D.Answered constraints) self.now content.entry.now) }
+        ensures err { IfErr result (OpenRefused (D.tree constraints) D.IsValue (D.Answered constraints) self.now content.entry.now) }
+    {
+        let mut inner: Decoder<'input> = self.inside(content);
+        match D::decode_with_tag_and_constraints(alloc, &mut inner, tag, constraints) {
+            Err(e) => Err(e),
+            Ok(value) => match self.require_whole(inner.remaining()) {
+                Err(e) => Err(e),
+                Ok(()) => Ok(value),
+            },
+        }
+    }
+
+    /// An addition, asked by its tag or, for a group, by its row alone.
+    fn addition<D: Decode>(
+        &mut self,
+        alloc: Global,
+        asked: Option<Tag>,
+        tag: Tag,
+        constraints: Constraints,
+    ) -> Result<Option<D>, DecodeError>
+        requires { IsConsistent constraints }
+        ensures { Adds (D.tree constraints) D.IsValue (D.Answered constraints) self.old asked result self.new }
+    {
+        let _octets = self.octets();
+        match self.next_addition(asked) {
+            Err(kind) => Err(self.refusal(kind)),
+            Ok((None, behind)) => {
+                self.resume(behind);
+                Ok(None)
+            }
+            Ok((Some(content), behind)) => {
+                match self.open_type::<D>(alloc, content, tag, constraints) {
+                    Err(e) => Err(e),
+                    Ok(value) => {
+                        self.resume(behind);
+                        Ok(Some(value))
+                    }
+                }
+            }
+        }
+    }
+}
+
+impl<'input> Decoder<'input> {
+    /// Reads an extension addition under the handed-in tag and constraints (X.696, 16.4 and 30): none where its bit of the
+    /// extension bitmap is 0. The bitmap is read at the first such call.
+    ///
+    /// Refused, the first that applies: a type that isn't extensible, or no addition is left to ask, as
+    /// `TypeNotExtensible`; the next one has another tag, as `MissingTagClassOrValueInSequenceOrSet` with `tag`; at the first
+    /// such call the bitmap as `read_bitmap` refuses it, and then a required addition without a set bit, as
+    /// `RequiredExtensionNotPresent` with its tag; the open type's octets as `read_content` refuses them; what the type
+    /// refuses of the value in them; octets left over in canonical mode, as `NotValidCanonicalEncoding`.
+    pub fn decode_extension_addition_with_tag_and_constraints<D: Decode>(
+        &mut self,
+        alloc: Global,
+        tag: Tag,
+        constraints: Constraints,
+    ) -> Result<Option<D>, DecodeError>
+        requires { IsConsistent constraints }
+        ensures { Adds (D.tree constraints) D.IsValue (D.Answered constraints) self.old (Some tag) result self.new }
+    {
+        self.addition(alloc, Some(tag), tag, constraints)
+    }
+
+    /// Reads an extension addition with an explicit prefix, which adds no octets (X.696, 26), as
+    /// `decode_extension_addition_with_tag_and_constraints` does.
+    pub fn decode_extension_addition_with_explicit_tag_and_constraints<D: Decode>(
+        &mut self,
+        alloc: Global,
+        tag: Tag,
+        constraints: Constraints,
+    ) -> Result<Option<D>, DecodeError>
+        requires { IsConsistent constraints }
+        ensures { Adds (D.tree constraints) D.IsValue (D.Answered constraints) self.old (Some tag) result self.new }
+    {
+        self.decode_extension_addition_with_tag_and_constraints(alloc, tag, constraints)
+    }
+
+    /// Reads an extension addition group, a sequence in one open type (X.696, 16.4), as
+    /// `decode_extension_addition_with_tag_and_constraints` does; it has no tag, and is the next row whatever its tag.
+    pub fn decode_extension_addition_group<const RC: usize, const EC: usize, D>(
+        &mut self,
+        alloc: Global,
+    ) -> Result<Option<D>, DecodeError>
+    where
+        D: Decode + Constructed<RC, EC>,
+        ensures { Adds (D.tree D.CONSTRAINTS) D.IsValue (D.Answered D.CONSTRAINTS) self.old None result self.new }
+    {
+        self.addition(alloc, None, D::TAG, D::CONSTRAINTS)
+    }
+}

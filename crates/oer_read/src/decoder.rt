@@ -1,0 +1,142 @@
+//! The decoder: the octets that are left, the rules, the levels left, and the open scope.
+
+ghost use Rattle.std.specs.Prelude.{◌≡◌, ◌<◌, ◌-◌, map, Ok, Err};
+ghost use Rattle.asn1_core.specs.declared.error.DecodeError.{DecodeError};
+ghost use Rattle.asn1_core.specs.declared.error.DecodeErrorKind.{DecodeErrorKind};
+ghost use Rattle.asn1_core.specs.Octets.{AreOctets};
+ghost use Rattle.oer_read.specs.Answers.{Took};
+ghost use Rattle.oer_read.specs.Seen.{frame_of};
+ghost use Rattle.oer_read.specs.State.{closed};
+
+use crate::de::DecoderOptions;
+use asn1_core::{Codec, DecodeError, DecodeErrorKind, Field};
+use oer_leaf_read::BitSlice;
+use std::marker::Model;
+
+/// The rows of the open scope that are still to be asked, and its presence bits.
+#[derive(Clone, Copy)]
+pub(crate) struct OpenScope<'input> {
+    pub(crate) is_set: bool,
+    pub(crate) roots: &'input [Field<'input>],
+    pub(crate) presence: BitSlice<'input>,
+    pub(crate) extensible: bool,
+    pub(crate) extended: bool,
+    pub(crate) additions: &'input [Field<'input>],
+    pub(crate) bitmap: Option<BitSlice<'input>>,
+}
+
+impl<'input> OpenScope<'input> {
+    /// No scope is open.
+    pub(crate) fn closed() -> OpenScope<'input>
+        ensures { frame_of result ≡ closed }
+    {
+        OpenScope {
+            is_set: false,
+            roots: &[],
+            presence: BitSlice::new(&[], 0),
+            extensible: false,
+            extended: false,
+            additions: &[],
+            bitmap: None,
+        }
+    }
+}
+
+/// Reads values from octets.
+///
+/// A method that refuses leaves the decoder as it was. What is left after a method that answers is a rear part of what
+/// was left before.
+#[derive(Drop)]
+pub struct Decoder<'input> {
+    pub(crate) input: &'input [u8],
+    pub(crate) options: DecoderOptions,
+    pub(crate) scope: OpenScope<'input>,
+}
+
+impl<'input> Model for Decoder<'input> {
+    ghost use Rattle.oer_read.specs.Seen.{frame_of};
+    ghost use Rattle.oer_read.specs.State.{State};
+
+    ghost Value = { State };
+
+    ghost view = { λ d. record { input = d.input.now; codec = d.options.codec; levels = d.options.levels; frame = frame_of d.scope } };
+}
+
+impl<'input> Decoder<'input> {
+    /// A decoder of the octets, with no scope open.
+    pub fn new(input: &'input [u8], options: DecoderOptions) -> Decoder<'input>
+        ensures { result ≡ record { input = input.entry.now; codec = options.codec; levels = options.levels; frame = closed } }
+    {
+        Decoder {
+            input,
+            options,
+            scope: OpenScope::closed(),
+        }
+    }
+
+    /// The octets that are left.
+    pub fn remaining(&self) -> &'input [u8]
+        ensures { result.now ≡ self.now.input }
+    {
+        self.input
+    }
+
+    /// The octets that are left, each of which is one.
+    pub(crate) fn octets(&self) -> &'input [u8]
+        ensures input { result.now ≡ self.now.input }
+        ensures octets { AreOctets self.now.input }
+    {
+        let input: &'input [u8] = self.remaining();
+        input
+    }
+
+    /// The rules that octets are read by.
+    pub fn codec(&self) -> Codec
+        ensures { result ≡ self.now.codec }
+    {
+        self.options.codec
+    }
+
+    /// How many levels of nesting are left: sequences, sets, lists and choices count one each.
+    pub fn levels(&self) -> usize
+        ensures { result ≡ self.now.levels }
+    {
+        self.options.levels
+    }
+
+    /// Goes on with these octets.
+    pub(crate) fn set_remaining(&mut self, rest: &'input [u8])
+        ensures { self.new ≡ record self.old { input = rest.entry.now } }
+    {
+        self.input = rest;
+    }
+
+    /// A refusal in the decoder's mode.
+    pub(crate) fn refusal(&self, kind: DecodeErrorKind) -> DecodeError
+        ensures { result ≡ record { kind = kind; codec = self.now.codec } }
+    {
+        DecodeError {
+            kind,
+            codec: self.options.codec,
+        }
+    }
+
+    /// Goes on behind what a reader read, or answers its refusal.
+    pub(crate) fn take<T>(
+        &mut self,
+        answer: Result<(T, &'input [u8]), DecodeErrorKind>,
+    ) -> Result<T, DecodeError>
+        ensures { Took answer.entry self.old result self.new }
+    {
+        match answer {
+            Ok((value, rest)) => {
+                self.input = rest;
+                Ok(value)
+            }
+            Err(kind) => Err(DecodeError {
+                kind,
+                codec: self.options.codec,
+            }),
+        }
+    }
+}

@@ -1,0 +1,206 @@
+//! Lists: a closure reads each element on a decoder of its own.
+
+ghost use Rattle.std.specs.Prelude.{◌≡◌, ℕ, ◌+◌, ◌<◌, ◌≤◌, length, List, true, IfOk, IfErr, OnErr, OnOk, Ok, Err};
+ghost use Rattle.asn1_core.specs.Octets.{Octets, AreOctets};
+ghost use Rattle.oer_spec.specs.Reading.{Gives};
+ghost use Rattle.oer_spec.specs.Spelled.{EachValue, list_of};
+ghost use Rattle.oer_read.specs.Law.{Decodes, IsForMemory, IsRear, Promised};
+ghost use Rattle.oer_spec.specs.Elements.{TakesOctets};
+ghost use Rattle.oer_read.specs.Lists.{lent_element, list_opened_at, count_empty, FnTakesAtMut, FnReturnsAtMut, RanEach, ListRead, ElementsStopped, ListRefused, ListAnswers};
+ghost use Rattle.oer_read.specs.State.{State};
+
+use crate::de::DecoderOptions;
+use crate::decode::Decode;
+use crate::decoder::{Decoder, OpenScope};
+use crate::scopes::one_level_less;
+use asn1_core::{Constraints, DecodeError, DecodeErrorKind, Tag};
+use oer_leaf_read::{BitSlice, read_quantity};
+use std::alloc::Global;
+
+/// The number of elements of one list that may take no octets.
+const MOST_EMPTY: usize = 65536;
+
+impl<'input> Decoder<'input> {
+    /// How many elements a list has, and what is left.
+    #[tactic(auto, unfolding(crate::specs::Lists::list_opened_at))]
+    pub(crate) fn open_list(&self) -> Result<(usize, &'input [u8]), DecodeErrorKind>
+        ensures quantity { Gives (λ x. (x.0, x.1.now)) result (list_opened_at self.now) }
+        ensures level { OnOk result (0 < self.now.levels) }
+        ensures octets { AreOctets self.now.input }
+    {
+        let input: &'input [u8] = self.remaining();
+        one_level_less(self.options.levels)?;
+        let (quantity, rest) = read_quantity(self.options.codec, input)?;
+        Ok((quantity, rest))
+    }
+
+    /// A decoder for an element, within one level less.
+    pub(crate) fn element(&self, rest: &'input [u8]) -> Decoder<'input>
+        requires { 0 < self.now.levels }
+        ensures { result ≡ lent_element self.now rest.entry.now }
+    {
+        Decoder {
+            input: rest,
+            options: DecoderOptions {
+                codec: self.options.codec,
+                levels: self.options.levels - 1,
+            },
+            scope: OpenScope::closed(),
+        }
+    }
+
+    /// A refusal of memory.
+    pub(crate) fn want_of_memory(&self) -> DecodeError
+        ensures { IsForMemory result }
+    {
+        self.refusal(DecodeErrorKind::OutOfMemory)
+    }
+
+    /// Reads one element.
+    fn read_element<D, F>(
+        &self,
+        rest: &'input [u8],
+        f: &F,
+    ) -> Result<(D, &'input [u8]), DecodeError>
+    where
+        F: Fn(&mut Decoder<'_>) -> Result<D, DecodeError>,
+        requires level { 0 < self.now.levels }
+        requires callable { FnTakesAtMut F.Fn f.now (lent_element self.now rest.now) }
+        ensures ok { IfOk result (λ p. (after : _) × FnReturnsAtMut F.Fn f.now (lent_element self.now rest.entry.now) (Ok p.0) after × (p.1.now ≡ after.input)) }
+        ensures err { IfErr result (λ e. (after : _) × FnReturnsAtMut F.Fn f.now (lent_element self.now rest.entry.now) (Err e) after) }
+    {
+        let mut inner: Decoder<'input> = self.element(rest);
+        match f(&mut inner) {
+            Err(e) => Err(e),
+            Ok(item) => Ok((item, inner.remaining())),
+        }
+    }
+
+    /// One more element without octets, where as many octets are left as before; at most 65,536.
+    pub(crate) fn count_empty(
+        &self,
+        empties: usize,
+        before: &[u8],
+        after: &[u8],
+    ) -> Result<usize, DecodeError>
+        requires { empties ≤ 65536 }
+        ensures ok { IfOk result (λ n. (n ≡ count_empty empties before.now after.now) × (n ≤ 65536)) }
+        ensures err { IfErr result (λ e. (65536 < count_empty empties before.now after.now) × (e ≡ record { kind = DecodeErrorKind.TooManyEmptyElements; codec = self.now.codec })) }
+    {
+        if before.len() != after.len() {
+            return Ok(empties);
+        }
+        if empties == MOST_EMPTY {
+            return Err(self.refusal(DecodeErrorKind::TooManyEmptyElements));
+        }
+        Ok(empties + 1)
+    }
+
+    /// Reads that many elements in turn.
+    fn read_elements<D, F>(
+        &self,
+        alloc: Global,
+        quantity: usize,
+        start: &'input [u8],
+        f: F,
+    ) -> Result<(Vec<D>, &'input [u8]), DecodeError>
+    where
+        D: Drop,
+        F: Fn(&mut Decoder<'_>) -> Result<D, DecodeError>,
+        requires level { 0 < self.now.levels }
+        requires callable { (rest : Octets) → FnTakesAtMut F.Fn f (lent_element self.now rest) }
+        ensures ok { IfOk result (λ p. (length p.0.items ≡ quantity) × ((empties : ℕ) × RanEach (FnReturnsAtMut F.Fn f) self.now start.entry.now 0 p.0.items p.1.now empties × (empties ≤ 65536))) }
+        ensures err { IfErr result (λ e. ElementsStopped (FnReturnsAtMut F.Fn f) self.now quantity start.entry.now e) }
+    {
+        let mut items = Vec::new(alloc);
+        let mut rest: &'input [u8] = start;
+        let mut empties = 0;
+        for i in 0..quantity {
+            let (item, left) = self.read_element(rest, &f)?;
+            empties = self.count_empty(empties, rest, left)?;
+            match items.push(item) {
+                Ok(()) => rest = left,
+                Err(_) => return Err(self.want_of_memory()),
+            }
+        }
+        Ok((items, rest))
+    }
+
+    /// Reads a SEQUENCE OF (X.696, 17) whose elements are read by `f`, each on a decoder of its own within one level less.
+    ///
+    /// Nothing is reserved by the stated quantity: the list grows element by element.
+    ///
+    /// Refused, the first that applies: no level is left, as `ExceedsMaxParseDepth`, before anything is read; the quantity
+    /// as `read_quantity` refuses it; in turn for each element, what `f` refuses, and the 65,537th element without octets
+    /// as `TooManyEmptyElements`. Memory may be refused, as `OutOfMemory`.
+    pub fn decode_sequence_of_with<D, F>(
+        &mut self,
+        alloc: Global,
+        _tag: Tag,
+        _constraints: Constraints,
+        f: F,
+    ) -> Result<Vec<D>, DecodeError>
+    where
+        D: Drop,
+        F: Fn(&mut Decoder<'_>) -> Result<D, DecodeError>,
+        requires callable { (rest : Octets) → 0 < self.old.levels → FnTakesAtMut F.Fn f (lent_element self.old rest) }
+        // what the closure leaves is a rear part of what it was lent
+        requires keeps { (rest : Octets) (v : _) (after : State) → FnReturnsAtMut F.Fn f (lent_element self.old rest) (Ok v) after → IsRear rest after.input }
+        ensures read { IfOk result (λ v. ListRead (FnReturnsAtMut F.Fn f) self.old v.items self.new) }
+        ensures refused { IfErr result (λ e. ListRefused (FnReturnsAtMut F.Fn f) self.old e) }
+        ensures unchanged { OnErr result (self.new ≡ self.old) }
+        ensures rear { OnOk result (IsRear self.old.input self.new.input) }
+    {
+        match self.open_list() {
+            Err(kind) => Err(self.refusal(kind)),
+            Ok((quantity, start)) => match self.read_elements(alloc, quantity, start, f) {
+                Err(e) => Err(e),
+                Ok((items, rest)) => {
+                    self.set_remaining(rest);
+                    Ok(items)
+                }
+            },
+        }
+    }
+}
+
+impl<'input> Decoder<'input> {
+    /// Reads a SEQUENCE OF (X.696, 17) of the type's own elements, as `decode_sequence_of_with` does; an element is refused
+    /// with the very error that its type answers. Where no element takes zero octets, there are at most as many elements as
+    /// octets that were read.
+    pub fn decode_sequence_of<D: Decode>(
+        &mut self,
+        alloc: Global,
+        tag: Tag,
+        constraints: Constraints,
+    ) -> Result<Vec<D>, DecodeError>
+        ensures law { Decodes (λ v. list_of true (D.tree D.CONSTRAINTS) v.items) (λ v. EachValue D.IsValue v.items) self.old result self.new }
+        ensures answered { ListAnswers (Promised (D.tree D.CONSTRAINTS) D.IsValue (D.Answered D.CONSTRAINTS)) self.old (λ v. v.items) result self.new }
+        ensures few { TakesOctets (D.tree D.CONSTRAINTS) D.IsValue → IfOk result (λ v. length v.items + length self.new.input ≤ length self.old.input) }
+    {
+        self.decode_sequence_of_with::<D, _>(
+            alloc,
+            tag,
+            constraints,
+            |inner: &mut Decoder<'_>| -> Result<D, DecodeError>
+                ensures { Promised (D.tree D.CONSTRAINTS) D.IsValue (D.Answered D.CONSTRAINTS) inner.old result inner.new }
+            { D::decode(alloc, inner) },
+        )
+    }
+}
+
+impl<T: Decode> Decode for Vec<T> {
+    ghost use Rattle.oer_read.specs.Law.{Promised};
+    ghost use Rattle.oer_read.specs.Lists.{ListAnswers};
+
+    ghost Answered = { λ c s r t. ListAnswers (Promised (T.tree T.CONSTRAINTS) T.IsValue (T.Answered T.CONSTRAINTS)) s (λ v. v.items) r t };
+
+    fn decode_with_tag_and_constraints(
+        alloc: Global,
+        decoder: &mut Decoder<'_>,
+        tag: Tag,
+        constraints: Constraints,
+    ) -> Result<Vec<T>, DecodeError> {
+        decoder.decode_sequence_of::<T>(alloc, tag, constraints)
+    }
+}

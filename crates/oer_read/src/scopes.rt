@@ -1,0 +1,234 @@
+//! Sequences: a closure reads the components on a decoder of its own, whose frame holds the rows that are to be asked.
+
+ghost use Rattle.std.specs.Prelude.{◌≡◌, ◌≤◌, ℕ, false, get_or, drop, map, length, suc, List, Bool, ◌∷◌, [], IfOk, IfErr, OnErr, OnOk, Ok, Err, IfNone, IfSome};
+ghost use Rattle.std.specs.Fn.{FnOnceReturnsAtMut, FnOnceTakesAtMut};
+ghost use Rattle.asn1_core.specs.Octets.{AreOctets};
+ghost use Rattle.asn1_core.specs.Rows.{row};
+ghost use Rattle.oer_spec.specs.Reading.{Gives};
+ghost use Rattle.oer_spec.specs.ReadingBits.{skipped_at};
+ghost use Rattle.oer_leaf_read.specs.Views.{bits_left};
+ghost use Rattle.oer_read.specs.Answers.{Refuses};
+ghost use Rattle.oer_read.specs.Law.{IsRear};
+ghost use Rattle.oer_read.specs.Scopes.{level_at, bits_for, extension_of, presence_of, opened_at, closed_at, all_asked, unknown_at, missing, SequenceRead, SequenceRefused};
+ghost use Rattle.oer_read.specs.State.{State, asks_of, marked_count, places_of};
+
+use crate::de::DecoderOptions;
+use crate::decoder::{Decoder, OpenScope};
+use asn1_core::{Constructed, DecodeError, DecodeErrorKind, Field, FieldPresence, Tag};
+use oer_leaf_read::{BitSlice, read_bitmap, read_preamble, skip_additions};
+
+/// The bit that is next, false past the end, and the bits after it.
+pub(crate) fn next_bit(bits: BitSlice<'_>) -> (bool, BitSlice<'_>)
+    ensures bit { result.0 ≡ get_or (bits_left bits.entry) 0 false }
+    ensures rest { bits_left result.1 ≡ drop 1 (bits_left bits.entry) }
+{
+    match bits.split_first() {
+        Some((bit, rest)) => (bit, rest),
+        None => (false, bits),
+    }
+}
+
+/// The first row whose component may be absent, and the rows after it.
+pub(crate) fn next_marked<'a>(rows: &'a [Field<'a>]) -> Option<(&'a Field<'a>, &'a [Field<'a>])>
+    ensures none { IfNone result ((b : List Bool) → asks_of (map row rows.now) b ≡ []) }
+    ensures some { IfSome result (λ p. (b : List Bool) → asks_of (map row rows.now) b ≡ record { tag = p.0.now.tag; bit = get_or b 0 false } ∷ asks_of (map row p.1.now) (drop 1 b)) }
+{
+    let mut left = rows;
+    while let [field, rest @ ..] = left {
+        match field.presence {
+            FieldPresence::Required => left = rest,
+            FieldPresence::Optional | FieldPresence::Default => return Some((field, rest)),
+        }
+    }
+    None
+}
+
+/// How many rows there are whose component may be absent.
+fn marked_count(rows: &[Field<'_>]) -> usize
+    ensures count { result ≡ marked_count (map row rows.now) }
+    ensures few { result ≤ length rows.now }
+{
+    let mut count = 0;
+    for row in rows {
+        match row.presence {
+            FieldPresence::Required => {}
+            FieldPresence::Optional | FieldPresence::Default => count += 1,
+        }
+    }
+    count
+}
+
+/// One level less, where one is left.
+pub(crate) fn one_level_less(levels: usize) -> Result<usize, DecodeErrorKind>
+    ensures { Gives (λ n. n) result (level_at levels) }
+{
+    match levels {
+        0 => Err(DecodeErrorKind::ExceedsMaxParseDepth),
+        _ => Ok(levels - 1),
+    }
+}
+
+/// How many bits a preamble has.
+pub(crate) fn bits_for(extensible: bool, roots: &[Field<'_>]) -> usize
+    ensures { result ≡ bits_for extensible (map row roots.now) }
+{
+    let _size = roots.len();
+    let count = marked_count(roots);
+    if extensible { count + 1 } else { count }
+}
+
+/// The extension bit of an extensible type, and the presence bits.
+pub(crate) fn split_extension(extensible: bool, bits: BitSlice<'_>) -> (bool, BitSlice<'_>)
+    ensures extended { result.0 ≡ extension_of extensible (bits_left bits.entry) }
+    ensures presence { bits_left result.1 ≡ presence_of extensible (bits_left bits.entry) }
+{
+    if extensible {
+        next_bit(bits)
+    } else {
+        (false, bits)
+    }
+}
+
+/// A row that is asked out of order or not at all.
+pub(crate) fn missing(tag: Tag) -> DecodeErrorKind
+    ensures { result ≡ missing tag }
+{
+    DecodeErrorKind::MissingTagClassOrValueInSequenceOrSet {
+        class: tag.class,
+        value: tag.value,
+    }
+}
+
+impl<'input> Decoder<'input> {
+    /// A decoder behind the preamble, within one level less, whose frame holds the rows.
+    #[tactic(auto, unfolding(crate::specs::Scopes::opened_at))]
+    fn open(
+        &self,
+        roots: &'input [Field<'input>],
+        extensible: bool,
+        additions: &'input [Field<'input>],
+    ) -> Result<Decoder<'input>, DecodeErrorKind>
+        ensures state { Gives (λ d. d) result (opened_at self.now extensible (map row roots.entry.now) (map row additions.entry.now)) }
+        ensures octets { AreOctets self.now.input }
+    {
+        let input: &'input [u8] = self.remaining();
+        let levels = one_level_less(self.options.levels)?;
+        let (bits, rest): (BitSlice<'input>, &'input [u8]) = read_preamble(
+            bits_for(extensible, roots),
+            input,
+        )?;
+        let (extended, presence): (bool, BitSlice<'input>) = split_extension(extensible, bits);
+        Ok(Decoder {
+            input: rest,
+            options: DecoderOptions {
+                codec: self.options.codec,
+                levels,
+            },
+            scope: OpenScope {
+                is_set: false,
+                roots,
+                presence,
+                extensible,
+                extended,
+                additions,
+                bitmap: None,
+            },
+        })
+    }
+
+    /// The same, or the refusal in the decoder's mode.
+    fn opened(
+        &self,
+        roots: &'input [Field<'input>],
+        extensible: bool,
+        additions: &'input [Field<'input>],
+    ) -> Result<Decoder<'input>, DecodeError>
+        ensures state { Refuses (λ d. d) self.now.codec result (opened_at self.now extensible (map row roots.entry.now) (map row additions.entry.now)) }
+        ensures octets { AreOctets self.now.input }
+    {
+        match self.open(roots, extensible, additions) {
+            Ok(inner) => Ok(inner),
+            Err(kind) => Err(self.refusal(kind)),
+        }
+    }
+
+    /// Every row was asked, else the first that was not is missing.
+    fn require_all_asked(&self) -> Result<(), DecodeErrorKind>
+        ensures { Gives (λ x. x) result (all_asked self.now.frame.asks self.now.frame.additions) }
+    {
+        if let Some((field, _)) = next_marked(self.scope.roots) {
+            return Err(missing(field.tag));
+        }
+        match self.scope.additions {
+            [] => Ok(()),
+            [field, ..] => Err(missing(field.tag)),
+        }
+    }
+
+    /// What is left behind the additions that were not asked.
+    fn skip_unknown(&self) -> Result<&'input [u8], DecodeErrorKind>
+        ensures { Gives (λ x. x.now) result (unknown_at self.now) }
+    {
+        match self.scope.bitmap {
+            Some(bits) => skip_additions(self.options.codec, bits, self.input),
+            None if self.scope.extended => {
+                let (bits, rest) = read_bitmap(self.options.codec, self.input)?;
+                skip_additions(self.options.codec, bits, rest)
+            }
+            None => Ok(self.input),
+        }
+    }
+
+    /// What is left behind the scope, after its closure.
+    #[tactic(auto, unfolding(crate::specs::Scopes::closed_at))]
+    pub(crate) fn close(&self) -> Result<&'input [u8], DecodeErrorKind>
+        ensures { Gives (λ x. x.now) result (closed_at self.now) }
+    {
+        self.require_all_asked()?;
+        let rest = self.skip_unknown()?;
+        Ok(rest)
+    }
+}
+
+impl<'input> Decoder<'input> {
+    /// Reads a SEQUENCE (X.696, 16): the preamble, then the components by `f` on a decoder of their own, then what is left
+    /// of the extension bitmap and of the additions, which are skipped.
+    ///
+    /// The closure asks the optional and default root components, and then the additions, in the order of the tables,
+    /// each once; required root components it reads directly.
+    ///
+    /// Refused, the first that applies: no level is left, as `ExceedsMaxParseDepth`, before anything is read;
+    /// `Incomplete` where the preamble's octets are missing; nonzero fill bits, as `InvalidPreamble`; what `f` refuses; a
+    /// row that was not asked, as `MissingTagClassOrValueInSequenceOrSet` with its tag, root rows first; the bitmap, where
+    /// it was not yet read, and the skipped additions as `read_bitmap` and `skip_additions` refuse them.
+    pub fn decode_sequence<const RC: usize, const EC: usize, D, F>(
+        &mut self,
+        _tag: Tag,
+        f: F,
+    ) -> Result<D, DecodeError>
+    where
+        D: Constructed<RC, EC> + Drop,
+        F: FnOnce(&mut Decoder<'_>) -> Result<D, DecodeError>,
+        requires callable { (lent : State) → opened_at self.old D.IS_EXTENSIBLE D.root_rows D.addition_rows ≡ Ok lent → FnOnceTakesAtMut F.FnOnce f lent }
+        // what the closure leaves is a rear part of what it was lent
+        requires keeps { (lent after : State) (v : _) → opened_at self.old D.IS_EXTENSIBLE D.root_rows D.addition_rows ≡ Ok lent → FnOnceReturnsAtMut F.FnOnce f lent (Ok v) after → IsRear lent.input after.input }
+        ensures read { IfOk result (λ v. SequenceRead (FnOnceReturnsAtMut F.FnOnce f) D.IS_EXTENSIBLE D.root_rows D.addition_rows self.old v self.new) }
+        ensures refused { IfErr result (λ e. SequenceRefused (FnOnceReturnsAtMut F.FnOnce f) D.IS_EXTENSIBLE D.root_rows D.addition_rows self.old e) }
+        ensures unchanged { OnErr result (self.new ≡ self.old) }
+        ensures rear { OnOk result (IsRear self.old.input self.new.input) }
+    {
+        let roots: &'input [Field<'input>] = D::root_fields();
+        let additions: &'input [Field<'input>] = D::addition_fields();
+        let mut inner: Decoder<'input> = self.opened(roots, D::IS_EXTENSIBLE, additions)?;
+        match f(&mut inner) {
+            Err(e) => Err(e),
+            Ok(value) => match inner.close() {
+                Err(kind) => Err(self.refusal(kind)),
+                Ok(rest) => {
+                    self.set_remaining(rest);
+                    Ok(value)
+                }
+            },
+        }
+    }
+}

@@ -1,0 +1,95 @@
+use asn1_core::{Bounded, Class, Constraints, Field, FieldPresence, Fields, SetOf, Tag};
+use std::test::Fail;
+
+/// Universal tags and the numbers of X.680, 8.4.
+#[test]
+fn universal_tags(rt: HostRuntime) {
+    let rows = [
+        (Tag::BOOL, 1),
+        (Tag::INTEGER, 2),
+        (Tag::OBJECT_IDENTIFIER, 6),
+        (Tag::ENUMERATED, 10),
+        (Tag::SET, 17),
+        (Tag::GENERAL_STRING, 27),
+        (Tag::DATE, 31),
+    ];
+    for (tag, number) in rows {
+        assert_eq!(rt; tag, Tag::new(Class::Universal, number), "at {number}");
+    }
+}
+
+#[test]
+fn narrows_to_the_common_part(rt: HostRuntime) {
+    let own = Constraints::default().with_value(Bounded::Range {
+        start: Some(1),
+        end: Some(8),
+    });
+    let narrower = own.narrowed(Constraints::NONE.with_value(Bounded::Range {
+        start: Some(5),
+        end: None,
+    }));
+    for (number, wanted) in [(4, false), (5, true), (8, true), (9, false)] {
+        assert_eq!(rt; narrower.allows_value(number), wanted, "at {number}");
+    }
+    let apart = own.narrowed(Constraints::NONE.with_value(Bounded::Single(9)));
+    assert_eq!(rt; apart.value(), own.value());
+    let extensible = own.narrowed(Constraints::NONE.with_extensible_value(Bounded::Single(5)));
+    assert_eq!(rt; extensible, own);
+    let size = own.narrowed(Constraints::NONE.with_size(Bounded::Single(3)));
+    assert_eq!(rt; size.fixed_size(), Some(3));
+}
+
+static SET_ROWS: [Field<'static>; 3] = [
+    Field {
+        index: 0,
+        tag: Tag {
+            class: Class::Context,
+            value: 444,
+        },
+        presence: FieldPresence::Optional,
+        name: "a",
+    },
+    Field {
+        index: 1,
+        tag: Tag {
+            class: Class::Context,
+            value: 5,
+        },
+        presence: FieldPresence::Required,
+        name: "b",
+    },
+    Field {
+        index: 2,
+        tag: Tag {
+            class: Class::Application,
+            value: 9,
+        },
+        presence: FieldPresence::Default,
+        name: "c",
+    },
+];
+
+#[test]
+fn walks_in_tag_order(rt: HostRuntime) -> Result<(), Fail> {
+    let table: Fields<3> = Fields::from_static(&SET_ROWS);
+    let mut names = Vec::new(rt.alloc());
+    for row in table.canonised() {
+        names.push(row.index)?;
+    }
+    assert_eq!(rt; names.as_slice(), [2, 1, 0].as_slice());
+    assert_eq!(rt; table.optional_and_default_fields().count(), 2);
+    assert_eq!(rt; table.number_of_optional_and_default_fields(), 2);
+    Ok(())
+}
+
+#[test]
+fn sets_have_no_order(rt: HostRuntime) -> Result<(), Fail> {
+    let mut own = SetOf::from_vec(vec![in rt.alloc(); 1, 2, 1]?);
+    let other = SetOf::from_vec(vec![in rt.alloc(); 1, 1, 2]?);
+    assert!(rt; own == other);
+    own.insert(2)?;
+    assert!(rt; own != other);
+    assert_eq!(rt; own.to_vec()?.len(), 4);
+    assert_eq!(rt; own.iter().count(), own.len());
+    Ok(())
+}

@@ -1,5 +1,0 @@
-use Rattle.rasn_oer.proofs.LeafLaws.{boolean_law}
-use Rattle.rasn_oer.proofs.decoder.Decoder.decode_bool.Goals as goal
-
-pub returns-clause-law : goal.returns-clause-law
-returns-clause-law c = boolean_law c.args.self.now _ _ _ (rw (c.codec.ensures, c.remaining.ensures) at c.read_bool-answer.ensures.relation) c.take.ensures

@@ -1,4 +1,0 @@
-use Rattle.rasn_oer.proofs.decoder.Decoder.decode_default.Goals as goal
-
-pub returns : goal.returns
-returns g c = rw (c.TAG.ensures, c.CONSTRAINTS.ensures) at c.decode_default_with_tag_and_constraints.ensures
