@@ -12,6 +12,10 @@ use Rattle.oer_read.specs.State.{State}
 abbrev pub IsForMemory : DecodeError → Type 0
 IsForMemory e = e.kind ≡ OutOfMemory
 
+-- the decoder's own error for want of memory, in the mode that it reads in
+abbrev pub WantsMemory : State → DecodeError → Type 0
+WantsMemory s e = (e.kind ≡ OutOfMemory) × (e.codec ≡ s.codec)
+
 -- b is a rear part of a
 pub record IsRear (a b : Octets) : Type 0 where
   pub front : Octets
@@ -37,9 +41,10 @@ module _ {A : Type 0} (tree : A → Tree) (IsValue : A → Type 0) where
   abbrev pub NoFront : State → Type 0
   NoFront old = (w : A) (o : Octets) → IsValue w → Fronts old o (tree w) → ⊥
 
-  -- Nothing changed, and unless memory was refused no encoding of a value begins what is left.
+  -- Nothing changed, the error names the mode read in, and unless memory was refused no encoding of a value begins what is left.
   pub record RefusedBy (e : DecodeError) (old new : State) : Type 0 where
     pub same : new ≡ old
+    pub mode : e.codec ≡ old.codec
     pub none : (IsForMemory e → ⊥) → NoFront old
 
   -- The law of reading: a value was read, or nothing changed and, unless for memory, no encoding of a value begins what is left.

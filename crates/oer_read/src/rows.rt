@@ -29,7 +29,8 @@ impl<'input> Decoder<'input> {
                         bit,
                         Decoder {
                             input: self.input,
-                            options: self.options,
+                            codec: self.codec,
+                            levels: self.levels,
                             scope: OpenScope {
                                 is_set: self.scope.is_set,
                                 roots,
@@ -53,7 +54,8 @@ impl<'input> Decoder<'input> {
         ensures { self.new ≡ other.entry }
     {
         self.input = other.input;
-        self.options = other.options;
+        self.codec = other.codec;
+        self.levels = other.levels;
         self.scope = other.scope;
     }
 

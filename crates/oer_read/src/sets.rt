@@ -10,7 +10,6 @@ ghost use Rattle.oer_read.specs.Law.{IsForMemory, IsRear};
 ghost use Rattle.oer_read.specs.Sets.{Call, is_there, bits_behind, root_calls, addition_calls, set_calls, set_opened_at, FieldReturns, FieldsMake, RanInTurn, RefusedInTurn, SetRead, SetRefused};
 ghost use Rattle.oer_read.specs.State.{State};
 
-use crate::de::DecoderOptions;
 use crate::decoder::{Decoder, OpenScope};
 use crate::scopes::{bits_for, next_bit, one_level_less, split_extension};
 use asn1_core::{
@@ -143,7 +142,7 @@ impl<'input> Decoder<'input> {
         ensures octets { AreOctets self.now.input }
     {
         let input: &'input [u8] = self.remaining();
-        let levels = one_level_less(self.options.levels)?;
+        let levels = one_level_less(self.levels)?;
         let (bits, rest): (BitSlice<'input>, &'input [u8]) = read_preamble(
             bits_for(extensible, roots),
             input,
@@ -152,10 +151,8 @@ impl<'input> Decoder<'input> {
         Ok((
             Decoder {
                 input: rest,
-                options: DecoderOptions {
-                    codec: self.options.codec,
-                    levels,
-                },
+                codec: self.codec,
+                levels,
                 scope: OpenScope {
                     is_set: true,
                     roots: &[],

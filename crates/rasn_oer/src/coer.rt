@@ -2,7 +2,7 @@
 ghost use Rattle.asn1_core.specs.declared.codec.Codec.TheVariants.{Coer};
 ghost use Rattle.oer_spec.specs.Spelled.{IsConsistent};
 ghost use Rattle.rasn_oer.specs.Conversions.{IsAsOlder};
-ghost use Rattle.rasn_oer.specs.Headline.{IsAppended, IsRead, IsReadAlone, IsWritten};
+ghost use Rattle.rasn_oer.specs.Headline.{IsAppended, IsRead, IsReadAlone, IsWritten, Says, SaysAlone};
 
 use crate::entry::{append_value, decode_value, encode_value};
 pub use crate::oer::{CodecError, Decoder, Encoder, EncodingRules, de, enc};
@@ -53,7 +53,8 @@ pub fn encode_buf<T: Encode>(
 /// Refused exactly where no such encoding begins the input (docs/REFUSALS.md has the kinds and their order), or for want
 /// of memory.
 pub fn decode<T: Decode>(alloc: Global, input: &[u8]) -> Result<T, DecodeError>
-    ensures { IsReadAlone (T.tree T.CONSTRAINTS) T.IsValue Coer 128 input.now result }
+    ensures read { IsReadAlone (T.tree T.CONSTRAINTS) T.IsValue Coer 128 input.now result }
+    ensures says { SaysAlone (T.tree T.CONSTRAINTS) T.IsValue (T.Answered T.CONSTRAINTS) Coer 128 input.now result }
 {
     let (value, _rest) = decode_value(alloc, DecoderOptions::coer(), T::CONSTRAINTS, input)?;
     Ok(value)
@@ -66,7 +67,8 @@ pub fn decode_with_remainder<'a, T: Decode>(
     alloc: Global,
     input: &'a [u8],
 ) -> Result<(T, &'a [u8]), DecodeError>
-    ensures { IsRead (T.tree T.CONSTRAINTS) T.IsValue Coer 128 input.entry.now result }
+    ensures read { IsRead (T.tree T.CONSTRAINTS) T.IsValue Coer 128 input.entry.now result }
+    ensures says { Says (T.tree T.CONSTRAINTS) T.IsValue (T.Answered T.CONSTRAINTS) Coer 128 input.entry.now result }
 {
     decode_value(alloc, DecoderOptions::coer(), T::CONSTRAINTS, input)
 }
@@ -78,7 +80,8 @@ pub fn decode_with_constraints<T: Decode>(
     input: &[u8],
 ) -> Result<T, DecodeError>
     requires { IsConsistent constraints }
-    ensures { IsReadAlone (T.tree constraints) T.IsValue Coer 128 input.now result }
+    ensures read { IsReadAlone (T.tree constraints) T.IsValue Coer 128 input.now result }
+    ensures says { SaysAlone (T.tree constraints) T.IsValue (T.Answered constraints) Coer 128 input.now result }
 {
     let (value, _rest) = decode_value(alloc, DecoderOptions::coer(), constraints, input)?;
     Ok(value)
