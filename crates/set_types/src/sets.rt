@@ -134,7 +134,7 @@ pub(crate) fn put_set_option<E: Encode>(
 ) -> Result<(), EncodeError>
     requires { IsConsistent constraints }
     ensures in_set { encoder.old.frame.is_set ≡ true → OnOk result (SetDone (optional tag (slot_of (E.tree constraints) value.now)) NoRows encoder.old encoder.new) }
-    ensures refused { IfErr result (λ x. RowsRefused (optional tag (slot_of (E.tree constraints) value.now)) NoRows x.kind encoder.old encoder.new) }
+    ensures refused { IfErr result (λ x. RowsRefused (optional tag (slot_of (E.tree constraints) value.now)) NoRows x encoder.old encoder.new) }
 {
     match value {
         Some(value) => encoder.encode_some_with_tag_and_constraints(tag, constraints, value),
