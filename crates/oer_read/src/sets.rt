@@ -7,7 +7,7 @@ ghost use Rattle.asn1_core.specs.Tables.{canonised_rest};
 ghost use Rattle.oer_spec.specs.Reading.{Gives};
 ghost use Rattle.oer_leaf_read.specs.Views.{bits_left};
 ghost use Rattle.oer_read.specs.Law.{IsForMemory, IsRear};
-ghost use Rattle.oer_read.specs.Sets.{Call, is_there, bits_behind, root_calls, addition_calls, set_calls, set_opened_at, FieldReturns, FieldsMake, RanInTurn, RefusedInTurn, SetRead, SetRefused};
+ghost use Rattle.oer_read.specs.Sets.{Call, is_there, bits_behind, root_calls, addition_calls, set_calls, set_opened_at, FieldReturns, FieldTakes, FieldsMake, RanInTurn, RefusedInTurn, CalledInTurn, SetLends, SetRead, SetRefused};
 ghost use Rattle.oer_read.specs.State.{State};
 
 use crate::decoder::{Decoder, OpenScope};
@@ -40,7 +40,7 @@ fn read_field<V, D>(
 where
     V: Drop,
     D: Fn(&mut Decoder<'_>, usize, Tag) -> Result<V, DecodeError>,
-    requires callable { D.IsAlwaysCallable decode_fn.now }
+    requires callable { FieldTakes D.Fn decode_fn.now (record { index = index; tag = tag }) inner.old }
     ensures ok { OnOk result ((v : V) × FieldReturns D.Fn decode_fn.now (record { index = index; tag = tag }) inner.old (Ok v) inner.new × (fields.new.items ≡ fields.old.items ++ v ∷ [])) }
     ensures err { IfErr result (λ e. IsForMemory e ⊎ ((after : State) × FieldReturns D.Fn decode_fn.now (record { index = index; tag = tag }) inner.old (Err e) after)) }
 {
@@ -64,7 +64,7 @@ fn read_roots<V, D>(
 where
     V: Drop,
     D: Fn(&mut Decoder<'_>, usize, Tag) -> Result<V, DecodeError>,
-    requires callable { D.IsAlwaysCallable decode_fn.now }
+    requires callable { (c : Call) (s : State) → CalledInTurn (FieldReturns D.Fn decode_fn.now) inner.old (root_calls (map row (canonised_rest rows)) (bits_left presence)) c s → FieldTakes D.Fn decode_fn.now c s }
     ensures ok { OnOk result ((vs : List V) × RanInTurn (FieldReturns D.Fn decode_fn.now) inner.old (root_calls (map row (canonised_rest rows)) (bits_left presence.entry)) vs inner.new × (fields.new.items ≡ fields.old.items ++ vs)) }
     ensures err { IfErr result (λ e. IsForMemory e ⊎ RefusedInTurn (FieldReturns D.Fn decode_fn.now) inner.old (root_calls (map row (canonised_rest rows)) (bits_left presence.entry)) e) }
 {
@@ -91,7 +91,7 @@ fn read_additions<V, D>(
 where
     V: Drop,
     D: Fn(&mut Decoder<'_>, usize, Tag) -> Result<V, DecodeError>,
-    requires callable { D.IsAlwaysCallable decode_fn.now }
+    requires callable { (c : Call) (s : State) → CalledInTurn (FieldReturns D.Fn decode_fn.now) inner.old (addition_calls first (map row additions.now)) c s → FieldTakes D.Fn decode_fn.now c s }
     requires fits { first + length additions.now < 2 ^ 64 }
     ensures ok { OnOk result ((vs : List V) × RanInTurn (FieldReturns D.Fn decode_fn.now) inner.old (addition_calls first (map row additions.now)) vs inner.new × (fields.new.items ≡ fields.old.items ++ vs)) }
     ensures err { IfErr result (λ e. IsForMemory e ⊎ RefusedInTurn (FieldReturns D.Fn decode_fn.now) inner.old (addition_calls first (map row additions.now)) e) }
@@ -116,7 +116,7 @@ fn read_fields<const RC: usize, V, D>(
 where
     V: Drop,
     D: Fn(&mut Decoder<'_>, usize, Tag) -> Result<V, DecodeError>,
-    requires callable { D.IsAlwaysCallable decode_fn.now }
+    requires callable { (c : Call) (s : State) → CalledInTurn (FieldReturns D.Fn decode_fn.now) inner.old (set_calls (map row roots.now) (map row additions.now) (bits_left presence)) c s → FieldTakes D.Fn decode_fn.now c s }
     ensures ok { IfOk result (λ vs. RanInTurn (FieldReturns D.Fn decode_fn.now) inner.old (set_calls (map row roots.now) (map row additions.now) (bits_left presence.entry)) vs.items inner.new) }
     ensures err { IfErr result (λ e. IsForMemory e ⊎ RefusedInTurn (FieldReturns D.Fn decode_fn.now) inner.old (set_calls (map row roots.now) (map row additions.now) (bits_left presence.entry)) e) }
 {
@@ -192,10 +192,10 @@ impl<'input> Decoder<'input> {
         SET: Constructed<RC, EC> + Drop,
         D: Fn(&mut Decoder<'_>, usize, Tag) -> Result<FIELDS, DecodeError>,
         F: FnOnce(Vec<FIELDS>) -> Result<SET, DecodeError>,
-        requires callable { D.IsAlwaysCallable decode_fn }
+        requires callable { (c : Call) (s : State) → SetLends (FieldReturns D.Fn decode_fn) SET.IS_EXTENSIBLE SET.root_rows SET.addition_rows self.old c s → FieldTakes D.Fn decode_fn c s }
         requires makes { F.IsAlwaysCallable field_fn }
         // what the closure leaves is a rear part of what it was lent
-        requires keeps { (c : Call) (s after : State) (v : _) → FieldReturns D.Fn decode_fn c s (Ok v) after → IsRear s.input after.input }
+        requires keeps { (c : Call) (s after : State) (v : _) → SetLends (FieldReturns D.Fn decode_fn) SET.IS_EXTENSIBLE SET.root_rows SET.addition_rows self.old c s → FieldReturns D.Fn decode_fn c s (Ok v) after → IsRear s.input after.input }
         ensures read { IfOk result (λ v. SetRead (FieldReturns D.Fn decode_fn) (FieldsMake F.FnOnce field_fn) SET.IS_EXTENSIBLE SET.root_rows SET.addition_rows self.old v self.new) }
         ensures refused { IfErr result (λ e. SetRefused (FieldReturns D.Fn decode_fn) (FieldsMake F.FnOnce field_fn) SET.IS_EXTENSIBLE SET.root_rows SET.addition_rows self.old e) }
         ensures unchanged { OnErr result (self.new ≡ self.old) }

@@ -57,12 +57,13 @@ choice_done picks roots additions tag t old new known h =
     }
 
 -- and where the choice refuses, it does so by the law
-pub choice_refused : (picks : Picks) (roots additions : List Tag) (tag : Tag) (t : Tree) (old new : Written) (x : EncodeError) → IsKnownToPick picks tag t → ChoiceBroken picks x old new → Refused (Choice roots additions tag t) x.kind old new
+pub choice_refused : (picks : Picks) (roots additions : List Tag) (tag : Tag) (t : Tree) (old new : Written) (x : EncodeError) → IsKnownToPick picks tag t → ChoiceBroken picks x old new → Refused (Choice roots additions tag t) x old new
 choice_refused picks roots additions tag t old new x known h = record {
   reason = elim h.reason [
-    | inl m ↦ inl m
+    | inl m ↦ inl m.0
     | inr c ↦ elim (known _ _ _ c.ran).reason [ inl m ↦ inl m | inr f ↦ inr (alternative_fails roots additions tag t x.kind f) ]
   ];
+  mode = elim h.reason [ inl m ↦ m.1 | inr c ↦ (known _ _ _ c.ran).mode ];
   keeps = h.keeps;
 }
 

@@ -56,11 +56,12 @@ sequence_done {runs} {extensible} {old} {new} roots additions known closed =
     }
 
 -- and where the scope refuses, the sequence does so by the law
-pub sequence_refused : {runs : Runs} {extensible : Bool} {old new : Written} (roots additions : Rows) → IsKnownToWrite runs roots additions → (x : EncodeError) → Broken runs false extensible x old new → Refused (Struct false extensible roots additions) x.kind old new
+pub sequence_refused : {runs : Runs} {extensible : Bool} {old new : Written} (roots additions : Rows) → IsKnownToWrite runs roots additions → (x : EncodeError) → Broken runs false extensible x old new → Refused (Struct false extensible roots additions) x old new
 sequence_refused {runs} {extensible} {old} {new} roots additions known x broken = record {
   reason = elim broken.reason [
-    | inl m ↦ inl m
+    | inl m ↦ inl m.0
     | inr s ↦ elim (known _ _ _ s.ran (ap (λ (f : Frame). f.is_set) s.opened)).reason [ inl m ↦ inl m | inr f ↦ inr (struct_fails false extensible roots additions x.kind f) ]
   ];
+  mode = elim broken.reason [ inl m ↦ m.1 | inr s ↦ (known _ _ _ s.ran (ap (λ (f : Frame). f.is_set) s.opened)).mode ];
   keeps = broken.keeps;
 }

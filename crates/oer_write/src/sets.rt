@@ -85,7 +85,7 @@ impl<'buffer> Encoder<'buffer> {
         ensures done { OnOk result (SetClosed (Promise F.FnOnce f) C.IS_EXTENSIBLE self.old self.new) }
         ensures refused { IfErr result (λ x. Broken (Promise F.FnOnce f) true C.IS_EXTENSIBLE x self.old self.new) }
         ensures tree { (roots additions : Rows) → IsKnownToWriteSet (Promise F.FnOnce f) roots additions → OnOk result (Encodes (Struct true C.IS_EXTENSIBLE roots additions) self.old self.new) }
-        ensures tree_refused { (roots additions : Rows) → IsKnownToWriteSet (Promise F.FnOnce f) roots additions → IfErr result (λ x. Refused (Struct true C.IS_EXTENSIBLE roots additions) x.kind self.old self.new) }
+        ensures tree_refused { (roots additions : Rows) → IsKnownToWriteSet (Promise F.FnOnce f) roots additions → IfErr result (λ x. Refused (Struct true C.IS_EXTENSIBLE roots additions) x self.old self.new) }
         ensures any_order { IsSameInAnyOrder }
     {
         self.set(C::IS_EXTENSIBLE, f)

@@ -84,20 +84,11 @@ z_default = record {
   );
 }
 
--- no component has another index
-pub mixed_other : (Says : State → Result Bool DecodeError → State → Type 0) (n : ℕ) (g : Tag) (s : State) (e : DecodeError) (t : State) → (n ≡ 0 → ⊥) → (n ≡ 1 → ⊥) → (n ≡ 2 → ⊥) → (n ≡ 3 → ⊥) → MixedReads Says n g s (Err e) t
-mixed_other Says zero g s e t a b c d = absurd (a refl)
-mixed_other Says (suc zero) g s e t a b c d = absurd (b refl)
-mixed_other Says (suc (suc zero)) g s e t a b c d = absurd (c refl)
-mixed_other Says (suc (suc (suc zero))) g s e t a b c d = absurd (d refl)
-mixed_other Says (suc (suc (suc (suc n)))) g s e t a b c d = tt
-
 pub mixed_rear : (Says : State → Result Bool DecodeError → State → Type 0) (n : ℕ) (g : Tag) (s : State) (v : MixedField) (t : State) → MixedReads Says n g s (Ok v) t → IsRear s.input t.input
 mixed_rear Says zero g s v t d = record { front = d.read.taken; split = d.read.split }
 mixed_rear Says (suc zero) g s v t d = record { front = d.read.taken; split = d.read.split }
 mixed_rear Says (suc (suc zero)) g s v t d = record { front = d.read.0.taken; split = d.read.0.split }
-mixed_rear Says (suc (suc (suc zero))) g s v t d = asks_rear boolean IsAny Says N s g v t d
-mixed_rear Says (suc (suc (suc (suc n)))) g s v t d = absurd d
+mixed_rear Says (suc (suc (suc n))) g s v t d = asks_rear boolean IsAny Says N s g v t d
 
 pub mixed_more : (fields : List MixedField) (p : MixedParts) (v : MixedField) → MixedSoFar fields p → MixedSoFar (fields ++ v ∷ []) (mixed_put p v)
 mixed_more fields p (X b) m = record { x = found_push mixed_index 0 fields (X b); y = found_push mixed_index 1 fields (X b) ∙ m.y; z = found_push mixed_index 2 fields (X b) ∙ m.z; n = found_push mixed_index 3 fields (X b) ∙ m.n }
