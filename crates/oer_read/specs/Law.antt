@@ -1,6 +1,7 @@
 -- The law of a type that is read.
 use Rattle.std.specs.Prelude.{◌≡◌, ◌++◌, Result, IfOk, IfErr}
 use Rattle.asn1_core.specs.Octets.{Octets}
+use Rattle.asn1_core.specs.declared.codec.Codec.{Codec}
 use Rattle.asn1_core.specs.declared.error.DecodeError.{DecodeError}
 use Rattle.asn1_core.specs.declared.error.DecodeErrorKind.TheVariants.{OutOfMemory}
 use Rattle.oer_spec.specs.Encoding.{IsEncoding}
@@ -13,8 +14,11 @@ abbrev pub IsForMemory : DecodeError → Type 0
 IsForMemory e = e.kind ≡ OutOfMemory
 
 -- the decoder's own error for want of memory, in the mode that it reads in
+abbrev pub WantsMemoryIn : Codec → DecodeError → Type 0
+WantsMemoryIn codec e = (e.kind ≡ OutOfMemory) × (e.codec ≡ codec)
+
 abbrev pub WantsMemory : State → DecodeError → Type 0
-WantsMemory s e = (e.kind ≡ OutOfMemory) × (e.codec ≡ s.codec)
+WantsMemory s e = WantsMemoryIn s.codec e
 
 -- b is a rear part of a
 pub record IsRear (a b : Octets) : Type 0 where

@@ -272,7 +272,7 @@ impl<'input> Decoder<'input> {
         self.addition(alloc, Some(tag), tag, constraints)
     }
 
-    /// Reads an extension addition with an explicit prefix, which adds no octets (X.696, 26), as
+    /// Reads an extension addition with an explicit prefix, which adds no octets (X.696, 8.7), as
     /// `decode_extension_addition_with_tag_and_constraints` does.
     pub fn decode_extension_addition_with_explicit_tag_and_constraints<D: Decode>(
         &mut self,

@@ -163,8 +163,8 @@ impl<'input> Decoder<'input> {
 
 impl<'input> Decoder<'input> {
     /// Reads a SEQUENCE OF (X.696, 17) of the type's own elements, as `decode_sequence_of_with` does; an element is refused
-    /// with the very error that its type answers. Where no element takes zero octets, there are at most as many elements as
-    /// octets that were read.
+    /// with the very error that its type answers. Where each encoding of an element has octets, there are at most as many
+    /// elements as octets that were read.
     pub fn decode_sequence_of<D: Decode>(
         &mut self,
         alloc: Global,

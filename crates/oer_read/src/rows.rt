@@ -123,7 +123,7 @@ impl<'input> Decoder<'input> {
         self.decode_optional_with_tag_and_constraints(alloc, D::TAG, constraints)
     }
 
-    /// Reads an optional component with an explicit prefix, which adds no octets (X.696, 26), as
+    /// Reads an optional component with an explicit prefix, which adds no octets (X.696, 8.7), as
     /// `decode_optional_with_tag` does.
     pub fn decode_optional_with_explicit_prefix<D: Decode>(
         &mut self,
@@ -135,7 +135,7 @@ impl<'input> Decoder<'input> {
         self.decode_optional_with_tag(alloc, tag)
     }
 
-    /// Reads a value with an explicit prefix, which adds no octets (X.696, 26): as without it.
+    /// Reads a value with an explicit prefix, which adds no octets (X.696, 8.7): as without it.
     pub fn decode_explicit_prefix<D: Decode>(
         &mut self,
         alloc: Global,
