@@ -1,7 +1,7 @@
 -- What a set lends to its closure: the calls of its tables, within fewer levels.
-use Rattle.std.proofs.Common.{◌≡◌, ℕ, ◌<◌, Bool, true, false, cond, Result, Ok, List, [], ◌∷◌, ◌++◌, length, inl, inr, sym, ap, ◌∙◌, subst, arith, get_or}
+use Rattle.std.proofs.Common.{◌≡◌, ℕ, ◌<◌, Bool, true, false, cond, Result, Ok, List, [], ◌∷◌, ◌++◌, length, inl, inr, sym, ap, ◌∙◌, subst, arith}
 use Rattle.std.specs.List.{AllByRecursion}
-use Rattle.asn1_core.specs.Rows.{Row, may_be_absent}
+use Rattle.asn1_core.specs.Rows.{Row}
 use Rattle.asn1_core.specs.Tags.{by_tag}
 use Rattle.asn1_core.specs.declared.error.DecodeError.{DecodeError}
 use Rattle.oer_spec.proofs.Steps.{bind_ok}
