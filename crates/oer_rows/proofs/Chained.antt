@@ -5,8 +5,8 @@ use Rattle.asn1_core.specs.Rows.{Row}
 use Rattle.asn1_core.specs.declared.tag.Tag.{Tag}
 use Rattle.asn1_core.specs.declared.error.DecodeError.{DecodeError}
 use Rattle.oer_spec.specs.Tree.{Tree, Rows, NoRows, Optional, Slot}
-use Rattle.oer_read.specs.Law.{Decodes, IsForMemory}
-use Rattle.oer_read.specs.Parts.{Parts, NoParts, OptionalPart, Admits, AreOf, IsTableOf, Takes, Refuses, Stops, ReadsParts}
+use Rattle.oer_read.specs.Law.{Decodes}
+use Rattle.oer_read.specs.Parts.{Parts, NoParts, OptionalPart, Admits, AreOf, IsTableOf, Takes, Stops, ReadsParts}
 use Rattle.oer_read.specs.State.{State}
 use Rattle.oer_rows.specs.Schema.{Schema, Table, IsSchema, IsOf, HasTables, tree_of}
 use Rattle.oer_read.specs.Additions.{Adds}
@@ -102,19 +102,19 @@ decodes_as tree IsPart IsValue in_part s (Ok v) t i d = record {
 }
 decodes_as tree IsPart IsValue in_part s (Err e) t i d = record { read = tt; refused = record { same = d.refused.same; mode = d.refused.mode; none = λ m w o j f. d.refused.none m w o (in_part w j) f } }
 
-pub schema_law : {A R : Type 0} (k : Schema R) (is_schema : IsSchema k) (of : A → R) (extensible : Bool) (table more : List Row) (tables : HasTables k extensible table more)
+pub schema_law : {A R : Type 0} (k : Schema R) (of_row : Bool) (is_schema : IsSchema k of_row) (of : A → R) (extensible : Bool) (table more : List Row) (tables : HasTables k of_row extensible table more)
     (tree : A → Tree) (IsValue : A → Type 0) (is : (v : A) → tree v ≡ tree_of k extensible (of v)) (within : (v : A) → IsValue v → IsOf k (of v)) (back : (v : A) → IsOf k (of v) → IsValue v)
     (Ran : State → Result A DecodeError → State → Type 0)
     (promise : (s : State) (r : Result A DecodeError) (t : State) → Ran s r t → ReadsParts k.roots.parts k.additions.parts (λ v. k.roots.rows (of v)) (λ v. k.additions.rows (of v)) s r t)
     (values : (s : State) (r : Result A DecodeError) (t : State) → Ran s r t → IfOk r (λ v. IsOf k (of v)))
     (old : State) (result : Result A DecodeError) (new : State) → IfOk result (λ v. SequenceRead Ran extensible table more old v new)
     → IfErr result (λ e. SequenceRefused Ran extensible table more old e) → OnErr result (new ≡ old) → Decodes tree IsValue old result new
-schema_law {A} k is_schema of extensible table more tables tree IsValue is within back Ran promise values old result new read refused same =
+schema_law {A} k of_row is_schema of extensible table more tables tree IsValue is within back Ran promise values old result new read refused same =
     decodes_as tree IsPart IsValue in_part old result new (ran result read)
     (sequence_law k.roots.parts k.additions.parts (λ v. k.roots.rows (of v)) (λ v. k.additions.rows (of v)) extensible table more
     (subst (λ (z : List Row). IsTableOf z k.roots.parts) (sym tables.roots_are) (is_schema.roots.is_table 0))
     (subst (λ (z : List Row). IsTableOf z k.additions.parts) (sym tables.additions_are) (is_schema.additions.is_table 0))
-    tables.only tree IsPart is (λ v a b. (a, b)) (λ v i. i) Ran promise old result new read refused same)
+    (λ e. tables.additions_are ∙ is_schema.no_fields (tables.same ∙ e)) tree IsPart is (λ v a b. (a, b)) (λ v i. i) Ran promise old result new read refused same)
   where
     IsPart : A → Type 0
     IsPart v = AreOf k.roots.parts (k.roots.rows (of v)) × AreOf k.additions.parts (k.additions.rows (of v))

@@ -1,4 +1,4 @@
-//! Extension additions.
+//! Extension additions: the rows behind the mark `...`.
 ghost use Rattle.std.specs.Prelude.{Some, IfOk};
 ghost use Rattle.oer_spec.specs.Tree.{NoRows};
 ghost use Rattle.oer_read.specs.Additions.{Adds};
@@ -11,27 +11,29 @@ use oer_read::{Decode, Decoder};
 use std::alloc::Global;
 use std::marker::PhantomData;
 
-/// The additions of a sequence, from one on.
+/// The extension additions of a sequence, from one on, as a type.
 pub trait Additions {
     ghost use Rattle.oer_rows.specs.Schema.{Table, IsTable};
 
-    /// Their values: a pair of the first one and of the others.
+    /// Their values: a pair of the first one and of the others, at the end `()`.
     type More: Drop;
 
     ghost table: { Table Self.More };
 
     ghost is_table: { IsTable table };
 
-    /// Reads them.
+    /// Reads them, in the order of the row, inside the scope of a sequence behind its root components (X.696, 16.4).
+    ///
+    /// Refused, the first that applies, as the calls of `Decoder` refuse that read each addition.
     fn read_additions(alloc: Global, decoder: &mut Decoder<'_>) -> Result<Self::More, DecodeError>
         ensures read { ReadsParts NoParts table.parts (λ v. NoRows) table.rows decoder.old result decoder.new }
         ensures value { IfOk result table.IsValue };
 }
 
-/// The additions, behind the root components.
+/// The end of the root components of an extensible type, and its additions `R`.
 pub struct Extensible<R>(PhantomData<R>);
 
-/// An addition that may be absent, and those after it.
+/// An OPTIONAL addition of type `B` with the tag `G`, and those after it.
 pub struct MayAdd<G, B, R>(PhantomData<(G, B, R)>);
 
 /// Reads an addition under its type's constraints.
@@ -46,9 +48,9 @@ fn read_addition<B: Decode>(
 }
 
 impl Additions for NoMore {
-    type More = ();
+    ghost use Rattle.oer_rows.specs.Schema.{none, none_is};
 
-    ghost use Rattle.oer_rows.specs.Schema.{none_is, none};
+    type More = ();
 
     ghost table = { none };
 
@@ -60,13 +62,13 @@ impl Additions for NoMore {
 }
 
 impl<G: Place, B: Decode, R: Additions> Additions for MayAdd<G, B, R> {
+    ghost use Rattle.oer_rows.specs.Schema.{typed, typed_is, optional, optional_is};
+
     type More = (Option<B>, R::More);
 
-    ghost use Rattle.oer_rows.specs.Schema.{optional_is, optional};
+    ghost table = { optional G.tag (typed B.tree B.CONSTRAINTS B.IsValue) (λ v. v.0) (λ v. v.1) R.table };
 
-    ghost table = { optional G.tag (record { tree = B.tree B.CONSTRAINTS; IsPart = B.IsValue }) (λ v. v.0) (λ v. v.1) R.table };
-
-    ghost is_table = { optional_is G.tag (record { tree = B.tree B.CONSTRAINTS; IsPart = B.IsValue }) (λ v. v.0) (λ v. v.1) R.table (record { is = B.is_tree B.CONSTRAINTS B.consistent; like = B.alike B.CONSTRAINTS B.consistent }) R.is_table };
+    ghost is_table = { optional_is G.tag (typed B.tree B.CONSTRAINTS B.IsValue) (λ v. v.0) (λ v. v.1) R.table (typed_is B.tree B.IsValue B.is_tree B.alike B.CONSTRAINTS B.consistent) R.is_table };
 
     fn read_additions(alloc: Global, decoder: &mut Decoder<'_>) -> Result<Self::More, DecodeError> {
         let value = read_addition::<B>(alloc, decoder, G::tag())?;
@@ -76,13 +78,18 @@ impl<G: Place, B: Decode, R: Additions> Additions for MayAdd<G, B, R> {
 }
 
 impl<R: Additions> Components for Extensible<R> {
+    ghost use Rattle.std.specs.Prelude.{true};
+    ghost use Rattle.oer_rows.specs.Schema.{added, added_is};
+
     type Values = R::More;
 
-    ghost use Rattle.oer_rows.specs.Schema.{none_is, under_is, none, under};
+    ghost EXTENSIBLE = { true };
 
-    ghost schema = { record { roots = none; additions = under (λ v. v) R.table } };
+    const EXTENSIBLE: bool = true;
 
-    ghost is_schema = { record { roots = none_is; additions = under_is (λ v. v) R.table R.is_table } };
+    ghost schema = { added R.table };
+
+    ghost is_schema = { added_is R.table R.is_table };
 
     fn read(alloc: Global, decoder: &mut Decoder<'_>) -> Result<R::More, DecodeError> {
         let rest = R::read_additions(alloc, decoder)?;

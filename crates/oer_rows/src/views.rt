@@ -12,14 +12,16 @@ use oer_read::Decode;
 use oer_spec::EqualAsSpelled;
 use oer_write::{Encode, Encoder};
 
-/// Components that are written from references.
+/// A row whose components are written from references to their values.
 pub trait Views<'v>: Components {
-    /// References to the values.
+    /// References to the values, nested as these are.
     type View: Drop;
 
     ghost seen: { Self.View → Self.Values };
 
-    /// Writes them.
+    /// Writes them, in the order of the row, inside the scope of a sequence (X.696, 16): `Ok` only for admitted values.
+    ///
+    /// Refused by what a component is refused by.
     fn write(view: Self::View, encoder: &mut Encoder<'_>) -> Result<(), EncodeError>
         ensures written { InSequence (Self.schema.roots.rows (seen view)) (Self.schema.additions.rows (seen view)) encoder.old result encoder.new }
         ensures value { OnOk result (Self.schema.roots.IsValue (seen view) × Self.schema.additions.IsValue (seen view)) };
@@ -72,14 +74,17 @@ impl<'v, G: Place, B: Decode + Encode + EqualAsSpelled + 'v, D: Standard<B>, R: 
     }
 }
 
-/// Additions that are written from references.
+/// Additions that are written from references to their values.
 pub trait AdditionViews<'v>: Additions {
-    /// References to the values.
+    /// References to the values, nested as these are.
     type MoreView: Drop;
 
     ghost seen: { Self.MoreView → Self.More };
 
-    /// Writes them.
+    /// Writes them, in the order of the row, inside the scope of a sequence behind its root components (X.696, 16.4):
+    /// `Ok` only for admitted values.
+    ///
+    /// Refused by what an addition is refused by.
     fn write_additions(view: Self::MoreView, encoder: &mut Encoder<'_>) -> Result<(), EncodeError>
         ensures written { InSequence NoRows (Self.table.rows (seen view)) encoder.old result encoder.new }
         ensures value { OnOk result (Self.table.IsValue (seen view)) };

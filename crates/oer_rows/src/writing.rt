@@ -6,11 +6,11 @@ ghost use Rattle.oer_read.specs.Defaults.{IsDefault};
 ghost use Rattle.oer_write.specs.Rows.{InSequence, RowsDone, SetDone, RowsRefused, required, optional, defaulted, slot_of, present_unless};
 
 use crate::places::Standard;
-use asn1_core::{Class, Constructed, EncodeError, Tag};
+use asn1_core::{Constructed, EncodeError, Tag};
 use oer_spec::{EqualAsSpelled, Spelled};
 use oer_write::{Encode, Encoder};
 
-/// Writes a required component by its context-specific tag.
+/// Writes a required component (X.696, 16).
 ///
 /// Refused by what the value is refused by.
 pub fn put_needed<E: Encode>(
@@ -26,7 +26,7 @@ pub fn put_needed<E: Encode>(
     encoder.encode_component(tag, E::CONSTRAINTS, value)
 }
 
-/// Writes an optional component.
+/// Writes an OPTIONAL component: its presence bit, and the value that is there.
 ///
 /// Refused by what the value is refused by.
 pub fn put_optional<E: Encode>(
@@ -45,7 +45,7 @@ pub fn put_optional<E: Encode>(
     }
 }
 
-/// Writes a component with a default.
+/// Writes a component with the DEFAULT `D`: nothing but its presence bit where the value equals it.
 ///
 /// Refused by what the value is refused by.
 pub fn put_default<D: Standard<E>, E: Encode + EqualAsSpelled>(
@@ -63,7 +63,7 @@ pub fn put_default<D: Standard<E>, E: Encode + EqualAsSpelled>(
     encoder.encode_default_with_tag_and_constraints(tag, E::CONSTRAINTS, value, &default)
 }
 
-/// Writes an extension addition.
+/// Writes an OPTIONAL extension addition, one that is there as an open type (X.696, 16.4 and 30).
 ///
 /// Refused by what the value is refused by.
 pub fn put_addition<E: Encode>(
@@ -87,13 +87,18 @@ pub trait Writes: Spelled {
 
     ghost additions: { Self → Rows };
 
-    /// Writes the components.
+    /// Writes the components, root ones first, inside the scope of a sequence (X.696, 16): `Ok` only for an admitted
+    /// value.
+    ///
+    /// Refused by what a component is refused by.
     fn put(&self, encoder: &mut Encoder<'_>) -> Result<(), EncodeError>
         ensures written { InSequence (roots self.now) (additions self.now) encoder.old result encoder.new }
         ensures value { OnOk result (Self.IsValue self.now) };
 }
 
-/// Writes a sequence.
+/// Writes a SEQUENCE (X.696, 16) by the rows of its value, with the tables of `C`: by the law of writing.
+///
+/// Refused by what a component is refused by, or for want of memory.
 pub fn encode_rows<const RC: usize, const EC: usize, C: Constructed<RC, EC>, T: Writes>(
     value: &T,
     encoder: &mut Encoder<'_>,
@@ -110,11 +115,4 @@ pub fn encode_rows<const RC: usize, const EC: usize, C: Constructed<RC, EC>, T: 
             ensures value { OnOk result (T.IsValue value.entry.now) }
         { value.put(encoder) },
     )
-}
-
-/// A tag of the context-specific class.
-pub fn context(number: u32) -> Tag
-    ensures { result ≡ record { class = Class.Context; value = number } }
-{
-    Tag::new(Class::Context, number)
 }

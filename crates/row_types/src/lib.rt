@@ -1,10 +1,12 @@
-//! Types by their schema.
+//! Types by the row of their components.
 #![tactic(auto)]
 
+mod mixed;
 mod reports;
 mod sequences;
-mod twelves;
+#[cfg(test)]
+mod tests;
 
-pub use reports::Report;
+pub use mixed::{Mixed, MixedComponents};
+pub use reports::{Report, ReportComponents};
 pub use sequences::Sequence2;
-pub use twelves::Twelve;

@@ -1,10 +1,10 @@
-//! An extensible sequence.
+//! An extensible sequence, with every impl its own: what a type has to write that is not a `Sequence` of the library.
 
 use asn1_core::{AsnType, Constraints, Constructed, DecodeError, EncodeError, Field, Fields, Tag};
 use oer_read::{Decode, Decoder};
 use oer_rows::{
-    Context, Extensible, MayAdd, Needs, NoMore, Rowed, Schemed, Views, Writes, decode_row,
-    encode_rows, fields,
+    Components, Context, Extensible, MayAdd, Needs, NoMore, Rowed, Schemed, Views, Writes,
+    decode_row, encode_rows, fields,
 };
 use oer_spec::Spelled;
 use oer_write::{Encode, Encoder};
@@ -18,9 +18,10 @@ pub struct Sequence2 {
     pub c: Option<bool>,
 }
 
-const SEQUENCE2_FIELDS: &'static [Field<'static>] = fields![0 Required 0 "a"];
+const SEQUENCE2_FIELDS: &'static [Field<'static>] = fields![0 Required Context 0 "a"];
 
-const SEQUENCE2_ADDITIONS: &'static [Field<'static>] = fields![0 Optional 1 "b", 1 Optional 2 "c"];
+const SEQUENCE2_ADDITIONS: &'static [Field<'static>] =
+    fields![0 Optional Context 1 "b", 1 Optional Context 2 "c"];
 
 type Sequence2Row = Needs<
     Context<0>,
@@ -33,7 +34,7 @@ impl Rowed for Sequence2 {
 
     ghost components = { λ v. (v.a, (v.b, (v.c, tt))) };
 
-    fn from_row((a, (b, (c, ()))): (bool, (Option<bool>, (Option<bool>, ())))) -> Sequence2 {
+    fn from_row((a, (b, (c, ()))): <Sequence2Row as Components>::Values) -> Sequence2 {
         Sequence2 { a, b, c }
     }
 }
@@ -56,7 +57,7 @@ impl AsnType for Sequence2 {
 
 impl Constructed<1, 2> for Sequence2 {
     ghost use Rattle.std.specs.Prelude.{false, true, refl};
-    ghost use Rattle.oer_rows.specs.Schema.{never};
+    ghost use Rattle.oer_rows.specs.Schema.{schema_tables};
 
     ghost is_set = { false };
 
@@ -84,18 +85,18 @@ impl Constructed<1, 2> for Sequence2 {
         SEQUENCE2_ADDITIONS
     }
 
-    ghost tables = { record { root_count = refl; addition_count = refl; root_indexes = (refl, tt); addition_indexes = (refl, (refl, tt)); only = never; distinct = λ e. absurd (cc e) } };
+    ghost tables = { schema_tables ⟦<Sequence2 as Schemed>⟧.schema true ⟦<Sequence2 as Schemed>⟧.is_schema 1 2 refl refl };
 }
 
 impl Spelled for Sequence2 {
-    ghost use Rattle.std.specs.Prelude.{true, refl};
-    ghost use Rattle.oer_rows.specs.Schema.{tree_of, IsOf, schema_is, schema_like, never};
+    ghost use Rattle.std.specs.Prelude.{true};
+    ghost use Rattle.oer_rows.specs.Schema.{tree_of, IsOf, schema_is, schema_like};
 
     ghost tree = { λ c v. tree_of ⟦<Sequence2 as Schemed>⟧.schema true v };
 
     ghost IsValue = { λ v. IsOf ⟦<Sequence2 as Schemed>⟧.schema v };
 
-    ghost is_tree = { λ c k v i. schema_is ⟦<Sequence2 as Schemed>⟧.schema true ⟦<Sequence2 as Schemed>⟧.is_schema (λ e w. never e) v i };
+    ghost is_tree = { λ c k v i. schema_is ⟦<Sequence2 as Schemed>⟧.schema true ⟦<Sequence2 as Schemed>⟧.is_schema v i };
 
     ghost alike = { λ c k v w i j. schema_like ⟦<Sequence2 as Schemed>⟧.schema true ⟦<Sequence2 as Schemed>⟧.is_schema v w i j };
 }

@@ -1,4 +1,4 @@
-//! Sequences by their schema.
+//! Types whose components stand in a row.
 
 use crate::components::Components;
 
@@ -6,28 +6,34 @@ use crate::components::Components;
 pub trait Rowed {
     ghost use Rattle.std.specs.Prelude.{◌≡◌};
 
+    /// The row.
     type Row: Components;
 
     ghost components: { Self → Self.Row.Values };
 
-    /// The value of these components.
+    /// The value that has these components.
     fn from_row(row: <Self::Row as Components>::Values) -> Self
         ensures { components result ≡ row };
 }
 
-/// The schema of a type whose components stand in a row.
+/// The schema of a type, by which a type of one's own says its tree, its admitted values and its tables.
 pub trait Schemed {
+    ghost use Rattle.std.specs.Prelude.{Bool};
     ghost use Rattle.oer_rows.specs.Schema.{Schema, IsSchema};
+
+    ghost extensible: { Bool };
 
     ghost schema: { Schema Self };
 
-    ghost is_schema: { IsSchema schema };
+    ghost is_schema: { IsSchema schema extensible };
 }
 
 impl<T: Rowed> Schemed for T {
     ghost use Rattle.oer_rows.specs.Schema.{through, through_is};
 
+    ghost extensible = { T.Row.EXTENSIBLE };
+
     ghost schema = { through T.components T.Row.schema };
 
-    ghost is_schema = { through_is T.components T.Row.schema T.Row.Components.is_schema };
+    ghost is_schema = { through_is T.components T.Row.schema T.Row.EXTENSIBLE T.Row.Components.is_schema };
 }

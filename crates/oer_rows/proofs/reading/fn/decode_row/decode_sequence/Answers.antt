@@ -1,5 +1,5 @@
 use Rattle.oer_rows.proofs.Chained.{chained, made_read, made_value, no_value, table_read}
-use Rattle.oer_rows.proofs.by_row.fn.decode_row.decode_sequence.Goals as goal
+use Rattle.oer_rows.proofs.reading.fn.decode_row.decode_sequence.Goals as goal
 
 pub returns-in_err-row : goal.returns-in_err-row
 returns-in_err-row g c = record { read = search chained; value = search no_value }
