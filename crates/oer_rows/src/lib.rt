@@ -5,7 +5,6 @@
 mod additions;
 mod components;
 mod lists;
-mod named;
 mod places;
 mod reading;
 mod rowed;
@@ -18,7 +17,6 @@ pub use additions::{Additions, Extensible, MayAdd};
 pub use asn1_core::{Class, Field, FieldPresence, Tag};
 pub use components::{Components, Defaults, MayHave, Needs, NoMore};
 pub use lists::ListOf;
-pub use named::{Named, Names};
 pub use places::{
     Application, Context, IsFalse, IsNumber, IsTrue, Place, Private, Standard, Universal,
 };

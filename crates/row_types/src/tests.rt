@@ -1,6 +1,8 @@
 //! Octets by hand from X.696, of each type by its row.
 
-use crate::{Mixed, MixedComponents, Report, ReportComponents, Sequence2};
+use crate::{
+    Mixed, MixedComponents, Report, ReportComponents, Sequence2, Twelve, TwelveComponents,
+};
 use asn1_ints::Integer;
 use asn1_strings::OctetString;
 use choice_types::PriorityChoice;
@@ -23,6 +25,23 @@ fn agrees<T: Encode + Decode + PartialEq>(
     let mut decoder = Decoder::new(octets, DecoderOptions::coer());
     let read = T::decode(alloc, &mut decoder)?;
     Ok(encoder.output().as_slice() == octets && read == *value && decoder.remaining().is_empty())
+}
+
+fn twelve() -> Twelve {
+    Sequence(TwelveComponents {
+        a: Integer::from_i128(1),
+        b: None,
+        c: Some(Integer::from_i128(2)),
+        d: None,
+        e: None,
+        f: true,
+        g: None,
+        h: None,
+        i: None,
+        j: None,
+        k: None,
+        l: Some(false),
+    })
 }
 
 #[test]
@@ -49,6 +68,14 @@ fn values_are_written_and_read(rt: HostRuntime) -> Result<(), Fail> {
                 alloc,
                 &sequence2,
                 &[0x80, 0xFF, 0x02, 0x06, 0x40, 0x01, 0x00],
+            )?,
+        ),
+        (
+            "Twelve",
+            agrees(
+                alloc,
+                &twelve(),
+                &[0x40, 0x40, 0x01, 0x01, 0x01, 0x02, 0xFF, 0x00],
             )?,
         ),
         (
