@@ -1,19 +1,24 @@
 -- What the rest of the components was read as, or why it was refused, of a call that reads all of them.
-use Rattle.std.proofs.Common.{◌≡◌, Bool, List, Option, Some, Result, Ok, Err, Continue, Break, ap, ◌∙◌, subst, sym}
+use Rattle.std.proofs.Common.{◌≡◌, Bool, List, Option, Some, None, Result, Ok, Err, Continue, Break, ap, ◌∙◌, subst, sym}
+use Rattle.std.specs.Bool.{Decides}
 use Rattle.std.specs.Result.{IfOk, IfErr, OnErr, IsErrAnd, result_from_control_flow}
 use Rattle.asn1_core.specs.Rows.{Row}
+use Rattle.asn1_core.specs.declared.constraints.Constraints.{Constraints}
 use Rattle.asn1_core.specs.declared.tag.Tag.{Tag}
 use Rattle.asn1_core.specs.declared.error.DecodeError.{DecodeError}
-use Rattle.oer_spec.specs.Tree.{Tree, Rows, NoRows, Optional, Slot}
+use Rattle.oer_spec.specs.Encoding.{IsTree}
+use Rattle.oer_spec.specs.Same.{Same, Alike}
+use Rattle.oer_spec.specs.Spelled.{IsConsistent}
+use Rattle.oer_spec.specs.Tree.{Tree, Rows, NoRows, Required, Optional, Slot}
 use Rattle.oer_read.specs.Law.{Decodes}
-use Rattle.oer_read.specs.Parts.{Parts, NoParts, OptionalPart, Admits, AreOf, IsTableOf, Takes, Stops, ReadsParts}
+use Rattle.oer_read.specs.Parts.{Parts, NoParts, NeededPart, OptionalPart, Admits, AreOf, IsTableOf, Takes, Stops, ReadsParts}
 use Rattle.oer_read.specs.State.{State}
 use Rattle.oer_rows.specs.Schema.{Schema, Table, IsSchema, IsOf, HasTables, tree_of}
-use Rattle.oer_read.specs.Additions.{Adds}
+use Rattle.oer_read.specs.Additions.{Adds, Added, AddRefused}
 use Rattle.oer_read.specs.Components.{slot_of, Asked, AskRefused}
-use Rattle.oer_read.specs.Defaults.{AsksDefault, Defaulted, Unset, Set}
+use Rattle.oer_read.specs.Defaults.{AsksDefault, AddsDefault, IsDefault, Defaulted, Unset, Set}
 use Rattle.oer_read.specs.Scopes.{SequenceRead, SequenceRefused}
-use Rattle.oer_read.proofs.AdditionSteps.{addition_read, addition_passed, addition_stops}
+use Rattle.oer_read.proofs.AdditionSteps.{addition_read, addition_passed, addition_stops, needed_addition_read, needed_addition_passed, needed_addition_absent, needed_addition_stops}
 use Rattle.oer_read.proofs.SequenceLaw.{sequence_law}
 use Rattle.oer_read.proofs.Reading.{reading}
 use Rattle.oer_read.proofs.Steps.{at_ok}
@@ -59,7 +64,35 @@ module _ {B : Type 0} (tree : B → Tree) (IsPart : B → Type 0) (Says : State 
       → Stops s NoParts (OptionalPart g (Admits tree IsPart) qs) result
   added_stops Q s u answer flow x k g qs result d e f asked h q = addition_stops tree IsPart Says Q s u answer flow x (Some k) g qs result d e f asked h q
 
+  -- a required addition
+  pub needed_added_read : (s u t : State) (answer : Result (Option B) DecodeError) (flow : _) (o : Option B) (v : B) (k g : Tag) (w : Tree) (qs : Parts) (a : Rows)
+      → Adds tree IsPart Says s (Some k) answer u → answer ≡ result_from_control_flow flow → flow ≡ Continue o → o ≡ Some v → k ≡ g → w ≡ tree v → Takes u NoParts qs NoRows a t
+      → Takes s NoParts (NeededPart g (Admits tree IsPart) qs) NoRows (Required g w a) t
+  needed_added_read s u t answer flow o v k g w qs a d e f some asked i took = needed_addition_read tree IsPart Says s u t answer flow o v (Some k) g w qs a d e f some asked i took
+
+  pub needed_added_passed : {A : Type 0} (s u : State) (answer : Result (Option B) DecodeError) (flow : _) (o : Option B) (k g : Tag) (qs : Parts) (result : Result A DecodeError)
+      → Adds tree IsPart Says s (Some k) answer u → answer ≡ result_from_control_flow flow → flow ≡ Continue o → k ≡ g → Stops u NoParts qs result
+      → Stops s NoParts (NeededPart g (Admits tree IsPart) qs) result
+  needed_added_passed s u answer flow o k g qs result d e f asked stops = needed_addition_passed tree IsPart Says s u answer flow o (Some k) g qs result d e f asked stops
+
+  pub needed_added_absent : {A : Type 0} (s u : State) (answer : Result (Option B) DecodeError) (flow : _) (o : Option B) (k g : Tag) (qs : Parts) (result : Result A DecodeError)
+      → Adds tree IsPart Says s (Some k) answer u → answer ≡ result_from_control_flow flow → flow ≡ Continue o → o ≡ None → k ≡ g → IfErr result (λ e. e.codec ≡ u.codec)
+      → Stops s NoParts (NeededPart g (Admits tree IsPart) qs) result
+  needed_added_absent s u answer flow o k g qs result d e f none asked mode = needed_addition_absent tree IsPart Says s u answer flow o (Some k) g qs result d e f none asked mode
+
+  pub needed_added_stops : {A : Type 0} (Q : DecodeError → Type 0) (s u : State) (answer : Result (Option B) DecodeError) (flow : _) (x : _) (k g : Tag) (qs : Parts) (result : Result A DecodeError)
+      → Adds tree IsPart Says s (Some k) answer u → answer ≡ result_from_control_flow flow → flow ≡ Break x → k ≡ g → IsErrAnd result Q → ((y : DecodeError) → Q y → y ≡ x.0)
+      → Stops s NoParts (NeededPart g (Admits tree IsPart) qs) result
+  needed_added_stops Q s u answer flow x k g qs result d e f asked h q = needed_addition_stops tree IsPart Says Q s u answer flow x (Some k) g qs result d e f asked h q
+
 -- ---- a component with a default
+
+-- what makes a value a default, of what its type promises
+pub default_known : {B : Type 0} (tree : Constraints → B → Tree) (IsPart : B → Type 0) (eq : B → B → Bool) (def : B) → ((c : Constraints) → IsConsistent c → (v : B) → IsPart v → IsTree (tree c v))
+    → ((c : Constraints) → IsConsistent c → (v w : B) → IsPart v → IsPart w → Alike (tree c v) (tree c w))
+    → ((c : Constraints) → IsConsistent c → (v w : B) → IsPart v → IsPart w → Decides (eq v w) (Same (tree c v) (tree c w)))
+    → (c : Constraints) → IsConsistent c → IsPart def → IsDefault (tree c) IsPart eq def
+default_known tree IsPart eq def is like decides c k i = record { value = i; is_tree = is c k; alike = like c k; decides = decides c k }
 
 pub default_value : {B : Type 0} (tree : B → Tree) (IsPart : B → Type 0) (Says : State → Result B DecodeError → State → Type 0) (eq : B → B → Bool) (s u : State) (answer : Result B DecodeError) (flow : _) (v def handed : B) (g : Tag)
     → AsksDefault tree IsPart Says eq s g handed answer u → handed ≡ def → IsPart def → answer ≡ result_from_control_flow flow → flow ≡ Continue v → IsPart v
@@ -68,6 +101,14 @@ default_value {B} tree IsPart Says eq s u answer flow v def handed g d p i e f =
     go : Defaulted eq (Asked tree IsPart Says s g) (AskRefused tree IsPart Says s g) s handed v u → IsPart v
     go (Unset _ q) = subst IsPart (sym (q ∙ p)) i
     go (Set asked _) = asked.reads.value
+
+pub added_default_value : {B : Type 0} (tree : B → Tree) (IsPart : B → Type 0) (Says : State → Result B DecodeError → State → Type 0) (eq : B → B → Bool) (s u : State) (answer : Result B DecodeError) (flow : _) (v def handed : B) (g : Tag)
+    → AddsDefault tree IsPart Says eq s g handed answer u → handed ≡ def → IsPart def → answer ≡ result_from_control_flow flow → flow ≡ Continue v → IsPart v
+added_default_value {B} tree IsPart Says eq s u answer flow v def handed g d p i e f = go (at_ok (λ v. Defaulted eq (Added tree IsPart Says s (Some g)) (AddRefused tree IsPart Says s (Some g)) s handed v u) answer flow v e f d.read)
+  where
+    go : Defaulted eq (Added tree IsPart Says s (Some g)) (AddRefused tree IsPart Says s (Some g)) s handed v u → IsPart v
+    go (Unset _ q) = subst IsPart (sym (q ∙ p)) i
+    go (Set asked _) = asked.open_type.reads.value
 
 -- ---- a value made of its components
 
@@ -127,4 +168,4 @@ schema_law {A} k of_row is_schema of extensible table more tables tree IsValue i
     ran (Err e) d = tt
 
 -- the components before, and the rest
-pub ruleset chained = (reading, added_read, added_passed, added_stops, rest_read, rest_stops)
+pub ruleset chained = (reading, added_read, added_passed, added_stops, needed_added_read, needed_added_passed, needed_added_absent, needed_added_stops, rest_read, rest_stops)

@@ -5,6 +5,7 @@
 mod additions;
 mod components;
 mod lists;
+mod more_additions;
 mod places;
 mod reading;
 mod rowed;
@@ -17,6 +18,7 @@ pub use additions::{Additions, Extensible, MayAdd};
 pub use asn1_core::{Class, Field, FieldPresence, Tag};
 pub use components::{Components, Defaults, MayHave, Needs, NoMore};
 pub use lists::ListOf;
+pub use more_additions::{AddDefaults, Adds, MayAddGroup};
 pub use places::{
     Application, Context, IsFalse, IsNumber, IsTrue, Place, Private, Standard, Universal,
 };
@@ -24,7 +26,10 @@ pub use reading::decode_row;
 pub use rowed::{Rowed, Schemed};
 pub use sequences::{Sequence, Tabled};
 pub use views::{AdditionViews, Views};
-pub use writing::{Writes, encode_rows, put_addition, put_default, put_needed, put_optional};
+pub use writing::{
+    Writes, encode_rows, put_added, put_addition, put_default, put_default_addition, put_group,
+    put_needed, put_optional,
+};
 
 /// A table of components: the index, the need, the tag's class and number, and the name of each.
 #[macro_export]

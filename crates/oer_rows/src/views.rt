@@ -5,9 +5,12 @@ ghost use Rattle.oer_write.specs.Rows.{InSequence};
 
 use crate::additions::{Additions, Extensible, MayAdd};
 use crate::components::{Components, Defaults, MayHave, Needs, NoMore};
+use crate::more_additions::{AddDefaults, Adds, MayAddGroup};
 use crate::places::{Place, Standard};
-use crate::writing::{put_addition, put_default, put_needed, put_optional};
-use asn1_core::EncodeError;
+use crate::writing::{
+    put_added, put_addition, put_default, put_default_addition, put_group, put_needed, put_optional,
+};
+use asn1_core::{Constructed, EncodeError};
 use oer_read::Decode;
 use oer_spec::EqualAsSpelled;
 use oer_write::{Encode, Encoder};
@@ -112,6 +115,64 @@ impl<'v, G: Place, B: Decode + Encode + 'v, R: AdditionViews<'v>> AdditionViews<
     ) -> Result<(), EncodeError> {
         let (value, rest) = view;
         put_addition(encoder, G::tag(), value)?;
+        R::write_additions(rest, encoder)
+    }
+}
+
+impl<'v, G: Place, B: Decode + Encode + 'v, R: AdditionViews<'v>> AdditionViews<'v>
+    for Adds<G, B, R> {
+    type MoreView = (&'v B, R::MoreView);
+
+    ghost seen = { λ v. (v.0.now, R.seen v.1) };
+
+    fn write_additions(
+        view: (&'v B, R::MoreView),
+        encoder: &mut Encoder<'_>,
+    ) -> Result<(), EncodeError> {
+        let (value, rest) = view;
+        put_added(encoder, G::tag(), value)?;
+        R::write_additions(rest, encoder)
+    }
+}
+
+impl<
+    'v,
+    G: Place,
+    B: Decode + Encode + EqualAsSpelled + 'v,
+    D: Standard<B>,
+    R: AdditionViews<'v>,
+> AdditionViews<'v> for AddDefaults<G, B, D, R> {
+    type MoreView = (&'v B, R::MoreView);
+
+    ghost seen = { λ v. (v.0.now, R.seen v.1) };
+
+    fn write_additions(
+        view: (&'v B, R::MoreView),
+        encoder: &mut Encoder<'_>,
+    ) -> Result<(), EncodeError> {
+        let (value, rest) = view;
+        put_default_addition::<D, B>(encoder, G::tag(), value)?;
+        R::write_additions(rest, encoder)
+    }
+}
+
+impl<
+    'v,
+    const RC: usize,
+    const EC: usize,
+    B: Decode + Encode + Constructed<RC, EC> + 'v,
+    R: AdditionViews<'v>,
+> AdditionViews<'v> for MayAddGroup<RC, EC, B, R> {
+    type MoreView = (&'v Option<B>, R::MoreView);
+
+    ghost seen = { λ v. (v.0.now, R.seen v.1) };
+
+    fn write_additions(
+        view: (&'v Option<B>, R::MoreView),
+        encoder: &mut Encoder<'_>,
+    ) -> Result<(), EncodeError> {
+        let (value, rest) = view;
+        put_group(encoder, value)?;
         R::write_additions(rest, encoder)
     }
 }

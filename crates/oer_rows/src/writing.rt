@@ -79,6 +79,49 @@ pub fn put_addition<E: Encode>(
     encoder.encode_extension_addition(tag, E::CONSTRAINTS, value.as_ref())
 }
 
+/// Writes a required extension addition as an open type (X.696, 16.4 and 30).
+///
+/// Refused by what the value is refused by.
+pub fn put_added<E: Encode>(
+    encoder: &mut Encoder<'_>,
+    tag: Tag,
+    value: &E,
+) -> Result<(), EncodeError>
+    ensures done { OnOk result (RowsDone NoRows (required tag (E.tree E.CONSTRAINTS value.now)) encoder.old encoder.new) }
+    ensures value { OnOk result (E.IsValue value.now) }
+    ensures refused { IfErr result (λ x. RowsRefused NoRows (required tag (E.tree E.CONSTRAINTS value.now)) x encoder.old encoder.new) }
+{
+    encoder.encode_extension_addition(tag, E::CONSTRAINTS, Some(value))
+}
+
+/// Writes an extension addition with the DEFAULT `D`: nothing but its bit of the bitmap where the value equals it.
+///
+/// Refused by what the value is refused by.
+pub fn put_default_addition<D: Standard<E>, E: Encode + EqualAsSpelled>(
+    encoder: &mut Encoder<'_>,
+    tag: Tag,
+    value: &E,
+) -> Result<(), EncodeError>
+    ensures done { OnOk result (RowsDone NoRows (defaulted tag (E.tree E.CONSTRAINTS D.value) (present_unless (E.eq value.now D.value) (E.tree E.CONSTRAINTS value.now))) encoder.old encoder.new) }
+    ensures value { E.eq value.now D.value ≡ false → OnOk result (E.IsValue value.now) }
+    ensures known { IsDefault (E.tree E.CONSTRAINTS) E.IsValue E.eq D.value }
+    ensures refused { IfErr result (λ x. RowsRefused NoRows (defaulted tag (E.tree E.CONSTRAINTS D.value) (present_unless (E.eq value.now D.value) (E.tree E.CONSTRAINTS value.now))) x encoder.old encoder.new) }
+{
+    let default = D::value();
+    encoder.encode_extension_addition_default(tag, E::CONSTRAINTS, value, &default)
+}
+
+/// Writes an addition group that is there as an open type (X.696, 16.4 and 30).
+///
+/// Refused by what a component of the group is refused by.
+pub fn put_group<E: Encode>(encoder: &mut Encoder<'_>, value: &Option<E>) -> Result<(), EncodeError>
+    ensures done { OnOk result (RowsDone NoRows (optional E.TAG (slot_of (E.tree E.CONSTRAINTS) value.now)) encoder.old encoder.new) }
+    ensures value { OnOk result (IfSome value.now E.IsValue) }
+    ensures refused { IfErr result (λ x. RowsRefused NoRows (optional E.TAG (slot_of (E.tree E.CONSTRAINTS) value.now)) x encoder.old encoder.new) }
+{
+    encoder.encode_extension_addition_group(value.as_ref())
+}
+
 /// A type whose components are written one by one.
 pub trait Writes: Spelled {
     ghost use Rattle.oer_spec.specs.Tree.{Rows};

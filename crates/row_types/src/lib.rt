@@ -1,6 +1,7 @@
 //! Types by the row of their components.
 #![tactic(auto)]
 
+mod additions;
 mod mixed;
 mod reports;
 mod sequences;
@@ -8,6 +9,10 @@ mod sequences;
 mod tests;
 mod twelves;
 
+pub use additions::{
+    Group, GroupComponents, Grouped, GroupedComponents, Levelled, LevelledComponents, Sure,
+    SureComponents,
+};
 pub use mixed::{Mixed, MixedComponents};
 pub use reports::{Report, ReportComponents};
 pub use sequences::Sequence2;

@@ -1,7 +1,9 @@
 //! Octets by hand from X.696, of each type by its row.
 
 use crate::{
-    Mixed, MixedComponents, Report, ReportComponents, Sequence2, Twelve, TwelveComponents,
+    GroupComponents, Grouped, GroupedComponents, Levelled, LevelledComponents, Mixed,
+    MixedComponents, Report, ReportComponents, Sequence2, Sure, SureComponents, Twelve,
+    TwelveComponents,
 };
 use asn1_ints::Integer;
 use asn1_strings::OctetString;
@@ -42,6 +44,40 @@ fn twelve() -> Twelve {
         k: None,
         l: Some(false),
     })
+}
+
+/// Whether sequences with additions of each sort agree, each with its name.
+fn additions(alloc: Global) -> Result<[(&'static str, bool); 3], Fail> {
+    let sure: Sure = Sequence(SureComponents {
+        ok: true,
+        sure: false,
+    });
+    let levelled: Levelled = Sequence(LevelledComponents {
+        ok: true,
+        level: Integer::from_i128(3),
+    });
+    let grouped: Grouped = Sequence(GroupedComponents {
+        ok: true,
+        group: Some(Sequence(GroupComponents {
+            number: Integer::from_i128(5),
+            note: Some(true),
+        })),
+    });
+    Ok([
+        (
+            "Sure",
+            agrees(alloc, &sure, &[0x80, 0xFF, 0x02, 0x07, 0x80, 0x01, 0x00])?,
+        ),
+        ("Levelled", agrees(alloc, &levelled, &[0x00, 0xFF])?),
+        (
+            "Grouped",
+            agrees(
+                alloc,
+                &grouped,
+                &[0x80, 0xFF, 0x02, 0x07, 0x80, 0x04, 0x80, 0x01, 0x05, 0xFF],
+            )?,
+        ),
+    ])
 }
 
 #[test]
@@ -87,7 +123,7 @@ fn values_are_written_and_read(rt: HostRuntime) -> Result<(), Fail> {
             )?,
         ),
     ];
-    for (name, agree) in table {
+    for (name, agree) in table.into_iter().chain(additions(alloc)?) {
         assert!(rt; agree, "{name}");
     }
     Ok(())

@@ -1,0 +1,23 @@
+use Rattle.oer_read.proofs.Steps.{ends}
+use Rattle.oer_rows.proofs.Chained.{chained, default_known, added_default_value, additions_read}
+use Rattle.oer_rows.proofs.more_additions.AddDefaultsAdditions.read_additions.Goals as goal
+
+pub returns-in_err-value-clause-read : goal.returns-in_err-value-clause-read
+returns-in_err-value-clause-read g c =
+    let known = default_known _ _ _ _ g.B.Spelled.is_tree g.B.Spelled.alike g.met.B.EqualAsSpelled.eq_is_same g.B.AsnType.CONSTRAINTS g.B.AsnType.consistent g.met.D.Standard.admitted in
+    search (chained, known)
+
+pub returns-in_err-rest-clause-read : goal.returns-in_err-rest-clause-read
+returns-in_err-rest-clause-read g c =
+    let known = default_known _ _ _ _ g.B.Spelled.is_tree g.B.Spelled.alike g.met.B.EqualAsSpelled.eq_is_same g.B.AsnType.CONSTRAINTS g.B.AsnType.consistent g.met.D.Standard.admitted in
+    search (chained, known)
+
+pub returns-clause-read : goal.returns-clause-read
+returns-clause-read g c =
+    let known = default_known _ _ _ _ g.B.Spelled.is_tree g.B.Spelled.alike g.met.B.EqualAsSpelled.eq_is_same g.B.AsnType.CONSTRAINTS g.B.AsnType.consistent g.met.D.Standard.admitted in
+    ends _ _ _ _ _ _ _ (search (chained, known, additions_read g.R.Additions.table))
+
+pub returns-clause-value : goal.returns-clause-value
+returns-clause-value g c =
+    let known = default_known _ _ _ _ g.B.Spelled.is_tree g.B.Spelled.alike g.met.B.EqualAsSpelled.eq_is_same g.B.AsnType.CONSTRAINTS g.B.AsnType.consistent g.met.D.Standard.admitted in
+    (known, λ e. added_default_value (g.B.Spelled.tree g.B.AsnType.CONSTRAINTS) g.B.Spelled.IsValue _ g.B.PartialEq.eq _ _ _ _ _ g.D.Standard.value _ _ c.read_default_addition.ensures c.value.ensures g.met.D.Standard.admitted c.branch-value.ensures c.in_ok-value.is, c.in_ok-rest.ensures.value)

@@ -1,0 +1,92 @@
+//! Further extension additions: required ones, ones with a default, and addition groups.
+ghost use Rattle.oer_read.specs.Defaults.{AddsDefault};
+
+use crate::additions::{Additions, read_addition};
+use crate::places::{Place, Standard};
+use asn1_core::{Constructed, DecodeError, DecodeErrorKind, Tag};
+use oer_read::{Decode, Decoder};
+use oer_spec::EqualAsSpelled;
+use std::alloc::Global;
+use std::marker::PhantomData;
+
+/// A required addition of type `B` with the tag `G`, and those after it.
+///
+/// It is there in each value; octets of an earlier version of the type, which lack it, are refused.
+pub struct Adds<G, B, R>(PhantomData<(G, B, R)>);
+
+/// An addition of type `B` with the tag `G` and the DEFAULT `D`, and those after it.
+pub struct AddDefaults<G, B, D, R>(PhantomData<(G, B, D, R)>);
+
+/// An addition group `[[ .. ]]`, and the additions after it: `B` is the sequence of its components, with `RC` root
+/// components and `EC` additions; the group is there as a whole or not at all.
+pub struct MayAddGroup<const RC: usize, const EC: usize, B, R>(PhantomData<(B, R)>);
+
+/// Reads an addition with a default under its type's constraints.
+fn read_default_addition<B: Decode + PartialEq>(
+    alloc: Global,
+    decoder: &mut Decoder<'_>,
+    tag: Tag,
+    default: B,
+) -> Result<B, DecodeError>
+    ensures { AddsDefault (B.tree B.CONSTRAINTS) B.IsValue (B.Answered B.CONSTRAINTS) B.eq decoder.old tag default result decoder.new }
+{
+    decoder.decode_extension_addition_default(alloc, tag, B::CONSTRAINTS, default)
+}
+
+impl<G: Place, B: Decode, R: Additions> Additions for Adds<G, B, R> {
+    ghost use Rattle.oer_rows.specs.Schema.{typed, typed_is, needed, needed_is};
+
+    type More = (B, R::More);
+
+    ghost table = { needed G.tag (typed B.tree B.CONSTRAINTS B.IsValue) (λ v. v.0) (λ v. v.1) R.table };
+
+    ghost is_table = { needed_is G.tag (typed B.tree B.CONSTRAINTS B.IsValue) (λ v. v.0) (λ v. v.1) R.table (typed_is B.tree B.IsValue B.is_tree B.alike B.CONSTRAINTS B.consistent) R.is_table };
+
+    fn read_additions(alloc: Global, decoder: &mut Decoder<'_>) -> Result<Self::More, DecodeError> {
+        let value = read_addition::<B>(alloc, decoder, G::tag())?;
+        match value {
+            Some(value) => {
+                let rest = R::read_additions(alloc, decoder)?;
+                Ok((value, rest))
+            }
+            None => Err(DecodeError {
+                kind: DecodeErrorKind::RequiredExtensionNotPresent { tag: G::tag() },
+                codec: decoder.codec(),
+            }),
+        }
+    }
+}
+
+impl<G: Place, B: Decode + EqualAsSpelled, D: Standard<B>, R: Additions> Additions
+    for AddDefaults<G, B, D, R> {
+    ghost use Rattle.oer_rows.specs.Schema.{typed, defaulted, defaulted_is};
+
+    type More = (B, R::More);
+
+    ghost table = { defaulted G.tag (typed B.tree B.CONSTRAINTS B.IsValue) B.eq D.value (λ v. v.0) (λ v. v.1) R.table };
+
+    ghost is_table = { defaulted_is G.tag (typed B.tree B.CONSTRAINTS B.IsValue) B.eq D.value (λ v. v.0) (λ v. v.1) R.table R.is_table };
+
+    fn read_additions(alloc: Global, decoder: &mut Decoder<'_>) -> Result<Self::More, DecodeError> {
+        let value = read_default_addition::<B>(alloc, decoder, G::tag(), D::value())?;
+        let rest = R::read_additions(alloc, decoder)?;
+        Ok((value, rest))
+    }
+}
+
+impl<const RC: usize, const EC: usize, B: Decode + Constructed<RC, EC>, R: Additions> Additions
+    for MayAddGroup<RC, EC, B, R> {
+    ghost use Rattle.oer_rows.specs.Schema.{typed, typed_is, optional, optional_is};
+
+    type More = (Option<B>, R::More);
+
+    ghost table = { optional B.TAG (typed B.tree B.CONSTRAINTS B.IsValue) (λ v. v.0) (λ v. v.1) R.table };
+
+    ghost is_table = { optional_is B.TAG (typed B.tree B.CONSTRAINTS B.IsValue) (λ v. v.0) (λ v. v.1) R.table (typed_is B.tree B.IsValue B.is_tree B.alike B.CONSTRAINTS B.consistent) R.is_table };
+
+    fn read_additions(alloc: Global, decoder: &mut Decoder<'_>) -> Result<Self::More, DecodeError> {
+        let value = decoder.decode_extension_addition_group::<RC, EC, B>(alloc)?;
+        let rest = R::read_additions(alloc, decoder)?;
+        Ok((value, rest))
+    }
+}

@@ -1,0 +1,226 @@
+//! Extensible sequences, one for each sort of addition.
+
+use asn1_core::{EncodeError, Field, Fields};
+use asn1_ints::Integer;
+use oer_read::Encoder;
+use oer_rows::{
+    AddDefaults, Adds, Components, Context, Extensible, IsNumber, MayAddGroup, MayHave, Needs,
+    NoMore, Rowed, Sequence, Tabled, Universal, Views, fields,
+};
+
+/// `SEQUENCE { ok BOOLEAN, ..., sure BOOLEAN }`
+pub type Sure = Sequence<SureComponents, 1, 1>;
+
+/// The components of a `Sure`.
+#[derive(Debug, PartialEq, Eq, Drop)]
+pub struct SureComponents {
+    pub ok: bool,
+    pub sure: bool,
+}
+
+type SureRow = Needs<Context<0>, bool, Extensible<Adds<Context<1>, bool, NoMore>>>;
+
+const SURE_FIELDS: &'static [Field<'static>] = fields![0 Required Context 0 "ok"];
+
+const SURE_ADDITIONS: &'static [Field<'static>] = fields![0 Required Context 1 "sure"];
+
+impl Rowed for SureComponents {
+    type Row = SureRow;
+
+    ghost components = { λ v. (v.ok, (v.sure, tt)) };
+
+    fn from_row((ok, (sure, ())): <SureRow as Components>::Values) -> SureComponents {
+        SureComponents { ok, sure }
+    }
+}
+
+impl Tabled<1, 1> for SureComponents {
+    ghost use Rattle.std.specs.Prelude.{refl};
+
+    const FIELDS: Fields<1> = Fields {
+        fields: SURE_FIELDS,
+    };
+
+    const EXTENDED_FIELDS: Option<Fields<1>> = Some(Fields {
+        fields: SURE_ADDITIONS,
+    });
+
+    fn root_fields() -> &'static [Field<'static>] {
+        SURE_FIELDS
+    }
+
+    fn addition_fields() -> &'static [Field<'static>] {
+        SURE_ADDITIONS
+    }
+
+    fn put(&self, encoder: &mut Encoder<'_>) -> Result<(), EncodeError> {
+        SureRow::write((&self.ok, (&self.sure, ())), encoder)
+    }
+
+    ghost root_count = { refl };
+
+    ghost addition_count = { refl };
+}
+
+/// `SEQUENCE { ok BOOLEAN, ..., level INTEGER DEFAULT 3 }`
+pub type Levelled = Sequence<LevelledComponents, 1, 1>;
+
+/// The components of a `Levelled`.
+#[derive(Debug, PartialEq, Eq, Drop)]
+pub struct LevelledComponents {
+    pub ok: bool,
+    pub level: Integer,
+}
+
+type LevelledRow = Needs<
+    Context<0>,
+    bool,
+    Extensible<AddDefaults<Context<1>, Integer, IsNumber<3>, NoMore>>,
+>;
+
+const LEVELLED_FIELDS: &'static [Field<'static>] = fields![0 Required Context 0 "ok"];
+
+const LEVELLED_ADDITIONS: &'static [Field<'static>] = fields![0 Default Context 1 "level"];
+
+impl Rowed for LevelledComponents {
+    type Row = LevelledRow;
+
+    ghost components = { λ v. (v.ok, (v.level, tt)) };
+
+    fn from_row((ok, (level, ())): <LevelledRow as Components>::Values) -> LevelledComponents {
+        LevelledComponents { ok, level }
+    }
+}
+
+impl Tabled<1, 1> for LevelledComponents {
+    ghost use Rattle.std.specs.Prelude.{refl};
+
+    const FIELDS: Fields<1> = Fields {
+        fields: LEVELLED_FIELDS,
+    };
+
+    const EXTENDED_FIELDS: Option<Fields<1>> = Some(Fields {
+        fields: LEVELLED_ADDITIONS,
+    });
+
+    fn root_fields() -> &'static [Field<'static>] {
+        LEVELLED_FIELDS
+    }
+
+    fn addition_fields() -> &'static [Field<'static>] {
+        LEVELLED_ADDITIONS
+    }
+
+    fn put(&self, encoder: &mut Encoder<'_>) -> Result<(), EncodeError> {
+        LevelledRow::write((&self.ok, (&self.level, ())), encoder)
+    }
+
+    ghost root_count = { refl };
+
+    ghost addition_count = { refl };
+}
+
+/// `SEQUENCE { number INTEGER, note BOOLEAN OPTIONAL }`, which stands as a group in `Grouped`
+pub type Group = Sequence<GroupComponents, 2, 0>;
+
+/// The components of a `Group`.
+#[derive(Debug, PartialEq, Eq, Drop)]
+pub struct GroupComponents {
+    pub number: Integer,
+    pub note: Option<bool>,
+}
+
+type GroupRow = Needs<Context<0>, Integer, MayHave<Context<1>, bool, NoMore>>;
+
+const GROUP_FIELDS: &'static [Field<'static>] =
+    fields![0 Required Context 0 "number", 1 Optional Context 1 "note"];
+
+impl Rowed for GroupComponents {
+    type Row = GroupRow;
+
+    ghost components = { λ v. (v.number, (v.note, tt)) };
+
+    fn from_row((number, (note, ())): <GroupRow as Components>::Values) -> GroupComponents {
+        GroupComponents { number, note }
+    }
+}
+
+impl Tabled<2, 0> for GroupComponents {
+    ghost use Rattle.std.specs.Prelude.{refl};
+
+    const FIELDS: Fields<2> = Fields {
+        fields: GROUP_FIELDS,
+    };
+
+    const EXTENDED_FIELDS: Option<Fields<0>> = None;
+
+    fn root_fields() -> &'static [Field<'static>] {
+        GROUP_FIELDS
+    }
+
+    fn addition_fields() -> &'static [Field<'static>] {
+        &[]
+    }
+
+    fn put(&self, encoder: &mut Encoder<'_>) -> Result<(), EncodeError> {
+        GroupRow::write((&self.number, (&self.note, ())), encoder)
+    }
+
+    ghost root_count = { refl };
+
+    ghost addition_count = { refl };
+}
+
+/// `SEQUENCE { ok BOOLEAN, ..., [[ number INTEGER, note BOOLEAN OPTIONAL ]] }`
+pub type Grouped = Sequence<GroupedComponents, 1, 1>;
+
+/// The components of a `Grouped`.
+#[derive(Debug, PartialEq, Eq, Drop)]
+pub struct GroupedComponents {
+    pub ok: bool,
+    pub group: Option<Group>,
+}
+
+type GroupedRow = Needs<Context<0>, bool, Extensible<MayAddGroup<2, 0, Group, NoMore>>>;
+
+const GROUPED_FIELDS: &'static [Field<'static>] = fields![0 Required Context 0 "ok"];
+
+const GROUPED_ADDITIONS: &'static [Field<'static>] = fields![0 Optional Universal 16 "group"];
+
+impl Rowed for GroupedComponents {
+    type Row = GroupedRow;
+
+    ghost components = { λ v. (v.ok, (v.group, tt)) };
+
+    fn from_row((ok, (group, ())): <GroupedRow as Components>::Values) -> GroupedComponents {
+        GroupedComponents { ok, group }
+    }
+}
+
+impl Tabled<1, 1> for GroupedComponents {
+    ghost use Rattle.std.specs.Prelude.{refl};
+
+    const FIELDS: Fields<1> = Fields {
+        fields: GROUPED_FIELDS,
+    };
+
+    const EXTENDED_FIELDS: Option<Fields<1>> = Some(Fields {
+        fields: GROUPED_ADDITIONS,
+    });
+
+    fn root_fields() -> &'static [Field<'static>] {
+        GROUPED_FIELDS
+    }
+
+    fn addition_fields() -> &'static [Field<'static>] {
+        GROUPED_ADDITIONS
+    }
+
+    fn put(&self, encoder: &mut Encoder<'_>) -> Result<(), EncodeError> {
+        GroupedRow::write((&self.ok, (&self.group, ())), encoder)
+    }
+
+    ghost root_count = { refl };
+
+    ghost addition_count = { refl };
+}
