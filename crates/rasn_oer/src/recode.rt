@@ -25,20 +25,20 @@ pub(crate) fn canonical_value<'a, T: Decode + Encode>(
 }
 
 /// The value of another version of a type that is read of a value's canonical octets.
-pub(crate) fn other_version<From: Encode, Into: Decode>(
+pub(crate) fn other_version<Sent: Encode, Wanted: Decode>(
     alloc: Global,
     options: DecoderOptions,
-    value: &From,
-) -> Result<Into, CodecError>
-    ensures older { IsAsOlder (From.tree From.CONSTRAINTS) From.IsValue (Into.tree Into.CONSTRAINTS) Into.IsValue options.codec options.levels value.now result }
-    ensures newer { IsAsNewer (From.tree From.CONSTRAINTS) From.IsValue (Into.tree Into.CONSTRAINTS) Into.IsValue options.codec options.levels value.now result }
+    value: &Sent,
+) -> Result<Wanted, CodecError>
+    ensures older { IsAsOlder (Sent.tree Sent.CONSTRAINTS) Sent.IsValue (Wanted.tree Wanted.CONSTRAINTS) Wanted.IsValue options.codec options.levels value.now result }
+    ensures newer { IsAsNewer (Sent.tree Sent.CONSTRAINTS) Sent.IsValue (Wanted.tree Wanted.CONSTRAINTS) Wanted.IsValue options.codec options.levels value.now result }
 {
-    match encode_value(alloc, From::CONSTRAINTS, value) {
+    match encode_value(alloc, Sent::CONSTRAINTS, value) {
         Err(e) => Err(CodecError::Encode(e)),
-        Ok(octets) => match decode_value::<Into>(
+        Ok(octets) => match decode_value::<Wanted>(
             alloc,
             options,
-            Into::CONSTRAINTS,
+            Wanted::CONSTRAINTS,
             octets.as_slice(),
         ) {
             Err(e) => Err(CodecError::Decode(e)),
