@@ -10,7 +10,7 @@ use Rattle.asn1_core.specs.Rows.{Row, row}
 use Rattle.asn1_core.specs.declared.fields.Field.{Field}
 use Rattle.asn1_core.specs.declared.error.DecodeError.{DecodeError}
 use Rattle.asn1_core.specs.declared.error.DecodeErrorKind.{DecodeErrorKind}
-use Rattle.oer_read.specs.Law.{IsForMemory, IsRear}
+use Rattle.oer_read.specs.Law.{IsRear, WantsMemory}
 use Rattle.oer_read.specs.Scopes.{level_at, bits_for, presence_of}
 use Rattle.oer_read.specs.Sets.{Call, is_there, bits_behind, root_calls, addition_calls, set_calls, set_frame, set_opened_at, RanInTurn, RefusedInTurn, CalledInTurn, SetRefused, NoMemory, Stopped}
 use Rattle.oer_read.specs.State.{State}
@@ -82,7 +82,7 @@ module _ {V : Type 0} (Ran : Call → State → Result V DecodeError → State �
     called = λ d t r. s.called d t (inr (v, after, k, r));
   }
 
-  pub so_far_refused : (here : State) (c : Call) (left : List Call) (now : List V) (e : DecodeError) → SoFar Ran start all before here (c ∷ left) now → IsForMemory e ⊎ ((after : State) × Ran c here (Err e) after) → IsForMemory e ⊎ RefusedInTurn Ran start all e
+  pub so_far_refused : {M : Type 0} → (here : State) (c : Call) (left : List Call) (now : List V) (e : DecodeError) → SoFar Ran start all before here (c ∷ left) now → M ⊎ ((after : State) × Ran c here (Err e) after) → M ⊎ RefusedInTurn Ran start all e
   so_far_refused here c left now e s (inl m) = inl m
   so_far_refused here c left now e s (inr (after, k)) = inr (s.refused e (inl (after, k)))
 
@@ -132,8 +132,8 @@ module _ {V : Type 0} (Ran : Call → State → Result V DecodeError → State �
       ap (λ (z : List Field). addition_calls n (map row z)) e ∙ ap (λ (z : ℕ). c ∷ addition_calls z (map row more)) (sym i) in
       so_far_next Ran start all before here c (addition_calls m (map row more)) now v after (subst (λ (z : List Call). SoFar Ran start all before here z now) calls s) k
 
-  pub additions_refused : (here : State) (rows : List Field) (f : Field) (more : List Field) (n : ℕ) (now : List V) (e : DecodeError) → SoFar Ran start all before here (addition_calls n (map row rows)) now → rows ≡ f ∷ more
-      → IsForMemory e ⊎ ((after : State) × Ran (record { index = n; tag = f.tag }) here (Err e) after) → IsForMemory e ⊎ RefusedInTurn Ran start all e
+  pub additions_refused : {M : Type 0} → (here : State) (rows : List Field) (f : Field) (more : List Field) (n : ℕ) (now : List V) (e : DecodeError) → SoFar Ran start all before here (addition_calls n (map row rows)) now → rows ≡ f ∷ more
+      → M ⊎ ((after : State) × Ran (record { index = n; tag = f.tag }) here (Err e) after) → M ⊎ RefusedInTurn Ran start all e
   additions_refused here rows f more n now e s cons k =
       so_far_refused Ran start all before here (record { index = n; tag = f.tag }) (addition_calls (suc n) (map row more)) now e (subst (λ (z : List Field). SoFar Ran start all before here (addition_calls n (map row z)) now) cons s) k
 
@@ -145,11 +145,11 @@ module _ {V : Type 0} (Ran : Call → State → Result V DecodeError → State �
   additions_done here rows n now s e = so_far_done Ran start all before here now (subst (λ (z : List Field). SoFar Ran start all before here (addition_calls n (map row z)) now) e s)
 
 module _ {V : Type 0} (Ran : Call → State → Result V DecodeError → State → Type 0) where
-  pub either_front : (s : State) (cs ds : List Call) (e : DecodeError) → IsForMemory e ⊎ RefusedInTurn Ran s cs e → IsForMemory e ⊎ RefusedInTurn Ran s (cs ++ ds) e
+  pub either_front : {M : Type 0} → (s : State) (cs ds : List Call) (e : DecodeError) → M ⊎ RefusedInTurn Ran s cs e → M ⊎ RefusedInTurn Ran s (cs ++ ds) e
   either_front s cs ds e (inl m) = inl m
   either_front s cs ds e (inr r) = inr (refused_front Ran s cs ds e r)
 
-  pub either_append : (s : State) (cs : List Call) (vs : List V) (t : State) (ds : List Call) (e : DecodeError) → RanInTurn Ran s cs vs t → IsForMemory e ⊎ RefusedInTurn Ran t ds e → IsForMemory e ⊎ RefusedInTurn Ran s (cs ++ ds) e
+  pub either_append : {M : Type 0} → (s : State) (cs : List Call) (vs : List V) (t : State) (ds : List Call) (e : DecodeError) → RanInTurn Ran s cs vs t → M ⊎ RefusedInTurn Ran t ds e → M ⊎ RefusedInTurn Ran s (cs ++ ds) e
   either_append s cs vs t ds e r (inl m) = inl m
   either_append s cs vs t ds e r (inr k) = inr (refused_append Ran s cs vs t ds e r k)
 
@@ -204,6 +204,6 @@ set_opened_rear s extensible roots additions lent presence fits e =
     record { front = o.preamble; split = o.split ∙ ap (λ (t : State). o.preamble ++ t.input) (sym o.is) }
 
 pub refused_or_memory : {A V : Type 0} (Ran : Call → State → Result V DecodeError → State → Type 0) (Makes : List V → Result A DecodeError → Type 0) (extensible : Bool) (roots additions : List Row) (old lent : State) (bits : List Bool) (e : DecodeError) → set_opened_at old extensible roots additions ≡ Ok (lent, bits)
-    → IsForMemory e ⊎ RefusedInTurn Ran lent (set_calls roots additions bits) e → SetRefused Ran Makes extensible roots additions old e
+    → WantsMemory old e ⊎ RefusedInTurn Ran lent (set_calls roots additions bits) e → SetRefused Ran Makes extensible roots additions old e
 refused_or_memory Ran Makes extensible roots additions old lent bits e o (inl m) = NoMemory m
 refused_or_memory Ran Makes extensible roots additions old lent bits e o (inr r) = Stopped lent bits o r

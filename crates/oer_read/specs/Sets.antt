@@ -12,7 +12,7 @@ use Rattle.asn1_core.specs.declared.fields.FieldPresence.{FieldPresence}
 use Rattle.asn1_core.specs.declared.tag.Tag.{Tag}
 use Rattle.oer_spec.specs.Reading.{◌>>=◌}
 use Rattle.oer_spec.specs.ReadingBits.{preamble_at}
-use Rattle.oer_read.specs.Law.{IsForMemory}
+use Rattle.oer_read.specs.Law.{WantsMemory}
 use Rattle.oer_read.specs.Scopes.{level_at, bits_for, extension_of, presence_of, closed_at}
 use Rattle.oer_read.specs.State.{Frame, State, places_of}
 
@@ -133,4 +133,4 @@ module _ {A V : Type 0} (Ran : Call → State → Result V DecodeError → State
         → closed_at after ≡ Err e.kind → e.codec ≡ old.codec → SetRefused e
     NotMade : (lent : State) (bits : List Bool) (fields : List V) (after : State) (rest : Octets) → set_opened_at old extensible roots additions ≡ Ok (lent, bits) → RanInTurn Ran lent (set_calls roots additions bits) fields after
         → closed_at after ≡ Ok rest → Makes fields (Err e) → SetRefused e
-    NoMemory : IsForMemory e → SetRefused e
+    NoMemory : WantsMemory old e → SetRefused e

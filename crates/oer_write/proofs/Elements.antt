@@ -9,7 +9,7 @@ use Rattle.asn1_core.specs.declared.error.EncodeError.{EncodeError}
 use Rattle.asn1_core.specs.declared.error.EncodeErrorKind.{EncodeErrorKind}
 use Rattle.asn1_core.specs.declared.error.EncodeErrorKind.TheVariants.{OutOfMemory, TooManyEmptyElements}
 use Rattle.oer_spec.specs.Encoding.{fails, trees_fail, list_fails, empties, canonical_octets, canonical_elements, IsEncodable}
-use Rattle.oer_spec.specs.Failures.{Fails, failure_of}
+use Rattle.oer_spec.specs.Failures.{Fails, failure_of, SizeFails, TreesSizeFails}
 use Rattle.oer_spec.specs.Leaves.{Failure, BadValue, BadSize, BadIdentifier, BadTime, TooManyEmpty, TooLong}
 use Rattle.oer_spec.specs.Lengths.{quantity_octets}
 use Rattle.oer_spec.specs.Places.{list_octets}
@@ -212,6 +212,12 @@ module _ {E : Type 0} (runs : E → Runs) (tree : E → Tree) where
   fails_there k (y ∷ xs) zero x short there f = or_left _ _ (subst (λ (z : E). fails (tree z) k ≡ true) (sym there) f)
   fails_there k (y ∷ xs) (suc i) x short there f = or_right (fails (tree y) k) _ (fails_there k xs i x (omega arith) there f)
 
+  size_there : (n : ℕ) (xs : List E) (i : ℕ) (x : E) → i < length xs → get_or xs i x ≡ x → SizeFails (tree x) n → TreesSizeFails (trees_of tree xs) n
+  unfolding SizeFails
+  size_there n [] i x short there f = absurd (omega arith)
+  size_there n (y ∷ xs) zero x short there f = inl (subst (λ (z : E). SizeFails (tree z) n) (sym there) f)
+  size_there n (y ∷ xs) (suc i) x short there f = inr (size_there n xs i x (omega arith) there f)
+
   -- an element without octets is one more than those of the front
   pub empties_cut : (front : List E) (x : E) (more : List E) → canonical_octets (tree x) ≡ [] → empties (canonical_elements (trees_of tree front)) < empties (canonical_elements (trees_of tree (front ++ x ∷ more)))
   unfolding canonical_octets
@@ -221,12 +227,12 @@ module _ {E : Type 0} (runs : E → Runs) (tree : E → Tree) where
       rw (empties_one (canonical_octets (tree y)) (canonical_elements (trees_of tree front)), empties_one (canonical_octets (tree y)) (canonical_elements (trees_of tree (front ++ x ∷ more)))) (omega (arith, rest))
 
   pub element_fails : (ordered : Bool) (xs : List E) (x : E) (k : EncodeErrorKind) → Contains xs x → Fails (tree x) k → Fails (ListOf ordered (trees_of tree xs)) k
-  unfolding fails
-  element_fails ordered xs x k there f = (f.0, f.1, or_left _ _ (fails_there f.0 xs there.0 x there.1 there.2 f.2))
+  unfolding fails SizeFails
+  element_fails ordered xs x k there f = (f.0, f.1, or_left _ _ (fails_there f.0 xs there.0 x there.1 there.2 f.2), λ n e. size_there n xs there.0 x there.1 there.2 (f.3 n e))
 
   pub many_fail : (ordered : Bool) (xs : List E) (k : EncodeErrorKind) → k ≡ TooManyEmptyElements → 65536 < empties (canonical_elements (trees_of tree xs)) → Fails (ListOf ordered (trees_of tree xs)) k
   unfolding fails
-  many_fail ordered xs k is many = (TooManyEmpty, ap failure_of is, or_right (trees_fail (trees_of tree xs) TooManyEmpty) _ (above _ _ many))
+  many_fail ordered xs k is many = (TooManyEmpty, ap failure_of is, or_right (trees_fail (trees_of tree xs) TooManyEmpty) _ (above _ _ many), λ n e. absurd cc)
 
   -- too many without octets: the list fails
   pub cut_fails : (ordered : Bool) (xs front : List E) (x : E) (more : List E) (k : EncodeErrorKind) → xs ≡ front ++ x ∷ more → k ≡ TooManyEmptyElements → canonical_octets (tree x) ≡ [] → empties (canonical_elements (trees_of tree front)) ≡ 65536 → Fails (ListOf ordered (trees_of tree xs)) k

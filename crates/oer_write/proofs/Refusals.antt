@@ -10,7 +10,7 @@ use Rattle.asn1_core.specs.declared.error.EncodeError.{EncodeError}
 use Rattle.asn1_core.specs.declared.error.EncodeErrorKind.{EncodeErrorKind}
 use Rattle.asn1_core.specs.declared.error.EncodeErrorKind.TheVariants.{ValueConstraintNotSatisfied, SizeConstraintNotSatisfied, InvalidObjectIdentifier, TimeNotRepresentable, LengthExceedsPlatformSize}
 use Rattle.oer_spec.specs.Encoding.{fails}
-use Rattle.oer_spec.specs.Failures.{Fails, failure_of, first_failure}
+use Rattle.oer_spec.specs.Failures.{Fails, SizeFails, failure_of, first_failure}
 use Rattle.oer_spec.specs.Leaves.{Failure, BadValue, BadSize, BadTime, TooLong, leaf_fails, unit_of}
 use Rattle.oer_spec.specs.Spelled.{IsIdentifier, bit_string, identifier, integer, text, time, unsized_text}
 use Rattle.oer_spec.specs.TimeTexts.{time_content}
@@ -37,8 +37,8 @@ first_leaf_fails (Text r s (Written c)) kind e = first_of_two (Text r s (Written
 first_leaf_fails (Text r s (Civil fields)) kind e = let same : TimeNotRepresentable ≡ kind = cc in (BadTime, ap failure_of (sym same), refl)
 
 pub first_fails : (l : Leaf) (kind : EncodeErrorKind) → first_failure l ≡ Some kind → Fails (Primitive l) kind
-unfolding fails
-first_fails l kind e = first_leaf_fails l kind e
+unfolding fails SizeFails
+first_fails l kind e = let f = first_leaf_fails l kind e in (f.0, f.1, f.2, λ n s. e ∙ ap (λ (k : EncodeErrorKind). Some k) s)
 
 pub leaf_refused : (l : Leaf) (x : EncodeError) (e e' : state.Written) → state.RefusedLeaf l x e e' → state.Refused (Primitive l) x e e'
 leaf_refused l x e e' h = record {

@@ -72,8 +72,8 @@ impl<'buffer> Encoder<'buffer> {
     /// Writes a SET (X.696, 18), whose components the closure writes in a scope of its own.
     ///
     /// Each root component is kept apart; as the closure ends they are written in the order of their tags, and so are
-    /// their presence bits, whatever the order in which they were handed in. Refused by what the closure refused, or for
-    /// want of memory.
+    /// their presence bits, whatever the order in which they were handed in. Octets that the closure writes otherwise than by
+    /// the calls for components and additions are dropped. Refused by what the closure refused, or for want of memory.
     pub fn encode_set<
         const RL: usize,
         const EL: usize,

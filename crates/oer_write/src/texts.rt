@@ -288,7 +288,6 @@ impl<'buffer> Encoder<'buffer> {
     }
 
     /// Writes a restricted character string of any character set.
-    #[tactic(auto, using(crate::proofs::Refusals::text_by_law))]
     pub(crate) fn put_restricted<C: CharacterSet>(
         &mut self,
         constraints: Constraints,

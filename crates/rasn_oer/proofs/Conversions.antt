@@ -27,7 +27,7 @@ module _ {A : Type 0} (tree : A → Tree) (IsValue : A → Type 0) (is_tree : (v
     written = w;
     canonical = λ r. record { value = w.value; split = refl; spells = subst (λ o. IsEncoding (mode_of Coer) d o (tree v)) (sym w.octets_are) (written_in Coer (tree v) d (is_tree v w.value) w.encodable (shallow d input v rest k)) };
     again = λ x r o s j y.
-        let u = j.again v r w.value w.encodable (shallow d input v rest k) (ap (λ l. l ++ r) w.octets_are) in
+        let u = j.round_trip v r w.value w.encodable (shallow d input v rest k) (ap (λ l. l ++ r) w.octets_are) in
         (y.octets_are ∙ same_octets (tree x) (tree v) u.2 ∙ sym w.octets_are, u.1);
     accepted = λ x o r b.
         let u = k.only x o r (record { value = b.value; split = b.split; spells = canonical_within_lenient (tree x) d o b.spells }) in
@@ -44,7 +44,7 @@ module _ {A B : Type 0} (newer : A → Tree) (IsNewer : A → Type 0) (is_newer 
         rest = rest;
         read = k;
         same = λ t i f l.
-            (k.older (newer n) t (canonical_octets (newer n)) [] (is_newer n w.value) i f (sym (append-nil (canonical_octets (newer n)))) (written_in m (newer n) d (is_newer n w.value) w.encodable l)).2;
+            (k.newer_sender (newer n) t (canonical_octets (newer n)) [] (is_newer n w.value) i f (sym (append-nil (canonical_octets (newer n)))) (written_in m (newer n) d (is_newer n w.value) w.encodable l)).2;
       }
 
   pub none_is_older : (octets : Octets) → Written newer IsNewer n octets → HasNone older IsOlder m d octets → NoneIsOlder newer IsNewer older IsOlder m d n
@@ -55,5 +55,5 @@ module _ {A B : Type 0} (newer : A → Tree) (IsNewer : A → Type 0) (is_newer 
         encodable = w.encodable;
         none = k;
         dropped = λ t i f l.
-            k.newer (newer n) t (canonical_octets (newer n)) [] (is_newer n w.value) i f (sym (append-nil (canonical_octets (newer n)))) (written_in m (newer n) d (is_newer n w.value) w.encodable l);
+            k.newer_sender (newer n) t (canonical_octets (newer n)) [] (is_newer n w.value) i f (sym (append-nil (canonical_octets (newer n)))) (written_in m (newer n) d (is_newer n w.value) w.encodable l);
       }

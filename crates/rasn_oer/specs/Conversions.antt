@@ -1,18 +1,16 @@
 -- What the calls promise that read and write: into canonical octets, and from a newer version of a type into an older one.
-use Rattle.std.specs.Prelude.{◌≡◌, ℕ, ◌≤◌, ◌++◌, ◌⊎◌, Result, Ok, Err, Vec}
+use Rattle.std.specs.Prelude.{◌≡◌, ℕ, ◌≤◌, ◌++◌, Result, Ok, Err, Vec}
 use Rattle.std.specs.Borrow.{Bor}
 use Rattle.std.specs.declared.alloc.Global.{Global}
 use Rattle.asn1_core.specs.Octets.{Octets}
 use Rattle.asn1_core.specs.declared.codec.Codec.{Codec}
 use Rattle.asn1_core.specs.declared.codec.Codec.TheVariants.{Oer, Coer}
 use Rattle.asn1_core.specs.declared.error.DecodeErrorKind.TheVariants as decode
-use Rattle.asn1_core.specs.declared.error.EncodeErrorKind.TheVariants as encode
 use Rattle.oer_spec.specs.Encoding.{IsEncodable, canonical_octets, levels}
-use Rattle.oer_spec.specs.Failures.{Fails}
 use Rattle.oer_spec.specs.Same.{Same}
 use Rattle.oer_spec.specs.Tree.{Tree}
 use Rattle.oer_spec.specs.Versions.{Drops}
-use Rattle.rasn_oer.specs.Headline.{is_settled, Begins, Decoded, HasNone, Written}
+use Rattle.rasn_oer.specs.Headline.{is_settled, Begins, Decoded, HasNone, NotRead, NotWritten, Written}
 use Rattle.rasn_oer.specs.declared.codec_error.CodecError.{CodecError}
 use Rattle.rasn_oer.specs.declared.codec_error.CodecError.TheVariants.{Decode, Encode}
 
@@ -32,8 +30,8 @@ module _ {A : Type 0} (tree : A → Tree) (IsValue : A → Type 0) where
   -- Refused only where no value is read leniently, or what is read can't be written; want of memory aside.
   abbrev pub IsCanonicalised : ℕ → Octets → Result (Vec ℕ Global × Bor Octets) CodecError → Type 0
   IsCanonicalised d input (Ok p) = Canonicalised d input p.0.items p.1.now
-  IsCanonicalised d input (Err (Decode e)) = (e.kind ≡ decode.OutOfMemory → ⊥) → HasNone tree IsValue Oer d input
-  IsCanonicalised d input (Err (Encode e)) = (e.kind ≡ encode.OutOfMemory) ⊎ ((v : A) × (rest : Octets) × Decoded tree IsValue Oer d input v rest × Fails (tree v) e.kind)
+  IsCanonicalised d input (Err (Decode e)) = NotRead tree IsValue Oer d input e
+  IsCanonicalised d input (Err (Encode x)) = (v : A) × (rest : Octets) × Decoded tree IsValue Oer d input v rest × NotWritten tree IsValue v x
 
 module _ {A B : Type 0} (newer : A → Tree) (IsNewer : A → Type 0) (older : B → Tree) (IsOlder : B → Type 0) (m : Codec) (d : ℕ) (n : A) where
   -- The newer value can be written, and the older one is what is read of its canonical octets.
@@ -55,5 +53,5 @@ module _ {A B : Type 0} (newer : A → Tree) (IsNewer : A → Type 0) (older : B
   -- Refused only where the newer value can't be written, or no older one is read of its octets; want of memory aside.
   abbrev pub IsAsOlder : Result B CodecError → Type 0
   IsAsOlder (Ok v) = ReadAsOlder v
-  IsAsOlder (Err (Decode e)) = (e.kind ≡ decode.OutOfMemory → ⊥) → NoneIsOlder
-  IsAsOlder (Err (Encode e)) = (e.kind ≡ encode.OutOfMemory) ⊎ Fails (newer n) e.kind
+  IsAsOlder (Err (Decode e)) = (e.codec ≡ m) × ((e.kind ≡ decode.OutOfMemory → ⊥) → NoneIsOlder)
+  IsAsOlder (Err (Encode x)) = NotWritten newer IsNewer n x

@@ -12,7 +12,7 @@ read_fields-requires g c =
 pub returns-in-Err-read_fields-clause-refused : goal.returns-in-Err-read_fields-clause-refused
 returns-in-Err-read_fields-clause-refused g c =
     let o = rw (c.root_fields-roots.ensures, c.addition_fields-additions.ensures, c.IS_EXTENSIBLE.ensures) at c.in-Ok.ensures.state in
-    let k = rw (c.root_fields-roots.ensures, c.addition_fields-additions.ensures) at c.in-Err-read_fields.ensures.err in
+    let k = rw (c.root_fields-roots.ensures, c.addition_fields-additions.ensures, c.codec.ensures) at c.in-Err-read_fields.ensures.err in
     refused_or_memory _ _ _ _ _ _ _ _ _ o k
 
 pub returns-in-Err-close-clause-refused : goal.returns-in-Err-close-clause-refused
