@@ -6,6 +6,7 @@ use Rattle.std.specs.Option.{option_map}
 use Rattle.std.specs.Result.{IfOk, IfErr, OnErr}
 use Rattle.asn1_core.specs.Rows.{Row}
 use Rattle.asn1_core.specs.Tags.{by_tag}
+use Rattle.asn1_core.specs.declared.codec.Codec.{Codec}
 use Rattle.asn1_core.specs.declared.error.DecodeError.{DecodeError}
 use Rattle.asn1_core.specs.declared.fields.FieldPresence.TheVariants as presence
 use Rattle.oer_spec.specs.Spelled.{IsAny}
@@ -85,9 +86,9 @@ module _ (Ran : Call → State → Result BushField DecodeError → State → Ty
   bush_apart : AreApart bush_index bush_sorted
   bush_apart = (((refl, refl), tt), (tt, tt))
 
-  bush_makes : (bits : List Bool) (vs ws : List BushField) (a : Rows) (r : Result Bush DecodeError) → Came bush_field_tree IsBushAt bush_eq bush_default Ran bush_sorted bits vs → NoneAdded ws a → Makes (vs ++ ws) r
-      → IfOk r (λ v. Agrees bush_field_tree IsBushAt bush_eq bush_default Ran (bush_slot v) bush_sorted bits vs × (NoRows ≡ a)) × IfErr r (λ e. IsForMemory e)
-  bush_makes bits vs ws a (Ok v) came added m = (
+  bush_makes : (codec : Codec) (bits : List Bool) (vs ws : List BushField) (a : Rows) (r : Result Bush DecodeError) → Came bush_field_tree IsBushAt bush_eq bush_default Ran bush_sorted bits vs → NoneAdded ws a → Makes (vs ++ ws) r
+      → IfOk r (λ v. Agrees bush_field_tree IsBushAt bush_eq bush_default Ran (bush_slot v) bush_sorted bits vs × (NoRows ≡ a)) × IfErr r (λ e. IsForMemory e × (e.codec ≡ codec))
+  bush_makes codec bits vs ws a (Ok v) came added m = (
     (
       found_agrees bush_field_tree IsBushAt bush_eq bush_default Ran bush_index (λ n v i. i) (bush_slot v) bush_sorted bits vs ws came bush_apart (none_out bush_index bush_sorted ws a added)
           (all_by_tag (SlotIs bush_field_tree IsBushAt bush_eq bush_default Ran bush_index (λ n v i. i) (bush_slot v) (vs ++ ws)) bush_table (bush_slots (vs ++ ws) v (answer (vs ++ ws) (Ok v) m))),
@@ -95,7 +96,7 @@ module _ (Ran : Call → State → Result BushField DecodeError → State → Ty
     ),
     tt,
   )
-  bush_makes bits vs ws a (Err e) came added m = absurd (none_lacks (answer (vs ++ ws) (Err e) m))
+  bush_makes codec bits vs ws a (Err e) came added m = absurd (none_lacks (answer (vs ++ ws) (Err e) m))
     where
       there : AllByRecursion (λ (r : Row). r.presence ≡ presence.Required → found bush_index r.index (vs ++ ws) ≡ None → ⊥) bush_sorted
       there = required_found bush_field_tree IsBushAt bush_eq bush_default Ran bush_index (λ n v i. i) bush_sorted bits vs ws came bush_apart (none_out bush_index bush_sorted ws a added)
@@ -110,4 +111,4 @@ module _ (Ran : Call → State → Result BushField DecodeError → State → Ty
       set_law bush_field_tree IsBushAt bush_eq bush_default Ran Makes false bush_table [] NoParts NoneAdded tt (λ e. refl)
       (promise (record { index = 0; tag = universal 2 }), (promise (record { index = 1; tag = universal 16 }), tt))
       (no_additions Ran (length bush_table)) bush_tree IsAny bush_slot (λ v. NoRows) bush_holds (λ v x y. tt)
-      (λ v i. ((record { value = A (out-Bush v).a; is_value = refl; is = refl }, (record { value = B (out-Bush v).b; is_value = refl; is = refl }, tt)), tt)) bush_makes old result new read refused same
+      (λ v i. ((record { value = A (out-Bush v).a; is_value = refl; is = refl }, (record { value = B (out-Bush v).b; is_value = refl; is = refl }, tt)), tt)) old.codec (bush_makes old.codec) old result new refl read refused same
