@@ -2,7 +2,7 @@
 use crate::tests::integer;
 use crate::tests::spelled::is_spelled;
 use asn1_core::{Class, Codec, DecodeError, DecodeErrorKind, Tag};
-use oer_types::{BoolChoice, Link, LinkChoice, PriorityChoice, WideChoice};
+use oer_types::{BoolChoice, Bush, Link, LinkChoice, PriorityChoice, WideChoice};
 use rasn_oer::{coer, oer};
 use std::test::Fail;
 
@@ -31,6 +31,24 @@ fn choices_and_links_are_written_and_read(rt: HostRuntime) -> Result<(), Fail> {
         alloc,
         link,
         &[0x80, 0x01, 0x01, 0x81, 0x80, 0x01, 0x02, 0x80, 0xff],
+    )
+}
+
+#[test]
+fn a_set_within_its_own_list_is_written_and_read(rt: HostRuntime) -> Result<(), Fail> {
+    let alloc = rt.alloc();
+    let inner = Bush {
+        a: integer(-1),
+        b: Vec::new(alloc),
+    };
+    let mut b = Vec::new(alloc);
+    b.push(inner)?;
+    let bush = Bush { a: integer(5), b };
+    is_spelled(
+        &rt,
+        alloc,
+        bush,
+        &[0x01, 0x05, 0x01, 0x01, 0x01, 0xff, 0x01, 0x00],
     )
 }
 
