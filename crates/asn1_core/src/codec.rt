@@ -3,8 +3,8 @@
 /// Writing is canonical in both.
 #[derive(Debug, Clone, Copy, PartialEq, Eq, PartialOrd, Ord)]
 pub enum Codec {
-    /// Octet encoding rules, basic (X.696, clause 7): each form of a value is read.
+    /// Octet encoding rules, basic (X.696): each form of a value is read.
     Oer,
-    /// Canonical octet encoding rules (X.696, clause 31): the canonical form alone is read.
+    /// Canonical octet encoding rules (X.696): the canonical form alone is read.
     Coer,
 }

@@ -15,7 +15,7 @@ pub fn put_alternative<E: Choice, T: Encode>(
     value: &T,
 ) -> Result<(), EncodeError>
     ensures done { OnOk result (Encodes (Choice E.root_tags E.addition_tags tag (T.tree T.CONSTRAINTS value.now)) encoder.old encoder.new) }
-    ensures refused { IfErr result (λ x. Refused (Choice E.root_tags E.addition_tags tag (T.tree T.CONSTRAINTS value.now)) x.kind encoder.old encoder.new) }
+    ensures refused { IfErr result (λ x. Refused (Choice E.root_tags E.addition_tags tag (T.tree T.CONSTRAINTS value.now)) x encoder.old encoder.new) }
 {
     encoder.encode_choice::<E, _>(
         constraints,

@@ -211,9 +211,13 @@ impl DecodeChoice for PriorityChoice {
 }
 
 impl Decode for PriorityChoice {
-    ghost use Rattle.std.specs.Prelude.{⊤};
+    ghost use Rattle.std.specs.Prelude.{◌≡◌, true, ⊤};
+    ghost use Rattle.choice_types.specs.Choices.{priority_additions, priority_child, priority_roots, priority_tag};
+    ghost use Rattle.oer_read.specs.Choices.{ChoiceAnswers};
+    ghost use Rattle.oer_read.specs.Law.{Promised};
+    ghost use Rattle.oer_spec.specs.Spelled.{IsAny};
 
-    ghost Answered = { λ c s r t. ⊤ };
+    ghost Answered = { λ c s r t. ChoiceAnswers (λ g s r t. Promised priority_child (λ v. IsAny v × (priority_tag v ≡ g)) (λ s r t. ⊤) s r t) priority_roots priority_additions true s r t };
 
     fn decode_with_tag_and_constraints(
         alloc: Global,
@@ -349,9 +353,13 @@ impl DecodeChoice for WideChoice {
 }
 
 impl Decode for WideChoice {
-    ghost use Rattle.std.specs.Prelude.{⊤};
+    ghost use Rattle.std.specs.Prelude.{◌≡◌, [], false, ⊤};
+    ghost use Rattle.choice_types.specs.Choices.{wide_child, wide_roots, wide_tag};
+    ghost use Rattle.oer_read.specs.Choices.{ChoiceAnswers};
+    ghost use Rattle.oer_read.specs.Law.{Promised};
+    ghost use Rattle.oer_spec.specs.Spelled.{IsAny};
 
-    ghost Answered = { λ c s r t. ⊤ };
+    ghost Answered = { λ c s r t. ChoiceAnswers (λ g s r t. Promised wide_child (λ v. IsAny v × (wide_tag v ≡ g)) (λ s r t. ⊤) s r t) wide_roots [] false s r t };
 
     fn decode_with_tag_and_constraints(
         alloc: Global,
@@ -467,9 +475,13 @@ impl DecodeChoice for OnlyChoice {
 }
 
 impl Decode for OnlyChoice {
-    ghost use Rattle.std.specs.Prelude.{⊤};
+    ghost use Rattle.std.specs.Prelude.{◌≡◌, [], false, ⊤};
+    ghost use Rattle.choice_types.specs.Choices.{only_child, only_roots, only_tag};
+    ghost use Rattle.oer_read.specs.Choices.{ChoiceAnswers};
+    ghost use Rattle.oer_read.specs.Law.{Promised};
+    ghost use Rattle.oer_spec.specs.Spelled.{IsAny};
 
-    ghost Answered = { λ c s r t. ⊤ };
+    ghost Answered = { λ c s r t. ChoiceAnswers (λ g s r t. Promised only_child (λ v. IsAny v × (only_tag v ≡ g)) (λ s r t. ⊤) s r t) only_roots [] false s r t };
 
     fn decode_with_tag_and_constraints(
         alloc: Global,
@@ -603,9 +615,13 @@ impl DecodeChoice for BoolChoice {
 }
 
 impl Decode for BoolChoice {
-    ghost use Rattle.std.specs.Prelude.{⊤};
+    ghost use Rattle.std.specs.Prelude.{◌≡◌, true, ⊤};
+    ghost use Rattle.choice_types.specs.Choices.{bool_additions, bool_child, bool_roots, bool_tag};
+    ghost use Rattle.oer_read.specs.Choices.{ChoiceAnswers};
+    ghost use Rattle.oer_read.specs.Law.{Promised};
+    ghost use Rattle.oer_spec.specs.Spelled.{IsAny};
 
-    ghost Answered = { λ c s r t. ⊤ };
+    ghost Answered = { λ c s r t. ChoiceAnswers (λ g s r t. Promised bool_child (λ v. IsAny v × (bool_tag v ≡ g)) (λ s r t. ⊤) s r t) bool_roots bool_additions true s r t };
 
     fn decode_with_tag_and_constraints(
         alloc: Global,

@@ -24,7 +24,8 @@ module _ {B A : Type 0} (all rest qs : Parts) (first : A → Rows → Rows) wher
   first_stops Q s u answer flow x (Ok w) d e f h q = absurd h
   first_stops Q s u answer flow x (Err y) d e f h q =
       let n : (IsForMemory x.0 → ⊥) → Refuses s all qs = at_err (λ y. (IsForMemory y → ⊥) → Refuses s all qs) answer flow x e f d.refused.none in
-      record { none = λ m. n (λ k. m (ap (λ (z : DecodeError). z.kind) (q y h) ∙ k)) }
+      let mode : x.0.codec ≡ s.codec = at_err (λ y. y.codec ≡ s.codec) answer flow x e f d.refused.mode in
+      record { mode = ap (λ (z : DecodeError). z.codec) (q y h) ∙ mode; none = λ m. n (λ k. m (ap (λ (z : DecodeError). z.kind) (q y h) ∙ k)) }
 
 -- ---- the exits of the call that reads the first components
 
@@ -46,4 +47,5 @@ module _ {A : Type 0} (ps qs : Parts) (roots additions : A → Rows) where
   last_stops Q s t answer flow x (Ok w) d e f h q = absurd h
   last_stops Q s t answer flow x (Err y) d e f h q =
       let n : (IsForMemory x.0 → ⊥) → Refuses s ps qs = at_err (λ y. (IsForMemory y → ⊥) → Refuses s ps qs) answer flow x e f d.stops.none in
-      record { none = λ m. n (λ k. m (ap (λ (z : DecodeError). z.kind) (q y h) ∙ k)) }
+      let mode : x.0.codec ≡ s.codec = at_err (λ y. y.codec ≡ s.codec) answer flow x e f d.stops.mode in
+      record { mode = ap (λ (z : DecodeError). z.codec) (q y h) ∙ mode; none = λ m. n (λ k. m (ap (λ (z : DecodeError). z.kind) (q y h) ∙ k)) }

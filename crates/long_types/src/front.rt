@@ -68,7 +68,7 @@ pub(crate) fn put_integer(
     encoder: &mut Encoder<'_>,
 ) -> Result<(), EncodeError>
     ensures in_sequence { encoder.old.frame.is_set ≡ false → OnOk result (RowsDone (optional (context number) (integer_slot value.now)) NoRows encoder.old encoder.new) }
-    ensures refused { IfErr result (λ x. RowsRefused (optional (context number) (integer_slot value.now)) NoRows x.kind encoder.old encoder.new) }
+    ensures refused { IfErr result (λ x. RowsRefused (optional (context number) (integer_slot value.now)) NoRows x encoder.old encoder.new) }
 {
     let tag = Tag::new(Class::Context, number);
     put_option(encoder, tag, Integer::CONSTRAINTS, value)
@@ -81,7 +81,7 @@ fn put_octets(
     encoder: &mut Encoder<'_>,
 ) -> Result<(), EncodeError>
     ensures in_sequence { encoder.old.frame.is_set ≡ false → OnOk result (RowsDone (optional (context number) (octet_slot value.now)) NoRows encoder.old encoder.new) }
-    ensures refused { IfErr result (λ x. RowsRefused (optional (context number) (octet_slot value.now)) NoRows x.kind encoder.old encoder.new) }
+    ensures refused { IfErr result (λ x. RowsRefused (optional (context number) (octet_slot value.now)) NoRows x encoder.old encoder.new) }
 {
     let tag = Tag::new(Class::Context, number);
     put_option(encoder, tag, OctetString::CONSTRAINTS, value)

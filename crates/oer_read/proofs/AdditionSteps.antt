@@ -1,7 +1,7 @@
 -- A closure's steps over extension additions, which it asks behind the root components.
 use Rattle.std.proofs.Common.{◌≡◌, Bool, true, false, Option, Some, None, List, [], ◌∷◌, ◌++◌, Result, Ok, Err, refl, sym, ap, ◌∙◌, subst, Continue, Break, append_assoc, drop, inl}
 use Rattle.std.specs.Prelude.{not}
-use Rattle.std.specs.Result.{IsErrAnd, result_from_control_flow}
+use Rattle.std.specs.Result.{IfErr, IsErrAnd, result_from_control_flow}
 use Rattle.std.proofs.lemmas.List.{append_cancel_left}
 use Rattle.asn1_core.specs.Octets.{Octets, AreOctets}
 use Rattle.asn1_core.specs.declared.codec.Codec.{Codec}
@@ -97,6 +97,18 @@ module _ {B : Type 0} (tree : B → Tree) (IsPart : B → Type 0) (Says : State 
 
   -- ---- what comes behind a row
 
+  -- the mode stays, and a refusal names it
+  next_mode : (s u : State) (q : Option Tag) (x : Option Octets) → AreOctets s.input → addition_at s q ≡ Ok (x, u) → u.codec ≡ s.codec
+  next_mode s u q x octets e = let p : Passes s u x = passes s u q x octets e in ap (λ (z : State). z.codec) p.is
+
+  open_mode : (s : State) (content : Octets) (e : DecodeError) → OpenRefused tree IsPart Says s content e → e.codec ≡ s.codec
+  open_mode s content e (Within _ _ mode _) = mode
+  open_mode s content e (LeftOver _ _ _ _ _ _ is) = ap (λ (z : DecodeError). z.codec) is
+
+  pub addition_mode : (s : State) (q : Option Tag) (e : DecodeError) → AddRefused tree IsPart Says s q e → e.codec ≡ s.codec
+  addition_mode s q e (NotThere _ mode) = mode
+  addition_mode s q e (Inside content _ _ r) = open_mode s content e r
+
   behind_row : (s u : State) (q : Option Tag) (x : Option Octets) (part qs : Parts) (t : State) → AreSplit s q part qs → addition_at s q ≡ Ok (x, u)
       → ((r a : Rows) (rest : Octets) → AreOf NoParts r → AreOf qs a → Comes u r a rest → Comes t NoRows NoRows rest)
       → (r a : Rows) (rest : Octets) → AreOf NoParts r → AreOf part a → Comes s r a rest → Comes t NoRows NoRows rest
@@ -119,7 +131,7 @@ module _ {B : Type 0} (tree : B → Tree) (IsPart : B → Type 0) (Says : State 
 
   open_refused : (s : State) (content : Octets) (e : DecodeError) (i : Item) → OpenRefused tree IsPart Says s content e → (IsForMemory e → ⊥) → SpellsPart s i → IsHeld (mode_of s.codec) i (Some content) → ⊥
   unfolding SpellsPart
-  open_refused s content e i (Within _ _ n) m spells (bit, left, split, strict) =
+  open_refused s content e i (Within _ _ _ n) m spells (bit, left, split, strict) =
       let (w, is, f) = spells bit in
       n m w i.octets is (record { rest = left; split = split; encoding = f })
   open_refused s content e i (LeftOver v after reads _ some coer _) m spells (bit, left, split, strict) =
@@ -266,10 +278,10 @@ module _ {B : Type 0} (tree : B → Tree) (IsPart : B → Type 0) (Says : State 
   pub addition_passed : {A : Type 0} (s u : State) (answer : Result (Option B) DecodeError) (flow : _) (o : Option B) (q : Option Tag) (g : Tag) (qs : Parts) (result : Result A DecodeError)
       → Adds tree IsPart Says s q answer u → answer ≡ result_from_control_flow flow → flow ≡ Continue o → IsAskedBy q g → Stops u NoParts qs result
       → Stops s NoParts (OptionalPart g (Admits tree IsPart) qs) result
-  addition_passed s u answer flow o q g qs (Ok w) d e f asked k = record { none = tt }
+  addition_passed s u answer flow o q g qs (Ok w) d e f asked k = record { mode = tt; none = tt }
   addition_passed s u answer flow o q g qs (Err x) d e f asked k =
       let n = added_next s u q o (at_ok (λ o. Added tree IsPart Says s q o u) answer flow o e f d.read) in
-      record { none = λ m. passed_refuses s u q n.0 (OptionalPart g (Admits tree IsPart) qs) qs (optional_split s q g qs asked) n.1 (k.none m) }
+      record { mode = k.mode ∙ next_mode s u q n.0 d.octets n.1; none = λ m. passed_refuses s u q n.0 (OptionalPart g (Admits tree IsPart) qs) qs (optional_split s q g qs asked) n.1 (k.none m) }
 
   pub addition_stops : {A : Type 0} (Q : DecodeError → Type 0) (s u : State) (answer : Result (Option B) DecodeError) (flow : _) (x : _) (q : Option Tag) (g : Tag) (qs : Parts) (result : Result A DecodeError)
       → Adds tree IsPart Says s q answer u → answer ≡ result_from_control_flow flow → flow ≡ Break x → IsAskedBy q g → IsErrAnd result Q → ((y : DecodeError) → Q y → y ≡ x.0)
@@ -277,7 +289,7 @@ module _ {B : Type 0} (tree : B → Tree) (IsPart : B → Type 0) (Says : State 
   addition_stops Q s u answer flow x q g qs (Ok w) d e f asked h k = absurd h
   addition_stops Q s u answer flow x q g qs (Err y) d e f asked h k =
       let n : AddRefused tree IsPart Says s q x.0 = at_err (λ y. AddRefused tree IsPart Says s q y) answer flow x e f d.refused in
-      record { none = λ m. refused_refuses s q x.0 (OptionalPart g (Admits tree IsPart) qs) qs (optional_split s q g qs asked) n (λ z. m (ap (λ (w : DecodeError). w.kind) (k y h) ∙ z)) }
+      record { mode = ap (λ (w : DecodeError). w.codec) (k y h) ∙ addition_mode s q x.0 n; none = λ m. refused_refuses s q x.0 (OptionalPart g (Admits tree IsPart) qs) qs (optional_split s q g qs asked) n (λ z. m (ap (λ (w : DecodeError). w.kind) (k y h) ∙ z)) }
 
   -- ---- a required addition
 
@@ -293,19 +305,19 @@ module _ {B : Type 0} (tree : B → Tree) (IsPart : B → Type 0) (Says : State 
   pub needed_addition_passed : {A : Type 0} (s u : State) (answer : Result (Option B) DecodeError) (flow : _) (o : Option B) (q : Option Tag) (g : Tag) (qs : Parts) (result : Result A DecodeError)
       → Adds tree IsPart Says s q answer u → answer ≡ result_from_control_flow flow → flow ≡ Continue o → IsAskedBy q g → Stops u NoParts qs result
       → Stops s NoParts (NeededPart g (Admits tree IsPart) qs) result
-  needed_addition_passed s u answer flow o q g qs (Ok w) d e f asked k = record { none = tt }
+  needed_addition_passed s u answer flow o q g qs (Ok w) d e f asked k = record { mode = tt; none = tt }
   needed_addition_passed s u answer flow o q g qs (Err x) d e f asked k =
       let n = added_next s u q o (at_ok (λ o. Added tree IsPart Says s q o u) answer flow o e f d.read) in
-      record { none = λ m. passed_refuses s u q n.0 (NeededPart g (Admits tree IsPart) qs) qs (needed_split s q g qs asked) n.1 (k.none m) }
+      record { mode = k.mode ∙ next_mode s u q n.0 d.octets n.1; none = λ m. passed_refuses s u q n.0 (NeededPart g (Admits tree IsPart) qs) qs (needed_split s q g qs asked) n.1 (k.none m) }
 
-  -- a closure that finds none may answer any error: the bit of a required addition is set in what comes
+  -- a closure that finds none may answer any error in the mode read in: the bit of a required addition is set in what comes
   pub needed_addition_absent : {A : Type 0} (s u : State) (answer : Result (Option B) DecodeError) (flow : _) (o : Option B) (q : Option Tag) (g : Tag) (qs : Parts) (result : Result A DecodeError)
-      → Adds tree IsPart Says s q answer u → answer ≡ result_from_control_flow flow → flow ≡ Continue o → o ≡ None → IsAskedBy q g
+      → Adds tree IsPart Says s q answer u → answer ≡ result_from_control_flow flow → flow ≡ Continue o → o ≡ None → IsAskedBy q g → IfErr result (λ e. e.codec ≡ u.codec)
       → Stops s NoParts (NeededPart g (Admits tree IsPart) qs) result
-  needed_addition_absent s u answer flow o q g qs (Ok w) d e f none asked = record { none = tt }
-  needed_addition_absent s u answer flow o q g qs (Err x) d e f none asked =
+  needed_addition_absent s u answer flow o q g qs (Ok w) d e f none asked mode = record { mode = tt; none = tt }
+  needed_addition_absent s u answer flow o q g qs (Err x) d e f none asked mode =
       let added : Added tree IsPart Says s q None u = subst (λ (z : Option B). Added tree IsPart Says s q z u) none (at_ok (λ o. Added tree IsPart Says s q o u) answer flow o e f d.read) in
-      record { none = λ m. needed_present s u q g qs asked added.next }
+      record { mode = mode ∙ next_mode s u q None d.octets added.next; none = λ m. needed_present s u q g qs asked added.next }
 
   pub needed_addition_stops : {A : Type 0} (Q : DecodeError → Type 0) (s u : State) (answer : Result (Option B) DecodeError) (flow : _) (x : _) (q : Option Tag) (g : Tag) (qs : Parts) (result : Result A DecodeError)
       → Adds tree IsPart Says s q answer u → answer ≡ result_from_control_flow flow → flow ≡ Break x → IsAskedBy q g → IsErrAnd result Q → ((y : DecodeError) → Q y → y ≡ x.0)
@@ -313,7 +325,7 @@ module _ {B : Type 0} (tree : B → Tree) (IsPart : B → Type 0) (Says : State 
   needed_addition_stops Q s u answer flow x q g qs (Ok w) d e f asked h k = absurd h
   needed_addition_stops Q s u answer flow x q g qs (Err y) d e f asked h k =
       let n : AddRefused tree IsPart Says s q x.0 = at_err (λ y. AddRefused tree IsPart Says s q y) answer flow x e f d.refused in
-      record { none = λ m. refused_refuses s q x.0 (NeededPart g (Admits tree IsPart) qs) qs (needed_split s q g qs asked) n (λ z. m (ap (λ (w : DecodeError). w.kind) (k y h) ∙ z)) }
+      record { mode = ap (λ (w : DecodeError). w.codec) (k y h) ∙ addition_mode s q x.0 n; none = λ m. refused_refuses s q x.0 (NeededPart g (Admits tree IsPart) qs) qs (needed_split s q g qs asked) n (λ z. m (ap (λ (w : DecodeError). w.kind) (k y h) ∙ z)) }
 
 -- ---- an addition with a default
 module _ {B : Type 0} (tree : B → Tree) (IsPart : B → Type 0) (Says : State → Result B DecodeError → State → Type 0) (eq : B → B → Bool) (def : B) (known : IsDefault tree IsPart eq def) where
@@ -377,6 +389,10 @@ module _ {B : Type 0} (tree : B → Tree) (IsPart : B → Type 0) (Says : State 
   default_next s u k v (Unset d _) = (None, d.next)
   default_next s u k v (Set d _) = (Some d.content, d.next)
 
+  default_mode : (s : State) (k : Tag) (e : DecodeError) → DefaultRefused eq (Added tree IsPart Says s (Some k)) (AddRefused tree IsPart Says s (Some k)) s def e → e.codec ≡ s.codec
+  default_mode s k e (NotRead d) = addition_mode tree IsPart Says s (Some k) e d
+  default_mode s k e (SpelledOut _ _ _ _ _ is) = ap (λ (z : DecodeError). z.codec) is
+
   default_refuses : (s : State) (k g : Tag) (e : DecodeError) (qs : Parts) → DefaultRefused eq (Added tree IsPart Says s (Some k)) (AddRefused tree IsPart Says s (Some k)) s def e → k ≡ g → (IsForMemory e → ⊥) → Refuses s NoParts (ThePart g qs)
   default_refuses s k g e qs (NotRead x) asked m r a rest f f' c = refused_refuses tree IsPart Says s (Some k) e (ThePart g qs) qs (default_split s (Some k) g qs asked) x m r a rest f f' c
   default_refuses s k g e qs (SpelledOut v t d codec equal _) asked m NoRows (Default h w sl a) rest f (q, z, p, x, f') c =
@@ -409,12 +425,12 @@ module _ {B : Type 0} (tree : B → Tree) (IsPart : B → Type 0) (Says : State 
   pub default_addition_passed : {A : Type 0} (s u : State) (answer : Result B DecodeError) (flow : _) (v def handed : B) (k g : Tag) (w : Tree) (qs : Parts) (result : Result A DecodeError)
       → AddsDefault tree IsPart Says eq s k handed answer u → handed ≡ def → answer ≡ result_from_control_flow flow → flow ≡ Continue v → IsDefault tree IsPart eq def → k ≡ g → w ≡ tree def → Stops u NoParts qs result
       → Stops s NoParts (DefaultPart g w (Admits tree IsPart) qs) result
-  default_addition_passed s u answer flow v def handed k g w qs (Ok x) d p e f known asked i took = record { none = tt }
+  default_addition_passed s u answer flow v def handed k g w qs (Ok x) d p e f known asked i took = record { mode = tt; none = tt }
   default_addition_passed {A} s u answer flow v def handed k g w qs (Err x) d p e f known asked i took =
       let was = at_ok (λ v. Defaulted eq (Added tree IsPart Says s (Some k)) (AddRefused tree IsPart Says s (Some k)) s def v u) answer flow v e f (as_handed s u answer k def handed d p).read in
       let n = default_next tree IsPart Says eq def known s u k v was in
       subst (λ (y : Tree). Stops {A = A} s NoParts (DefaultPart g y (Admits tree IsPart) qs) (Err x)) (sym i)
-      (record { none = λ m. passed_refuses tree IsPart Says s u (Some k) n.0 (DefaultPart g (tree def) (Admits tree IsPart) qs) qs (default_split tree IsPart Says eq def known s (Some k) g qs asked) n.1 (took.none m) })
+      (record { mode = took.mode ∙ next_mode tree IsPart Says s u (Some k) n.0 d.octets n.1; none = λ m. passed_refuses tree IsPart Says s u (Some k) n.0 (DefaultPart g (tree def) (Admits tree IsPart) qs) qs (default_split tree IsPart Says eq def known s (Some k) g qs asked) n.1 (took.none m) })
 
   pub default_addition_stops : {A : Type 0} (Q : DecodeError → Type 0) (s u : State) (answer : Result B DecodeError) (flow : _) (x : _) (def handed : B) (k g : Tag) (w : Tree) (qs : Parts) (result : Result A DecodeError)
       → AddsDefault tree IsPart Says eq s k handed answer u → handed ≡ def → answer ≡ result_from_control_flow flow → flow ≡ Break x → IsDefault tree IsPart eq def → k ≡ g → w ≡ tree def → IsErrAnd result Q → ((y : DecodeError) → Q y → y ≡ x.0)
@@ -423,7 +439,7 @@ module _ {B : Type 0} (tree : B → Tree) (IsPart : B → Type 0) (Says : State 
   default_addition_stops {A} Q s u answer flow x def handed k g w qs (Err y) d p e f known asked i h q =
       let n : DefaultRefused eq (Added tree IsPart Says s (Some k)) (AddRefused tree IsPart Says s (Some k)) s def x.0 = at_err (λ y. DefaultRefused eq (Added tree IsPart Says s (Some k)) (AddRefused tree IsPart Says s (Some k)) s def y) answer flow x e f (as_handed s u answer k def handed d p).refused in
       subst (λ (z : Tree). Stops {A = A} s NoParts (DefaultPart g z (Admits tree IsPart) qs) (Err y)) (sym i)
-      (record { none = λ m. default_refuses tree IsPart Says eq def known s k g x.0 qs n asked (λ z. m (ap (λ (w : DecodeError). w.kind) (q y h) ∙ z)) })
+      (record { mode = ap (λ (w : DecodeError). w.codec) (q y h) ∙ default_mode tree IsPart Says eq def known s k x.0 n; none = λ m. default_refuses tree IsPart Says eq def known s k g x.0 qs n asked (λ z. m (ap (λ (w : DecodeError). w.kind) (q y h) ∙ z)) })
 
 -- ---- an exit with an error of the closure's own
 pub gives_up : {A : Type 0} (ps qs : Parts) (roots additions : A → Rows) (s : State) (e : DecodeError) (t : State) → Stops {A = A} s ps qs (Err e) → ReadsParts ps qs roots additions s (Err e) t

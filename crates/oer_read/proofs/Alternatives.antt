@@ -8,7 +8,7 @@ use Rattle.oer_spec.specs.Encoding.{IsEncoding}
 use Rattle.oer_spec.specs.Mode.{mode_of}
 use Rattle.oer_spec.specs.Tree.{Tree}
 use Rattle.oer_read.specs.Choices.{ReadsAlternative}
-use Rattle.oer_read.specs.Law.{Decodes, Fronts, IsForMemory}
+use Rattle.oer_read.specs.Law.{Decodes, Fronts, WantsMemory}
 use Rattle.oer_read.specs.State.{State}
 
 -- ---- where each value with some tag holds a value of the part
@@ -40,6 +40,7 @@ module _ {A B : Type 0} (child : A → Tree) (IsHere : A → Type 0) (tree : B �
     read = tt;
     refused = record {
       same = d.refused.same;
+      mode = ap (λ (w : DecodeError). w.codec) (q y k) ∙ d.refused.mode;
       none = λ m v o i f. let z = only v i in d.refused.none (λ n. m (ap (λ (w : DecodeError). w.kind) (q y k) ∙ n)) z.0 o z.2 (as_part s o (child v) (tree z.0) z.1 f);
     };
   }
@@ -61,8 +62,8 @@ module _ {A B : Type 0} (child : A → Tree) (IsHere : A → Type 0) (tree : B �
 -- ---- at the exits of a closure that reads alternatives
 
 pub alternative_law : {A : Type 0} (child : A → Tree) (IsValue : A → Type 0) (tag_of : A → Tag) (g : Tag) (s : State) (r : Result A DecodeError) (t : State) → Decodes child (λ v. IsValue v × (tag_of v ≡ g)) s r t → ReadsAlternative child IsValue tag_of g s r t
-alternative_law child IsValue tag_of g s (Ok v) t d = record { read = d.read; none = tt }
-alternative_law child IsValue tag_of g s (Err e) t d = record { read = tt; none = d.refused.none }
+alternative_law child IsValue tag_of g s (Ok v) t d = record { read = d.read; mode = tt; none = tt }
+alternative_law child IsValue tag_of g s (Err e) t d = record { read = tt; mode = d.refused.mode; none = d.refused.none }
 
-pub memory_was_refused : {A : Type 0} (child : A → Tree) (IsValue : A → Type 0) (tag_of : A → Tag) (g : Tag) (s : State) (e : DecodeError) (t : State) → IsForMemory e → ReadsAlternative child IsValue tag_of g s (Err e) t
-memory_was_refused child IsValue tag_of g s e t m = record { read = tt; none = λ n. absurd (n m) }
+pub memory_was_refused : {A : Type 0} (child : A → Tree) (IsValue : A → Type 0) (tag_of : A → Tag) (g : Tag) (s : State) (e : DecodeError) (t : State) → WantsMemory s e → ReadsAlternative child IsValue tag_of g s (Err e) t
+memory_was_refused child IsValue tag_of g s e t m = record { read = tt; mode = m.1; none = λ n. absurd (n m.0) }

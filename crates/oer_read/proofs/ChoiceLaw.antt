@@ -102,6 +102,21 @@ chosen_picks s roots additions extensible chosen fits e =
       placed = subst (IsPlaced s t.0.0 t.0.1 chosen) (sym k.0) (alternative_found s l.0 t.0.0 t.0.1 chosen p.0 (rear_octets f.0 t.0.1 (subst AreOctets f.1 fits)) n.1 p.2);
     }
 
+-- the mode is lent on
+alternative_mode : (s : State) (levels : ℕ) (g : Tag) (input : Octets) (chosen : Chosen) (root : Bool) → alternative_at s levels g input root ≡ Ok chosen → chosen.lent.codec ≡ s.codec
+alternative_mode s levels g input chosen true e = ap (λ (c : Chosen). c.lent.codec) (sym (ok_is _ chosen e))
+alternative_mode s levels g input chosen false e =
+    let c = bind_ok (content_at s.codec input) (λ c. Ok (record { tag = g; lent = lent_alternative s levels c.0; behind = Some c.1 })) chosen e in
+    ap (λ (z : Chosen). z.lent.codec) (sym (ok_is _ chosen c.2))
+
+pub chosen_mode : (s : State) (roots additions : List Tag) (extensible : Bool) (chosen : Chosen) → chosen_at s roots additions extensible ≡ Ok chosen → chosen.lent.codec ≡ s.codec
+unfolding chosen_at
+chosen_mode s roots additions extensible chosen e =
+    let l = bind_ok (level_at s.levels) (λ (levels : ℕ). tag_at s.codec s.input >>= λ tag. place_at roots additions extensible tag.0 >>= λ is_root. alternative_at s levels tag.0 tag.1 is_root) chosen e in
+    let t = bind_ok (tag_at s.codec s.input) (λ tag. place_at roots additions extensible tag.0 >>= λ is_root. alternative_at s l.0 tag.0 tag.1 is_root) chosen l.2 in
+    let p = bind_ok (place_at roots additions extensible t.0.0) (λ is_root. alternative_at s l.0 t.0.0 t.0.1 is_root) chosen t.2 in
+    alternative_mode s l.0 t.0.0 t.0.1 chosen p.0 p.2
+
 pub picks_chosen : (s : State) (roots additions : List Tag) (extensible : Bool) (chosen : Chosen) → Picks s roots additions chosen → chosen_at s roots additions extensible ≡ Ok chosen
 unfolding chosen_at
 picks_chosen s roots additions extensible chosen p =
@@ -310,11 +325,16 @@ module _ {A : Type 0} (tree : A → Tree) (IsValue : A → Type 0) (roots additi
       let left : k.rest ≡ after.input = append_cancel_left p.taken k.rest after.input (ap (λ (l : Octets). l ++ k.rest) (sym one) ∙ sym k.split ∙ p.split) in
       not_both (behind_at old.codec chosen.behind after.input) f.rest e.kind (ap (behind_at old.codec chosen.behind) (sym left) ∙ ends) y
 
+  choice_mode : (old : State) (e : DecodeError) → ChoiceRefused Ran roots additions extensible old e → e.codec ≡ old.codec
+  choice_mode old e (NotChosen _ mode) = mode
+  choice_mode old e (Stopped chosen after x ran) = (promise chosen.tag chosen.lent (Err e) after ran).mode ∙ chosen_mode old roots additions extensible chosen x
+  choice_mode old e (LeftOver _ _ _ _ _ _ mode) = mode
+
   -- a choice whose closure reads its alternatives keeps the law of reading
   pub choice_law : (old : State) (result : Result A DecodeError) (new : State) → IfOk result (λ v. ChoiceRead Ran roots additions extensible old v new)
       → IfErr result (λ e. ChoiceRefused Ran roots additions extensible old e) → OnErr result (new ≡ old) → Decodes tree IsValue old result new
   choice_law old (Ok v) new k e u = record { read = choice_read old v new k; refused = tt }
-  choice_law old (Err e) new k l u = record { read = tt; refused = record { same = u; none = choice_refused old e l } }
+  choice_law old (Err e) new k l u = record { read = tt; refused = record { same = u; mode = choice_mode old e l; none = choice_refused old e l } }
 
 -- ---- what a choice does by what a weaker promise says of its closure
 module _ {A : Type 0} (Ran Says : Tag → State → Result A DecodeError → State → Type 0) (says : (g : Tag) (s : State) (r : Result A DecodeError) (t : State) → Ran g s r t → Says g s r t) (roots additions : List Tag) (extensible : Bool) (old : State) where

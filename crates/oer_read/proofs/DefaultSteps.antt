@@ -1,5 +1,5 @@
 -- A closure's steps over components with a default.
-use Rattle.std.proofs.Common.{◌≡◌, Bool, true, false, List, [], ◌∷◌, ◌++◌, inl, inr, Result, Ok, Err, refl, sym, ap, ap₂, ◌∙◌, subst, Continue, Break, append_assoc}
+use Rattle.std.proofs.Common.{◌≡◌, Bool, true, false, Option, Some, None, List, [], ◌∷◌, ◌++◌, inl, inr, Result, Ok, Err, refl, sym, ap, ap₂, ◌∙◌, subst, Continue, Break, append_assoc}
 use Rattle.std.specs.Result.{IsErrAnd, result_from_control_flow}
 use Rattle.std.proofs.lemmas.List.{append_cancel_left}
 use Rattle.asn1_core.specs.Octets.{Octets}
@@ -21,6 +21,7 @@ use Rattle.oer_read.specs.Parts.{Comes, Admits, AreOf, Parts, DefaultPart, OnPre
 use Rattle.oer_read.specs.State.{Ask, State}
 use Rattle.oer_read.proofs.Comes.{past}
 use Rattle.oer_read.proofs.Marked.{Marked, DefaultItem, mark_default, unmark_default, absent_item, present_item, set_item, unset_default, next_is}
+use Rattle.oer_read.proofs.OptionalSteps.{asked_mode, refused_mode}
 use Rattle.oer_read.proofs.SameTrees.{same_self, same_encoding}
 use Rattle.oer_read.proofs.Steps.{at_ok, at_err}
 
@@ -192,7 +193,7 @@ module _ {B : Type 0} (tree : B → Tree) (IsPart : B → Type 0) (Says : State 
   refused_refuses s g e ps qs (NotRead (NotNext n _)) m (Default h w sl r) a rest (q, z, p, x, f) f' c =
       let k = mark_default s h w sl r a rest c in
       n k.item.bit k.more (k.next ∙ ap (λ (y : Tag). record { tag = y; bit = k.item.bit } ∷ k.more) q)
-  refused_refuses s g e ps qs (NotRead (Inside more next _ _ n)) m (Default h w sl r) a rest (q, z, p, x, f) f' c =
+  refused_refuses s g e ps qs (NotRead (Inside more next _ _ _ n)) m (Default h w sl r) a rest (q, z, p, x, f) f' c =
       let k = mark_default s h w sl r a rest c in
       let b = next_is h g k.item.bit true k.more more s.frame.asks k.next next in
       let y = spelled_value s h w sl k.item z p k.holds b.0 in
@@ -204,6 +205,15 @@ module _ {B : Type 0} (tree : B → Tree) (IsPart : B → Type 0) (Says : State 
   refused_refuses s g e ps qs d m NoRows a rest f f' c = absurd f
   refused_refuses s g e ps qs d m (Required _ _ _) a rest f f' c = absurd f
   refused_refuses s g e ps qs d m (Optional _ _ _) a rest f f' c = absurd f
+
+  -- the mode stays, and a refusal names it
+  pub was_mode : (s u : State) (v : B) (g : Tag) → Was s g v u → u.codec ≡ s.codec
+  was_mode s u v g (Unset d _) = asked_mode tree IsPart Says s u None g d
+  was_mode s u v g (Set d _) = asked_mode tree IsPart Says s u (Some v) g d
+
+  pub was_refused_mode : (s : State) (g : Tag) (e : DecodeError) → WasRefused s g e → e.codec ≡ s.codec
+  was_refused_mode s g e (NotRead d) = refused_mode tree IsPart Says s g e d
+  was_refused_mode s g e (SpelledOut _ _ _ _ _ is) = ap (λ (z : DecodeError). z.codec) is
 
 -- ---- a component with a default, asked by a tag and a default that are the row's
 module _ {B : Type 0} (tree : B → Tree) (IsPart : B → Type 0) (Says : State → Result B DecodeError → State → Type 0) (eq : B → B → Bool) where
@@ -221,10 +231,11 @@ module _ {B : Type 0} (tree : B → Tree) (IsPart : B → Type 0) (Says : State 
   pub default_passed : {A : Type 0} (s u : State) (answer : Result B DecodeError) (flow : _) (v def handed : B) (g h : Tag) (w : Tree) (ps qs : Parts) (result : Result A DecodeError)
       → AsksDefault tree IsPart Says eq s h handed answer u → h ≡ g → handed ≡ def → answer ≡ result_from_control_flow flow → flow ≡ Continue v → IsDefault tree IsPart eq def → w ≡ tree def → Stops u ps qs result
       → Stops s (DefaultPart g w (Admits tree IsPart) ps) qs result
-  default_passed s u answer flow v def handed g h w ps qs (Ok x) d p q e f known i k = record { none = tt }
+  default_passed s u answer flow v def handed g h w ps qs (Ok x) d p q e f known i k = record { mode = tt; none = tt }
   default_passed {A} s u answer flow v def handed g h w ps qs (Err x) d p q e f known i k =
       let was = at_ok (λ v. Defaulted eq (Asked tree IsPart Says s g) (AskRefused tree IsPart Says s g) s def v u) answer flow v e f (as_row s u answer g h def handed d p q).read in
-      subst (λ (y : Tree). Stops {A = A} s (DefaultPart g y (Admits tree IsPart) ps) qs (Err x)) (sym i) (record { none = λ m. asked_refuses tree IsPart Says eq def known s u v g ps qs was (k.none m) })
+      subst (λ (y : Tree). Stops {A = A} s (DefaultPart g y (Admits tree IsPart) ps) qs (Err x)) (sym i)
+      (record { mode = k.mode ∙ was_mode tree IsPart Says eq def known s u v g was; none = λ m. asked_refuses tree IsPart Says eq def known s u v g ps qs was (k.none m) })
 
   pub default_stops : {A : Type 0} (Q : DecodeError → Type 0) (s u : State) (answer : Result B DecodeError) (flow : _) (x : _) (def handed : B) (g h : Tag) (w : Tree) (ps qs : Parts) (result : Result A DecodeError)
       → AsksDefault tree IsPart Says eq s h handed answer u → h ≡ g → handed ≡ def → answer ≡ result_from_control_flow flow → flow ≡ Break x → IsDefault tree IsPart eq def → w ≡ tree def → IsErrAnd result Q → ((y : DecodeError) → Q y → y ≡ x.0)
@@ -234,4 +245,4 @@ module _ {B : Type 0} (tree : B → Tree) (IsPart : B → Type 0) (Says : State 
       let n : DefaultRefused eq (Asked tree IsPart Says s g) (AskRefused tree IsPart Says s g) s def x.0 =
       at_err (λ y. DefaultRefused eq (Asked tree IsPart Says s g) (AskRefused tree IsPart Says s g) s def y) answer flow x e f (as_row s u answer g h def handed d p q).refused in
       subst (λ (z : Tree). Stops {A = A} s (DefaultPart g z (Admits tree IsPart) ps) qs (Err y)) (sym i)
-      (record { none = λ m. refused_refuses tree IsPart Says eq def known s g x.0 ps qs n (λ k. m (ap (λ (z : DecodeError). z.kind) (b y l) ∙ k)) })
+      (record { mode = ap (λ (z : DecodeError). z.codec) (b y l) ∙ was_refused_mode tree IsPart Says eq def known s g x.0 n; none = λ m. refused_refuses tree IsPart Says eq def known s g x.0 ps qs n (λ k. m (ap (λ (z : DecodeError). z.kind) (b y l) ∙ k)) })

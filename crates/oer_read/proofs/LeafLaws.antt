@@ -63,7 +63,7 @@ module _ {A : Type 0} (tree : A → Tree) (IsValue : A → Type 0) where
         subst (λ (r : Result A DecodeError). Decodes tree IsValue old r new) (sym a) (record { read = reads_front k old x.0 new o x.1.now (to o x.0 s).0 e f n; refused = tt })
     leaf_law show Spells old k to from (Err kind) result new none (a, n) =
         let nothing : (kind ≡ OutOfMemory → ⊥) → NoFront tree IsValue old = λ m w o j f. none m o f.rest (show w) f.split (from o w j (encoded (mode_of old.codec) old.levels o w f.encoding)) in
-        subst (λ (r : Result A DecodeError). Decodes tree IsValue old r new) (sym a) (record { read = tt; refused = record { same = n; none = nothing } })
+        subst (λ (r : Result A DecodeError). Decodes tree IsValue old r new) (sym a) (record { read = tt; refused = record { same = n; mode = refl; none = nothing } })
 
 pub boolean_law : (old : State) (answer : Result (Bool × Bor (List ℕ)) DecodeErrorKind) (result : Result Bool DecodeError) (new : State)
     → ReadsFront (λ o v. IsLeafEncoding (mode_of old.codec) o (Boolean v)) old.input (seen (λ (x : Bool × Bor (List ℕ)). (x.0, x.1.now)) answer)

@@ -9,6 +9,7 @@ pub mod UnorderedLaw
 pub mod SetSteps
 pub mod SetOrder
 pub mod SetLaw
+pub mod SetCalls
 pub mod SetFound
 pub mod SetPromises
 pub mod SetAdditions

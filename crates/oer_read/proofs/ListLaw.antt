@@ -280,7 +280,7 @@ module _ {A : Type 0} (tree : A → Tree) (IsPart : A → Type 0) (Ran : State �
         let r = RanEach-push Ran old rest 0 before end k v after ran good in
         let a = along old rest 0 (before ++ v ∷ []) after.input (count_empty k end after.input) r ws os x i f h (omega (arith, few, c, length-append before (v ∷ []))) in
         omega (arith, many, a.counted, l)
-    stopped old n rest e (NoMemory z) m ws os x i f h c l = m z
+    stopped old n rest e (NoMemory z) m ws os x i f h c l = m z.0
 
     list_refused : (old : State) (e : DecodeError) → ListRefused Ran old e → (IsForMemory e → ⊥) → NoFront (list_of true tree) (EachValue IsPart) old
     list_refused old e (NotOpened x c) m ws o i f =
@@ -291,13 +291,22 @@ module _ {A : Type 0} (tree : A → Tree) (IsPart : A → Type 0) (Ran : State �
         let p = same_opened n (length l.own) rest (joined l.own ++ f.rest) (list_opened_at old) x (opened_again old o f.rest ws f.split l) in
         stopped old n rest e s m ws l.own f.rest i l.encoded p.1 (p.0 ∙ elements_count (mode old) (old.levels - 1) l.own ws l.encoded) l.few
 
+    stopped_mode : (old : State) (n : ℕ) (rest : Octets) (e : DecodeError) → ElementsStopped Ran old n rest e → e.codec ≡ old.codec
+    stopped_mode old n rest e (ElementRefused _ end _ after _ _ bad) = (promise (lent_element old end) (Err e) after bad).refused.mode
+    stopped_mode old n rest e (TooManyAreEmpty _ _ _ _ _ _ _ _ _ is) = ap (λ (z : DecodeError). z.codec) is
+    stopped_mode old n rest e (NoMemory m) = m.1
+
+    list_mode : (old : State) (e : DecodeError) → ListRefused Ran old e → e.codec ≡ old.codec
+    list_mode old e (NotOpened _ mode) = mode
+    list_mode old e (Stopped n rest _ s) = stopped_mode old n rest e s
+
     -- a list whose closure reads its elements keeps the law of reading
     pub list_law : {L : Type 0} (items : L → List A) (old : State) (result : Result L DecodeError) (new : State) → IfOk result (λ l. ListRead Ran old (items l) new) → IfErr result (λ e. ListRefused Ran old e) → OnErr result (new ≡ old)
         → Decodes (λ l. list_of true tree (items l)) (λ l. EachValue IsPart (items l)) old result new
     list_law items old (Ok l) new k e u =
         let p = list_read old (items l) new k in
         record { read = record { taken = p.taken; split = p.split; encoding = p.encoding; value = p.value; only = λ w o i f. p.only (items w) o i f; rest = p.rest }; refused = tt }
-    list_law items old (Err e) new k l u = record { read = tt; refused = record { same = u; none = λ m w o i f. list_refused old e l m (items w) o i f } }
+    list_law items old (Err e) new k l u = record { read = tt; refused = record { same = u; mode = list_mode old e l; none = λ m w o i f. list_refused old e l m (items w) o i f } }
 
     -- octets that are an element's are some, where its type takes octets
     element_some : (m : Mode) (d : ℕ) (o : Octets) (v : A) → IsPart v → TakesOctets tree IsPart → IsEncoding m d o (tree v) → 1 ≤ length o

@@ -63,6 +63,14 @@ opened_opens s extensible roots additions lent fits e =
       is = sym (ok_is _ lent p.2) ∙ ap (λ (m : ℕ). record { input = p.0.1; codec = s.codec; levels = m; frame = frame_behind extensible roots additions p.0.0 }) n.1;
     }
 
+-- the mode is lent on
+pub opened_mode : (s : State) (extensible : Bool) (roots additions : List Row) (lent : State) → opened_at s extensible roots additions ≡ Ok lent → lent.codec ≡ s.codec
+unfolding opened_at
+opened_mode s extensible roots additions lent e =
+    let l = bind_ok (level_at s.levels) (λ (levels : ℕ). preamble_at (bits_for extensible roots) s.input >>= λ preamble. Ok (record { input = preamble.1; codec = s.codec; levels = levels; frame = frame_behind extensible roots additions preamble.0 })) lent e in
+    let p = bind_ok (preamble_at (bits_for extensible roots) s.input) (λ preamble. Ok (record { input = preamble.1; codec = s.codec; levels = l.0; frame = frame_behind extensible roots additions preamble.0 })) lent l.2 in
+    ap (λ (t : State). t.codec) (sym (ok_is _ lent p.2))
+
 pub opens_opened : (s : State) (extensible : Bool) (roots additions : List Row) (lent : State) → Opens s extensible roots additions lent → opened_at s extensible roots additions ≡ Ok lent
 unfolding opened_at
 opens_opened s extensible roots additions lent o =

@@ -110,7 +110,7 @@ module _ {B : Type 0} (tree : B → Tree) (IsPart : B → Type 0) (Says : State 
   refused_refuses s g e ps qs (NotNext n _) m (Optional h sl r) a rest (q, p, f) f' c =
       let k = mark_optional s h sl r a rest c in
       n k.item.bit k.more (k.next ∙ ap (λ (z : Tag). record { tag = z; bit = k.item.bit } ∷ k.more) q)
-  refused_refuses s g e ps qs (Inside more next _ _ n) m (Optional h sl r) a rest (q, p, f) f' c =
+  refused_refuses s g e ps qs (Inside more next _ _ _ n) m (Optional h sl r) a rest (q, p, f) f' c =
       let k = mark_optional s h sl r a rest c in
       let b = next_is h g k.item.bit true k.more more s.frame.asks k.next next in
       let (t, w, enc) = set_item s h sl k.item k.holds b.0 in
@@ -119,6 +119,16 @@ module _ {B : Type 0} (tree : B → Tree) (IsPart : B → Type 0) (Says : State 
   refused_refuses s g e ps qs d m NoRows a rest f f' c = absurd f
   refused_refuses s g e ps qs d m (Required _ _ _) a rest f f' c = absurd f
   refused_refuses s g e ps qs d m (Default _ _ _ _) a rest f f' c = absurd f
+
+  -- ---- the mode stays, and a refusal names it
+
+  pub asked_mode : (s u : State) (o : Option B) (g : Tag) → Asked tree IsPart Says s g o u → u.codec ≡ s.codec
+  asked_mode s u None g d = ap (λ (z : State). z.codec) d.left
+  asked_mode s u (Some v) g d = ap (λ (z : State). z.codec) d.reads.rest
+
+  pub refused_mode : (s : State) (g : Tag) (e : DecodeError) → AskRefused tree IsPart Says s g e → e.codec ≡ s.codec
+  refused_mode s g e (NotNext _ is) = ap (λ (z : DecodeError). z.codec) is
+  refused_mode s g e (Inside _ _ _ _ mode _) = mode
 
   -- ---- an optional component, asked by a tag that is the row's
 
@@ -135,8 +145,10 @@ module _ {B : Type 0} (tree : B → Tree) (IsPart : B → Type 0) (Says : State 
   pub optional_passed : {A : Type 0} (s u : State) (answer : Result (Option B) DecodeError) (flow : _) (o : Option B) (g h : Tag) (ps qs : Parts) (result : Result A DecodeError)
       → Asks tree IsPart Says s h answer u → h ≡ g → answer ≡ result_from_control_flow flow → flow ≡ Continue o → Stops u ps qs result
       → Stops s (OptionalPart g (Admits tree IsPart) ps) qs result
-  optional_passed s u answer flow o g h ps qs (Ok w) d p e f k = record { none = tt }
-  optional_passed s u answer flow o g h ps qs (Err x) d p e f k = record { none = λ m. asked_refuses s u o g ps qs (at_ok (λ o. Asked tree IsPart Says s g o u) answer flow o e f (as_row s u answer g h d p).read) (k.none m) }
+  optional_passed s u answer flow o g h ps qs (Ok w) d p e f k = record { mode = tt; none = tt }
+  optional_passed s u answer flow o g h ps qs (Err x) d p e f k =
+      let r = at_ok (λ o. Asked tree IsPart Says s g o u) answer flow o e f (as_row s u answer g h d p).read in
+      record { mode = k.mode ∙ asked_mode s u o g r; none = λ m. asked_refuses s u o g ps qs r (k.none m) }
 
   pub optional_stops : {A : Type 0} (Q : DecodeError → Type 0) (s u : State) (answer : Result (Option B) DecodeError) (flow : _) (x : _) (g h : Tag) (ps qs : Parts) (result : Result A DecodeError)
       → Asks tree IsPart Says s h answer u → h ≡ g → answer ≡ result_from_control_flow flow → flow ≡ Break x → IsErrAnd result Q → ((y : DecodeError) → Q y → y ≡ x.0)
@@ -144,4 +156,4 @@ module _ {B : Type 0} (tree : B → Tree) (IsPart : B → Type 0) (Says : State 
   optional_stops Q s u answer flow x g h ps qs (Ok w) d p e f l q = absurd l
   optional_stops Q s u answer flow x g h ps qs (Err y) d p e f l q =
       let n : AskRefused tree IsPart Says s g x.0 = at_err (λ y. AskRefused tree IsPart Says s g y) answer flow x e f (as_row s u answer g h d p).refused in
-      record { none = λ m. refused_refuses s g x.0 ps qs n (λ k. m (ap (λ (z : DecodeError). z.kind) (q y l) ∙ k)) }
+      record { mode = ap (λ (z : DecodeError). z.codec) (q y l) ∙ refused_mode s g x.0 n; none = λ m. refused_refuses s g x.0 ps qs n (λ k. m (ap (λ (z : DecodeError). z.kind) (q y l) ∙ k)) }

@@ -18,7 +18,7 @@ use Rattle.oer_read.specs.Law.{Reads, Decodes, Fronts, IsForMemory}
 use Rattle.oer_read.specs.Parts.{Comes, asks_in, places_in, Parts, NoParts, NeededPart, OptionalPart, DefaultPart, AreOf, IsTableOf, ReadsParts, part_places}
 use Rattle.oer_read.specs.Scopes.{bits_for, extension_of, presence_of, frame_behind, opened_at, closed_at, SequenceRead, SequenceRefused, NotOpened, Stopped, NotClosed}
 use Rattle.oer_read.specs.State.{Ask, Place, State, asks_of, marked_count, places_of}
-use Rattle.oer_read.proofs.Openings.{Opens, opened_opens, opens_opened, closed_comes, comes_closed, rear_trans, rear_are_octets, opens_rear}
+use Rattle.oer_read.proofs.Openings.{Opens, opened_opens, opened_mode, opens_opened, closed_comes, comes_closed, rear_trans, rear_are_octets, opens_rear}
 
 -- ---- the items of a table's rows
 
@@ -309,8 +309,13 @@ module _ {A : Type 0} (ps qs : Parts) (roots additions : A → Rows) (extensible
       let p = (promise lent (Ok v) after ran).read in
       not_both (closed_at after) f.rest e.kind (comes_closed after f.rest (p.complete (roots w) (additions w) f.rest (parts w i).0 (parts w i).1 c)) y
 
+  sequence_mode : (old : State) (e : DecodeError) → SequenceRefused Ran extensible table more old e → e.codec ≡ old.codec
+  sequence_mode old e (NotOpened _ mode) = mode
+  sequence_mode old e (Stopped lent after x ran) = (promise lent (Err e) after ran).stops.mode ∙ opened_mode old extensible table more lent x
+  sequence_mode old e (NotClosed _ _ _ _ _ _ mode) = mode
+
   -- a type whose closure reads its components keeps the law of reading
   pub sequence_law : (old : State) (result : Result A DecodeError) (new : State) → IfOk result (λ v. SequenceRead Ran extensible table more old v new)
       → IfErr result (λ e. SequenceRefused Ran extensible table more old e) → OnErr result (new ≡ old) → Decodes tree IsValue old result new
   sequence_law old (Ok v) new k e u = record { read = sequence_read old v new k; refused = tt }
-  sequence_law old (Err e) new k l u = record { read = tt; refused = record { same = u; none = sequence_refused old e l } }
+  sequence_law old (Err e) new k l u = record { read = tt; refused = record { same = u; mode = sequence_mode old e l; none = sequence_refused old e l } }

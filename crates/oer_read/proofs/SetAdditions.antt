@@ -14,7 +14,7 @@ use Rattle.oer_read.specs.SetRows.{held_as, AsksAddition}
 use Rattle.oer_read.specs.Sets.{Call, addition_calls, RanInTurn, RefusedInTurn}
 use Rattle.oer_read.specs.State.{Frame, State}
 use Rattle.oer_read.proofs.AdditionRows.{passes}
-use Rattle.oer_read.proofs.AdditionSteps.{addition_read, addition_refuses}
+use Rattle.oer_read.proofs.AdditionSteps.{addition_mode, addition_read, addition_refuses}
 use Rattle.oer_read.proofs.SetLaw.{asking_on, AdditionsRead}
 use Rattle.oer_read.proofs.Steps.{done}
 
@@ -96,6 +96,10 @@ module _ {B V : Type 0} (tree : B → Tree) (IsPart : B → Type 0) (Says : Stat
         refuses_on s NoParts (OptionalPart r.tag (Admits tree IsPart) NoParts) h (addition_refuses tree IsPart Says s (Some r.tag) r.tag NoParts e (refused s r.tag e after (promise s (Err e) after ran)) refl m)
     one_stops s e (inr (v, after, ran, k)) m h = absurd k
 
+    one_mode : (s : State) (e : DecodeError) → RefusedInTurn Ran s (addition_calls n (r ∷ [])) e → e.codec ≡ s.codec
+    one_mode s e (inl (after, ran)) = addition_mode tree IsPart Says s (Some r.tag) e (refused s r.tag e after (promise s (Err e) after ran))
+    one_mode s e (inr (v, after, ran, k)) = absurd k
+
     -- a set with one optional addition
     pub one_addition : AdditionsRead Ran n (r ∷ []) (OptionalPart r.tag (Admits tree IsPart) NoParts) (OneAdded r.tag)
-    one_addition = record { takes = one_taken; stops = one_stops }
+    one_addition = record { takes = one_taken; mode = one_mode; stops = one_stops }

@@ -155,7 +155,7 @@ none_taken Ran n s t [] r h = (
 none_taken Ran n s t (v ∷ ws) r h = absurd r
 
 pub no_additions : {V : Type 0} (Ran : Call → State → Result V DecodeError → State → Type 0) (n : ℕ) → AdditionsRead Ran n [] NoParts NoneAdded
-no_additions Ran n = record { takes = none_taken Ran n; stops = λ s e r m h. absurd r }
+no_additions Ran n = record { takes = none_taken Ran n; mode = λ s e r. absurd r; stops = λ s e r m h. absurd r }
 
 pub none_out : {V : Type 0} (index : V → ℕ) (rs : List Row) (ws : List V) (a : Rows) → NoneAdded ws a → AllOut index ws rs
 none_out index [] ws a h = tt

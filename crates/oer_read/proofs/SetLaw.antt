@@ -6,6 +6,7 @@ use Rattle.std.specs.Result.{IfOk, IfErr, OnErr}
 use Rattle.asn1_core.specs.Octets.{Octets}
 use Rattle.asn1_core.specs.Rows.{Row, may_be_absent}
 use Rattle.asn1_core.specs.Tags.{by_tag}
+use Rattle.asn1_core.specs.declared.codec.Codec.{Codec}
 use Rattle.asn1_core.specs.declared.error.DecodeError.{DecodeError}
 use Rattle.asn1_core.specs.declared.error.DecodeErrorKind.{DecodeErrorKind}
 use Rattle.asn1_core.specs.declared.fields.FieldPresence.{FieldPresence}
@@ -27,7 +28,7 @@ use Rattle.oer_read.specs.SetRows.{tree_in, row_at, rows_from, ReadsDefault, par
 use Rattle.oer_read.specs.Sets.{Call, is_there, bits_behind, root_calls, addition_calls, set_calls, set_frame, set_opened_at, RanInTurn, RefusedInTurn, SetRead, SetRefused, NotOpened, Stopped, NotClosed, NotMade, NoMemory}
 use Rattle.oer_read.specs.State.{Ask, State, Frame, asks_of}
 use Rattle.oer_read.proofs.DefaultSteps.{asked_takes as default_takes, asked_refuses as default_refuses, refused_refuses as default_refused, default_slot}
-use Rattle.oer_read.proofs.Openings.{comes_closed}
+use Rattle.oer_read.proofs.Openings.{comes_closed, opened_mode}
 use Rattle.oer_read.proofs.OptionalSteps.{asked_takes, asked_refuses, refused_refuses as asked_refused}
 use Rattle.oer_read.proofs.SequenceLaw.{sequence_law, not_both}
 use Rattle.oer_read.proofs.SetOrder.{set_sorted, set_unsorted, sorted_from, all_by_tag, marked_by_tag, parts_table, fits_parts}
@@ -141,21 +142,44 @@ module _ {V : Type 0} (tree : V → Tree) (Is : ℕ → V → Type 0) (eq : V �
   roots_take (r ∷ rs) b s t w vs qs a f law e h k =
       takes_at r.presence r.index r.tag (get_or b 0 false) b rs s t w vs qs a f e law.0 h (λ u us e' h'. roots_take rs (bits_behind r.presence b) u t w us qs a f law.1 e' h' k)
 
-  -- the frame stays
-  frame_at : (p : FieldPresence) (n : ℕ) (g : Tag) (x : Bool) (cs : List Call) (s t : State) (vs : List V) → RanInTurn Ran s (calls_at p x n g cs) vs t → LawAt p n g → ((u : State) (us : List V) → RanInTurn Ran u cs us t → t.frame ≡ u.frame) → t.frame ≡ s.frame
-  frame_at presence.Required n g x cs s t [] e law ih = absurd e
-  frame_at presence.Required n g x cs s t (v ∷ vs) e law ih = ih e.0 vs e.2 ∙ ap (λ (z : State). z.frame) (law s (Ok v) e.0 e.1).read.rest
-  frame_at presence.Optional n g true cs s t [] e law ih = absurd e
-  frame_at presence.Optional n g true cs s t (v ∷ vs) e law ih = ih e.0 vs e.2 ∙ ap (λ (z : State). z.frame) (law s (Ok v) e.0 e.1).read.rest
-  frame_at presence.Optional n g false cs s t vs e law ih = ih s vs e
-  frame_at presence.Default n g true cs s t [] e law ih = absurd e
-  frame_at presence.Default n g true cs s t (v ∷ vs) e law ih = ih e.0 vs e.2 ∙ ap (λ (z : State). z.frame) (law.0 s (Ok v) e.0 e.1).read.0.rest
-  frame_at presence.Default n g false cs s t vs e law ih = ih s vs e
+  -- nothing changes but what is left
+  stays_at : (p : FieldPresence) (n : ℕ) (g : Tag) (x : Bool) (cs : List Call) (s t : State) (vs : List V) → RanInTurn Ran s (calls_at p x n g cs) vs t → LawAt p n g
+      → ((u : State) (us : List V) → RanInTurn Ran u cs us t → t ≡ record u { input = t.input }) → t ≡ record s { input = t.input }
+  stays_at presence.Required n g x cs s t [] e law ih = absurd e
+  stays_at presence.Required n g x cs s t (v ∷ vs) e law ih = ih e.0 vs e.2 ∙ ap (λ (z : State). record z { input = t.input }) (law s (Ok v) e.0 e.1).read.rest
+  stays_at presence.Optional n g true cs s t [] e law ih = absurd e
+  stays_at presence.Optional n g true cs s t (v ∷ vs) e law ih = ih e.0 vs e.2 ∙ ap (λ (z : State). record z { input = t.input }) (law s (Ok v) e.0 e.1).read.rest
+  stays_at presence.Optional n g false cs s t vs e law ih = ih s vs e
+  stays_at presence.Default n g true cs s t [] e law ih = absurd e
+  stays_at presence.Default n g true cs s t (v ∷ vs) e law ih = ih e.0 vs e.2 ∙ ap (λ (z : State). record z { input = t.input }) (law.0 s (Ok v) e.0 e.1).read.0.rest
+  stays_at presence.Default n g false cs s t vs e law ih = ih s vs e
+
+  stays : (rs : List Row) (b : List Bool) (s t : State) (vs : List V) → AllByRecursion Law rs → RanInTurn Ran s (root_calls rs b) vs t → t ≡ record s { input = t.input }
+  stays [] b s t [] law e = sym e ∙ ap (λ (z : State). record s { input = z.input }) e
+  stays [] b s t (v ∷ vs) law e = absurd e
+  stays (r ∷ rs) b s t vs law e = stays_at r.presence r.index r.tag (get_or b 0 false) (root_calls rs (bits_behind r.presence b)) s t vs e law.0 (λ u us e'. stays rs (bits_behind r.presence b) u t us law.1 e')
 
   frame_stays : (rs : List Row) (b : List Bool) (s t : State) (vs : List V) → AllByRecursion Law rs → RanInTurn Ran s (root_calls rs b) vs t → t.frame ≡ s.frame
-  frame_stays [] b s t [] law e = ap (λ (z : State). z.frame) (sym e)
-  frame_stays [] b s t (v ∷ vs) law e = absurd e
-  frame_stays (r ∷ rs) b s t vs law e = frame_at r.presence r.index r.tag (get_or b 0 false) (root_calls rs (bits_behind r.presence b)) s t vs e law.0 (λ u us e'. frame_stays rs (bits_behind r.presence b) u t us law.1 e')
+  frame_stays rs b s t vs law e = ap (λ (z : State). z.frame) (stays rs b s t vs law e)
+
+  -- a call that refuses names the mode
+  mode_at : (e : DecodeError) (p : FieldPresence) (n : ℕ) (g : Tag) (x : Bool) (cs : List Call) (s : State) → RefusedInTurn Ran s (calls_at p x n g cs) e → LawAt p n g → ((u : State) → RefusedInTurn Ran u cs e → e.codec ≡ u.codec) → e.codec ≡ s.codec
+  mode_at e presence.Required n g x cs s (inl (after, ran)) law ih = (law s (Err e) after ran).refused.mode
+  mode_at e presence.Required n g x cs s (inr (v, after, ran, k)) law ih = ih after k ∙ ap (λ (z : State). z.codec) (law s (Ok v) after ran).read.rest
+  mode_at e presence.Optional n g true cs s (inl (after, ran)) law ih = (law s (Err e) after ran).refused.mode
+  mode_at e presence.Optional n g true cs s (inr (v, after, ran, k)) law ih = ih after k ∙ ap (λ (z : State). z.codec) (law s (Ok v) after ran).read.rest
+  mode_at e presence.Optional n g false cs s k law ih = ih s k
+  mode_at e presence.Default n g true cs s (inl (after, ran)) law ih = default_mode s n e (law.0 s (Err e) after ran).refused
+    where
+      default_mode : (s : State) (n : ℕ) (e : DecodeError) → ((e.codec ≡ s.codec) × ((IsForMemory e → ⊥) → NoFront tree (Is n) s)) ⊎ ((v : V) × (u : State) × Reads tree (Is n) s v u × (s.codec ≡ Coer) × (eq v (default n) ≡ true) × (e ≡ only_lenient s)) → e.codec ≡ s.codec
+      default_mode s n e (inl (mode, _)) = mode
+      default_mode s n e (inr (_, _, _, _, _, is)) = ap (λ (z : DecodeError). z.codec) is
+  mode_at e presence.Default n g true cs s (inr (v, after, ran, k)) law ih = ih after k ∙ ap (λ (z : State). z.codec) (law.0 s (Ok v) after ran).read.0.rest
+  mode_at e presence.Default n g false cs s k law ih = ih s k
+
+  roots_mode : (e : DecodeError) (rs : List Row) (b : List Bool) (s : State) → AllByRecursion Law rs → RefusedInTurn Ran s (root_calls rs b) e → e.codec ≡ s.codec
+  roots_mode e [] b s law k = absurd k
+  roots_mode e (r ∷ rs) b s law k = mode_at e r.presence r.index r.tag (get_or b 0 false) (root_calls rs (bits_behind r.presence b)) s k law.0 (λ u k'. roots_mode e rs (bits_behind r.presence b) u law.1 k')
 
   -- ---- a call that refused, or what comes after all of them
 
@@ -176,7 +200,7 @@ module _ {V : Type 0} (tree : V → Tree) (Is : ℕ → V → Type 0) (eq : V �
         read_refuses tree (Is n) (asking_on s ks) (asking_on after ks) v g (parts rs) qs (reads_on tree (Is n) s after v ks (law s (Ok v) after ran).read) (ih after k)
     refuses_at presence.Optional n g true b rs s (inl (after, ran)) law m ih =
         let ks : List Ask = asks_of rs (drop 1 b) in
-        asked_refused tree (Is n) Any (asking_on s (record { tag = g; bit = true } ∷ ks)) g e (parts rs) qs (Inside ks refl after tt (λ m. none_on tree (Is n) s ks ((law s (Err e) after ran).refused.none m))) m
+        asked_refused tree (Is n) Any (asking_on s (record { tag = g; bit = true } ∷ ks)) g e (parts rs) qs (Inside ks refl after tt (law s (Err e) after ran).refused.mode (λ m. none_on tree (Is n) s ks ((law s (Err e) after ran).refused.none m))) m
     refuses_at presence.Optional n g true b rs s (inr (v, after, ran, k)) law m ih =
         let ks : List Ask = asks_of rs (drop 1 b) in
         asked_refuses tree (Is n) Any (asking_on s (record { tag = g; bit = true } ∷ ks)) (asking_on after ks) (Some v) g (parts rs) qs (present_on n s after g v ks (law s (Ok v) after ran).read) (ih after k)
@@ -187,9 +211,9 @@ module _ {V : Type 0} (tree : V → Tree) (Is : ℕ → V → Type 0) (eq : V �
         let ks : List Ask = asks_of rs (drop 1 b) in
         default_refused tree (Is n) Any eq (default n) law.1 (asking_on s (record { tag = g; bit = true } ∷ ks)) g e (parts rs) qs (why ks (law.0 s (Err e) after ran).refused) m
       where
-        why : (ks : List Ask) → ((IsForMemory e → ⊥) → NoFront tree (Is n) s) ⊎ ((v : V) × (u : State) × Reads tree (Is n) s v u × (s.codec ≡ Coer) × (eq v (default n) ≡ true) × (e ≡ only_lenient s))
+        why : (ks : List Ask) → ((e.codec ≡ s.codec) × ((IsForMemory e → ⊥) → NoFront tree (Is n) s)) ⊎ ((v : V) × (u : State) × Reads tree (Is n) s v u × (s.codec ≡ Coer) × (eq v (default n) ≡ true) × (e ≡ only_lenient s))
             → DefaultRefused eq (Asked tree (Is n) Any (asking_on s (record { tag = g; bit = true } ∷ ks)) g) (AskRefused tree (Is n) Any (asking_on s (record { tag = g; bit = true } ∷ ks)) g) (asking_on s (record { tag = g; bit = true } ∷ ks)) (default n) e
-        why ks (inl none) = NotRead (Inside ks refl after tt (λ m. none_on tree (Is n) s ks (none m)))
+        why ks (inl (mode, none)) = NotRead (Inside ks refl after tt mode (λ m. none_on tree (Is n) s ks (none m)))
         why ks (inr (v, u, d, codec, equal, is)) = SpelledOut v (asking_on u ks) (present_on n s u g v ks d) codec equal is
     refuses_at presence.Default n g true b rs s (inr (v, after, ran, k)) law m ih =
         let ks : List Ask = asks_of rs (drop 1 b) in
@@ -244,6 +268,7 @@ module _ {V : Type 0} (Ran : Call → State → Result V DecodeError → State �
   -- what is read by the calls for additions, and that no such rows come where one refused
   pub record AdditionsRead (n : ℕ) (more : List Row) (qs : Parts) (AddOf : List V → Rows → Type 0) : Type 0 where
     pub takes : (s t : State) (ws : List V) → RanInTurn Ran s (addition_calls n more) ws t → s.frame.asks ≡ [] → (a : Rows) × AddOf ws a × Takes (asking_on s []) NoParts qs NoRows a (asking_on t []) × (t.frame.asks ≡ [])
+    pub mode : (s : State) (e : DecodeError) → RefusedInTurn Ran s (addition_calls n more) e → e.codec ≡ s.codec
     pub stops : (s : State) (e : DecodeError) → RefusedInTurn Ran s (addition_calls n more) e → (IsForMemory e → ⊥) → s.frame.asks ≡ [] → Refuses (asking_on s []) NoParts qs
 
   pub record RanSplit (s : State) (cs ds : List Call) (xs : List V) (u : State) : Type 0 where
@@ -322,8 +347,9 @@ module _ {A V : Type 0} (tree : V → Tree) (Is : ℕ → V → Type 0) (eq : V 
     (is : (v : A) → whole v ≡ Struct true extensible (rows_from (λ n. tree (default n)) (component v) table) (additions v))
     (made : (v : A) → AreOf (parts_of tree Is default (by_tag (λ r. r.tag) table)) (rows_from (λ n. tree (default n)) (component v) (by_tag (λ r. r.tag) table)) → AreOf qs (additions v) → IsValue v)
     (fits : (v : A) → IsValue v → AllByRecursion (Fits tree Is default (component v)) table × AreOf qs (additions v))
+    (codec : Codec)
     (makes : (bits : List Bool) (vs ws : List V) (a : Rows) (r : Result A DecodeError) → Came tree Is eq default Ran (by_tag (λ r. r.tag) table) bits vs → AddOf ws a → Makes (vs ++ ws) r
-    → IfOk r (λ v. Agrees tree Is eq default Ran (component v) (by_tag (λ r. r.tag) table) bits vs × (additions v ≡ a)) × IfErr r (λ e. IsForMemory e)) where
+    → IfOk r (λ v. Agrees tree Is eq default Ran (component v) (by_tag (λ r. r.tag) table) bits vs × (additions v ≡ a)) × IfErr r (λ e. IsForMemory e × (e.codec ≡ codec))) where
   abbrev in_order : List Row
   in_order = by_tag (λ r. r.tag) table
 
@@ -370,22 +396,33 @@ module _ {A V : Type 0} (tree : V → Tree) (Is : ℕ → V → Type 0) (eq : V 
         lent = asking_on k.lent (asks_of in_order k.bits);
         opened = o.0;
         after = asking_on k.after [];
-        ran = record { read = takes; stops = record { none = tt } };
+        ran = record { read = takes; stops = record { mode = tt; none = tt } };
         rest = k.rest;
         closed = closed_on k.after r.asks ∙ k.closed;
         left = k.left;
         octets = k.octets;
       }
 
+  -- the mode is lent on, and a call that refuses names it
+  lent_mode : (old lent : State) (bits : List Bool) → set_opened_at old extensible table more ≡ Ok (lent, bits) → lent.codec ≡ old.codec
+  lent_mode old lent bits x = opened_mode old extensible in_order more (asking_on lent (asks_of in_order bits)) (set_lends old extensible table more lent bits x).0
+
+  stopped_mode : (lent : State) (bits : List Bool) (e : DecodeError) → RefusedInTurn Ran lent (set_calls table more bits) e → e.codec ≡ lent.codec
+  stopped_mode lent bits e r = go (refused_split Ran lent (root_calls in_order bits) (addition_calls (length table) more) e r)
+    where
+      go : RefusedInTurn Ran lent (root_calls in_order bits) e ⊎ ((vs : List V) × (t : State) × RanInTurn Ran lent (root_calls in_order bits) vs t × RefusedInTurn Ran t (addition_calls (length table) more) e) → e.codec ≡ lent.codec
+      go (inl q) = roots_mode tree Is eq default Ran e in_order bits lent laws_in_order q
+      go (inr (vs, t, ran, q)) = adds.mode t e q ∙ ap (λ (z : State). z.codec) (stays tree Is eq default Ran in_order bits lent t vs laws_in_order ran)
+
   -- where the rows don't come, the closure of a sequence may refuse
-  stop_at : (old : State) (e : DecodeError) (lent : State) (bits : List Bool) → opened_at old extensible in_order more ≡ Ok (asking_on lent (asks_of in_order bits)) → ((IsForMemory e → ⊥) → Refuses (asking_on lent (asks_of in_order bits)) ps qs) → SequenceRefused (ReadsParts ps qs roots additions) extensible in_order more old e
-  stop_at old e lent bits o none = SequenceStopped (asking_on lent (asks_of in_order bits)) (asking_on lent (asks_of in_order bits)) o (record { read = tt; stops = record { none = none } })
+  stop_at : (old : State) (e : DecodeError) (lent : State) (bits : List Bool) → opened_at old extensible in_order more ≡ Ok (asking_on lent (asks_of in_order bits)) → e.codec ≡ lent.codec → ((IsForMemory e → ⊥) → Refuses (asking_on lent (asks_of in_order bits)) ps qs) → SequenceRefused (ReadsParts ps qs roots additions) extensible in_order more old e
+  stop_at old e lent bits o mode none = SequenceStopped (asking_on lent (asks_of in_order bits)) (asking_on lent (asks_of in_order bits)) o (record { read = tt; stops = record { mode = mode; none = none } })
 
   to_refused : (old : State) (e : DecodeError) → (IsForMemory e → ⊥) → SetRefused Ran Makes extensible table more old e → SequenceRefused (ReadsParts ps qs roots additions) extensible in_order more old e
   to_refused old e not_memory (NotOpened x codec) = SequenceNotOpened (set_not_opened old extensible table more e.kind x) codec
   to_refused old e not_memory (Stopped lent bits x r) =
       let o = set_lends old extensible table more lent bits x in
-      stop_at old e lent bits o.0 (λ m. roots_refuse tree Is eq default Ran qs e in_order bits lent laws_in_order (go o.1 m (refused_split Ran lent (root_calls in_order bits) (addition_calls (length table) more) e r)) m)
+      stop_at old e lent bits o.0 (stopped_mode lent bits e r) (λ m. roots_refuse tree Is eq default Ran qs e in_order bits lent laws_in_order (go o.1 m (refused_split Ran lent (root_calls in_order bits) (addition_calls (length table) more) e r)) m)
     where
       go : lent.frame.asks ≡ [] → (IsForMemory e → ⊥) → RefusedInTurn Ran lent (root_calls in_order bits) e ⊎ ((vs : List V) × (t : State) × RanInTurn Ran lent (root_calls in_order bits) vs t × RefusedInTurn Ran t (addition_calls (length table) more) e)
           → Ends tree Is eq default Ran qs e lent (root_calls in_order bits)
@@ -396,15 +433,25 @@ module _ {A V : Type 0} (tree : V → Tree) (Is : ℕ → V → Type 0) (eq : V 
   to_refused old e not_memory (NotClosed lent bits fields after x ran closed codec) =
       let o = set_lends old extensible table more lent bits x in
       let r = ran_all lent bits fields after o.1 ran in
-      stop_at old e lent bits o.0
+      stop_at old e lent bits o.0 (codec ∙ sym (lent_mode old lent bits x))
       (λ m. roots_refuse tree Is eq default Ran qs e in_order bits lent laws_in_order
       (ends_behind tree Is eq default Ran qs e lent (root_calls in_order bits) r.vs r.middle r.ran
       (λ q a rest f g c. not_both (closed_at after) rest e.kind (sym (closed_on after r.asks) ∙ comes_closed (asking_on after []) rest (r.takes.complete q a rest f g c)) closed)) m)
   to_refused old e not_memory (NotMade lent bits fields after rest x ran closed made) =
       let o = set_lends old extensible table more lent bits x in
       let r = ran_all lent bits fields after o.1 ran in
-      absurd (not_memory (makes bits r.vs r.ws r.a (Err e) r.came r.added (subst (λ (z : List V). Makes z (Err e)) r.same made)).1)
-  to_refused old e not_memory (NoMemory m) = absurd (not_memory m)
+      absurd (not_memory (makes bits r.vs r.ws r.a (Err e) r.came r.added (subst (λ (z : List V). Makes z (Err e)) r.same made)).1.0)
+  to_refused old e not_memory (NoMemory m) = absurd (not_memory m.0)
+
+  refused_mode : (old : State) (e : DecodeError) → old.codec ≡ codec → SetRefused Ran Makes extensible table more old e → e.codec ≡ old.codec
+  refused_mode old e same (NotOpened _ mode) = mode
+  refused_mode old e same (Stopped lent bits x r) = stopped_mode lent bits e r ∙ lent_mode old lent bits x
+  refused_mode old e same (NotClosed _ _ _ _ _ _ _ mode) = mode
+  refused_mode old e same (NotMade lent bits fields after rest x ran closed made) =
+      let o = set_lends old extensible table more lent bits x in
+      let r = ran_all lent bits fields after o.1 ran in
+      (makes bits r.vs r.ws r.a (Err e) r.came r.added (subst (λ (z : List V). Makes z (Err e)) r.same made)).1.1 ∙ sym same
+  refused_mode old e same (NoMemory m) = m.1
 
   -- ---- a set, and the sequence that has its rows in tag order
 
@@ -428,14 +475,14 @@ module _ {A V : Type 0} (tree : V → Tree) (Is : ℕ → V → Type 0) (eq : V 
       (λ v i. let f = fits v i in (fits_parts tree Is default (component v) in_order (all_by_tag (Fits tree Is default (component v)) table f.0), f.1)) (ReadsParts ps qs roots additions) (λ s r t k. k) old result new read refused same
 
   -- a set whose closures read its components, and make it of them, keeps the law of reading
-  pub set_law : (old : State) (result : Result A DecodeError) (new : State) → IfOk result (λ v. SetRead Ran Makes extensible table more old v new) → IfErr result (λ e. SetRefused Ran Makes extensible table more old e) → OnErr result (new ≡ old) → Decodes whole IsValue old result new
-  set_law old (Ok v) new read refused same =
+  pub set_law : (old : State) (result : Result A DecodeError) (new : State) → old.codec ≡ codec → IfOk result (λ v. SetRead Ran Makes extensible table more old v new) → IfErr result (λ e. SetRefused Ran Makes extensible table more old e) → OnErr result (new ≡ old) → Decodes whole IsValue old result new
+  set_law old (Ok v) new here read refused same =
       let d = (sequence old (Ok v) new (to_read old v new read) tt tt).read in
       record {
         read = record { taken = d.taken; split = d.split; encoding = from_sequence old d.taken v d.encoding; value = d.value; only = λ w o i f. d.only w o i (fronts old o w f); rest = d.rest };
         refused = tt;
       }
-  set_law old (Err e) new read refused same = record {
+  set_law old (Err e) new here read refused same = record {
     read = tt;
-    refused = record { same = same; none = λ m w o i f. (sequence old (Err e) new tt (to_refused old e m refused) same).refused.none m w o i (fronts old o w f) };
+    refused = record { same = same; mode = refused_mode old e here refused; none = λ m w o i f. (sequence old (Err e) new tt (to_refused old e m refused) same).refused.none m w o i (fronts old o w f) };
   }

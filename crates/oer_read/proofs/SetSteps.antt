@@ -10,9 +10,9 @@ use Rattle.asn1_core.specs.Rows.{Row, row}
 use Rattle.asn1_core.specs.declared.fields.Field.{Field}
 use Rattle.asn1_core.specs.declared.error.DecodeError.{DecodeError}
 use Rattle.asn1_core.specs.declared.error.DecodeErrorKind.{DecodeErrorKind}
-use Rattle.oer_read.specs.Law.{IsForMemory, IsRear}
+use Rattle.oer_read.specs.Law.{IsRear, WantsMemory}
 use Rattle.oer_read.specs.Scopes.{level_at, bits_for, presence_of}
-use Rattle.oer_read.specs.Sets.{Call, is_there, bits_behind, root_calls, addition_calls, set_calls, set_frame, set_opened_at, RanInTurn, RefusedInTurn, SetRefused, NoMemory, Stopped}
+use Rattle.oer_read.specs.Sets.{Call, is_there, bits_behind, root_calls, addition_calls, set_calls, set_frame, set_opened_at, RanInTurn, RefusedInTurn, CalledInTurn, SetRefused, NoMemory, Stopped}
 use Rattle.oer_read.specs.State.{State}
 use Rattle.oer_read.proofs.Openings.{rear_trans, level_ok, level_again}
 
@@ -45,32 +45,49 @@ module _ {V : Type 0} (Ran : Call → State → Result V DecodeError → State �
   refused_front s (c ∷ cs) ds e (inl r) = inl r
   refused_front s (c ∷ cs) ds e (inr (v, after, r, k)) = inr (v, after, r, refused_front after cs ds e k)
 
+  pub called_front : (s : State) (cs ds : List Call) (d : Call) (t : State) → CalledInTurn Ran s cs d t → CalledInTurn Ran s (cs ++ ds) d t
+  called_front s [] ds d t k = absurd k
+  called_front s (c ∷ cs) ds d t (inl k) = inl k
+  called_front s (c ∷ cs) ds d t (inr (v, after, r, k)) = inr (v, after, r, called_front after cs ds d t k)
+
+  pub called_append : (s : State) (cs : List Call) (vs : List V) (t : State) (ds : List Call) (d : Call) (u : State) → RanInTurn Ran s cs vs t → CalledInTurn Ran t ds d u → CalledInTurn Ran s (cs ++ ds) d u
+  called_append s [] [] t ds d u r k = subst (λ (z : State). CalledInTurn Ran z ds d u) (sym r) k
+  called_append s (c ∷ cs) (v ∷ vs) t ds d u r k = inr (v, r.0, r.1, called_append r.0 cs vs t ds d u r.2 k)
+  called_append s [] (v ∷ vs) t ds d u r k = absurd r
+  called_append s (c ∷ cs) [] t ds d u r k = absurd r
+
   -- what is left is a rear part
-  pub ran_rear : ((c : Call) (s after : State) (v : V) → Ran c s (Ok v) after → IsRear s.input after.input) → (s : State) (cs : List Call) (vs : List V) (t : State) → RanInTurn Ran s cs vs t → IsRear s.input t.input
-  ran_rear keeps s [] [] t e = record { front = []; split = ap (λ (z : State). z.input) e }
-  ran_rear keeps s (c ∷ cs) (v ∷ vs) t e = rear_trans s.input e.0.input t.input (keeps c s e.0 v e.1) (ran_rear keeps e.0 cs vs t e.2)
-  ran_rear keeps s [] (v ∷ vs) t e = absurd e
-  ran_rear keeps s (c ∷ cs) [] t e = absurd e
+  pub ran_rear : (s : State) (cs : List Call) (vs : List V) (t : State) → ((c : Call) (s' after : State) (v : V) → CalledInTurn Ran s cs c s' → Ran c s' (Ok v) after → IsRear s'.input after.input) → RanInTurn Ran s cs vs t → IsRear s.input t.input
+  ran_rear s [] [] t keeps e = record { front = []; split = ap (λ (z : State). z.input) e }
+  ran_rear s (c ∷ cs) (v ∷ vs) t keeps e =
+      rear_trans s.input e.0.input t.input (keeps c s e.0 v (inl (refl, refl)) e.1) (ran_rear e.0 cs vs t (λ d s' after w k. keeps d s' after w (inr (v, e.0, e.1, k))) e.2)
+  ran_rear s [] (v ∷ vs) t keeps e = absurd e
+  ran_rear s (c ∷ cs) [] t keeps e = absurd e
 
 -- Within a loop: what the calls that are left do from here, all of them do from the start.
 pub record SoFar {V : Type 0} (Ran : Call → State → Result V DecodeError → State → Type 0) (start : State) (all : List Call) (before : List V) (here : State) (left : List Call) (now : List V) : Type 0 where
   pub ran : (vs : List V) (t : State) → RanInTurn Ran here left vs t → (ws : List V) × RanInTurn Ran start all ws t × (now ++ vs ≡ before ++ ws)
   pub refused : (e : DecodeError) → RefusedInTurn Ran here left e → RefusedInTurn Ran start all e
+  pub called : (d : Call) (t : State) → CalledInTurn Ran here left d t → CalledInTurn Ran start all d t
 
 module _ {V : Type 0} (Ran : Call → State → Result V DecodeError → State → Type 0) (start : State) (all : List Call) (before : List V) where
   pub so_far_first : SoFar Ran start all before start all before
-  so_far_first = record { ran = λ vs t k. (vs, k, refl); refused = λ e k. k }
+  so_far_first = record { ran = λ vs t k. (vs, k, refl); refused = λ e k. k; called = λ d t k. k }
 
   -- one call more
   pub so_far_next : (here : State) (c : Call) (left : List Call) (now : List V) (v : V) (after : State) → SoFar Ran start all before here (c ∷ left) now → Ran c here (Ok v) after → SoFar Ran start all before after left (now ++ v ∷ [])
   so_far_next here c left now v after s k = record {
     ran = λ vs t r. let (ws, x, e) = s.ran (v ∷ vs) t (after, k, r) in (ws, x, append_assoc now (v ∷ []) vs ∙ e);
     refused = λ e r. s.refused e (inr (v, after, k, r));
+    called = λ d t r. s.called d t (inr (v, after, k, r));
   }
 
-  pub so_far_refused : (here : State) (c : Call) (left : List Call) (now : List V) (e : DecodeError) → SoFar Ran start all before here (c ∷ left) now → IsForMemory e ⊎ ((after : State) × Ran c here (Err e) after) → IsForMemory e ⊎ RefusedInTurn Ran start all e
+  pub so_far_refused : {M : Type 0} → (here : State) (c : Call) (left : List Call) (now : List V) (e : DecodeError) → SoFar Ran start all before here (c ∷ left) now → M ⊎ ((after : State) × Ran c here (Err e) after) → M ⊎ RefusedInTurn Ran start all e
   so_far_refused here c left now e s (inl m) = inl m
   so_far_refused here c left now e s (inr (after, k)) = inr (s.refused e (inl (after, k)))
+
+  so_far_called : (here : State) (c : Call) (left : List Call) (now : List V) → SoFar Ran start all before here (c ∷ left) now → CalledInTurn Ran start all c here
+  so_far_called here c left now s = s.called c here (inl (refl, refl))
 
   -- no call is left
   pub so_far_done : (here : State) (now : List V) → SoFar Ran start all before here [] now → (vs : List V) × RanInTurn Ran start all vs here × (now ≡ before ++ vs)
@@ -96,6 +113,13 @@ module _ {V : Type 0} (Ran : Call → State → Result V DecodeError → State �
       ap (λ (z : List Field). root_calls (map row z) b) e ∙ calls_there (row f) (map row more) b there ∙ ap (λ (z : List Bool). c ∷ root_calls (map row more) z) (sym rest) in
       so_far_next Ran start all before here c (root_calls (map row more) behind) now v after (subst (λ (z : List Call). SoFar Ran start all before here z now) calls s) k
 
+  pub roots_called : (here : State) (rows : List Field) (f : Field) (more : List Field) (b : List Bool) (now : List V) → SoFar Ran start all before here (root_calls (map row rows) b) now → rows ≡ f ∷ more → is_there f.presence b ≡ true → CalledInTurn Ran start all (record { index = f.index; tag = f.tag }) here
+  roots_called here rows f more b now s e there =
+      let c : Call = record { index = f.index; tag = f.tag } in
+      let left : List Call = root_calls (map row more) (bits_behind f.presence b) in
+      let calls : root_calls (map row rows) b ≡ c ∷ left = ap (λ (z : List Field). root_calls (map row z) b) e ∙ calls_there (row f) (map row more) b there in
+      so_far_called Ran start all before here c left now (subst (λ (z : List Call). SoFar Ran start all before here z now) calls s)
+
   pub roots_done : (here : State) (rows : List Field) (b : List Bool) (now : List V) → SoFar Ran start all before here (root_calls (map row rows) b) now → rows ≡ [] → (vs : List V) × RanInTurn Ran start all vs here × (now ≡ before ++ vs)
   roots_done here rows b now s e = so_far_done Ran start all before here now (subst (λ (z : List Field). SoFar Ran start all before here (root_calls (map row z) b) now) e s)
 
@@ -108,20 +132,24 @@ module _ {V : Type 0} (Ran : Call → State → Result V DecodeError → State �
       ap (λ (z : List Field). addition_calls n (map row z)) e ∙ ap (λ (z : ℕ). c ∷ addition_calls z (map row more)) (sym i) in
       so_far_next Ran start all before here c (addition_calls m (map row more)) now v after (subst (λ (z : List Call). SoFar Ran start all before here z now) calls s) k
 
-  pub additions_refused : (here : State) (rows : List Field) (f : Field) (more : List Field) (n : ℕ) (now : List V) (e : DecodeError) → SoFar Ran start all before here (addition_calls n (map row rows)) now → rows ≡ f ∷ more
-      → IsForMemory e ⊎ ((after : State) × Ran (record { index = n; tag = f.tag }) here (Err e) after) → IsForMemory e ⊎ RefusedInTurn Ran start all e
+  pub additions_refused : {M : Type 0} → (here : State) (rows : List Field) (f : Field) (more : List Field) (n : ℕ) (now : List V) (e : DecodeError) → SoFar Ran start all before here (addition_calls n (map row rows)) now → rows ≡ f ∷ more
+      → M ⊎ ((after : State) × Ran (record { index = n; tag = f.tag }) here (Err e) after) → M ⊎ RefusedInTurn Ran start all e
   additions_refused here rows f more n now e s cons k =
       so_far_refused Ran start all before here (record { index = n; tag = f.tag }) (addition_calls (suc n) (map row more)) now e (subst (λ (z : List Field). SoFar Ran start all before here (addition_calls n (map row z)) now) cons s) k
+
+  pub additions_called : (here : State) (rows : List Field) (f : Field) (more : List Field) (n : ℕ) (now : List V) → SoFar Ran start all before here (addition_calls n (map row rows)) now → rows ≡ f ∷ more → CalledInTurn Ran start all (record { index = n; tag = f.tag }) here
+  additions_called here rows f more n now s e =
+      so_far_called Ran start all before here (record { index = n; tag = f.tag }) (addition_calls (suc n) (map row more)) now (subst (λ (z : List Field). SoFar Ran start all before here (addition_calls n (map row z)) now) e s)
 
   pub additions_done : (here : State) (rows : List Field) (n : ℕ) (now : List V) → SoFar Ran start all before here (addition_calls n (map row rows)) now → rows ≡ [] → (vs : List V) × RanInTurn Ran start all vs here × (now ≡ before ++ vs)
   additions_done here rows n now s e = so_far_done Ran start all before here now (subst (λ (z : List Field). SoFar Ran start all before here (addition_calls n (map row z)) now) e s)
 
 module _ {V : Type 0} (Ran : Call → State → Result V DecodeError → State → Type 0) where
-  pub either_front : (s : State) (cs ds : List Call) (e : DecodeError) → IsForMemory e ⊎ RefusedInTurn Ran s cs e → IsForMemory e ⊎ RefusedInTurn Ran s (cs ++ ds) e
+  pub either_front : {M : Type 0} → (s : State) (cs ds : List Call) (e : DecodeError) → M ⊎ RefusedInTurn Ran s cs e → M ⊎ RefusedInTurn Ran s (cs ++ ds) e
   either_front s cs ds e (inl m) = inl m
   either_front s cs ds e (inr r) = inr (refused_front Ran s cs ds e r)
 
-  pub either_append : (s : State) (cs : List Call) (vs : List V) (t : State) (ds : List Call) (e : DecodeError) → RanInTurn Ran s cs vs t → IsForMemory e ⊎ RefusedInTurn Ran t ds e → IsForMemory e ⊎ RefusedInTurn Ran s (cs ++ ds) e
+  pub either_append : {M : Type 0} → (s : State) (cs : List Call) (vs : List V) (t : State) (ds : List Call) (e : DecodeError) → RanInTurn Ran s cs vs t → M ⊎ RefusedInTurn Ran t ds e → M ⊎ RefusedInTurn Ran s (cs ++ ds) e
   either_append s cs vs t ds e r (inl m) = inl m
   either_append s cs vs t ds e r (inr k) = inr (refused_append Ran s cs vs t ds e r k)
 
@@ -176,6 +204,6 @@ set_opened_rear s extensible roots additions lent presence fits e =
     record { front = o.preamble; split = o.split ∙ ap (λ (t : State). o.preamble ++ t.input) (sym o.is) }
 
 pub refused_or_memory : {A V : Type 0} (Ran : Call → State → Result V DecodeError → State → Type 0) (Makes : List V → Result A DecodeError → Type 0) (extensible : Bool) (roots additions : List Row) (old lent : State) (bits : List Bool) (e : DecodeError) → set_opened_at old extensible roots additions ≡ Ok (lent, bits)
-    → IsForMemory e ⊎ RefusedInTurn Ran lent (set_calls roots additions bits) e → SetRefused Ran Makes extensible roots additions old e
+    → WantsMemory old e ⊎ RefusedInTurn Ran lent (set_calls roots additions bits) e → SetRefused Ran Makes extensible roots additions old e
 refused_or_memory Ran Makes extensible roots additions old lent bits e o (inl m) = NoMemory m
 refused_or_memory Ran Makes extensible roots additions old lent bits e o (inr r) = Stopped lent bits o r

@@ -83,8 +83,10 @@ module _ {B : Type 0} (tree : B → Tree) (IsPart : B → Type 0) where
   pub needed_passed : {A : Type 0} (s u : State) (answer : Result B DecodeError) (flow : _) (v : B) (g : Tag) (ps qs : Parts) (result : Result A DecodeError)
       → Decodes tree IsPart s answer u → answer ≡ result_from_control_flow flow → flow ≡ Continue v → Stops u ps qs result
       → Stops s (NeededPart g (Admits tree IsPart) ps) qs result
-  needed_passed s u answer flow v g ps qs (Ok w) d e f k = record { none = tt }
-  needed_passed s u answer flow v g ps qs (Err x) d e f k = record { none = λ m. read_refuses s u v g ps qs (at_ok (λ v. Reads tree IsPart s v u) answer flow v e f d.read) (k.none m) }
+  needed_passed s u answer flow v g ps qs (Ok w) d e f k = record { mode = tt; none = tt }
+  needed_passed s u answer flow v g ps qs (Err x) d e f k =
+      let r = at_ok (λ v. Reads tree IsPart s v u) answer flow v e f d.read in
+      record { mode = k.mode ∙ ap (λ (z : State). z.codec) r.rest; none = λ m. read_refuses s u v g ps qs r (k.none m) }
 
   pub needed_stops : {A : Type 0} (Q : DecodeError → Type 0) (s u : State) (answer : Result B DecodeError) (flow : _) (x : _) (g : Tag) (ps qs : Parts) (result : Result A DecodeError)
       → Decodes tree IsPart s answer u → answer ≡ result_from_control_flow flow → flow ≡ Break x → IsErrAnd result Q → ((y : DecodeError) → Q y → y ≡ x.0)
@@ -92,12 +94,12 @@ module _ {B : Type 0} (tree : B → Tree) (IsPart : B → Type 0) where
   needed_stops Q s u answer flow x g ps qs (Ok w) d e f h q = absurd h
   needed_stops Q s u answer flow x g ps qs (Err y) d e f h q =
       let n : RefusedBy tree IsPart x.0 s u = at_err (λ y. RefusedBy tree IsPart y s u) answer flow x e f d.refused in
-      record { none = λ m. refused_refuses s g ps qs (n.none (λ k. m (ap (λ (z : DecodeError). z.kind) (q y h) ∙ k))) }
+      record { mode = ap (λ (z : DecodeError). z.codec) (q y h) ∙ n.mode; none = λ m. refused_refuses s g ps qs (n.none (λ k. m (ap (λ (z : DecodeError). z.kind) (q y h) ∙ k))) }
 
 -- ---- the exits of a closure
 
 pub ends : {A : Type 0} (ps qs : Parts) (roots additions : A → Rows) (s : State) (v : A) (t : State) → Takes s ps qs (roots v) (additions v) t → ReadsParts ps qs roots additions s (Ok v) t
-ends ps qs roots additions s v t k = record { read = k; stops = record { none = tt } }
+ends ps qs roots additions s v t k = record { read = k; stops = record { mode = tt; none = tt } }
 
 pub leaves : {A : Type 0} (Q : DecodeError → Type 0) (ps qs : Parts) (roots additions : A → Rows) (s : State) (result : Result A DecodeError) (t : State) → IsErrAnd result Q → Stops s ps qs result → ReadsParts ps qs roots additions s result t
 leaves Q ps qs roots additions s (Ok v) t h k = absurd h

@@ -309,7 +309,7 @@ module _ {A : Type 0} (tree : A → Tree) (IsPart : A → Type 0) (Ran : State �
         let k = stands_count old o ws l in
         let a = along old rest before os end so_far.took l.stands.values l.read x l.stands.are_values l.stands.encoded h (omega (arith, few, c, k)) in
         refused_next old e end os l.read x bad m (next old end before l.stands.values os l.read x a (omega (arith, few, c, k))) l.few l.ordered
-    stopped old n rest e (NoMemory z) m o ws x l h c = m z
+    stopped old n rest e (NoMemory z) m o ws x l h c = m z.0
 
     unordered_refused : (old : State) (e : DecodeError) → UnorderedRefused Ran old e → (IsForMemory e → ⊥) → NoFront (list_of false tree) (EachValue IsPart) old
     unordered_refused old e (NotOpened x c) m ws o i f =
@@ -320,8 +320,21 @@ module _ {A : Type 0} (tree : A → Tree) (IsPart : A → Type 0) (Ran : State �
         let p = same_opened tree IsPart Ran promise is_tree n (length l.read) rest (joined l.read ++ f.rest) (list_opened_at old) x (opened_again old o f.rest ws f.split l) in
         stopped old n rest e s m o ws f.rest l p.1 p.0
 
+    next_mode : (old : State) (n : ℕ) (last q : Octets) (e : DecodeError) → NextRefused Ran old n last q e → e.codec ≡ old.codec
+    next_mode old n last q e (ElementRefused after ran) = (promise (lent_element old q) (Err e) after ran).refused.mode
+    next_mode old n last q e (TooManyEmpty _ _ _ _ _ is) = ap (λ (z : DecodeError). z.codec) is
+    next_mode old n last q e (OutOfOrder _ _ _ _ _ _ _ _ is) = ap (λ (z : DecodeError). z.codec) is
+
+    stopped_mode : (old : State) (n : ℕ) (rest : Octets) (e : DecodeError) → ElementsStopped Ran old n rest e → e.codec ≡ old.codec
+    stopped_mode old n rest e (AtNext _ elements end _ _ bad) = next_mode old (empties elements) (last_of elements) end e bad
+    stopped_mode old n rest e (NoMemory m) = m.1
+
+    unordered_mode : (old : State) (e : DecodeError) → UnorderedRefused Ran old e → e.codec ≡ old.codec
+    unordered_mode old e (NotOpened _ mode) = mode
+    unordered_mode old e (Stopped n rest _ s) = stopped_mode old n rest e s
+
     -- an unordered list whose elements keep the law of reading keeps it
     pub unordered_law : (old : State) (result : Result (List A) DecodeError) (new : State) → IfOk result (λ vs. UnorderedRead Ran old vs new) → IfErr result (λ e. UnorderedRefused Ran old e) → OnErr result (new ≡ old)
         → Decodes (list_of false tree) (EachValue IsPart) old result new
     unordered_law old (Ok vs) new k e u = record { read = unordered_read old vs new k; refused = tt }
-    unordered_law old (Err e) new k l u = record { read = tt; refused = record { same = u; none = unordered_refused old e l } }
+    unordered_law old (Err e) new k l u = record { read = tt; refused = record { same = u; mode = unordered_mode old e l; none = unordered_refused old e l } }

@@ -24,4 +24,4 @@ module _ {A B : Type 0} (content : B → A) (tree : A → Tree) (IsValue : A →
   pub wrapped_refused : (s t : State) (e : DecodeError) → Decodes tree IsValue s (Err e) t → Wrapped s (Err e) t
   wrapped_refused s t e d =
       let nothing = d.refused.none in
-      record { read = tt; refused = record { same = d.refused.same; none = λ m w o i f. nothing m (content w) o i f } }
+      record { read = tt; refused = record { same = d.refused.same; mode = d.refused.mode; none = λ m w o i f. nothing m (content w) o i f } }

@@ -79,7 +79,7 @@ module _ {A : Type 0} (tree : A → Tree) (IsValue : A → Type 0) (Answered : S
 
   -- The first that applies: the value is refused with that very error by its type; octets are left over, in canonical mode.
   pub data OpenRefused (e : DecodeError) : Type 0 where
-    Within : (after : State) → Answered (inside s content) (Err e) after → ((IsForMemory e → ⊥) → NoFront tree IsValue (inside s content)) → OpenRefused e
+    Within : (after : State) → Answered (inside s content) (Err e) after → e.codec ≡ s.codec → ((IsForMemory e → ⊥) → NoFront tree IsValue (inside s content)) → OpenRefused e
     LeftOver : (v : A) (after : State) → Reads tree IsValue (inside s content) v after → Answered (inside s content) (Ok v) after → after.input ≢ [] → s.codec ≡ Coer → e ≡ record { kind = NotValidCanonicalEncoding; codec = s.codec } → OpenRefused e
 
 -- ---- an addition

@@ -9,7 +9,7 @@ use Rattle.asn1_core.specs.declared.error.DecodeError.{DecodeError}
 use Rattle.asn1_core.specs.declared.error.DecodeErrorKind.{DecodeErrorKind}
 use Rattle.asn1_core.specs.declared.error.DecodeErrorKind.TheVariants.{OutOfMemory}
 use Rattle.oer_spec.specs.ReadingIntegers.{integer_at}
-use Rattle.oer_read.specs.Law.{IsForMemory}
+use Rattle.oer_read.specs.Law.{IsForMemory, WantsMemory}
 use Rattle.oer_read.specs.State.{State}
 
 -- A reader's answer is taken over: the value and what is left, or the refusal with the mode, and nothing else changed.
@@ -38,4 +38,4 @@ Refuses view codec (Err e) read = (read ≡ Err e.kind) × (e.codec ≡ codec)
 -- What is promised of a box: what its content's type promises, or memory was refused.
 abbrev pub BoxAnswers : {A B : Type 0} → (State → Result A DecodeError → State → Type 0) → (B → A) → State → Result B DecodeError → State → Type 0
 BoxAnswers Answered content old (Ok b) new = Answered old (Ok (content b)) new
-BoxAnswers Answered content old (Err e) new = IsForMemory e ⊎ Answered old (Err e) new
+BoxAnswers Answered content old (Err e) new = WantsMemory old e ⊎ Answered old (Err e) new

@@ -88,8 +88,9 @@ module _ {A : Type 0} (Ran : Tag → State → Result A DecodeError → State �
     pub read : IfOk result (λ v. ChoiceRead v new)
     pub refused : IfErr result (λ e. ChoiceRefused e)
 
--- The law of a closure that reads the alternative with that tag: such a value was read; or, unless memory was refused, no
--- encoding of what such a value holds begins what is left.
+-- The law of a closure that reads the alternative with that tag: such a value was read; or the error names the mode read in
+-- and, unless memory was refused, no encoding of what such a value holds begins what is left.
 pub record ReadsAlternative {A : Type 0} (child : A → Tree) (IsValue : A → Type 0) (tag_of : A → Tag) (g : Tag) (old : State) (result : Result A DecodeError) (new : State) : Type 0 where
   pub read : IfOk result (λ v. Reads child (λ w. IsValue w × (tag_of w ≡ g)) old v new)
+  pub mode : IfErr result (λ e. e.codec ≡ old.codec)
   pub none : IfErr result (λ e. (IsForMemory e → ⊥) → NoFront child (λ w. IsValue w × (tag_of w ≡ g)) old)

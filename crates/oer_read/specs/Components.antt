@@ -38,7 +38,7 @@ module _ {A : Type 0} (tree : A → Tree) (IsValue : A → Type 0) (Answered : S
   -- value is refused with that very error by its type.
   pub data AskRefused (e : DecodeError) : Type 0 where
     NotNext : ((b : Bool) (more : List Ask) → ◌≡◌ {A = List Ask} s.frame.asks (record { tag = g; bit = b } ∷ more) → ⊥) → e ≡ record { kind = missing g; codec = s.codec } → AskRefused e
-    Inside : (more : List Ask) → s.frame.asks ≡ record { tag = g; bit = true } ∷ more → (after : State) → Answered (asking s more) (Err e) after → ((IsForMemory e → ⊥) → NoFront tree IsValue (asking s more)) → AskRefused e
+    Inside : (more : List Ask) → s.frame.asks ≡ record { tag = g; bit = true } ∷ more → (after : State) → Answered (asking s more) (Err e) after → e.codec ≡ s.codec → ((IsForMemory e → ⊥) → NoFront tree IsValue (asking s more)) → AskRefused e
 
   -- An optional component: absent or read by its bit; a refusal changes nothing.
   pub record Asks (answer : Result (Option A) DecodeError) (t : State) : Type 0 where

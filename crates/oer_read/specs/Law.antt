@@ -1,6 +1,7 @@
 -- The law of a type that is read.
 use Rattle.std.specs.Prelude.{◌≡◌, ◌++◌, Result, IfOk, IfErr}
 use Rattle.asn1_core.specs.Octets.{Octets}
+use Rattle.asn1_core.specs.declared.codec.Codec.{Codec}
 use Rattle.asn1_core.specs.declared.error.DecodeError.{DecodeError}
 use Rattle.asn1_core.specs.declared.error.DecodeErrorKind.TheVariants.{OutOfMemory}
 use Rattle.oer_spec.specs.Encoding.{IsEncoding}
@@ -11,6 +12,13 @@ use Rattle.oer_read.specs.State.{State}
 -- an error that says that memory was refused
 abbrev pub IsForMemory : DecodeError → Type 0
 IsForMemory e = e.kind ≡ OutOfMemory
+
+-- the decoder's own error for want of memory, in the mode that it reads in
+abbrev pub WantsMemoryIn : Codec → DecodeError → Type 0
+WantsMemoryIn codec e = (e.kind ≡ OutOfMemory) × (e.codec ≡ codec)
+
+abbrev pub WantsMemory : State → DecodeError → Type 0
+WantsMemory s e = WantsMemoryIn s.codec e
 
 -- b is a rear part of a
 pub record IsRear (a b : Octets) : Type 0 where
@@ -37,9 +45,10 @@ module _ {A : Type 0} (tree : A → Tree) (IsValue : A → Type 0) where
   abbrev pub NoFront : State → Type 0
   NoFront old = (w : A) (o : Octets) → IsValue w → Fronts old o (tree w) → ⊥
 
-  -- Nothing changed, and unless memory was refused no encoding of a value begins what is left.
+  -- Nothing changed, the error names the mode read in, and unless memory was refused no encoding of a value begins what is left.
   pub record RefusedBy (e : DecodeError) (old new : State) : Type 0 where
     pub same : new ≡ old
+    pub mode : e.codec ≡ old.codec
     pub none : (IsForMemory e → ⊥) → NoFront old
 
   -- The law of reading: a value was read, or nothing changed and, unless for memory, no encoding of a value begins what is left.

@@ -7,7 +7,7 @@ use Rattle.asn1_core.specs.declared.error.DecodeError.{DecodeError}
 use Rattle.asn1_core.specs.declared.error.DecodeErrorKind.{DecodeErrorKind}
 use Rattle.asn1_core.specs.declared.error.DecodeErrorKind.TheVariants.{TooManyEmptyElements}
 use Rattle.oer_spec.specs.Reading.{◌>>◌, quantity_at}
-use Rattle.oer_read.specs.Law.{IsForMemory}
+use Rattle.oer_read.specs.Law.{WantsMemory}
 use Rattle.oer_read.specs.Scopes.{level_at}
 use Rattle.oer_read.specs.State.{State, closed}
 
@@ -60,7 +60,7 @@ module _ {A : Type 0} (Ran : State → Result A DecodeError → State → Type 0
     ElementRefused : (empties : ℕ) (end : Octets) (before : List A) (after : State) → length before < n → RanEach rest 0 before end empties → Ran (lent_element old end) (Err e) after → ElementsStopped n rest e
     TooManyEmpty : (empties : ℕ) (end : Octets) (before : List A) (after : State) (v : A) → length before < n → RanEach rest 0 before end empties → Ran (lent_element old end) (Ok v) after
         → 65536 < count_empty empties end after.input → e ≡ record { kind = TooManyEmptyElements; codec = old.codec } → ElementsStopped n rest e
-    NoMemory : IsForMemory e → ElementsStopped n rest e
+    NoMemory : WantsMemory old e → ElementsStopped n rest e
 
   -- The first that applies: no level is left or the quantity is refused; an element is.
   pub data ListRefused (e : DecodeError) : Type 0 where

@@ -97,8 +97,9 @@ pub record Takes (s : State) (ps qs : Parts) (r a : Rows) (t : State) : Type 0 w
 abbrev pub Refuses : State → Parts → Parts → Type 0
 Refuses s ps qs = (r a : Rows) (rest : Octets) → AreOf ps r → AreOf qs a → Comes s r a rest → ⊥
 
--- an error, unless it is for memory, says that rows of these parts don't come at s
+-- an error names the mode read in and, unless it is for memory, says that rows of these parts don't come at s
 pub record Stops {A : Type 0} (s : State) (ps qs : Parts) (result : Result A DecodeError) : Type 0 where
+  pub mode : IfErr result (λ e. e.codec ≡ s.codec)
   pub none : IfErr result (λ e. (IsForMemory e → ⊥) → Refuses s ps qs)
 
 -- The law of a closure that reads the components of a value.

@@ -12,7 +12,7 @@ use Rattle.asn1_core.specs.declared.fields.FieldPresence.{FieldPresence}
 use Rattle.asn1_core.specs.declared.tag.Tag.{Tag}
 use Rattle.oer_spec.specs.Reading.{◌>>=◌}
 use Rattle.oer_spec.specs.ReadingBits.{preamble_at}
-use Rattle.oer_read.specs.Law.{IsForMemory}
+use Rattle.oer_read.specs.Law.{WantsMemory}
 use Rattle.oer_read.specs.Scopes.{level_at, bits_for, extension_of, presence_of, closed_at}
 use Rattle.oer_read.specs.State.{Frame, State, places_of}
 
@@ -74,6 +74,10 @@ pub record FieldReturns {F V : Type 0} (g : Shared F (MutBor State × (ℕ × (T
   pub met : g.post f (shown, (c.index, (c.tag, tt))) (r, (left, tt))
   pub leaves : left.now ≡ t
 
+-- `decode_fn` may be called so, at a `&mut` to s
+abbrev pub FieldTakes : {F V : Type 0} → Shared F (MutBor State × (ℕ × (Tag × Unit {0}))) (Result V DecodeError × (MutBor State × Unit {0})) → F → Call → State → Type 0
+FieldTakes g f c s = (p : MutBor State) → p.now ≡ s → g.pre f (p, (c.index, (c.tag, tt)))
+
 -- `field_fn` may answer r of these components
 pub record FieldsMake {F V A : Type 0} (g : Once F (Vec V Global × Unit {0}) (Result A DecodeError)) (f : F) (fields : List V) (r : Result A DecodeError) : Type 0 where
   pub handed : Vec V Global
@@ -91,6 +95,18 @@ module _ {V : Type 0} (Ran : Call → State → Result V DecodeError → State �
   abbrev pub RefusedInTurn : State → List Call → DecodeError → Type 0
   RefusedInTurn s [] e = ⊥
   RefusedInTurn s (c ∷ cs) e = ((after : State) × Ran c s (Err e) after) ⊎ ((v : V) × (after : State) × Ran c s (Ok v) after × RefusedInTurn after cs e)
+
+  -- this call is the next at t, where those before it answered from s on
+  abbrev pub CalledInTurn : State → List Call → Call → State → Type 0
+  CalledInTurn s [] d t = ⊥
+  CalledInTurn s (c ∷ cs) d t = ((c ≡ d) × (s ≡ t)) ⊎ ((v : V) × (after : State) × Ran c s (Ok v) after × CalledInTurn after cs d t)
+
+-- What a set lends to a call of its closure: the decoder that the calls before it left.
+pub record SetLends {V : Type 0} (Ran : Call → State → Result V DecodeError → State → Type 0) (extensible : Bool) (roots additions : List Row) (old : State) (c : Call) (s : State) : Type 0 where
+  pub lent : State
+  pub bits : List Bool
+  pub opened : set_opened_at old extensible roots additions ≡ Ok (lent, bits)
+  pub called : CalledInTurn Ran lent (set_calls roots additions bits) c s
 
 -- ---- the set
 module _ {A V : Type 0} (Ran : Call → State → Result V DecodeError → State → Type 0) (Makes : List V → Result A DecodeError → Type 0) (extensible : Bool) (roots additions : List Row) (old : State) where
@@ -117,4 +133,4 @@ module _ {A V : Type 0} (Ran : Call → State → Result V DecodeError → State
         → closed_at after ≡ Err e.kind → e.codec ≡ old.codec → SetRefused e
     NotMade : (lent : State) (bits : List Bool) (fields : List V) (after : State) (rest : Octets) → set_opened_at old extensible roots additions ≡ Ok (lent, bits) → RanInTurn Ran lent (set_calls roots additions bits) fields after
         → closed_at after ≡ Ok rest → Makes fields (Err e) → SetRefused e
-    NoMemory : IsForMemory e → SetRefused e
+    NoMemory : WantsMemory old e → SetRefused e

@@ -5,6 +5,11 @@ use Rattle.asn1_core.specs.Rows.{Row, may_be_absent}
 use Rattle.asn1_core.specs.declared.codec.Codec.{Codec}
 use Rattle.asn1_core.specs.declared.tag.Tag.{Tag}
 
+-- how a decoder reads: the rules, and how many nested levels
+pub record Options : Type 0 where
+  pub codec : Codec
+  pub levels : ℕ
+
 -- an optional or default root row that is still to be asked, with its presence bit
 pub record Ask : Type 0 where
   pub tag : Tag

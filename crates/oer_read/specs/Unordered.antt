@@ -6,7 +6,7 @@ use Rattle.asn1_core.specs.declared.error.DecodeError.{DecodeError}
 use Rattle.asn1_core.specs.declared.error.DecodeErrorKind.TheVariants.{TooManyEmptyElements, NotValidCanonicalEncoding}
 use Rattle.oer_spec.specs.Encoding.{empties}
 use Rattle.oer_spec.specs.Orders.{octets_le, Ascends}
-use Rattle.oer_read.specs.Law.{IsForMemory}
+use Rattle.oer_read.specs.Law.{WantsMemory}
 use Rattle.oer_read.specs.Lists.{lent_element, list_opened_at}
 use Rattle.oer_read.specs.State.{State}
 
@@ -61,7 +61,7 @@ module _ {A : Type 0} (Ran : State → Result A DecodeError → State → Type 0
   -- After fewer elements than stated the next was refused; or memory was.
   pub data ElementsStopped (n : ℕ) (rest : Octets) (e : DecodeError) : Type 0 where
     AtNext : (before : List A) (elements : List Octets) (end : Octets) → length before < n → SoFar rest before elements end → NextRefused (empties elements) (last_of elements) end e → ElementsStopped n rest e
-    NoMemory : IsForMemory e → ElementsStopped n rest e
+    NoMemory : WantsMemory old e → ElementsStopped n rest e
 
   -- The first that applies: no level is left or the quantity is refused; an element is.
   pub data UnorderedRefused (e : DecodeError) : Type 0 where

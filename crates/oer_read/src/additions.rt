@@ -10,7 +10,6 @@ ghost use Rattle.oer_leaf_read.specs.Views.{bits_left};
 ghost use Rattle.oer_read.specs.Additions.{row_present, all_present, with_bitmap, bitmap_first, mapped_at, next_place, open_content, bits_now, addition_at, behind_place, inside, OpenRead, OpenRefused, Adds};
 ghost use Rattle.oer_read.specs.State.{places_of};
 
-use crate::de::DecoderOptions;
 use crate::decode::Decode;
 use crate::decoder::{Decoder, OpenScope};
 use crate::scopes::{missing, next_bit};
@@ -71,7 +70,8 @@ impl<'input> Decoder<'input> {
     {
         Decoder {
             input: rest,
-            options: self.options,
+            codec: self.codec,
+            levels: self.levels,
             scope: OpenScope {
                 is_set: self.scope.is_set,
                 roots: self.scope.roots,
@@ -93,8 +93,7 @@ impl<'input> Decoder<'input> {
             Some(bits) => Ok(self.with_bitmap(bits, self.input)),
             None if self.scope.extended => {
                 let (bits, rest): (BitSlice<'input>, &'input [u8]) = read_bitmap(
-                    self.options.codec,
-                    self.input,
+                    self.codec, self.input,
                 )?;
                 require_present(self.scope.additions, bits)?;
                 Ok(self.with_bitmap(bits, rest))
@@ -130,7 +129,8 @@ impl<'input> Decoder<'input> {
         };
         Decoder {
             input: rest,
-            options: self.options,
+            codec: self.codec,
+            levels: self.levels,
             scope: OpenScope {
                 is_set: self.scope.is_set,
                 roots: self.scope.roots,
@@ -179,7 +179,8 @@ impl<'input> Decoder<'input> {
     {
         Decoder {
             input: content,
-            options: self.options,
+            codec: self.codec,
+            levels: self.levels,
             scope: OpenScope::closed(),
         }
     }
@@ -271,7 +272,7 @@ impl<'input> Decoder<'input> {
         self.addition(alloc, Some(tag), tag, constraints)
     }
 
-    /// Reads an extension addition with an explicit prefix, which adds no octets (X.696, 26), as
+    /// Reads an extension addition with an explicit prefix, which adds no octets (X.696, 8.7), as
     /// `decode_extension_addition_with_tag_and_constraints` does.
     pub fn decode_extension_addition_with_explicit_tag_and_constraints<D: Decode>(
         &mut self,

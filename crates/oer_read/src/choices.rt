@@ -10,7 +10,6 @@ ghost use Rattle.oer_read.specs.Choices.{Chosen, chosen_of, place_at, lent_alter
 ghost use Rattle.oer_read.specs.Law.{Decodes, IsRear, Promised};
 ghost use Rattle.oer_read.specs.State.{State};
 
-use crate::de::DecoderOptions;
 use crate::decoder::{Decoder, OpenScope};
 use crate::scopes::one_level_less;
 use asn1_core::{Choice, Constraints, DecodeError, DecodeErrorKind, Tag};
@@ -46,10 +45,8 @@ impl<'input> Decoder<'input> {
     {
         Decoder {
             input,
-            options: DecoderOptions {
-                codec: self.options.codec,
-                levels,
-            },
+            codec: self.codec,
+            levels,
             scope: OpenScope::closed(),
         }
     }
@@ -63,15 +60,12 @@ impl<'input> Decoder<'input> {
         ensures octets { AreOctets self.now.input }
     {
         let input: &'input [u8] = self.remaining();
-        let levels = one_level_less(self.options.levels)?;
-        let (tag, rest): (Tag, &'input [u8]) = read_tag(self.options.codec, input)?;
+        let levels = one_level_less(self.levels)?;
+        let (tag, rest): (Tag, &'input [u8]) = read_tag(self.codec, input)?;
         if place::<D>(tag)? {
             return Ok((tag, self.alternative(levels, rest), None));
         }
-        let (content, behind): (&'input [u8], &'input [u8]) = read_content(
-            self.options.codec,
-            rest,
-        )?;
+        let (content, behind): (&'input [u8], &'input [u8]) = read_content(self.codec, rest)?;
         Ok((tag, self.alternative(levels, content), Some(behind)))
     }
 
@@ -86,7 +80,7 @@ impl<'input> Decoder<'input> {
         match behind {
             None => Ok(rest),
             Some(behind) => {
-                require_canonical(self.options.codec, !rest.is_empty())?;
+                require_canonical(self.codec, !rest.is_empty())?;
                 Ok(behind)
             }
         }

@@ -49,7 +49,8 @@ impl<'input> OpenScope<'input> {
 #[derive(Drop)]
 pub struct Decoder<'input> {
     pub(crate) input: &'input [u8],
-    pub(crate) options: DecoderOptions,
+    pub(crate) codec: Codec,
+    pub(crate) levels: usize,
     pub(crate) scope: OpenScope<'input>,
 }
 
@@ -59,7 +60,7 @@ impl<'input> Model for Decoder<'input> {
 
     ghost Value = { State };
 
-    ghost view = { λ d. record { input = d.input.now; codec = d.options.codec; levels = d.options.levels; frame = frame_of d.scope } };
+    ghost view = { λ d. record { input = d.input.now; codec = d.codec; levels = d.levels; frame = frame_of d.scope } };
 }
 
 impl<'input> Decoder<'input> {
@@ -69,7 +70,8 @@ impl<'input> Decoder<'input> {
     {
         Decoder {
             input,
-            options,
+            codec: options.codec(),
+            levels: options.levels(),
             scope: OpenScope::closed(),
         }
     }
@@ -94,14 +96,14 @@ impl<'input> Decoder<'input> {
     pub fn codec(&self) -> Codec
         ensures { result ≡ self.now.codec }
     {
-        self.options.codec
+        self.codec
     }
 
     /// How many levels of nesting are left: sequences, sets, lists and choices count one each.
     pub fn levels(&self) -> usize
         ensures { result ≡ self.now.levels }
     {
-        self.options.levels
+        self.levels
     }
 
     /// Goes on with these octets.
@@ -117,7 +119,7 @@ impl<'input> Decoder<'input> {
     {
         DecodeError {
             kind,
-            codec: self.options.codec,
+            codec: self.codec,
         }
     }
 
@@ -133,10 +135,7 @@ impl<'input> Decoder<'input> {
                 self.input = rest;
                 Ok(value)
             }
-            Err(kind) => Err(DecodeError {
-                kind,
-                codec: self.options.codec,
-            }),
+            Err(kind) => Err(self.refusal(kind)),
         }
     }
 }

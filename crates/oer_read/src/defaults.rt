@@ -16,7 +16,8 @@ impl<'input> Decoder<'input> {
     {
         Decoder {
             input: self.input,
-            options: self.options,
+            codec: self.codec,
+            levels: self.levels,
             scope: self.scope,
         }
     }

@@ -4,12 +4,11 @@ ghost use Rattle.std.specs.Prelude.{◌≡◌, ℕ, ◌+◌, ◌<◌, ◌≤◌,
 ghost use Rattle.asn1_core.specs.Octets.{Octets, AreOctets};
 ghost use Rattle.oer_spec.specs.Reading.{Gives};
 ghost use Rattle.oer_spec.specs.Spelled.{EachValue, list_of};
-ghost use Rattle.oer_read.specs.Law.{Decodes, IsForMemory, IsRear, Promised};
+ghost use Rattle.oer_read.specs.Law.{Decodes, IsRear, Promised, WantsMemory};
 ghost use Rattle.oer_spec.specs.Elements.{TakesOctets};
 ghost use Rattle.oer_read.specs.Lists.{lent_element, list_opened_at, count_empty, FnTakesAtMut, FnReturnsAtMut, RanEach, ListRead, ElementsStopped, ListRefused, ListAnswers};
 ghost use Rattle.oer_read.specs.State.{State};
 
-use crate::de::DecoderOptions;
 use crate::decode::Decode;
 use crate::decoder::{Decoder, OpenScope};
 use crate::scopes::one_level_less;
@@ -29,8 +28,8 @@ impl<'input> Decoder<'input> {
         ensures octets { AreOctets self.now.input }
     {
         let input: &'input [u8] = self.remaining();
-        one_level_less(self.options.levels)?;
-        let (quantity, rest) = read_quantity(self.options.codec, input)?;
+        one_level_less(self.levels)?;
+        let (quantity, rest) = read_quantity(self.codec, input)?;
         Ok((quantity, rest))
     }
 
@@ -41,17 +40,15 @@ impl<'input> Decoder<'input> {
     {
         Decoder {
             input: rest,
-            options: DecoderOptions {
-                codec: self.options.codec,
-                levels: self.options.levels - 1,
-            },
+            codec: self.codec,
+            levels: self.levels - 1,
             scope: OpenScope::closed(),
         }
     }
 
     /// A refusal of memory.
     pub(crate) fn want_of_memory(&self) -> DecodeError
-        ensures { IsForMemory result }
+        ensures { WantsMemory self.now result }
     {
         self.refusal(DecodeErrorKind::OutOfMemory)
     }
@@ -166,8 +163,8 @@ impl<'input> Decoder<'input> {
 
 impl<'input> Decoder<'input> {
     /// Reads a SEQUENCE OF (X.696, 17) of the type's own elements, as `decode_sequence_of_with` does; an element is refused
-    /// with the very error that its type answers. Where no element takes zero octets, there are at most as many elements as
-    /// octets that were read.
+    /// with the very error that its type answers. Where each encoding of an element has octets, there are at most as many
+    /// elements as octets that were read.
     pub fn decode_sequence_of<D: Decode>(
         &mut self,
         alloc: Global,

@@ -29,7 +29,8 @@ impl<'input> Decoder<'input> {
                         bit,
                         Decoder {
                             input: self.input,
-                            options: self.options,
+                            codec: self.codec,
+                            levels: self.levels,
                             scope: OpenScope {
                                 is_set: self.scope.is_set,
                                 roots,
@@ -53,7 +54,8 @@ impl<'input> Decoder<'input> {
         ensures { self.new ≡ other.entry }
     {
         self.input = other.input;
-        self.options = other.options;
+        self.codec = other.codec;
+        self.levels = other.levels;
         self.scope = other.scope;
     }
 
@@ -121,7 +123,7 @@ impl<'input> Decoder<'input> {
         self.decode_optional_with_tag_and_constraints(alloc, D::TAG, constraints)
     }
 
-    /// Reads an optional component with an explicit prefix, which adds no octets (X.696, 26), as
+    /// Reads an optional component with an explicit prefix, which adds no octets (X.696, 8.7), as
     /// `decode_optional_with_tag` does.
     pub fn decode_optional_with_explicit_prefix<D: Decode>(
         &mut self,
@@ -133,7 +135,7 @@ impl<'input> Decoder<'input> {
         self.decode_optional_with_tag(alloc, tag)
     }
 
-    /// Reads a value with an explicit prefix, which adds no octets (X.696, 26): as without it.
+    /// Reads a value with an explicit prefix, which adds no octets (X.696, 8.7): as without it.
     pub fn decode_explicit_prefix<D: Decode>(
         &mut self,
         alloc: Global,

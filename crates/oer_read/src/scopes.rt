@@ -12,7 +12,6 @@ ghost use Rattle.oer_read.specs.Law.{IsRear};
 ghost use Rattle.oer_read.specs.Scopes.{level_at, bits_for, extension_of, presence_of, opened_at, closed_at, all_asked, unknown_at, missing, SequenceRead, SequenceRefused};
 ghost use Rattle.oer_read.specs.State.{State, asks_of, marked_count, places_of};
 
-use crate::de::DecoderOptions;
 use crate::decoder::{Decoder, OpenScope};
 use asn1_core::{Constructed, DecodeError, DecodeErrorKind, Field, FieldPresence, Tag};
 use oer_leaf_read::{BitSlice, read_bitmap, read_preamble, skip_additions};
@@ -112,7 +111,7 @@ impl<'input> Decoder<'input> {
         ensures octets { AreOctets self.now.input }
     {
         let input: &'input [u8] = self.remaining();
-        let levels = one_level_less(self.options.levels)?;
+        let levels = one_level_less(self.levels)?;
         let (bits, rest): (BitSlice<'input>, &'input [u8]) = read_preamble(
             bits_for(extensible, roots),
             input,
@@ -120,10 +119,8 @@ impl<'input> Decoder<'input> {
         let (extended, presence): (bool, BitSlice<'input>) = split_extension(extensible, bits);
         Ok(Decoder {
             input: rest,
-            options: DecoderOptions {
-                codec: self.options.codec,
-                levels,
-            },
+            codec: self.codec,
+            levels,
             scope: OpenScope {
                 is_set: false,
                 roots,
@@ -170,10 +167,10 @@ impl<'input> Decoder<'input> {
         ensures { Gives (λ x. x.now) result (unknown_at self.now) }
     {
         match self.scope.bitmap {
-            Some(bits) => skip_additions(self.options.codec, bits, self.input),
+            Some(bits) => skip_additions(self.codec, bits, self.input),
             None if self.scope.extended => {
-                let (bits, rest) = read_bitmap(self.options.codec, self.input)?;
-                skip_additions(self.options.codec, bits, rest)
+                let (bits, rest) = read_bitmap(self.codec, self.input)?;
+                skip_additions(self.codec, bits, rest)
             }
             None => Ok(self.input),
         }

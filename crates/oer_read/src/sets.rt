@@ -6,15 +6,14 @@ ghost use Rattle.asn1_core.specs.Rows.{row};
 ghost use Rattle.asn1_core.specs.Tables.{canonised_rest};
 ghost use Rattle.oer_spec.specs.Reading.{Gives};
 ghost use Rattle.oer_leaf_read.specs.Views.{bits_left};
-ghost use Rattle.oer_read.specs.Law.{IsForMemory, IsRear};
-ghost use Rattle.oer_read.specs.Sets.{Call, is_there, bits_behind, root_calls, addition_calls, set_calls, set_opened_at, FieldReturns, FieldsMake, RanInTurn, RefusedInTurn, SetRead, SetRefused};
+ghost use Rattle.oer_read.specs.Law.{IsRear, WantsMemoryIn};
+ghost use Rattle.oer_read.specs.Sets.{Call, is_there, bits_behind, root_calls, addition_calls, set_calls, set_opened_at, FieldReturns, FieldTakes, FieldsMake, RanInTurn, RefusedInTurn, CalledInTurn, SetLends, SetRead, SetRefused};
 ghost use Rattle.oer_read.specs.State.{State};
 
-use crate::de::DecoderOptions;
 use crate::decoder::{Decoder, OpenScope};
 use crate::scopes::{bits_for, next_bit, one_level_less, split_extension};
 use asn1_core::{
-    Canonised, Constructed, DecodeError, DecodeErrorKind, Field, FieldPresence, Fields, Tag,
+    Canonised, Codec, Constructed, DecodeError, DecodeErrorKind, Field, FieldPresence, Fields, Tag,
 };
 use oer_leaf_read::{BitSlice, read_preamble};
 use std::alloc::Global;
@@ -30,25 +29,26 @@ fn take_presence(presence: FieldPresence, bits: BitSlice<'_>) -> (bool, BitSlice
     }
 }
 
-/// Reads one component, and puts it to the others.
+/// Reads one component, and puts it to the others; want of memory is answered in the mode that the set is read in.
 fn read_field<V, D>(
     inner: &mut Decoder<'_>,
     index: usize,
     tag: Tag,
     decode_fn: &D,
     fields: &mut Vec<V>,
+    codec: Codec,
 ) -> Result<(), DecodeError>
 where
     V: Drop,
     D: Fn(&mut Decoder<'_>, usize, Tag) -> Result<V, DecodeError>,
-    requires callable { D.IsAlwaysCallable decode_fn.now }
+    requires callable { FieldTakes D.Fn decode_fn.now (record { index = index; tag = tag }) inner.old }
     ensures ok { OnOk result ((v : V) × FieldReturns D.Fn decode_fn.now (record { index = index; tag = tag }) inner.old (Ok v) inner.new × (fields.new.items ≡ fields.old.items ++ v ∷ [])) }
-    ensures err { IfErr result (λ e. IsForMemory e ⊎ ((after : State) × FieldReturns D.Fn decode_fn.now (record { index = index; tag = tag }) inner.old (Err e) after)) }
+    ensures err { IfErr result (λ e. WantsMemoryIn codec e ⊎ ((after : State) × FieldReturns D.Fn decode_fn.now (record { index = index; tag = tag }) inner.old (Err e) after)) }
 {
     match decode_fn(inner, index, tag) {
         Err(e) => Err(e),
         Ok(value) => match fields.push(value) {
-            Err(_) => Err(inner.want_of_memory()),
+            Err(_) => Err(DecodeErrorKind::OutOfMemory.with_codec(codec)),
             Ok(()) => Ok(()),
         },
     }
@@ -61,13 +61,14 @@ fn read_roots<V, D>(
     presence: BitSlice<'_>,
     decode_fn: &D,
     fields: &mut Vec<V>,
+    codec: Codec,
 ) -> Result<(), DecodeError>
 where
     V: Drop,
     D: Fn(&mut Decoder<'_>, usize, Tag) -> Result<V, DecodeError>,
-    requires callable { D.IsAlwaysCallable decode_fn.now }
+    requires callable { (c : Call) (s : State) → CalledInTurn (FieldReturns D.Fn decode_fn.now) inner.old (root_calls (map row (canonised_rest rows)) (bits_left presence)) c s → FieldTakes D.Fn decode_fn.now c s }
     ensures ok { OnOk result ((vs : List V) × RanInTurn (FieldReturns D.Fn decode_fn.now) inner.old (root_calls (map row (canonised_rest rows)) (bits_left presence.entry)) vs inner.new × (fields.new.items ≡ fields.old.items ++ vs)) }
-    ensures err { IfErr result (λ e. IsForMemory e ⊎ RefusedInTurn (FieldReturns D.Fn decode_fn.now) inner.old (root_calls (map row (canonised_rest rows)) (bits_left presence.entry)) e) }
+    ensures err { IfErr result (λ e. WantsMemoryIn codec e ⊎ RefusedInTurn (FieldReturns D.Fn decode_fn.now) inner.old (root_calls (map row (canonised_rest rows)) (bits_left presence.entry)) e) }
 {
     let mut rows = rows;
     let mut bits = presence;
@@ -75,7 +76,14 @@ where
         let (is_there, rest) = take_presence(field.presence, bits);
         bits = rest;
         if is_there {
-            read_field(&mut *inner, field.index, field.tag, decode_fn, &mut *fields)?;
+            read_field(
+                &mut *inner,
+                field.index,
+                field.tag,
+                decode_fn,
+                &mut *fields,
+                codec,
+            )?;
         }
     }
     Ok(())
@@ -88,18 +96,26 @@ fn read_additions<V, D>(
     additions: &[Field<'_>],
     decode_fn: &D,
     fields: &mut Vec<V>,
+    codec: Codec,
 ) -> Result<(), DecodeError>
 where
     V: Drop,
     D: Fn(&mut Decoder<'_>, usize, Tag) -> Result<V, DecodeError>,
-    requires callable { D.IsAlwaysCallable decode_fn.now }
+    requires callable { (c : Call) (s : State) → CalledInTurn (FieldReturns D.Fn decode_fn.now) inner.old (addition_calls first (map row additions.now)) c s → FieldTakes D.Fn decode_fn.now c s }
     requires fits { first + length additions.now < 2 ^ 64 }
     ensures ok { OnOk result ((vs : List V) × RanInTurn (FieldReturns D.Fn decode_fn.now) inner.old (addition_calls first (map row additions.now)) vs inner.new × (fields.new.items ≡ fields.old.items ++ vs)) }
-    ensures err { IfErr result (λ e. IsForMemory e ⊎ RefusedInTurn (FieldReturns D.Fn decode_fn.now) inner.old (addition_calls first (map row additions.now)) e) }
+    ensures err { IfErr result (λ e. WantsMemoryIn codec e ⊎ RefusedInTurn (FieldReturns D.Fn decode_fn.now) inner.old (addition_calls first (map row additions.now)) e) }
 {
     let mut index = first;
     for field in additions {
-        read_field(&mut *inner, index, field.tag, decode_fn, &mut *fields)?;
+        read_field(
+            &mut *inner,
+            index,
+            field.tag,
+            decode_fn,
+            &mut *fields,
+            codec,
+        )?;
         index += 1;
     }
     Ok(())
@@ -113,20 +129,21 @@ fn read_fields<const RC: usize, V, D>(
     presence: BitSlice<'_>,
     additions: &[Field<'_>],
     decode_fn: &D,
+    codec: Codec,
 ) -> Result<Vec<V>, DecodeError>
 where
     V: Drop,
     D: Fn(&mut Decoder<'_>, usize, Tag) -> Result<V, DecodeError>,
-    requires callable { D.IsAlwaysCallable decode_fn.now }
+    requires callable { (c : Call) (s : State) → CalledInTurn (FieldReturns D.Fn decode_fn.now) inner.old (set_calls (map row roots.now) (map row additions.now) (bits_left presence)) c s → FieldTakes D.Fn decode_fn.now c s }
     ensures ok { IfOk result (λ vs. RanInTurn (FieldReturns D.Fn decode_fn.now) inner.old (set_calls (map row roots.now) (map row additions.now) (bits_left presence.entry)) vs.items inner.new) }
-    ensures err { IfErr result (λ e. IsForMemory e ⊎ RefusedInTurn (FieldReturns D.Fn decode_fn.now) inner.old (set_calls (map row roots.now) (map row additions.now) (bits_left presence.entry)) e) }
+    ensures err { IfErr result (λ e. WantsMemoryIn codec e ⊎ RefusedInTurn (FieldReturns D.Fn decode_fn.now) inner.old (set_calls (map row roots.now) (map row additions.now) (bits_left presence.entry)) e) }
 {
     let rows: Canonised = Fields::<RC> { fields: roots }.canonised();
     let first = roots.len();
     let _size = additions.len();
     let mut fields = Vec::new(alloc);
-    read_roots(&mut *inner, rows, presence, decode_fn, &mut fields)?;
-    read_additions(&mut *inner, first, additions, decode_fn, &mut fields)?;
+    read_roots(&mut *inner, rows, presence, decode_fn, &mut fields, codec)?;
+    read_additions(&mut *inner, first, additions, decode_fn, &mut fields, codec)?;
     Ok(fields)
 }
 
@@ -143,7 +160,7 @@ impl<'input> Decoder<'input> {
         ensures octets { AreOctets self.now.input }
     {
         let input: &'input [u8] = self.remaining();
-        let levels = one_level_less(self.options.levels)?;
+        let levels = one_level_less(self.levels)?;
         let (bits, rest): (BitSlice<'input>, &'input [u8]) = read_preamble(
             bits_for(extensible, roots),
             input,
@@ -152,10 +169,8 @@ impl<'input> Decoder<'input> {
         Ok((
             Decoder {
                 input: rest,
-                options: DecoderOptions {
-                    codec: self.options.codec,
-                    levels,
-                },
+                codec: self.codec,
+                levels,
                 scope: OpenScope {
                     is_set: true,
                     roots: &[],
@@ -195,10 +210,10 @@ impl<'input> Decoder<'input> {
         SET: Constructed<RC, EC> + Drop,
         D: Fn(&mut Decoder<'_>, usize, Tag) -> Result<FIELDS, DecodeError>,
         F: FnOnce(Vec<FIELDS>) -> Result<SET, DecodeError>,
-        requires callable { D.IsAlwaysCallable decode_fn }
+        requires callable { (c : Call) (s : State) → SetLends (FieldReturns D.Fn decode_fn) SET.IS_EXTENSIBLE SET.root_rows SET.addition_rows self.old c s → FieldTakes D.Fn decode_fn c s }
         requires makes { F.IsAlwaysCallable field_fn }
         // what the closure leaves is a rear part of what it was lent
-        requires keeps { (c : Call) (s after : State) (v : _) → FieldReturns D.Fn decode_fn c s (Ok v) after → IsRear s.input after.input }
+        requires keeps { (c : Call) (s after : State) (v : _) → SetLends (FieldReturns D.Fn decode_fn) SET.IS_EXTENSIBLE SET.root_rows SET.addition_rows self.old c s → FieldReturns D.Fn decode_fn c s (Ok v) after → IsRear s.input after.input }
         ensures read { IfOk result (λ v. SetRead (FieldReturns D.Fn decode_fn) (FieldsMake F.FnOnce field_fn) SET.IS_EXTENSIBLE SET.root_rows SET.addition_rows self.old v self.new) }
         ensures refused { IfErr result (λ e. SetRefused (FieldReturns D.Fn decode_fn) (FieldsMake F.FnOnce field_fn) SET.IS_EXTENSIBLE SET.root_rows SET.addition_rows self.old e) }
         ensures unchanged { OnErr result (self.new ≡ self.old) }
@@ -210,7 +225,7 @@ impl<'input> Decoder<'input> {
             Err(kind) => Err(self.refusal(kind)),
             Ok((mut inner, presence)) => {
                 match read_fields::<RC, FIELDS, D>(
-                    alloc, &mut inner, roots, presence, additions, &decode_fn,
+                    alloc, &mut inner, roots, presence, additions, &decode_fn, self.codec(),
                 ) {
                     Err(e) => Err(e),
                     Ok(fields) => match inner.close() {

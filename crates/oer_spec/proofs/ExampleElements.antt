@@ -1,4 +1,5 @@
 -- Times and strings of a fixed size take octets.
+use Rattle.std.proofs.lemmas.Bool.{not-false}
 use Rattle.std.proofs.Common.{◌≡◌, ◌≢◌, ℕ, ◌<◌, ◌/◌, true, false, List, [], ◌∷◌, length, refl, sym, ap, ◌∙◌, arith, Option, Some, None}
 use Rattle.asn1_core.specs.Bounds.{fixed_size, size_bounds, size_fits}
 use Rattle.asn1_core.specs.Octets.{Octets}
@@ -13,7 +14,7 @@ use Rattle.oer_spec.specs.Spelled.{IsTextOf, day_fields, moment_fields, text, ti
 use Rattle.oer_spec.specs.TimeTexts.{time_content}
 use Rattle.oer_spec.specs.Tree.{Content, Written}
 use Rattle.oer_spec.proofs.Nil.{behind_form_some}
-use Rattle.oer_spec.proofs.UniqueLeaves.{fixed_count, not-false}
+use Rattle.oer_spec.proofs.UniqueLeaves.{fixed_count}
 
 time_takes : (t : Option Octets) (fields : List ℕ) (m : Mode) (o : Octets) → IsText m o None (time_content t fields) → o ≢ []
 time_takes (Some c) fields m [] f e = let h : true ≡ false = behind_form_some m [] c f in absurd cc

@@ -1,10 +1,10 @@
 -- Kinds of refusal in writing, as failures of trees.
-use Rattle.std.specs.Prelude.{◌≡◌, ◌/◌, true, cond, length, Option, Some, None}
+use Rattle.std.specs.Prelude.{◌≡◌, ℕ, ◌/◌, true, cond, ◌⊎◌, length, Option, Some, None}
 use Rattle.asn1_core.specs.declared.error.EncodeErrorKind.{EncodeErrorKind}
 use Rattle.asn1_core.specs.declared.error.EncodeErrorKind.TheVariants.{ValueConstraintNotSatisfied, SizeConstraintNotSatisfied, InvalidObjectIdentifier, TimeNotRepresentable, TooManyEmptyElements, LengthExceedsPlatformSize, OutOfMemory}
 use Rattle.oer_spec.specs.Encoding.{fails}
 use Rattle.oer_spec.specs.Leaves.{Failure, BadValue, BadSize, BadIdentifier, BadTime, TooManyEmpty, TooLong, leaf_fails, unit_of}
-use Rattle.oer_spec.specs.Tree.{Written, Civil, Leaf, Int, Bits, Text, Tree}
+use Rattle.oer_spec.specs.Tree.{Written, Civil, Leaf, Int, Bits, Text, Tree, Primitive, Struct, ListOf, Choice, Rows, NoRows, Required, Optional, Default, Slot, Absent, Present, Trees, NoTrees, More}
 
 -- the failure that a kind names; none where memory was refused
 abbrev pub failure_of : EncodeErrorKind → Option Failure
@@ -16,10 +16,6 @@ failure_of TooManyEmptyElements = Some TooManyEmpty
 failure_of LengthExceedsPlatformSize = Some TooLong
 failure_of OutOfMemory = None
 
--- The tree can't be written, and the kind says why.
-abbrev pub Fails : Tree → EncodeErrorKind → Type 0
-Fails t kind = (k : Failure) × (failure_of kind ≡ Some k) × (fails t k ≡ true)
-
 -- Why a leaf can't be written: a size before a length.
 abbrev pub first_failure : Leaf → Option EncodeErrorKind
 first_failure (Int r n) = cond (leaf_fails (Int r n) BadValue) (Some ValueConstraintNotSatisfied) (cond (leaf_fails (Int r n) TooLong) (Some LengthExceedsPlatformSize) None)
@@ -29,3 +25,29 @@ first_failure (Text r s (Written c)) =
     (cond (leaf_fails (Text r s (Written c)) TooLong) (Some LengthExceedsPlatformSize) None)
 first_failure (Text r s (Civil fields)) = Some TimeNotRepresentable
 first_failure _ = None
+
+-- some leaf of the tree has this size, and its constraint doesn't allow it
+unfoldable mutual
+  pub SizeFails : Tree → ℕ → Type 0
+  SizeFails (Primitive l) n = first_failure l ≡ Some (SizeConstraintNotSatisfied n)
+  SizeFails (Struct set extensible r a) n = RowsSizeFails r n ⊎ RowsSizeFails a n
+  SizeFails (ListOf ordered ts) n = TreesSizeFails ts n
+  SizeFails (Choice roots additions g t) n = SizeFails t n
+
+  pub RowsSizeFails : Rows → ℕ → Type 0
+  RowsSizeFails NoRows n = ⊥
+  RowsSizeFails (Required g t r) n = SizeFails t n ⊎ RowsSizeFails r n
+  RowsSizeFails (Optional g s r) n = SlotSizeFails s n ⊎ RowsSizeFails r n
+  RowsSizeFails (Default g u s r) n = SlotSizeFails s n ⊎ RowsSizeFails r n
+
+  pub SlotSizeFails : Slot → ℕ → Type 0
+  SlotSizeFails Absent n = ⊥
+  SlotSizeFails (Present t) n = SizeFails t n
+
+  pub TreesSizeFails : Trees → ℕ → Type 0
+  TreesSizeFails NoTrees n = ⊥
+  TreesSizeFails (More t ts) n = SizeFails t n ⊎ TreesSizeFails ts n
+
+-- The tree can't be written, and the kind says why; a size that it names is that of a leaf whose constraint doesn't allow it.
+abbrev pub Fails : Tree → EncodeErrorKind → Type 0
+Fails t kind = (k : Failure) × (failure_of kind ≡ Some k) × (fails t k ≡ true) × ((n : ℕ) → kind ≡ SizeConstraintNotSatisfied n → SizeFails t n)

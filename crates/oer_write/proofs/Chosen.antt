@@ -8,7 +8,7 @@ use Rattle.asn1_core.specs.declared.error.EncodeError.{EncodeError}
 use Rattle.asn1_core.specs.declared.error.EncodeErrorKind.{EncodeErrorKind}
 use Rattle.asn1_core.specs.declared.tag.Tag.{Tag}
 use Rattle.oer_spec.specs.Encoding.{fails, open_fails, canonical_octets, IsEncodable}
-use Rattle.oer_spec.specs.Failures.{Fails}
+use Rattle.oer_spec.specs.Failures.{Fails, SizeFails}
 use Rattle.oer_spec.specs.Leaves.{Failure, BadValue, BadSize, BadIdentifier, BadTime, TooManyEmpty, TooLong}
 use Rattle.oer_spec.specs.Lengths.{tag_octets}
 use Rattle.oer_spec.specs.Places.{choice_octets}
@@ -43,8 +43,8 @@ unfolding canonical_octets
 choice_octets_are roots additions tag t content same = ap (λ (o : Octets). choice_octets roots tag o) same
 
 alternative_fails : (roots additions : List Tag) (tag : Tag) (t : Tree) (k : EncodeErrorKind) → Fails t k → Fails (Choice roots additions tag t) k
-unfolding fails
-alternative_fails roots additions tag t k f = (f.0, f.1, or_left _ _ f.2)
+unfolding fails SizeFails
+alternative_fails roots additions tag t k f = (f.0, f.1, or_left _ _ f.2, f.3)
 
 -- a closure that writes the alternative's tree: the choice is written
 pub choice_done : (picks : Picks) (roots additions : List Tag) (tag : Tag) (t : Tree) (old new : Written) → IsKnownToPick picks tag t → ChoiceDone picks (holds roots tag) tag old new → Encodes (Choice roots additions tag t) old new
@@ -57,12 +57,13 @@ choice_done picks roots additions tag t old new known h =
     }
 
 -- and where the choice refuses, it does so by the law
-pub choice_refused : (picks : Picks) (roots additions : List Tag) (tag : Tag) (t : Tree) (old new : Written) (x : EncodeError) → IsKnownToPick picks tag t → ChoiceBroken picks x old new → Refused (Choice roots additions tag t) x.kind old new
+pub choice_refused : (picks : Picks) (roots additions : List Tag) (tag : Tag) (t : Tree) (old new : Written) (x : EncodeError) → IsKnownToPick picks tag t → ChoiceBroken picks x old new → Refused (Choice roots additions tag t) x old new
 choice_refused picks roots additions tag t old new x known h = record {
   reason = elim h.reason [
-    | inl m ↦ inl m
+    | inl m ↦ inl m.0
     | inr c ↦ elim (known _ _ _ c.ran).reason [ inl m ↦ inl m | inr f ↦ inr (alternative_fails roots additions tag t x.kind f) ]
   ];
+  mode = elim h.reason [ inl m ↦ m.1 | inr c ↦ (known _ _ _ c.ran).mode ];
   keeps = h.keeps;
 }
 

@@ -1,8 +1,9 @@
 -- The elements of an unordered list, one after the other, and the tree of the whole.
-use Rattle.std.proofs.Common.{◌≡◌, ℕ, suc, ◌+◌, ◌^◌, ◌<◌, Bool, true, false, cond, List, [], ◌∷◌, ◌++◌, length, take, get_or, map, refl, ap, ap₂, sym, ◌∙◌, subst, arith, ◌⊎◌, inl, inr}
+use Rattle.std.proofs.Common.{◌≡◌, ℕ, suc, ◌+◌, ◌^◌, ◌<◌, false, cond, List, [], ◌∷◌, ◌++◌, length, take, drop, get_or, map, refl, ap, ap₂, sym, ◌∙◌, arith, ◌⊎◌, inl, inr}
 use Rattle.std.proofs.lemmas.List.{take_more}
 use Rattle.asn1_core.specs.Octets.{Octets, joined}
-use Rattle.asn1_core.specs.declared.error.EncodeErrorKind.{EncodeErrorKind}
+use Rattle.asn1_core.specs.declared.codec.Codec.TheVariants.{Coer}
+use Rattle.asn1_core.specs.declared.error.EncodeError.{EncodeError}
 use Rattle.asn1_core.specs.declared.error.EncodeErrorKind.TheVariants.{OutOfMemory}
 use Rattle.oer_spec.specs.Encoding.{IsEncodable, canonical_octets, canonical_elements, empties, fails, trees_fail}
 use Rattle.oer_spec.specs.Failures.{Fails}
@@ -14,11 +15,11 @@ use Rattle.oer_spec.specs.Spelled.{EachValue, trees_of, list_of}
 use Rattle.oer_spec.specs.Tree.{Tree, ListOf}
 use Rattle.oer_spec.proofs.Lists.{Reorders-length}
 use Rattle.oer_spec.proofs.Sorted.{sorted_mixed}
-use Rattle.oer_write.specs.Lists.{is_nil}
+use Rattle.oer_write.specs.Lists.{is_nil, IsByFirst}
 use Rattle.oer_write.specs.Scopes.{Runs}
 use Rattle.oer_write.specs.Unordered.{Gathered, OneMore, OneRefused, IsSameInAnyWalk}
 use Rattle.oer_write.specs.Written.{Written, append, Encodes}
-use Rattle.oer_write.proofs.Elements.{element_fails, many_fail, empties_front, empties_push, list_encodable}
+use Rattle.oer_write.proofs.Elements.{cut_at, nil_of, by_first, empties_push, list_encodable}
 use Rattle.oer_write.proofs.Items.{or_false}
 
 each_push : {E : Type 0} (P : E → Type 0) (xs : List E) (x : E) → EachValue P xs → P x → EachValue P (xs ++ x ∷ [])
@@ -52,22 +53,28 @@ module _ {E : Type 0} (tree : E → Tree) where
         few = w.few;
       })
 
-  full : (xs : List E) (i : ℕ) (x : E) (contents : List Octets) (count : ℕ) → i < length xs → x ≡ get_or xs i x → contents ≡ map octets_at (take i xs) → count ≡ empties contents → is_nil (octets_at x) ≡ true → count ≡ 65536 → 65536 < empties (canonical_elements (trees_of tree (take (i + 1) xs)))
-  full xs i x contents count short there same counted empty at =
-      let more : empties (contents ++ octets_at x ∷ []) ≡ empties contents + 1 = subst (λ (b : Bool). empties (contents ++ octets_at x ∷ []) ≡ empties contents + cond b 1 0) empty (empties_push contents (octets_at x)) in
-      let all : canonical_elements (trees_of tree (take (i + 1) xs)) ≡ contents ++ octets_at x ∷ [] =
-      rw (take_more xs i x short, ← there) (elements_are (take i xs ++ x ∷ []) ∙ map_push (take i xs) x ∙ ap (λ (os : List Octets). os ++ octets_at x ∷ []) (sym same)) in
-      let count_all : empties (canonical_elements (trees_of tree (take (i + 1) xs))) ≡ empties contents + 1 = ap (λ (os : List Octets). empties os) all ∙ more in
-      omega (arith, count_all, counted, at)
+  -- one more element is refused: it is the first
+  pub gathered_first : (IsValue : E → Type 0) (xs : List E) (i : ℕ) (x : E) (contents : List Octets) (count : ℕ) (e : EncodeError) → i < length xs → x ≡ get_or xs i x → Gathered tree IsValue (take i xs) contents count → OneRefused (tree x) count e.kind → e.codec ≡ Coer → IsByFirst tree xs e
+  gathered_first IsValue xs i x contents count e short there h (inl m) mode = inl (m, mode)
+  gathered_first IsValue xs i x contents count e short there h (inr r) mode =
+      let same : contents ≡ canonical_elements (trees_of tree (take i xs)) = h.octets ∙ sym (elements_are (take i xs)) in
+      let counted : count ≡ empties (canonical_elements (trees_of tree (take i xs))) = h.counted ∙ ap (λ (os : List Octets). empties os) same in
+      inr (record {
+        front = take i xs;
+        element = x;
+        more = drop (i + 1) xs;
+        split = cut_at xs i x short there;
+        encodable = h.encodable;
+        few = let f = h.few in omega (arith, counted, f);
+        reason = elim r [
+          | inl f ↦ inl f
+          | inr m ↦ inr (m.0, m.1, nil_of (canonical_octets (tree x)) m.2, sym counted ∙ m.3)
+        ];
+      })
 
-  pub gathered_broken : (IsValue : E → Type 0) (xs : List E) (i : ℕ) (x : E) (contents : List Octets) (count : ℕ) (k : EncodeErrorKind) → i < length xs → x ≡ get_or xs i x → Gathered tree IsValue (take i xs) contents count → OneRefused (tree x) count k → (k ≡ OutOfMemory) ⊎ Fails (list_of false tree xs) k
+  pub gathered_broken : (xs : List E) (e : EncodeError) → IsByFirst tree xs e → (e.kind ≡ OutOfMemory) ⊎ Fails (list_of false tree xs) e.kind
   unfolding list_of
-  gathered_broken IsValue xs i x contents count k short there h (inl m) = inl m
-  gathered_broken IsValue xs i x contents count k short there h (inr (inl f)) = inr (element_fails no_runs tree false xs x k (i, short, sym there) f)
-  gathered_broken IsValue xs i x contents count k short there h (inr (inr m)) =
-      let many = full xs i x contents count short there h.octets h.counted m.1 m.2 in
-      let front = empties_front no_runs tree (i + 1) xs in
-      inr (many_fail no_runs tree false xs k m.0 (omega (arith, many, front)))
+  gathered_broken xs e h = by_first no_runs tree false xs e h
 
   none_fails : (xs : List E) → EachValue (λ x. IsEncodable (tree x)) xs → (k : Failure) → trees_fail (trees_of tree xs) k ≡ false
   unfolding fails

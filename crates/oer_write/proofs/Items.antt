@@ -4,12 +4,13 @@ use Rattle.std.specs.Prelude.{nat_lt}
 use Rattle.asn1_core.specs.Octets.{Octets, usize_max, octets_for}
 use Rattle.asn1_core.specs.declared.tag.Tag.{Tag}
 use Rattle.asn1_core.specs.declared.error.EncodeErrorKind.{EncodeErrorKind}
+use Rattle.asn1_core.specs.declared.error.EncodeErrorKind.TheVariants.{SizeConstraintNotSatisfied}
 use Rattle.oer_spec.specs.Encoding.{fails, rows_fail, slot_fails, opens_fail, open_fails, bitmap_fails, canonical_octets, canonical_items, canonical_item}
 use Rattle.oer_spec.specs.Leaves.{Failure, BadValue, BadSize, BadIdentifier, BadTime, TooManyEmpty, TooLong}
 use Rattle.oer_spec.specs.Lengths.{behind_length}
 use Rattle.oer_spec.specs.Places.{Item, needed, presence, bodies, any_bit, additions_octets}
 use Rattle.oer_spec.specs.Tree.{Rows, NoRows, Required, Optional, Default, Slot, Absent, Present}
-use Rattle.oer_spec.specs.Failures.{failure_of}
+use Rattle.oer_spec.specs.Failures.{failure_of, SizeFails, SlotSizeFails, RowsSizeFails}
 use Rattle.oer_write.specs.Rows.{presence_of, octets_of, items_of, slot_item, slot_octets, slot_open, bitmap_of, opens_of, open_type, is_present, AreEncodable, AreOpenEncodable, IsSlotEncodable, IsOpenSlot, SomeFails, SlotFails}
 use Rattle.oer_write.specs.Scopes.{any_true}
 
@@ -140,18 +141,18 @@ pub or_right : (a b : Bool) → b ≡ true → (a || b) ≡ true
 or_right true b h = refl
 or_right false b h = h
 
-slot_fails_by : (s : Slot) (k : EncodeErrorKind) → SlotFails s k → (f : Failure) × (failure_of k ≡ Some f) × (slot_fails s f ≡ true)
-unfolding fails
+slot_fails_by : (s : Slot) (k : EncodeErrorKind) → SlotFails s k → (f : Failure) × (failure_of k ≡ Some f) × (slot_fails s f ≡ true) × ((n : ℕ) → k ≡ SizeConstraintNotSatisfied n → SlotSizeFails s n)
+unfolding fails SizeFails
 slot_fails_by Absent k h = absurd h
 slot_fails_by (Present t) k h = h
 
 -- some row's tree fails: so do the rows
-pub rows_fail_by : (r : Rows) (k : EncodeErrorKind) → SomeFails r k → (f : Failure) × (failure_of k ≡ Some f) × (rows_fail r f ≡ true)
-unfolding fails
+pub rows_fail_by : (r : Rows) (k : EncodeErrorKind) → SomeFails r k → (f : Failure) × (failure_of k ≡ Some f) × (rows_fail r f ≡ true) × ((n : ℕ) → k ≡ SizeConstraintNotSatisfied n → RowsSizeFails r n)
+unfolding fails SizeFails
 rows_fail_by NoRows k h = absurd h
-rows_fail_by (Required g t r) k (inl h) = (h.0, h.1, or_left _ _ h.2)
-rows_fail_by (Required g t r) k (inr h) = let i = rows_fail_by r k h in (i.0, i.1, or_right (fails t i.0) _ i.2)
-rows_fail_by (Optional g s r) k (inl h) = let i = slot_fails_by s k h in (i.0, i.1, or_left _ _ i.2)
-rows_fail_by (Optional g s r) k (inr h) = let i = rows_fail_by r k h in (i.0, i.1, or_right (slot_fails s i.0) _ i.2)
-rows_fail_by (Default g u s r) k (inl h) = let i = slot_fails_by s k h in (i.0, i.1, or_left _ _ i.2)
-rows_fail_by (Default g u s r) k (inr h) = let i = rows_fail_by r k h in (i.0, i.1, or_right (slot_fails s i.0) _ i.2)
+rows_fail_by (Required g t r) k (inl h) = (h.0, h.1, or_left _ _ h.2, λ n e. inl (h.3 n e))
+rows_fail_by (Required g t r) k (inr h) = let i = rows_fail_by r k h in (i.0, i.1, or_right (fails t i.0) _ i.2, λ n e. inr (i.3 n e))
+rows_fail_by (Optional g s r) k (inl h) = let i = slot_fails_by s k h in (i.0, i.1, or_left _ _ i.2, λ n e. inl (i.3 n e))
+rows_fail_by (Optional g s r) k (inr h) = let i = rows_fail_by r k h in (i.0, i.1, or_right (slot_fails s i.0) _ i.2, λ n e. inr (i.3 n e))
+rows_fail_by (Default g u s r) k (inl h) = let i = slot_fails_by s k h in (i.0, i.1, or_left _ _ i.2, λ n e. inl (i.3 n e))
+rows_fail_by (Default g u s r) k (inr h) = let i = rows_fail_by r k h in (i.0, i.1, or_right (slot_fails s i.0) _ i.2, λ n e. inr (i.3 n e))

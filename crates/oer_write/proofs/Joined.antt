@@ -84,6 +84,7 @@ then_rows a b c d e e1 e' u (Err x) h i = λ s.
     let n = i (ap (λ (f : Frame). f.is_set) k.frame ∙ s) in
     record {
       reason = elim n.reason [ inl m ↦ inl m | inr f ↦ inr (elim f [ inl r ↦ inl (fails_second x.kind a b r) | inr r ↦ inr (fails_second x.kind c d r) ]) ];
+      mode = n.mode;
       keeps = keeps_then e e1 e' (keeps_of_done a c e e1 k) n.keeps;
     }
 

@@ -11,3 +11,4 @@ pub mod OctetOrder
 pub mod Gathering
 pub mod AnyOrder
 pub mod Joined
+pub mod ByClosure

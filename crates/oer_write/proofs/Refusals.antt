@@ -10,7 +10,7 @@ use Rattle.asn1_core.specs.declared.error.EncodeError.{EncodeError}
 use Rattle.asn1_core.specs.declared.error.EncodeErrorKind.{EncodeErrorKind}
 use Rattle.asn1_core.specs.declared.error.EncodeErrorKind.TheVariants.{ValueConstraintNotSatisfied, SizeConstraintNotSatisfied, InvalidObjectIdentifier, TimeNotRepresentable, LengthExceedsPlatformSize}
 use Rattle.oer_spec.specs.Encoding.{fails}
-use Rattle.oer_spec.specs.Failures.{Fails, failure_of, first_failure}
+use Rattle.oer_spec.specs.Failures.{Fails, SizeFails, failure_of, first_failure}
 use Rattle.oer_spec.specs.Leaves.{Failure, BadValue, BadSize, BadTime, TooLong, leaf_fails, unit_of}
 use Rattle.oer_spec.specs.Spelled.{IsIdentifier, bit_string, identifier, integer, text, time, unsized_text}
 use Rattle.oer_spec.specs.TimeTexts.{time_content}
@@ -37,45 +37,47 @@ first_leaf_fails (Text r s (Written c)) kind e = first_of_two (Text r s (Written
 first_leaf_fails (Text r s (Civil fields)) kind e = let same : TimeNotRepresentable ≡ kind = cc in (BadTime, ap failure_of (sym same), refl)
 
 pub first_fails : (l : Leaf) (kind : EncodeErrorKind) → first_failure l ≡ Some kind → Fails (Primitive l) kind
-unfolding fails
-first_fails l kind e = first_leaf_fails l kind e
+unfolding fails SizeFails
+first_fails l kind e = let f = first_leaf_fails l kind e in (f.0, f.1, f.2, λ n s. e ∙ ap (λ (k : EncodeErrorKind). Some k) s)
 
-pub leaf_refused : (l : Leaf) (kind : EncodeErrorKind) (e e' : state.Written) → state.RefusedLeaf l kind e e' → state.Refused (Primitive l) kind e e'
-leaf_refused l kind e e' h = record {
-  reason = elim h.reason [ inl m ↦ inl m | inr f ↦ inr (first_fails l kind f) ];
+pub leaf_refused : (l : Leaf) (x : EncodeError) (e e' : state.Written) → state.RefusedLeaf l x e e' → state.Refused (Primitive l) x e e'
+leaf_refused l x e e' h = record {
+  reason = elim h.reason [ inl m ↦ inl m | inr f ↦ inr (first_fails l x.kind f) ];
+  mode = h.mode;
   keeps = h.keeps;
 }
 
-pub by_law : (r : Result (Unit {0}) EncodeError) (l : Leaf) (e e' : state.Written) → IfErr r (λ x. state.RefusedLeaf l x.kind e e') → IfErr r (λ x. state.Refused (Primitive l) x.kind e e')
-by_law r l e e' h = IfErr-weaker r _ _ (λ x i. leaf_refused l x.kind e e' i) h
+pub by_law : (r : Result (Unit {0}) EncodeError) (l : Leaf) (e e' : state.Written) → IfErr r (λ x. state.RefusedLeaf l x e e') → IfErr r (λ x. state.Refused (Primitive l) x e e')
+by_law r l e e' h = IfErr-weaker r _ _ (λ x i. leaf_refused l x e e' i) h
 
-pub integer_by_law : (r : Result (Unit {0}) EncodeError) (c : Constraints) (n : ℤ) (e e' : state.Written) → IfErr r (λ x. state.RefusedLeaf (Int (value_bounds c) n) x.kind e e') → IfErr r (λ x. state.Refused (integer c n) x.kind e e')
+pub integer_by_law : (r : Result (Unit {0}) EncodeError) (c : Constraints) (n : ℤ) (e e' : state.Written) → IfErr r (λ x. state.RefusedLeaf (Int (value_bounds c) n) x e e') → IfErr r (λ x. state.Refused (integer c n) x e e')
 unfolding integer
 integer_by_law r c n e e' h = by_law r (Int (value_bounds c) n) e e' h
 
-pub bit_string_by_law : (r : Result (Unit {0}) EncodeError) (c : Constraints) (b : List Bool) (e e' : state.Written) → IfErr r (λ x. state.RefusedLeaf (Bits (size_bounds c) b) x.kind e e') → IfErr r (λ x. state.Refused (bit_string c b) x.kind e e')
+pub bit_string_by_law : (r : Result (Unit {0}) EncodeError) (c : Constraints) (b : List Bool) (e e' : state.Written) → IfErr r (λ x. state.RefusedLeaf (Bits (size_bounds c) b) x e e') → IfErr r (λ x. state.Refused (bit_string c b) x e e')
 unfolding bit_string
 bit_string_by_law r c b e e' h = by_law r (Bits (size_bounds c) b) e e' h
 
-pub text_by_law : (r : Result (Unit {0}) EncodeError) (rule : Rule) (c : Constraints) (o : Octets) (e e' : state.Written) → IfErr r (λ x. state.RefusedLeaf (Text rule (size_bounds c) (Written o)) x.kind e e') → IfErr r (λ x. state.Refused (text rule c o) x.kind e e')
+pub text_by_law : (r : Result (Unit {0}) EncodeError) (rule : Rule) (c : Constraints) (o : Octets) (e e' : state.Written) → IfErr r (λ x. state.RefusedLeaf (Text rule (size_bounds c) (Written o)) x e e') → IfErr r (λ x. state.Refused (text rule c o) x e e')
 unfolding text
 text_by_law r rule c o e e' h = by_law r (Text rule (size_bounds c) (Written o)) e e' h
 
-pub unsized_by_law : (r : Result (Unit {0}) EncodeError) (rule : Rule) (o : Octets) (e e' : state.Written) → IfErr r (λ x. state.RefusedLeaf (Text rule None (Written o)) x.kind e e') → IfErr r (λ x. state.Refused (unsized_text rule o) x.kind e e')
+pub unsized_by_law : (r : Result (Unit {0}) EncodeError) (rule : Rule) (o : Octets) (e e' : state.Written) → IfErr r (λ x. state.RefusedLeaf (Text rule None (Written o)) x e e') → IfErr r (λ x. state.Refused (unsized_text rule o) x e e')
 unfolding unsized_text
 unsized_by_law r rule o e e' h = by_law r (Text rule None (Written o)) e e' h
 
-pub time_by_law : (r : Result (Unit {0}) EncodeError) (rule : Rule) (o : Option Octets) (fields : List ℕ) (e e' : state.Written) → IfErr r (λ x. state.RefusedLeaf (Text rule None (time_content o fields)) x.kind e e') → IfErr r (λ x. state.Refused (time rule o fields) x.kind e e')
+pub time_by_law : (r : Result (Unit {0}) EncodeError) (rule : Rule) (o : Option Octets) (fields : List ℕ) (e e' : state.Written) → IfErr r (λ x. state.RefusedLeaf (Text rule None (time_content o fields)) x e e') → IfErr r (λ x. state.Refused (time rule o fields) x e e')
 unfolding time
 time_by_law r rule o fields e e' h = by_law r (Text rule None (time_content o fields)) e e' h
 
 -- of arcs that are an identifier
-as_leaf : (arcs : List ℕ) (kind : EncodeErrorKind) (e e' : state.Written) → IsIdentifier arcs → state.RefusedIdentifier arcs kind e e' → state.RefusedLeaf (identifier_leaf arcs) kind e e'
-as_leaf arcs kind e e' i h = record {
+as_leaf : (arcs : List ℕ) (x : EncodeError) (e e' : state.Written) → IsIdentifier arcs → state.RefusedIdentifier arcs x e e' → state.RefusedLeaf (identifier_leaf arcs) x e e'
+as_leaf arcs x e e' i h = record {
   reason = elim h.reason [ inl m ↦ inl m | inr f ↦ inr (sym (ap (λ b. cond b (first_failure (identifier_leaf arcs)) (Some InvalidObjectIdentifier)) i) ∙ f) ];
+  mode = h.mode;
   keeps = h.keeps;
 }
 
-pub identifier_by_law : (r : Result (Unit {0}) EncodeError) (arcs : List ℕ) (e e' : state.Written) → IfErr r (λ x. state.RefusedIdentifier arcs x.kind e e') → IsIdentifier arcs → IfErr r (λ x. state.Refused (identifier arcs) x.kind e e')
+pub identifier_by_law : (r : Result (Unit {0}) EncodeError) (arcs : List ℕ) (e e' : state.Written) → IfErr r (λ x. state.RefusedIdentifier arcs x e e') → IsIdentifier arcs → IfErr r (λ x. state.Refused (identifier arcs) x e e')
 unfolding identifier
-identifier_by_law r arcs e e' h i = IfErr-weaker r _ _ (λ x w. leaf_refused (identifier_leaf arcs) x.kind e e' (as_leaf arcs x.kind e e' i w)) h
+identifier_by_law r arcs e e' h i = IfErr-weaker r _ _ (λ x w. leaf_refused (identifier_leaf arcs) x e e' (as_leaf arcs x e e' i w)) h

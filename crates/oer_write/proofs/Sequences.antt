@@ -7,7 +7,7 @@ use Rattle.asn1_core.specs.declared.error.EncodeErrorKind.{EncodeErrorKind}
 use Rattle.oer_spec.specs.Encoding.{fails, rows_fail, canonical_octets, IsEncodable}
 use Rattle.oer_spec.specs.Places.{Item, any_bit, extension_octets}
 use Rattle.oer_spec.specs.Tree.{Rows, Struct}
-use Rattle.oer_spec.specs.Failures.{Fails}
+use Rattle.oer_spec.specs.Failures.{Fails, SizeFails}
 use Rattle.oer_write.specs.Rows.{RowsDone, IsKnownToWrite, presence_of, octets_of, items_of, bitmap_of, opens_of, AreEncodable, AreOpenEncodable, SomeFails, recorded}
 use Rattle.oer_write.specs.Scopes.{Runs, Closed, Broken, sequence_octets, extension_of, any_true}
 use Rattle.oer_write.specs.Written.{Written, Frame, fresh, append, Encodes, Refused}
@@ -30,13 +30,13 @@ struct_encodable set extensible roots additions h i short k =
     or_false _ _ (none_fails roots h k) (or_false _ _ (none_fails additions (encodable_of_open additions i) k) (rw (items_are additions) (or_false _ _ (no_open_fails additions k i) (short_bitmap (items_of additions) k few))))
 
 pub struct_fails : (set extensible : Bool) (roots additions : Rows) (k : EncodeErrorKind) → SomeFails roots k ⊎ SomeFails additions k → Fails (Struct set extensible roots additions) k
-unfolding fails
+unfolding fails SizeFails
 struct_fails set extensible roots additions k (inl h) =
     let f = rows_fail_by roots k h in
-    (f.0, f.1, or_left _ _ f.2)
+    (f.0, f.1, or_left _ _ f.2, λ n e. inl (f.3 n e))
 struct_fails set extensible roots additions k (inr h) =
     let f = rows_fail_by additions k h in
-    (f.0, f.1, or_right (rows_fail roots f.0) _ (or_left _ _ f.2))
+    (f.0, f.1, or_right (rows_fail roots f.0) _ (or_left _ _ f.2), λ n e. inr (f.3 n e))
 
 sequence_octets_are : (extensible : Bool) (start : ℕ) (roots additions : Rows) → canonical_octets (Struct false extensible roots additions) ≡ sequence_octets (recorded (presence_of roots) (bitmap_of additions) (opens_of additions) (fresh false extensible start)) (octets_of roots)
 unfolding canonical_octets
@@ -56,11 +56,12 @@ sequence_done {runs} {extensible} {old} {new} roots additions known closed =
     }
 
 -- and where the scope refuses, the sequence does so by the law
-pub sequence_refused : {runs : Runs} {extensible : Bool} {old new : Written} (roots additions : Rows) → IsKnownToWrite runs roots additions → (x : EncodeError) → Broken runs false extensible x old new → Refused (Struct false extensible roots additions) x.kind old new
+pub sequence_refused : {runs : Runs} {extensible : Bool} {old new : Written} (roots additions : Rows) → IsKnownToWrite runs roots additions → (x : EncodeError) → Broken runs false extensible x old new → Refused (Struct false extensible roots additions) x old new
 sequence_refused {runs} {extensible} {old} {new} roots additions known x broken = record {
   reason = elim broken.reason [
-    | inl m ↦ inl m
+    | inl m ↦ inl m.0
     | inr s ↦ elim (known _ _ _ s.ran (ap (λ (f : Frame). f.is_set) s.opened)).reason [ inl m ↦ inl m | inr f ↦ inr (struct_fails false extensible roots additions x.kind f) ]
   ];
+  mode = elim broken.reason [ inl m ↦ m.1 | inr s ↦ (known _ _ _ s.ran (ap (λ (f : Frame). f.is_set) s.opened)).mode ];
   keeps = broken.keeps;
 }

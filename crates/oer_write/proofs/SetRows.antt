@@ -29,11 +29,12 @@ set_done {runs} {extensible} {old} {new} roots additions known closed =
     }
 
 -- and where the scope refuses, the set does so by the law
-pub set_refused : {runs : Runs} {extensible : Bool} {old new : Written} (roots additions : Rows) → IsKnownToWriteSet runs roots additions → (x : EncodeError) → Broken runs true extensible x old new → Refused (Struct true extensible roots additions) x.kind old new
+pub set_refused : {runs : Runs} {extensible : Bool} {old new : Written} (roots additions : Rows) → IsKnownToWriteSet runs roots additions → (x : EncodeError) → Broken runs true extensible x old new → Refused (Struct true extensible roots additions) x old new
 set_refused {runs} {extensible} {old} {new} roots additions known x broken = record {
   reason = elim broken.reason [
-    | inl m ↦ inl m
+    | inl m ↦ inl m.0
     | inr s ↦ elim (known _ _ _ s.ran (ap (λ (f : Frame). f.is_set) s.opened)).reason [ inl m ↦ inl m | inr f ↦ inr (struct_fails true extensible roots additions x.kind f) ]
   ];
+  mode = elim broken.reason [ inl m ↦ m.1 | inr s ↦ (known _ _ _ s.ran (ap (λ (f : Frame). f.is_set) s.opened)).mode ];
   keeps = broken.keeps;
 }

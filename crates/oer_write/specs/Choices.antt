@@ -4,11 +4,10 @@ use Rattle.std.specs.Borrow.{MutBor}
 use Rattle.std.specs.Fn.{Once, FnOnceReturnsAtMut}
 use Rattle.asn1_core.specs.Octets.{Octets}
 use Rattle.asn1_core.specs.declared.error.EncodeError.{EncodeError}
-use Rattle.asn1_core.specs.declared.error.EncodeErrorKind.TheVariants.{OutOfMemory}
 use Rattle.asn1_core.specs.declared.tag.Tag.{Tag}
 use Rattle.oer_spec.specs.Lengths.{behind_length, tag_octets}
 use Rattle.oer_spec.specs.Tree.{Tree}
-use Rattle.oer_write.specs.Written.{Written, append, Keeps, Encodes, Refused}
+use Rattle.oer_write.specs.Written.{Written, append, Keeps, Encodes, Refused, WantsMemory}
 
 -- how a closure that answers a tag may leave an encoder that it was lent
 abbrev pub Picks : Type 1
@@ -60,12 +59,12 @@ pub record ChoiceDone (picks : Picks) (is_root : Bool) (tag : Tag) (old new : Wr
 -- the choice refuses what its closure refused, or for want of memory
 pub record ChoiceBroken (picks : Picks) (x : EncodeError) (old new : Written) : Type 0 where
   pub keeps : Keeps old new
-  pub reason : (x.kind ≡ OutOfMemory) ⊎ ContentRefused picks x
+  pub reason : WantsMemory x ⊎ ContentRefused picks x
 
 -- what the closure of a choice promises: it writes the alternative's tree, and answers the tag
 abbrev pub WritesAlternative : Tree → Tag → Written → Result Tag EncodeError → Written → Type 0
 WritesAlternative t tag e (Ok u) e' = (u ≡ tag) × Encodes t e e'
-WritesAlternative t tag e (Err x) e' = Refused t x.kind e e'
+WritesAlternative t tag e (Err x) e' = Refused t x e e'
 
 abbrev pub IsKnownToPick : Picks → Tag → Tree → Type 0
 IsKnownToPick picks tag t = (e e' : Written) (r : Result Tag EncodeError) → picks e r e' → WritesAlternative t tag e r e'

@@ -4,5 +4,6 @@ pub mod Rows
 pub mod Scopes
 pub mod Rules
 pub mod Lists
+pub mod ByClosure
 pub mod Choices
 pub mod Unordered

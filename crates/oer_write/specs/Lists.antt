@@ -1,15 +1,18 @@
 -- What a list asks of the closure that writes its elements, and what it does with what that wrote.
-use Rattle.std.specs.Prelude.{◌≡◌, ℕ, ◌+◌, ◌^◌, ◌<◌, Bool, true, false, cond, List, [], ◌∷◌, ◌++◌, ◌⊎◌, ⊤, length, take, Result, Ok, Err, Contains}
+use Rattle.std.specs.Prelude.{◌≡◌, ℕ, ◌+◌, ◌^◌, ◌<◌, Bool, true, false, cond, List, [], ◌∷◌, ◌++◌, ◌⊎◌, ⊤, length, Result, Ok, Err, Contains}
 use Rattle.std.specs.Borrow.{Bor, MutBor}
 use Rattle.std.specs.Fn.{Shared}
 use Rattle.asn1_core.specs.Octets.{Octets, joined}
+use Rattle.asn1_core.specs.declared.codec.Codec.TheVariants.{Coer}
 use Rattle.asn1_core.specs.declared.error.EncodeError.{EncodeError}
-use Rattle.asn1_core.specs.declared.error.EncodeErrorKind.TheVariants.{OutOfMemory, TooManyEmptyElements}
-use Rattle.oer_spec.specs.Encoding.{empties}
+use Rattle.asn1_core.specs.declared.error.EncodeErrorKind.TheVariants.{TooManyEmptyElements}
+use Rattle.oer_spec.specs.Encoding.{IsEncodable, canonical_octets, canonical_elements, empties}
+use Rattle.oer_spec.specs.Failures.{Fails}
 use Rattle.oer_spec.specs.Lengths.{quantity_octets}
+use Rattle.oer_spec.specs.Spelled.{EachValue, trees_of}
 use Rattle.oer_spec.specs.Tree.{Tree}
 use Rattle.oer_write.specs.Scopes.{Runs}
-use Rattle.oer_write.specs.Written.{Written, append, Keeps, WritesTree}
+use Rattle.oer_write.specs.Written.{Written, append, Keeps, WritesTree, WantsMemory}
 
 -- the closure may be called at this element
 abbrev pub TakesElement : {F E : Type 0} → Shared F (MutBor Written × (Bor E × Unit {0})) (Result (Unit {0}) EncodeError × (MutBor Written × Unit {0})) → F → E → Type 0
@@ -55,25 +58,34 @@ pub record ListDone {E : Type 0} (runs : E → Runs) (xs : List E) (old new : Wr
   pub counted : length contents < 2 ^ 64
   pub appended : new ≡ append (quantity_octets (length contents) ++ joined contents) old
 
--- the closure refused at an element
+-- the elements of the front were written, at most 65,536 of them without octets, and the closure refused the next
 pub record ElementRefused {E : Type 0} (runs : E → Runs) (xs : List E) (x : EncodeError) : Type 0 where
+  pub front : List E
   pub element : E
-  pub there : Contains xs element
+  pub more : List E
+  pub split : xs ≡ front ++ element ∷ more
+  pub contents : List Octets
+  pub each : WroteEach runs front contents
+  pub few : empties contents < 65537
   pub entered : Written
   pub left : Written
   pub opened : entered.frame.is_open ≡ false
   pub ran : runs element entered (Err x) left
 
--- the elements so far have too many among them that take no octets
+-- the elements of the front were written, 65,536 of them without octets, and so was the next
 pub record TooManyEmpty {E : Type 0} (runs : E → Runs) (xs : List E) (x : EncodeError) : Type 0 where
-  pub kind : x.kind ≡ TooManyEmptyElements
-  pub front : ℕ
+  pub refusal : x ≡ record { kind = TooManyEmptyElements; codec = Coer }
+  pub front : List E
+  pub element : E
+  pub more : List E
+  pub split : xs ≡ front ++ element ∷ more
   pub contents : List Octets
-  pub each : WroteEach runs (take front xs) contents
-  pub many : 65536 < empties contents
+  pub each : WroteEach runs front contents
+  pub full : empties contents ≡ 65536
+  pub wrote : WroteElement (runs element) []
 
 abbrev pub ElementsBroken : {E : Type 0} → (E → Runs) → List E → EncodeError → Type 0
-ElementsBroken runs xs x = (x.kind ≡ OutOfMemory) ⊎ (ElementRefused runs xs x ⊎ TooManyEmpty runs xs x)
+ElementsBroken runs xs x = WantsMemory x ⊎ (ElementRefused runs xs x ⊎ TooManyEmpty runs xs x)
 
 -- The list refuses what its closure refused, the 65,537th element without octets, or for want of memory.
 pub record ListBroken {E : Type 0} (runs : E → Runs) (xs : List E) (x : EncodeError) (old new : Written) : Type 0 where
@@ -83,6 +95,22 @@ pub record ListBroken {E : Type 0} (runs : E → Runs) (xs : List E) (x : Encode
 -- whatever encoder with no scope open the closure is lent, it writes the element by its tree
 abbrev pub IsKnownToWriteAt : {E : Type 0} → (E → Runs) → List E → (E → Tree) → Type 0
 IsKnownToWriteAt {E} runs xs tree = (x : E) (e e' : Written) (r : Result (Unit {0}) EncodeError) → Contains xs x → runs x e r e' → WritesTree (tree x) e r e'
+
+-- The first element that is refused: those of the front can be written, at most 65,536 of them without octets; the next
+-- breaks the condition that the kind names, or has no octets as 65,536 of the front.
+pub record FirstRefused {E : Type 0} (tree : E → Tree) (xs : List E) (x : EncodeError) : Type 0 where
+  pub front : List E
+  pub element : E
+  pub more : List E
+  pub split : xs ≡ front ++ element ∷ more
+  pub encodable : EachValue (λ v. IsEncodable (tree v)) front
+  pub few : empties (canonical_elements (trees_of tree front)) < 65537
+  pub reason : Fails (tree element) x.kind
+      ⊎ ((x.kind ≡ TooManyEmptyElements) × IsEncodable (tree element) × (canonical_octets (tree element) ≡ []) × (empties (canonical_elements (trees_of tree front)) ≡ 65536))
+
+-- a list refuses its first element that is refused, or for want of memory
+abbrev pub IsByFirst : {E : Type 0} → (E → Tree) → List E → EncodeError → Type 0
+IsByFirst tree xs x = WantsMemory x ⊎ FirstRefused tree xs x
 
 -- ---- within the loop
 
@@ -100,7 +128,7 @@ pub record ElementDone (runs : Runs) (old new : Octets) (count next : ℕ) : Typ
 
 -- an element without octets after 65,536 such
 pub record ElementTooMany (runs : Runs) (count : ℕ) (x : EncodeError) : Type 0 where
-  pub kind : x.kind ≡ TooManyEmptyElements
+  pub refusal : x ≡ record { kind = TooManyEmptyElements; codec = Coer }
   pub content : Octets
   pub wrote : WroteElement runs content
   pub empty : is_nil content ≡ true

@@ -1,6 +1,7 @@
 -- What the closure of a scope does, row by row.
 use Rattle.std.specs.Prelude.{◌≡◌, ◌≤◌, Bool, true, false, List, [], ◌∷◌, ◌++◌, ◌⊎◌, ⊤, length, Result, Ok, Err, Option, Some, None}
 use Rattle.asn1_core.specs.Octets.{Octets, usize_max}
+use Rattle.asn1_core.specs.declared.codec.Codec.TheVariants.{Coer}
 use Rattle.asn1_core.specs.declared.error.EncodeError.{EncodeError}
 use Rattle.asn1_core.specs.declared.error.EncodeErrorKind.{EncodeErrorKind}
 use Rattle.asn1_core.specs.declared.error.EncodeErrorKind.TheVariants.{OutOfMemory}
@@ -120,13 +121,15 @@ pub record RowsDone (roots additions : Rows) (e e' : Written) : Type 0 where
   pub frame : e'.frame ≡ recorded (presence_of roots) (bitmap_of additions) (opens_of additions) e.frame
   pub outer : e'.outer ≡ e.outer
 
-pub record RowsRefused (roots additions : Rows) (kind : EncodeErrorKind) (e e' : Written) : Type 0 where
-  pub reason : (kind ≡ OutOfMemory) ⊎ (SomeFails roots kind ⊎ SomeFails additions kind)
+-- Refused for want of memory, or by a kind whose condition some row's tree breaks; it names the mode that is written in.
+pub record RowsRefused (roots additions : Rows) (x : EncodeError) (e e' : Written) : Type 0 where
+  pub reason : (x.kind ≡ OutOfMemory) ⊎ (SomeFails roots x.kind ⊎ SomeFails additions x.kind)
+  pub mode : x.codec ≡ Coer
   pub keeps : Keeps e e'
 
 abbrev pub WritesRows : Rows → Rows → Written → Result (Unit {0}) EncodeError → Written → Type 0
 WritesRows roots additions e (Ok u) e' = RowsDone roots additions e e'
-WritesRows roots additions e (Err x) e' = RowsRefused roots additions x.kind e e'
+WritesRows roots additions e (Err x) e' = RowsRefused roots additions x e e'
 
 -- The same, where the encoder that was lent is in a sequence: what a sequence's closure promises.
 abbrev pub InSequence : Rows → Rows → Written → Result (Unit {0}) EncodeError → Written → Type 0
@@ -146,7 +149,7 @@ pub record SetDone (roots additions : Rows) (e e' : Written) : Type 0 where
 
 abbrev pub WritesSet : Rows → Rows → Written → Result (Unit {0}) EncodeError → Written → Type 0
 WritesSet roots additions e (Ok u) e' = SetDone roots additions e e'
-WritesSet roots additions e (Err x) e' = RowsRefused roots additions x.kind e e'
+WritesSet roots additions e (Err x) e' = RowsRefused roots additions x e e'
 
 -- what a set's closure promises
 abbrev pub InSet : Rows → Rows → Written → Result (Unit {0}) EncodeError → Written → Type 0

@@ -4,13 +4,12 @@ use Rattle.std.specs.Borrow.{MutBor}
 use Rattle.std.specs.Fn.{Once, FnOnceReturnsAtMut}
 use Rattle.asn1_core.specs.Octets.{Octets, pack}
 use Rattle.asn1_core.specs.declared.error.EncodeError.{EncodeError}
-use Rattle.asn1_core.specs.declared.error.EncodeErrorKind.TheVariants.{OutOfMemory}
 use Rattle.asn1_core.specs.Tags.{AreDistinct}
 use Rattle.asn1_core.specs.declared.tag.Tag.{Tag}
 use Rattle.oer_spec.specs.Lengths.{counted_bits}
 use Rattle.oer_spec.specs.Orders.{Reorders}
 use Rattle.oer_spec.specs.Places.{Item, extension_bit, presence, bodies, by_tag}
-use Rattle.oer_write.specs.Written.{Written, Frame, fresh, append, Keeps}
+use Rattle.oer_write.specs.Written.{Written, Frame, fresh, append, Keeps, WantsMemory}
 
 -- how a closure may leave an encoder that it was lent
 abbrev pub Runs : Type 1
@@ -81,4 +80,4 @@ pub record Stopped (runs : Runs) (is_set extensible : Bool) (x : EncodeError) : 
 -- the scope refuses what its closure refused, or for want of memory
 pub record Broken (runs : Runs) (is_set extensible : Bool) (x : EncodeError) (old new : Written) : Type 0 where
   pub keeps : Keeps old new
-  pub reason : (x.kind ≡ OutOfMemory) ⊎ Stopped runs is_set extensible x
+  pub reason : WantsMemory x ⊎ Stopped runs is_set extensible x

@@ -32,7 +32,7 @@ pub record OneMore {E : Type 0} (tree : E → Tree) (IsValue : E → Type 0) (x 
 
 -- why one more element is refused
 abbrev pub OneRefused : Tree → ℕ → EncodeErrorKind → Type 0
-OneRefused t count k = (k ≡ OutOfMemory) ⊎ (Fails t k ⊎ ((k ≡ TooManyEmptyElements) × (is_nil (canonical_octets t) ≡ true) × (count ≡ 65536)))
+OneRefused t count k = (k ≡ OutOfMemory) ⊎ (Fails t k ⊎ ((k ≡ TooManyEmptyElements) × IsEncodable t × (is_nil (canonical_octets t) ≡ true) × (count ≡ 65536)))
 
 -- An unordered list has the same octets in whatever order its elements stand.
 abbrev pub IsSameInAnyWalk : {E : Type 0} → (E → Tree) → Type 0

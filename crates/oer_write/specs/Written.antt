@@ -1,8 +1,8 @@
 -- What contracts see of an encoder: the octets written, and the open scopes.
 use Rattle.std.specs.Prelude.{◌≡◌, ℕ, Bool, true, false, List, [], ◌++◌, ◌⊎◌, Some, Result, Ok, Err}
 use Rattle.asn1_core.specs.Octets.{Octets}
+use Rattle.asn1_core.specs.declared.codec.Codec.TheVariants.{Coer}
 use Rattle.asn1_core.specs.declared.error.EncodeError.{EncodeError}
-use Rattle.asn1_core.specs.declared.error.EncodeErrorKind.{EncodeErrorKind}
 use Rattle.asn1_core.specs.declared.error.EncodeErrorKind.TheVariants.{OutOfMemory}
 use Rattle.oer_spec.specs.Encoding.{IsEncodable, canonical_octets}
 use Rattle.oer_spec.specs.Places.{Item}
@@ -58,22 +58,29 @@ pub record Encodes (t : Tree) (e e' : Written) : Type 0 where
   pub encodable : IsEncodable t
   pub written : e' ≡ append (canonical_octets t) e
 
--- Refused for want of memory, or by a kind whose condition the tree breaks.
-pub record Refused (t : Tree) (kind : EncodeErrorKind) (e e' : Written) : Type 0 where
-  pub reason : (kind ≡ OutOfMemory) ⊎ Fails t kind
+-- a refusal for want of memory, in the mode that is written in
+abbrev pub WantsMemory : EncodeError → Type 0
+WantsMemory x = (x.kind ≡ OutOfMemory) × (x.codec ≡ Coer)
+
+-- Refused for want of memory, or by a kind whose condition the tree breaks; it names the mode that is written in.
+pub record Refused (t : Tree) (x : EncodeError) (e e' : Written) : Type 0 where
+  pub reason : (x.kind ≡ OutOfMemory) ⊎ Fails t x.kind
+  pub mode : x.codec ≡ Coer
   pub keeps : Keeps e e'
 
 -- Of a leaf: by the first condition that it breaks.
-pub record RefusedLeaf (l : Leaf) (kind : EncodeErrorKind) (e e' : Written) : Type 0 where
-  pub reason : (kind ≡ OutOfMemory) ⊎ (first_failure l ≡ Some kind)
+pub record RefusedLeaf (l : Leaf) (x : EncodeError) (e e' : Written) : Type 0 where
+  pub reason : (x.kind ≡ OutOfMemory) ⊎ (first_failure l ≡ Some x.kind)
+  pub mode : x.codec ≡ Coer
   pub keeps : Keeps e e'
 
 -- Of an identifier: by arcs that are none, then as a leaf.
-pub record RefusedIdentifier (arcs : List ℕ) (kind : EncodeErrorKind) (e e' : Written) : Type 0 where
-  pub reason : (kind ≡ OutOfMemory) ⊎ (identifier_failure arcs ≡ Some kind)
+pub record RefusedIdentifier (arcs : List ℕ) (x : EncodeError) (e e' : Written) : Type 0 where
+  pub reason : (x.kind ≡ OutOfMemory) ⊎ (identifier_failure arcs ≡ Some x.kind)
+  pub mode : x.codec ≡ Coer
   pub keeps : Keeps e e'
 
 -- the law by what a call answers
 abbrev pub WritesTree : Tree → Written → Result (Unit {0}) EncodeError → Written → Type 0
 WritesTree t e (Ok u) e' = Encodes t e e'
-WritesTree t e (Err x) e' = Refused t x.kind e e'
+WritesTree t e (Err x) e' = Refused t x e e'

@@ -5,7 +5,7 @@ ghost use Rattle.oer_spec.specs.Spelled.{IsConsistent};
 ghost use Rattle.oer_spec.specs.Tree.{NoRows, Present, Absent};
 ghost use Rattle.oer_spec.specs.Writing.{Appends};
 ghost use Rattle.oer_write.specs.Rows.{RowsDone, SetDone, RowsRefused, optional, defaulted, present_unless, slot_of, open_type};
-ghost use Rattle.oer_write.specs.Written.{Keeps};
+ghost use Rattle.oer_write.specs.Written.{Keeps, WantsMemory};
 
 use crate::encode::Encode;
 use crate::encoder::Encoder;
@@ -36,7 +36,7 @@ impl<'buffer> Encoder<'buffer> {
         ensures done { OnOk result (RowsDone NoRows (optional tag (slot_of (λ x. E.tree constraints x.now) value.entry)) self.old self.new) }
         ensures in_set { self.old.frame.is_set ≡ true → OnOk result (SetDone NoRows (optional tag (slot_of (λ x. E.tree constraints x.now) value.entry)) self.old self.new) }
         ensures value { OnOk result (IfSome value.entry (λ x. E.IsValue x.now)) }
-        ensures refused { IfErr result (λ x. RowsRefused NoRows (optional tag (slot_of (λ x. E.tree constraints x.now) value.entry)) x.kind self.old self.new) }
+        ensures refused { IfErr result (λ x. RowsRefused NoRows (optional tag (slot_of (λ x. E.tree constraints x.now) value.entry)) x self.old self.new) }
     {
         match value {
             None => self.leave_addition(tag),
@@ -54,7 +54,7 @@ impl<'buffer> Encoder<'buffer> {
         ensures done { OnOk result (RowsDone NoRows (optional E.TAG (slot_of (λ x. E.tree E.CONSTRAINTS x.now) value.entry)) self.old self.new) }
         ensures in_set { self.old.frame.is_set ≡ true → OnOk result (SetDone NoRows (optional E.TAG (slot_of (λ x. E.tree E.CONSTRAINTS x.now) value.entry)) self.old self.new) }
         ensures value { OnOk result (IfSome value.entry (λ x. E.IsValue x.now)) }
-        ensures refused { IfErr result (λ x. RowsRefused NoRows (optional E.TAG (slot_of (λ x. E.tree E.CONSTRAINTS x.now) value.entry)) x.kind self.old self.new) }
+        ensures refused { IfErr result (λ x. RowsRefused NoRows (optional E.TAG (slot_of (λ x. E.tree E.CONSTRAINTS x.now) value.entry)) x self.old self.new) }
     {
         self.encode_extension_addition(E::TAG, E::CONSTRAINTS, value)
     }
@@ -73,7 +73,7 @@ impl<'buffer> Encoder<'buffer> {
         ensures done { OnOk result (RowsDone NoRows (defaulted tag (E.tree constraints default.now) (present_unless (E.eq value.now default.now) (E.tree constraints value.now))) self.old self.new) }
         ensures in_set { self.old.frame.is_set ≡ true → OnOk result (SetDone NoRows (defaulted tag (E.tree constraints default.now) (present_unless (E.eq value.now default.now) (E.tree constraints value.now))) self.old self.new) }
         ensures value { E.eq value.now default.now ≡ false → OnOk result (E.IsValue value.now) }
-        ensures refused { IfErr result (λ x. RowsRefused NoRows (defaulted tag (E.tree constraints default.now) (present_unless (E.eq value.now default.now) (E.tree constraints value.now))) x.kind self.old self.new) }
+        ensures refused { IfErr result (λ x. RowsRefused NoRows (defaulted tag (E.tree constraints default.now) (present_unless (E.eq value.now default.now) (E.tree constraints value.now))) x self.old self.new) }
     {
         if *value == *default {
             self.leave_addition(tag)
@@ -85,7 +85,7 @@ impl<'buffer> Encoder<'buffer> {
     fn leave_addition(&mut self, _tag: Tag) -> Result<(), EncodeError>
         ensures done { OnOk result (RowsDone NoRows (optional _tag Absent) self.old self.new) }
         ensures in_set { self.old.frame.is_set ≡ true → OnOk result (SetDone NoRows (optional _tag Absent) self.old self.new) }
-        ensures refused { IfErr result (λ x. (x.kind ≡ OutOfMemory) × Keeps self.old self.new) }
+        ensures refused { IfErr result (λ x. WantsMemory x × Keeps self.old self.new) }
     {
         self.note_addition(false)?;
         Ok(())
@@ -101,7 +101,7 @@ impl<'buffer> Encoder<'buffer> {
         ensures done { OnOk result (RowsDone NoRows (optional tag (Present (E.tree constraints value.now))) self.old self.new) }
         ensures in_set { self.old.frame.is_set ≡ true → OnOk result (SetDone NoRows (optional tag (Present (E.tree constraints value.now))) self.old self.new) }
         ensures value { OnOk result (E.IsValue value.now) }
-        ensures refused { IfErr result (λ x. RowsRefused NoRows (optional tag (Present (E.tree constraints value.now))) x.kind self.old self.new) }
+        ensures refused { IfErr result (λ x. RowsRefused NoRows (optional tag (Present (E.tree constraints value.now))) x self.old self.new) }
     {
         let content = content_of(self.alloc, tag, constraints, value)?;
         write_open_type(&content, &mut self.scope.opens)?;

@@ -99,7 +99,7 @@ impl<'buffer> Encoder<'buffer> {
         ensures done { OnOk result (ChoiceDone (PromisePick F.FnOnce f) (holds E.root_tags tag) tag self.old self.new) }
         ensures refused { IfErr result (λ x. ChoiceBroken (PromisePick F.FnOnce f) x self.old self.new) }
         ensures tree { (t : Tree) → IsKnownToPick (PromisePick F.FnOnce f) tag t → OnOk result (Encodes (Choice E.root_tags E.addition_tags tag t) self.old self.new) }
-        ensures tree_refused { (t : Tree) → IsKnownToPick (PromisePick F.FnOnce f) tag t → IfErr result (λ x. Refused (Choice E.root_tags E.addition_tags tag t) x.kind self.old self.new) }
+        ensures tree_refused { (t : Tree) → IsKnownToPick (PromisePick F.FnOnce f) tag t → IfErr result (λ x. Refused (Choice E.root_tags E.addition_tags tag t) x self.old self.new) }
     {
         self.choice(tag, is_among(E::root_tags(), tag), f)
     }

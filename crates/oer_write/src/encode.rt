@@ -12,8 +12,8 @@ use oer_spec::Spelled;
 ///
 /// Its required method keeps the law of writing: it answers `Ok` only where the value's tree can be written, and then the
 /// tree's canonical octets stand behind those of before and nothing else is changed. It refuses only for want of memory, or
-/// by a kind whose condition the tree breaks; the octets then still begin with those of before, and the same scopes are
-/// open. Constraints that are handed in are consistent.
+/// by a kind whose condition the tree breaks, always in the mode `Coer`; the octets then still begin with those of before,
+/// and the same scopes are open. Constraints that are handed in are consistent.
 pub trait Encode: Spelled {
     /// Writes the value under constraints that stand in place of the type's own.
     fn encode_with_tag_and_constraints(
@@ -25,13 +25,13 @@ pub trait Encode: Spelled {
         requires { IsConsistent constraints }
         ensures done { OnOk result (Encodes (Self.tree constraints self.now) encoder.old encoder.new) }
         ensures value { OnOk result (Self.IsValue self.now) }
-        ensures refused { IfErr result (λ x. Refused (Self.tree constraints self.now) x.kind encoder.old encoder.new) };
+        ensures refused { IfErr result (λ x. Refused (Self.tree constraints self.now) x encoder.old encoder.new) };
 
     /// Writes the value under the type's own constraints.
     final fn encode(&self, encoder: &mut Encoder<'_>) -> Result<(), EncodeError>
         ensures done { OnOk result (Encodes (Self.tree Self.CONSTRAINTS self.now) encoder.old encoder.new) }
         ensures value { OnOk result (Self.IsValue self.now) }
-        ensures refused { IfErr result (λ x. Refused (Self.tree Self.CONSTRAINTS self.now) x.kind encoder.old encoder.new) }
+        ensures refused { IfErr result (λ x. Refused (Self.tree Self.CONSTRAINTS self.now) x encoder.old encoder.new) }
     {
         self.encode_with_tag_and_constraints(encoder, Self::TAG, Self::CONSTRAINTS)
     }
@@ -40,7 +40,7 @@ pub trait Encode: Spelled {
     final fn encode_with_tag(&self, encoder: &mut Encoder<'_>, tag: Tag) -> Result<(), EncodeError>
         ensures done { OnOk result (Encodes (Self.tree Self.CONSTRAINTS self.now) encoder.old encoder.new) }
         ensures value { OnOk result (Self.IsValue self.now) }
-        ensures refused { IfErr result (λ x. Refused (Self.tree Self.CONSTRAINTS self.now) x.kind encoder.old encoder.new) }
+        ensures refused { IfErr result (λ x. Refused (Self.tree Self.CONSTRAINTS self.now) x encoder.old encoder.new) }
     {
         self.encode_with_tag_and_constraints(encoder, tag, Self::CONSTRAINTS)
     }
@@ -54,7 +54,7 @@ pub trait Encode: Spelled {
         requires { IsConsistent constraints }
         ensures done { OnOk result (Encodes (Self.tree constraints self.now) encoder.old encoder.new) }
         ensures value { OnOk result (Self.IsValue self.now) }
-        ensures refused { IfErr result (λ x. Refused (Self.tree constraints self.now) x.kind encoder.old encoder.new) }
+        ensures refused { IfErr result (λ x. Refused (Self.tree constraints self.now) x encoder.old encoder.new) }
     {
         self.encode_with_tag_and_constraints(encoder, Self::TAG, constraints)
     }

@@ -18,8 +18,8 @@ impl<'buffer> Encoder<'buffer> {
     pub fn encode_object_identifier(&mut self, _tag: Tag, value: &[u32]) -> Result<(), EncodeError>
         ensures done { OnOk result (Encodes (identifier value.now) self.old self.new) }
         ensures value { OnOk result (IsIdentifier value.now) }
-        ensures refused { IfErr result (λ x. RefusedIdentifier value.now x.kind self.old self.new) }
-        ensures law { IsIdentifier value.now → IfErr result (λ x. Refused (identifier value.now) x.kind self.old self.new) }
+        ensures refused { IfErr result (λ x. RefusedIdentifier value.now x self.old self.new) }
+        ensures law { IsIdentifier value.now → IfErr result (λ x. Refused (identifier value.now) x self.old self.new) }
     {
         self.put_arcs(value)
     }
@@ -28,7 +28,7 @@ impl<'buffer> Encoder<'buffer> {
     fn put_arcs(&mut self, value: &[u32]) -> Result<(), EncodeError>
         ensures done { OnOk result (Encodes (identifier value.now) self.old self.new) }
         ensures value { OnOk result (IsIdentifier value.now) }
-        ensures refused { IfErr result (λ x. RefusedIdentifier value.now x.kind self.old self.new) }
+        ensures refused { IfErr result (λ x. RefusedIdentifier value.now x self.old self.new) }
     {
         write_object_identifier(value, &mut *self.output)?;
         Ok(())

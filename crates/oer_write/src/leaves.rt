@@ -1,10 +1,9 @@
 //! Values without parts.
-ghost use Rattle.std.specs.Prelude.{◌≡◌, true, OnOk, IfErr};
-ghost use Rattle.asn1_core.specs.declared.error.EncodeErrorKind.TheVariants.{OutOfMemory};
+ghost use Rattle.std.specs.Prelude.{◌≡◌, true, Ok, OnOk, IfErr};
 ghost use Rattle.asn1_core.specs.Bounds.{value_bounds};
 ghost use Rattle.oer_spec.specs.Tree.{Int};
 ghost use Rattle.oer_spec.specs.Spelled.{boolean, enumerated, integer, null};
-ghost use Rattle.oer_write.specs.Written.{Encodes, Keeps, Refused, RefusedLeaf};
+ghost use Rattle.oer_write.specs.Written.{Encodes, Keeps, Refused, RefusedLeaf, WantsMemory};
 
 use crate::encoder::Encoder;
 use asn1_core::{Constraints, EncodeError, Enumerated, Tag};
@@ -18,7 +17,7 @@ impl<'buffer> Encoder<'buffer> {
     #[tactic(auto, unfolding(oer_spec::specs::Spelled::boolean, oer_spec::specs::Encoding::canonical_octets, oer_spec::specs::Encoding::fails))]
     pub fn encode_bool(&mut self, _tag: Tag, value: bool) -> Result<(), EncodeError>
         ensures done { OnOk result (Encodes (boolean value) self.old self.new) }
-        ensures refused { IfErr result (λ x. (x.kind ≡ OutOfMemory) × Keeps self.old self.new) }
+        ensures refused { IfErr result (λ x. WantsMemory x × Keeps self.old self.new) }
     {
         write_bool(value, &mut *self.output)?;
         Ok(())
@@ -29,9 +28,11 @@ impl<'buffer> Encoder<'buffer> {
     /// Never refused.
     #[tactic(auto, unfolding(oer_spec::specs::Spelled::null, oer_spec::specs::Encoding::canonical_octets, oer_spec::specs::Encoding::fails))]
     pub fn encode_null(&mut self, _tag: Tag) -> Result<(), EncodeError>
+        ensures never { result ≡ Ok tt }
         ensures done { OnOk result (Encodes (null tt) self.old self.new) }
-        ensures refused { IfErr result (λ x. (x.kind ≡ OutOfMemory) × Keeps self.old self.new) }
+        ensures refused { IfErr result (λ x. WantsMemory x × Keeps self.old self.new) }
     {
+        // no octets stand for it
         Ok(())
     }
 
@@ -46,7 +47,7 @@ impl<'buffer> Encoder<'buffer> {
         value: &E,
     ) -> Result<(), EncodeError>
         ensures done { OnOk result (Encodes (enumerated (E.number value.now)) self.old self.new) }
-        ensures refused { IfErr result (λ x. (x.kind ≡ OutOfMemory) × Keeps self.old self.new) }
+        ensures refused { IfErr result (λ x. WantsMemory x × Keeps self.old self.new) }
     {
         write_enumerated(value.discriminant(), &mut *self.output)?;
         Ok(())
@@ -65,8 +66,8 @@ impl<'buffer> Encoder<'buffer> {
     ) -> Result<(), EncodeError>
         ensures done { OnOk result (Encodes (integer constraints (I.number value.now)) self.old self.new) }
         ensures value { I.admits (I.number value.now) ≡ true }
-        ensures refused { IfErr result (λ x. RefusedLeaf (Int (value_bounds constraints) (I.number value.now)) x.kind self.old self.new) }
-        ensures law { IfErr result (λ x. Refused (integer constraints (I.number value.now)) x.kind self.old self.new) }
+        ensures refused { IfErr result (λ x. RefusedLeaf (Int (value_bounds constraints) (I.number value.now)) x self.old self.new) }
+        ensures law { IfErr result (λ x. Refused (integer constraints (I.number value.now)) x self.old self.new) }
     {
         self.put_integer(constraints, value)
     }
@@ -79,7 +80,7 @@ impl<'buffer> Encoder<'buffer> {
     ) -> Result<(), EncodeError>
         ensures done { OnOk result (Encodes (integer constraints (I.number value.now)) self.old self.new) }
         ensures value { I.admits (I.number value.now) ≡ true }
-        ensures refused { IfErr result (λ x. RefusedLeaf (Int (value_bounds constraints) (I.number value.now)) x.kind self.old self.new) }
+        ensures refused { IfErr result (λ x. RefusedLeaf (Int (value_bounds constraints) (I.number value.now)) x self.old self.new) }
     {
         let _admitted = value.is_negative();
         write_integer(constraints, value, &mut *self.output)?;

@@ -4,6 +4,7 @@
 mod additions;
 mod choices;
 mod component;
+mod component_with;
 pub mod enc;
 pub mod encode;
 mod encoder;

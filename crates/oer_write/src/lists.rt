@@ -6,7 +6,7 @@ ghost use Rattle.oer_spec.specs.Lengths.{quantity_octets};
 ghost use Rattle.oer_spec.specs.Spelled.{list_of, EachValue};
 ghost use Rattle.oer_spec.specs.Tree.{Tree};
 ghost use Rattle.oer_spec.specs.Writing.{BeginsWith};
-ghost use Rattle.oer_write.specs.Lists.{is_nil, TakesElement, PromiseAt, WroteElement, IsOrderlyAt, IsOrderlyHere, ElementDone, ElementTooMany, ElementsDone, ElementsBroken, ListDone, ListBroken, IsKnownToWriteAt};
+ghost use Rattle.oer_write.specs.Lists.{is_nil, TakesElement, PromiseAt, WroteElement, IsOrderlyAt, IsOrderlyHere, ElementDone, ElementTooMany, ElementsDone, ElementsBroken, ListDone, ListBroken, IsKnownToWriteAt, IsByFirst};
 ghost use Rattle.oer_write.specs.Written.{append, closed, Keeps, Encodes, Refused, WritesTree};
 
 use crate::encode::Encode;
@@ -95,8 +95,9 @@ fn put_elements<E, F: Fn(&mut Encoder<'_>, &E) -> Result<(), EncodeError>>(
 impl<'buffer> Encoder<'buffer> {
     /// Writes a list (X.696, 17): its quantity, and each element by the closure.
     ///
-    /// What the closure appends at each element, in an encoder with no scope open, is what is appended. Refused by what the
-    /// closure refused, at the 65,537th element without octets by `TooManyEmptyElements`, or for want of memory.
+    /// What the closure appends at each element, in an encoder with no scope open, is what is appended. Refused, at the first
+    /// element where it applies, by what the closure refused, at the 65,537th without octets by `TooManyEmptyElements`; or
+    /// for want of memory.
     pub fn encode_sequence_of_with<E, F: Fn(&mut Encoder<'_>, &E) -> Result<(), EncodeError>>(
         &mut self,
         _tag: Tag,
@@ -109,7 +110,8 @@ impl<'buffer> Encoder<'buffer> {
         ensures done { OnOk result (ListDone (PromiseAt F.Fn f) value.now self.old self.new) }
         ensures refused { IfErr result (λ x. ListBroken (PromiseAt F.Fn f) value.now x self.old self.new) }
         ensures tree { (tree : E → Tree) → IsKnownToWriteAt (PromiseAt F.Fn f) value.now tree → OnOk result (Encodes (list_of true tree value.now) self.old self.new) }
-        ensures tree_refused { (tree : E → Tree) → IsKnownToWriteAt (PromiseAt F.Fn f) value.now tree → IfErr result (λ x. Refused (list_of true tree value.now) x.kind self.old self.new) }
+        ensures tree_refused { (tree : E → Tree) → IsKnownToWriteAt (PromiseAt F.Fn f) value.now tree → IfErr result (λ x. Refused (list_of true tree value.now) x self.old self.new) }
+        ensures tree_first { (tree : E → Tree) → IsKnownToWriteAt (PromiseAt F.Fn f) value.now tree → IfErr result (λ x. IsByFirst tree value.now x) }
     {
         self.list(value, &f)
     }
@@ -166,8 +168,8 @@ impl<'buffer> Encoder<'buffer> {
 impl<'buffer> Encoder<'buffer> {
     /// Writes a SEQUENCE OF (X.696, 17): its quantity, and each element under its type's own constraints.
     ///
-    /// Refused by what an element is refused by, at the 65,537th element without octets by `TooManyEmptyElements`, or for
-    /// want of memory.
+    /// Refused by what the first element is refused by that is refused, at the 65,537th element without octets by
+    /// `TooManyEmptyElements`, whichever comes first; or for want of memory.
     pub fn encode_sequence_of<E: Encode>(
         &mut self,
         tag: Tag,
@@ -176,7 +178,8 @@ impl<'buffer> Encoder<'buffer> {
     ) -> Result<(), EncodeError>
         ensures done { OnOk result (Encodes (list_of true (E.tree E.CONSTRAINTS) value.now) self.old self.new) }
         ensures value { OnOk result (EachValue E.IsValue value.now) }
-        ensures refused { IfErr result (λ x. Refused (list_of true (E.tree E.CONSTRAINTS) value.now) x.kind self.old self.new) }
+        ensures refused { IfErr result (λ x. Refused (list_of true (E.tree E.CONSTRAINTS) value.now) x self.old self.new) }
+        ensures first { IfErr result (λ x. IsByFirst (E.tree E.CONSTRAINTS) value.now x) }
     {
         self.encode_sequence_of_with(
             tag,

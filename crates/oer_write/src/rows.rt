@@ -1,12 +1,13 @@
 //! Components of the open scope: required, optional and default ones.
 ghost use Rattle.std.specs.Prelude.{◌≡◌, ◌^◌, ◌<◌, Bool, true, false, List, [], ◌∷◌, ◌++◌, ◌⊎◌, length, OnOk, IfOk, IfErr};
+ghost use Rattle.asn1_core.specs.declared.codec.Codec.TheVariants.{Coer};
 ghost use Rattle.asn1_core.specs.declared.error.EncodeErrorKind.TheVariants.{OutOfMemory};
 ghost use Rattle.oer_spec.specs.Encoding.{IsEncodable, canonical_octets};
 ghost use Rattle.oer_spec.specs.Spelled.{IsConsistent};
 ghost use Rattle.oer_spec.specs.Tree.{NoRows, Present, Absent};
 ghost use Rattle.oer_spec.specs.Failures.{Fails};
 ghost use Rattle.oer_write.specs.Rows.{RowsDone, SetDone, RowsRefused, required, optional, defaulted, present_unless};
-ghost use Rattle.oer_write.specs.Written.{Keeps, Encodes, Refused};
+ghost use Rattle.oer_write.specs.Written.{Keeps, Encodes, Refused, WantsMemory};
 
 use crate::component::Component;
 use crate::enc::EncoderOptions;
@@ -26,6 +27,7 @@ pub(crate) fn content_of<E: Encode>(
     ensures done { IfOk result (λ v. IsEncodable (E.tree constraints value.now) × (v.items ≡ canonical_octets (E.tree constraints value.now)) × (length v.items < 2 ^ 64)) }
     ensures value { OnOk result (E.IsValue value.now) }
     ensures refused { IfErr result (λ x. (x.kind ≡ OutOfMemory) ⊎ Fails (E.tree constraints value.now) x.kind) }
+    ensures mode { IfErr result (λ x. x.codec ≡ Coer) }
 {
     let mut output = Vec::new(alloc);
     let mut worker = Vec::new(alloc);
@@ -38,7 +40,7 @@ pub(crate) fn content_of<E: Encode>(
 
 impl<'buffer> Encoder<'buffer> {
     /// Keeps a root component of a set apart.
-    fn keep(
+    pub(crate) fn keep(
         &mut self,
         tag: Tag,
         marked: bool,
@@ -76,7 +78,7 @@ impl<'buffer> Encoder<'buffer> {
         ensures in_sequence { self.old.frame.is_set ≡ false → OnOk result (RowsDone (required tag (E.tree constraints value.now)) NoRows self.old self.new) }
         ensures in_set { self.old.frame.is_set ≡ true → OnOk result (SetDone (required tag (E.tree constraints value.now)) NoRows self.old self.new) }
         ensures value { OnOk result (E.IsValue value.now) }
-        ensures refused { IfErr result (λ x. RowsRefused (required tag (E.tree constraints value.now)) NoRows x.kind self.old self.new) }
+        ensures refused { IfErr result (λ x. RowsRefused (required tag (E.tree constraints value.now)) NoRows x self.old self.new) }
     {
         if self.scope.is_set {
             let octets = content_of(self.alloc, tag, constraints, value)?;
@@ -100,7 +102,7 @@ impl<'buffer> Encoder<'buffer> {
         ensures in_sequence { self.old.frame.is_set ≡ false → OnOk result (RowsDone (optional tag (Present (E.tree constraints value.now))) NoRows self.old self.new) }
         ensures in_set { self.old.frame.is_set ≡ true → OnOk result (SetDone (optional tag (Present (E.tree constraints value.now))) NoRows self.old self.new) }
         ensures value { OnOk result (E.IsValue value.now) }
-        ensures refused { IfErr result (λ x. RowsRefused (optional tag (Present (E.tree constraints value.now))) NoRows x.kind self.old self.new) }
+        ensures refused { IfErr result (λ x. RowsRefused (optional tag (Present (E.tree constraints value.now))) NoRows x self.old self.new) }
     {
         if self.scope.is_set {
             let octets = content_of(self.alloc, tag, constraints, value)?;
@@ -119,7 +121,7 @@ impl<'buffer> Encoder<'buffer> {
         ensures in_sequence { self.old.frame.is_set ≡ false → OnOk result (RowsDone (optional E.TAG (Present (E.tree E.CONSTRAINTS value.now))) NoRows self.old self.new) }
         ensures in_set { self.old.frame.is_set ≡ true → OnOk result (SetDone (optional E.TAG (Present (E.tree E.CONSTRAINTS value.now))) NoRows self.old self.new) }
         ensures value { OnOk result (E.IsValue value.now) }
-        ensures refused { IfErr result (λ x. RowsRefused (optional E.TAG (Present (E.tree E.CONSTRAINTS value.now))) NoRows x.kind self.old self.new) }
+        ensures refused { IfErr result (λ x. RowsRefused (optional E.TAG (Present (E.tree E.CONSTRAINTS value.now))) NoRows x self.old self.new) }
     {
         self.encode_some_with_tag_and_constraints(E::TAG, E::CONSTRAINTS, value)
     }
@@ -130,7 +132,7 @@ impl<'buffer> Encoder<'buffer> {
     pub fn encode_none_with_tag(&mut self, tag: Tag) -> Result<(), EncodeError>
         ensures in_sequence { self.old.frame.is_set ≡ false → OnOk result (RowsDone (optional tag Absent) NoRows self.old self.new) }
         ensures in_set { self.old.frame.is_set ≡ true → OnOk result (SetDone (optional tag Absent) NoRows self.old self.new) }
-        ensures refused { IfErr result (λ x. (x.kind ≡ OutOfMemory) × Keeps self.old self.new) }
+        ensures refused { IfErr result (λ x. WantsMemory x × Keeps self.old self.new) }
     {
         if self.scope.is_set {
             self.keep(tag, true, false, Vec::new(self.alloc))?;
@@ -146,7 +148,7 @@ impl<'buffer> Encoder<'buffer> {
     pub fn encode_none<E: Encode>(&mut self) -> Result<(), EncodeError>
         ensures in_sequence { self.old.frame.is_set ≡ false → OnOk result (RowsDone (optional E.TAG Absent) NoRows self.old self.new) }
         ensures in_set { self.old.frame.is_set ≡ true → OnOk result (SetDone (optional E.TAG Absent) NoRows self.old self.new) }
-        ensures refused { IfErr result (λ x. (x.kind ≡ OutOfMemory) × Keeps self.old self.new) }
+        ensures refused { IfErr result (λ x. WantsMemory x × Keeps self.old self.new) }
     {
         self.encode_none_with_tag(E::TAG)
     }
@@ -165,7 +167,7 @@ impl<'buffer> Encoder<'buffer> {
         ensures in_sequence { self.old.frame.is_set ≡ false → OnOk result (RowsDone (defaulted tag (E.tree constraints default.now) (present_unless (E.eq value.now default.now) (E.tree constraints value.now))) NoRows self.old self.new) }
         ensures in_set { self.old.frame.is_set ≡ true → OnOk result (SetDone (defaulted tag (E.tree constraints default.now) (present_unless (E.eq value.now default.now) (E.tree constraints value.now))) NoRows self.old self.new) }
         ensures value { E.eq value.now default.now ≡ false → OnOk result (E.IsValue value.now) }
-        ensures refused { IfErr result (λ x. RowsRefused (defaulted tag (E.tree constraints default.now) (present_unless (E.eq value.now default.now) (E.tree constraints value.now))) NoRows x.kind self.old self.new) }
+        ensures refused { IfErr result (λ x. RowsRefused (defaulted tag (E.tree constraints default.now) (present_unless (E.eq value.now default.now) (E.tree constraints value.now))) NoRows x self.old self.new) }
     {
         if *value == *default {
             self.encode_none_with_tag(tag)
@@ -185,7 +187,7 @@ impl<'buffer> Encoder<'buffer> {
         ensures in_sequence { self.old.frame.is_set ≡ false → OnOk result (RowsDone (defaulted E.TAG (E.tree E.CONSTRAINTS default.now) (present_unless (E.eq value.now default.now) (E.tree E.CONSTRAINTS value.now))) NoRows self.old self.new) }
         ensures in_set { self.old.frame.is_set ≡ true → OnOk result (SetDone (defaulted E.TAG (E.tree E.CONSTRAINTS default.now) (present_unless (E.eq value.now default.now) (E.tree E.CONSTRAINTS value.now))) NoRows self.old self.new) }
         ensures value { E.eq value.now default.now ≡ false → OnOk result (E.IsValue value.now) }
-        ensures refused { IfErr result (λ x. RowsRefused (defaulted E.TAG (E.tree E.CONSTRAINTS default.now) (present_unless (E.eq value.now default.now) (E.tree E.CONSTRAINTS value.now))) NoRows x.kind self.old self.new) }
+        ensures refused { IfErr result (λ x. RowsRefused (defaulted E.TAG (E.tree E.CONSTRAINTS default.now) (present_unless (E.eq value.now default.now) (E.tree E.CONSTRAINTS value.now))) NoRows x self.old self.new) }
     {
         self.encode_default_with_tag_and_constraints(E::TAG, E::CONSTRAINTS, value, default)
     }
@@ -198,7 +200,7 @@ impl<'buffer> Encoder<'buffer> {
     ) -> Result<(), EncodeError>
         ensures done { OnOk result (Encodes (E.tree E.CONSTRAINTS value.now) self.old self.new) }
         ensures value { OnOk result (E.IsValue value.now) }
-        ensures refused { IfErr result (λ x. Refused (E.tree E.CONSTRAINTS value.now) x.kind self.old self.new) }
+        ensures refused { IfErr result (λ x. Refused (E.tree E.CONSTRAINTS value.now) x self.old self.new) }
     {
         value.encode(self)
     }

@@ -1,7 +1,7 @@
 ghost use Rattle.std.specs.Prelude.{◌≡◌, true, false};
 ghost use Rattle.oer_write.specs.Rules.{is_oer, is_coer};
 
-/// The octet encoding rules: basic or canonical (X.696, clauses 7 and 32).
+/// The octet encoding rules: basic or canonical (X.696).
 #[derive(Debug, Clone, Copy, PartialEq, Eq, PartialOrd, Ord)]
 pub enum EncodingRules {
     /// Basic: a value may have several encodings.

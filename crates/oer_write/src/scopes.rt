@@ -75,7 +75,7 @@ impl<'buffer> Encoder<'buffer> {
         ensures done { OnOk result (Closed (Promise F.FnOnce f) C.IS_EXTENSIBLE self.old self.new) }
         ensures refused { IfErr result (λ x. Broken (Promise F.FnOnce f) false C.IS_EXTENSIBLE x self.old self.new) }
         ensures tree { (roots additions : Rows) → IsKnownToWrite (Promise F.FnOnce f) roots additions → OnOk result (Encodes (Struct false C.IS_EXTENSIBLE roots additions) self.old self.new) }
-        ensures tree_refused { (roots additions : Rows) → IsKnownToWrite (Promise F.FnOnce f) roots additions → IfErr result (λ x. Refused (Struct false C.IS_EXTENSIBLE roots additions) x.kind self.old self.new) }
+        ensures tree_refused { (roots additions : Rows) → IsKnownToWrite (Promise F.FnOnce f) roots additions → IfErr result (λ x. Refused (Struct false C.IS_EXTENSIBLE roots additions) x self.old self.new) }
     {
         self.sequence(C::IS_EXTENSIBLE, f)
     }

@@ -72,8 +72,8 @@ impl<'buffer> Encoder<'buffer> {
     /// Writes a SET (X.696, 18), whose components the closure writes in a scope of its own.
     ///
     /// Each root component is kept apart; as the closure ends they are written in the order of their tags, and so are
-    /// their presence bits, whatever the order in which they were handed in. Refused by what the closure refused, or for
-    /// want of memory.
+    /// their presence bits, whatever the order in which they were handed in. Octets that the closure writes otherwise than by
+    /// the calls for components and additions are dropped. Refused by what the closure refused, or for want of memory.
     pub fn encode_set<
         const RL: usize,
         const EL: usize,
@@ -85,7 +85,7 @@ impl<'buffer> Encoder<'buffer> {
         ensures done { OnOk result (SetClosed (Promise F.FnOnce f) C.IS_EXTENSIBLE self.old self.new) }
         ensures refused { IfErr result (λ x. Broken (Promise F.FnOnce f) true C.IS_EXTENSIBLE x self.old self.new) }
         ensures tree { (roots additions : Rows) → IsKnownToWriteSet (Promise F.FnOnce f) roots additions → OnOk result (Encodes (Struct true C.IS_EXTENSIBLE roots additions) self.old self.new) }
-        ensures tree_refused { (roots additions : Rows) → IsKnownToWriteSet (Promise F.FnOnce f) roots additions → IfErr result (λ x. Refused (Struct true C.IS_EXTENSIBLE roots additions) x.kind self.old self.new) }
+        ensures tree_refused { (roots additions : Rows) → IsKnownToWriteSet (Promise F.FnOnce f) roots additions → IfErr result (λ x. Refused (Struct true C.IS_EXTENSIBLE roots additions) x self.old self.new) }
         ensures any_order { IsSameInAnyOrder }
     {
         self.set(C::IS_EXTENSIBLE, f)

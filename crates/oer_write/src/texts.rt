@@ -30,8 +30,8 @@ impl<'buffer> Encoder<'buffer> {
         value: &BitString,
     ) -> Result<(), EncodeError>
         ensures done { OnOk result (Encodes (bit_string constraints value.now) self.old self.new) }
-        ensures refused { IfErr result (λ x. RefusedLeaf (Bits (size_bounds constraints) value.now) x.kind self.old self.new) }
-        ensures law { IfErr result (λ x. Refused (bit_string constraints value.now) x.kind self.old self.new) }
+        ensures refused { IfErr result (λ x. RefusedLeaf (Bits (size_bounds constraints) value.now) x self.old self.new) }
+        ensures law { IfErr result (λ x. Refused (bit_string constraints value.now) x self.old self.new) }
     {
         self.put_bits(constraints, value)
     }
@@ -39,7 +39,7 @@ impl<'buffer> Encoder<'buffer> {
     #[tactic(auto, unfolding(oer_spec::specs::Spelled::bit_string, oer_spec::specs::Encoding::canonical_octets, oer_spec::specs::Encoding::fails))]
     fn put_bits(&mut self, constraints: Constraints, value: &BitString) -> Result<(), EncodeError>
         ensures done { OnOk result (Encodes (bit_string constraints value.now) self.old self.new) }
-        ensures refused { IfErr result (λ x. RefusedLeaf (Bits (size_bounds constraints) value.now) x.kind self.old self.new) }
+        ensures refused { IfErr result (λ x. RefusedLeaf (Bits (size_bounds constraints) value.now) x self.old self.new) }
     {
         write_bit_string(constraints, value, &mut *self.output)?;
         Ok(())
@@ -58,8 +58,8 @@ impl<'buffer> Encoder<'buffer> {
         value: &[u8],
     ) -> Result<(), EncodeError>
         ensures done { OnOk result (Encodes (text AnyOctets constraints value.now) self.old self.new) }
-        ensures refused { IfErr result (λ x. RefusedLeaf (Text AnyOctets (size_bounds constraints) (Written value.now)) x.kind self.old self.new) }
-        ensures law { IfErr result (λ x. Refused (text AnyOctets constraints value.now) x.kind self.old self.new) }
+        ensures refused { IfErr result (λ x. RefusedLeaf (Text AnyOctets (size_bounds constraints) (Written value.now)) x self.old self.new) }
+        ensures law { IfErr result (λ x. Refused (text AnyOctets constraints value.now) x self.old self.new) }
     {
         self.put_octets(constraints, value)
     }
@@ -67,7 +67,7 @@ impl<'buffer> Encoder<'buffer> {
     #[tactic(auto, unfolding(oer_spec::specs::Spelled::text, oer_spec::specs::Encoding::canonical_octets, oer_spec::specs::Encoding::fails))]
     fn put_octets(&mut self, constraints: Constraints, value: &[u8]) -> Result<(), EncodeError>
         ensures done { OnOk result (Encodes (text AnyOctets constraints value.now) self.old self.new) }
-        ensures refused { IfErr result (λ x. RefusedLeaf (Text AnyOctets (size_bounds constraints) (Written value.now)) x.kind self.old self.new) }
+        ensures refused { IfErr result (λ x. RefusedLeaf (Text AnyOctets (size_bounds constraints) (Written value.now)) x self.old self.new) }
     {
         write_octet_string(constraints, value, &mut *self.output)?;
         Ok(())
@@ -79,8 +79,8 @@ impl<'buffer> Encoder<'buffer> {
     #[tactic(auto, using(crate::proofs::Refusals::unsized_by_law))]
     pub fn encode_any(&mut self, _tag: Tag, value: &Any) -> Result<(), EncodeError>
         ensures done { OnOk result (Encodes (unsized_text AnyOctets value.now) self.old self.new) }
-        ensures refused { IfErr result (λ x. RefusedLeaf (Text AnyOctets None (Written value.now)) x.kind self.old self.new) }
-        ensures law { IfErr result (λ x. Refused (unsized_text AnyOctets value.now) x.kind self.old self.new) }
+        ensures refused { IfErr result (λ x. RefusedLeaf (Text AnyOctets None (Written value.now)) x self.old self.new) }
+        ensures law { IfErr result (λ x. Refused (unsized_text AnyOctets value.now) x self.old self.new) }
     {
         self.put_any(value)
     }
@@ -88,7 +88,7 @@ impl<'buffer> Encoder<'buffer> {
     #[tactic(auto, unfolding(oer_spec::specs::Spelled::unsized_text, oer_spec::specs::Encoding::canonical_octets, oer_spec::specs::Encoding::fails))]
     fn put_any(&mut self, value: &Any) -> Result<(), EncodeError>
         ensures done { OnOk result (Encodes (unsized_text AnyOctets value.now) self.old self.new) }
-        ensures refused { IfErr result (λ x. RefusedLeaf (Text AnyOctets None (Written value.now)) x.kind self.old self.new) }
+        ensures refused { IfErr result (λ x. RefusedLeaf (Text AnyOctets None (Written value.now)) x self.old self.new) }
     {
         write_any(value.as_bytes(), &mut *self.output)?;
         Ok(())
@@ -107,8 +107,8 @@ impl<'buffer> Encoder<'buffer> {
         value: &str,
     ) -> Result<(), EncodeError>
         ensures done { OnOk result (Encodes (text Utf8 constraints value.now) self.old self.new) }
-        ensures refused { IfErr result (λ x. RefusedLeaf (Text Utf8 (size_bounds constraints) (Written value.now)) x.kind self.old self.new) }
-        ensures law { IfErr result (λ x. Refused (text Utf8 constraints value.now) x.kind self.old self.new) }
+        ensures refused { IfErr result (λ x. RefusedLeaf (Text Utf8 (size_bounds constraints) (Written value.now)) x self.old self.new) }
+        ensures law { IfErr result (λ x. Refused (text Utf8 constraints value.now) x self.old self.new) }
     {
         self.put_utf8(constraints, value)
     }
@@ -116,7 +116,7 @@ impl<'buffer> Encoder<'buffer> {
     #[tactic(auto, unfolding(oer_spec::specs::Spelled::text, oer_spec::specs::Encoding::canonical_octets, oer_spec::specs::Encoding::fails))]
     fn put_utf8(&mut self, constraints: Constraints, value: &str) -> Result<(), EncodeError>
         ensures done { OnOk result (Encodes (text Utf8 constraints value.now) self.old self.new) }
-        ensures refused { IfErr result (λ x. RefusedLeaf (Text Utf8 (size_bounds constraints) (Written value.now)) x.kind self.old self.new) }
+        ensures refused { IfErr result (λ x. RefusedLeaf (Text Utf8 (size_bounds constraints) (Written value.now)) x self.old self.new) }
     {
         write_utf8(constraints, value, &mut *self.output)?;
         Ok(())
@@ -135,8 +135,8 @@ impl<'buffer> Encoder<'buffer> {
         value: &VisibleString,
     ) -> Result<(), EncodeError>
         ensures done { OnOk result (Encodes (text Visible constraints value.now) self.old self.new) }
-        ensures refused { IfErr result (λ x. RefusedLeaf (Text Visible (size_bounds constraints) (Written value.now)) x.kind self.old self.new) }
-        ensures law { IfErr result (λ x. Refused (text Visible constraints value.now) x.kind self.old self.new) }
+        ensures refused { IfErr result (λ x. RefusedLeaf (Text Visible (size_bounds constraints) (Written value.now)) x self.old self.new) }
+        ensures law { IfErr result (λ x. Refused (text Visible constraints value.now) x self.old self.new) }
     {
         self.put_text::<VisibleCharacters>(constraints, value)
     }
@@ -154,8 +154,8 @@ impl<'buffer> Encoder<'buffer> {
         value: &GeneralString,
     ) -> Result<(), EncodeError>
         ensures done { OnOk result (Encodes (text General constraints value.now) self.old self.new) }
-        ensures refused { IfErr result (λ x. RefusedLeaf (Text General (size_bounds constraints) (Written value.now)) x.kind self.old self.new) }
-        ensures law { IfErr result (λ x. Refused (text General constraints value.now) x.kind self.old self.new) }
+        ensures refused { IfErr result (λ x. RefusedLeaf (Text General (size_bounds constraints) (Written value.now)) x self.old self.new) }
+        ensures law { IfErr result (λ x. Refused (text General constraints value.now) x self.old self.new) }
     {
         self.put_text::<GeneralCharacters>(constraints, value)
     }
@@ -173,8 +173,8 @@ impl<'buffer> Encoder<'buffer> {
         value: &GraphicString,
     ) -> Result<(), EncodeError>
         ensures done { OnOk result (Encodes (text Graphic constraints value.now) self.old self.new) }
-        ensures refused { IfErr result (λ x. RefusedLeaf (Text Graphic (size_bounds constraints) (Written value.now)) x.kind self.old self.new) }
-        ensures law { IfErr result (λ x. Refused (text Graphic constraints value.now) x.kind self.old self.new) }
+        ensures refused { IfErr result (λ x. RefusedLeaf (Text Graphic (size_bounds constraints) (Written value.now)) x self.old self.new) }
+        ensures law { IfErr result (λ x. Refused (text Graphic constraints value.now) x self.old self.new) }
     {
         self.put_text::<GraphicCharacters>(constraints, value)
     }
@@ -192,8 +192,8 @@ impl<'buffer> Encoder<'buffer> {
         value: &Ia5String,
     ) -> Result<(), EncodeError>
         ensures done { OnOk result (Encodes (text Ia5 constraints value.now) self.old self.new) }
-        ensures refused { IfErr result (λ x. RefusedLeaf (Text Ia5 (size_bounds constraints) (Written value.now)) x.kind self.old self.new) }
-        ensures law { IfErr result (λ x. Refused (text Ia5 constraints value.now) x.kind self.old self.new) }
+        ensures refused { IfErr result (λ x. RefusedLeaf (Text Ia5 (size_bounds constraints) (Written value.now)) x self.old self.new) }
+        ensures law { IfErr result (λ x. Refused (text Ia5 constraints value.now) x self.old self.new) }
     {
         self.put_text::<Ia5Characters>(constraints, value)
     }
@@ -211,8 +211,8 @@ impl<'buffer> Encoder<'buffer> {
         value: &PrintableString,
     ) -> Result<(), EncodeError>
         ensures done { OnOk result (Encodes (text Printable constraints value.now) self.old self.new) }
-        ensures refused { IfErr result (λ x. RefusedLeaf (Text Printable (size_bounds constraints) (Written value.now)) x.kind self.old self.new) }
-        ensures law { IfErr result (λ x. Refused (text Printable constraints value.now) x.kind self.old self.new) }
+        ensures refused { IfErr result (λ x. RefusedLeaf (Text Printable (size_bounds constraints) (Written value.now)) x self.old self.new) }
+        ensures law { IfErr result (λ x. Refused (text Printable constraints value.now) x self.old self.new) }
     {
         self.put_text::<PrintableCharacters>(constraints, value)
     }
@@ -230,8 +230,8 @@ impl<'buffer> Encoder<'buffer> {
         value: &NumericString,
     ) -> Result<(), EncodeError>
         ensures done { OnOk result (Encodes (text Numeric constraints value.now) self.old self.new) }
-        ensures refused { IfErr result (λ x. RefusedLeaf (Text Numeric (size_bounds constraints) (Written value.now)) x.kind self.old self.new) }
-        ensures law { IfErr result (λ x. Refused (text Numeric constraints value.now) x.kind self.old self.new) }
+        ensures refused { IfErr result (λ x. RefusedLeaf (Text Numeric (size_bounds constraints) (Written value.now)) x self.old self.new) }
+        ensures law { IfErr result (λ x. Refused (text Numeric constraints value.now) x self.old self.new) }
     {
         self.put_text::<NumericCharacters>(constraints, value)
     }
@@ -249,8 +249,8 @@ impl<'buffer> Encoder<'buffer> {
         value: &TeletexString,
     ) -> Result<(), EncodeError>
         ensures done { OnOk result (Encodes (text Teletex constraints value.now) self.old self.new) }
-        ensures refused { IfErr result (λ x. RefusedLeaf (Text Teletex (size_bounds constraints) (Written value.now)) x.kind self.old self.new) }
-        ensures law { IfErr result (λ x. Refused (text Teletex constraints value.now) x.kind self.old self.new) }
+        ensures refused { IfErr result (λ x. RefusedLeaf (Text Teletex (size_bounds constraints) (Written value.now)) x self.old self.new) }
+        ensures law { IfErr result (λ x. Refused (text Teletex constraints value.now) x self.old self.new) }
     {
         self.put_text::<TeletexCharacters>(constraints, value)
     }
@@ -268,8 +268,8 @@ impl<'buffer> Encoder<'buffer> {
         value: &BmpString,
     ) -> Result<(), EncodeError>
         ensures done { OnOk result (Encodes (text Bmp constraints value.now) self.old self.new) }
-        ensures refused { IfErr result (λ x. RefusedLeaf (Text Bmp (size_bounds constraints) (Written value.now)) x.kind self.old self.new) }
-        ensures law { IfErr result (λ x. Refused (text Bmp constraints value.now) x.kind self.old self.new) }
+        ensures refused { IfErr result (λ x. RefusedLeaf (Text Bmp (size_bounds constraints) (Written value.now)) x self.old self.new) }
+        ensures law { IfErr result (λ x. Refused (text Bmp constraints value.now) x self.old self.new) }
     {
         self.put_text::<BmpCharacters>(constraints, value)
     }
@@ -281,21 +281,20 @@ impl<'buffer> Encoder<'buffer> {
         value: &RestrictedString<C>,
     ) -> Result<(), EncodeError>
         ensures done { OnOk result (Encodes (text C.rule constraints value.now) self.old self.new) }
-        ensures refused { IfErr result (λ x. RefusedLeaf (Text C.rule (size_bounds constraints) (Written value.now)) x.kind self.old self.new) }
+        ensures refused { IfErr result (λ x. RefusedLeaf (Text C.rule (size_bounds constraints) (Written value.now)) x self.old self.new) }
     {
         write_text(constraints, value, &mut *self.output)?;
         Ok(())
     }
 
     /// Writes a restricted character string of any character set.
-    #[tactic(auto, using(crate::proofs::Refusals::text_by_law))]
     pub(crate) fn put_restricted<C: CharacterSet>(
         &mut self,
         constraints: Constraints,
         value: &RestrictedString<C>,
     ) -> Result<(), EncodeError>
         ensures done { OnOk result (Encodes (text C.rule constraints value.now) self.old self.new) }
-        ensures law { IfErr result (λ x. Refused (text C.rule constraints value.now) x.kind self.old self.new) }
+        ensures law { IfErr result (λ x. Refused (text C.rule constraints value.now) x self.old self.new) }
     {
         self.put_text(constraints, value)
     }

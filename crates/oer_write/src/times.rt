@@ -21,8 +21,8 @@ impl<'buffer> Encoder<'buffer> {
     #[tactic(auto, using(crate::proofs::Refusals::time_by_law))]
     pub fn encode_utc_time(&mut self, _tag: Tag, value: &UtcTime) -> Result<(), EncodeError>
         ensures done { OnOk result (Encodes (utc_time value.now) self.old self.new) }
-        ensures refused { IfErr result (λ x. RefusedLeaf (Text Utc None (time_content (utc_text value.now) (moment_fields value.now))) x.kind self.old self.new) }
-        ensures law { IfErr result (λ x. Refused (utc_time value.now) x.kind self.old self.new) }
+        ensures refused { IfErr result (λ x. RefusedLeaf (Text Utc None (time_content (utc_text value.now) (moment_fields value.now))) x self.old self.new) }
+        ensures law { IfErr result (λ x. Refused (utc_time value.now) x self.old self.new) }
     {
         self.put_time::<UtcTime>(value)
     }
@@ -37,8 +37,8 @@ impl<'buffer> Encoder<'buffer> {
         value: &GeneralizedTime,
     ) -> Result<(), EncodeError>
         ensures done { OnOk result (Encodes (generalized_time value.now) self.old self.new) }
-        ensures refused { IfErr result (λ x. RefusedLeaf (Text Generalized None (time_content (generalized_text value.now) (moment_fields value.now))) x.kind self.old self.new) }
-        ensures law { IfErr result (λ x. Refused (generalized_time value.now) x.kind self.old self.new) }
+        ensures refused { IfErr result (λ x. RefusedLeaf (Text Generalized None (time_content (generalized_text value.now) (moment_fields value.now))) x self.old self.new) }
+        ensures law { IfErr result (λ x. Refused (generalized_time value.now) x self.old self.new) }
     {
         self.put_time::<GeneralizedTime>(value)
     }
@@ -49,8 +49,8 @@ impl<'buffer> Encoder<'buffer> {
     #[tactic(auto, using(crate::proofs::Refusals::time_by_law))]
     pub fn encode_date(&mut self, _tag: Tag, value: &Date) -> Result<(), EncodeError>
         ensures done { OnOk result (Encodes (date value.now) self.old self.new) }
-        ensures refused { IfErr result (λ x. RefusedLeaf (Text DateRule None (time_content (date_text value.now) (day_fields value.now))) x.kind self.old self.new) }
-        ensures law { IfErr result (λ x. Refused (date value.now) x.kind self.old self.new) }
+        ensures refused { IfErr result (λ x. RefusedLeaf (Text DateRule None (time_content (date_text value.now) (day_fields value.now))) x self.old self.new) }
+        ensures law { IfErr result (λ x. Refused (date value.now) x self.old self.new) }
     {
         self.put_time::<Date>(value)
     }
@@ -59,7 +59,7 @@ impl<'buffer> Encoder<'buffer> {
     #[tactic(auto, unfolding(oer_spec::specs::Spelled::time, oer_spec::specs::Encoding::canonical_octets, oer_spec::specs::Encoding::fails))]
     fn put_time<T: TimeType>(&mut self, value: &T) -> Result<(), EncodeError>
         ensures done { (fields : List ℕ) → OnOk result (Encodes (time T.rule (T.text value.now) fields) self.old self.new) }
-        ensures refused { (fields : List ℕ) → IfErr result (λ x. RefusedLeaf (Text T.rule None (time_content (T.text value.now) fields)) x.kind self.old self.new) }
+        ensures refused { (fields : List ℕ) → IfErr result (λ x. RefusedLeaf (Text T.rule None (time_content (T.text value.now) fields)) x self.old self.new) }
     {
         write_time(value, &mut *self.output)?;
         Ok(())

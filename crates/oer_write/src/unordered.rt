@@ -1,13 +1,14 @@
 //! Unordered lists: the elements in the order of their octets.
 ghost use Rattle.std.specs.Prelude.{◌≡◌, ℕ, ◌+◌, ◌<◌, List, [], ◌∷◌, ◌++◌, ◌⊎◌, cond, Bool, true, false, map, OnOk, IfOk, IfErr};
 ghost use Rattle.asn1_core.specs.Octets.{joined};
+ghost use Rattle.asn1_core.specs.declared.codec.Codec.TheVariants.{Coer};
 ghost use Rattle.asn1_core.specs.declared.error.EncodeErrorKind.TheVariants.{OutOfMemory, TooManyEmptyElements};
 ghost use Rattle.oer_spec.specs.Failures.{Fails};
 ghost use Rattle.oer_spec.specs.Lengths.{quantity_octets};
 ghost use Rattle.oer_spec.specs.Places.{sorted};
 ghost use Rattle.oer_spec.specs.Spelled.{list_of, EachValue};
 ghost use Rattle.oer_spec.specs.Writing.{Appends, BeginsWith};
-ghost use Rattle.oer_write.specs.Lists.{is_nil};
+ghost use Rattle.oer_write.specs.Lists.{is_nil, IsByFirst};
 ghost use Rattle.oer_write.specs.Unordered.{octets_in, Gathered, OneMore, OneRefused, IsSameInAnyWalk};
 ghost use Rattle.oer_write.specs.Written.{append, Keeps, Encodes, Refused};
 
@@ -54,6 +55,7 @@ fn put_one<E: Encode>(
     requires few { count < 65537 }
     ensures done { IfOk result (λ n. OneMore (E.tree E.CONSTRAINTS) E.IsValue x.now (map octets_in contents.old.items) (map octets_in contents.new.items) count n) }
     ensures refused { IfErr result (λ e. OneRefused (E.tree E.CONSTRAINTS x.now) count e.kind) }
+    ensures mode { IfErr result (λ e. e.codec ≡ Coer) }
 {
     let octets = content_of(alloc, E::TAG, E::CONSTRAINTS, x)?;
     let next = next_count(is_nothing(&octets), count)?;
@@ -65,6 +67,8 @@ fn put_one<E: Encode>(
 fn contents_of<E: Encode>(alloc: Global, elements: &SetOf<E>) -> Result<Vec<Vec<u8>>, EncodeError>
     ensures done { IfOk result (λ contents. (count : ℕ) × Gathered (E.tree E.CONSTRAINTS) E.IsValue elements.now (map octets_in contents.items) count) }
     ensures refused { IfErr result (λ x. (x.kind ≡ OutOfMemory) ⊎ Fails (list_of false (E.tree E.CONSTRAINTS) elements.now) x.kind) }
+    ensures mode { IfErr result (λ x. x.codec ≡ Coer) }
+    ensures first { IfErr result (λ x. IsByFirst (E.tree E.CONSTRAINTS) elements.now x) }
 {
     let mut contents = Vec::new(alloc);
     let mut empty_count: u32 = 0;
@@ -120,8 +124,9 @@ impl<'buffer> Encoder<'buffer> {
     /// Writes a SET OF (X.696, 19): its quantity, and the elements' octets in ascending order, each element under its type's
     /// own constraints.
     ///
-    /// Whatever the order in which the elements stand, the octets are the same. Refused by what an element is refused by, at
-    /// the 65,537th element without octets by `TooManyEmptyElements`, or for want of memory.
+    /// Whatever the order in which the elements stand, the octets are the same. Refused by what the first element is refused
+    /// by that is refused, at the 65,537th element without octets by `TooManyEmptyElements`, whichever comes first; or for
+    /// want of memory.
     #[tactic(auto, using(crate::proofs::Gathering::any_walk))]
     pub fn encode_set_of<E: Encode>(
         &mut self,
@@ -131,7 +136,8 @@ impl<'buffer> Encoder<'buffer> {
     ) -> Result<(), EncodeError>
         ensures done { OnOk result (Encodes (list_of false (E.tree E.CONSTRAINTS) value.now) self.old self.new) }
         ensures value { OnOk result (EachValue E.IsValue value.now) }
-        ensures refused { IfErr result (λ x. Refused (list_of false (E.tree E.CONSTRAINTS) value.now) x.kind self.old self.new) }
+        ensures refused { IfErr result (λ x. Refused (list_of false (E.tree E.CONSTRAINTS) value.now) x self.old self.new) }
+        ensures first { IfErr result (λ x. IsByFirst (E.tree E.CONSTRAINTS) value.now x) }
         ensures any_order { IsSameInAnyWalk (E.tree E.CONSTRAINTS) }
     {
         self.put_unordered(value)
@@ -140,7 +146,8 @@ impl<'buffer> Encoder<'buffer> {
     fn put_unordered<E: Encode>(&mut self, elements: &SetOf<E>) -> Result<(), EncodeError>
         ensures done { OnOk result (Encodes (list_of false (E.tree E.CONSTRAINTS) elements.now) self.old self.new) }
         ensures value { OnOk result (EachValue E.IsValue elements.now) }
-        ensures refused { IfErr result (λ x. Refused (list_of false (E.tree E.CONSTRAINTS) elements.now) x.kind self.old self.new) }
+        ensures refused { IfErr result (λ x. Refused (list_of false (E.tree E.CONSTRAINTS) elements.now) x self.old self.new) }
+        ensures first { IfErr result (λ x. IsByFirst (E.tree E.CONSTRAINTS) elements.now x) }
     {
         let mut contents = contents_of(self.alloc, elements)?;
         self.put_sorted(&mut contents, elements.len())?;

@@ -1,5 +1,6 @@
 -- What the law of reading gives to the entry calls, by the laws of the definitions.
-use Rattle.std.proofs.Common.{◌≡◌, ℕ, ◌≤◌, ◌++◌, sym, ◌∙◌, subst}
+use Rattle.std.proofs.Common.{◌≡◌, ℕ, ◌≤◌, ◌++◌, Result, Ok, Err, ap, sym, ◌∙◌, subst}
+use Rattle.std.specs.Borrow.{Bor}
 use Rattle.asn1_core.specs.Octets.{Octets}
 use Rattle.asn1_core.specs.declared.codec.Codec.{Codec}
 use Rattle.asn1_core.specs.declared.codec.Codec.TheVariants.{Oer, Coer}
@@ -15,10 +16,9 @@ use Rattle.oer_spec.proofs.Unique.{cancel}
 use Rattle.oer_spec.proofs.Within.{own_sized_within_canonical, canonical_within_lenient}
 use Rattle.oer_spec.proofs.WrittenTrees.{spelt}
 use Rattle.asn1_core.specs.declared.error.DecodeError.{DecodeError}
-use Rattle.asn1_core.specs.declared.error.DecodeErrorKind.TheVariants.{OutOfMemory}
-use Rattle.rasn_oer.specs.Headline.{is_settled, Begins, Decoded, HasNone}
+use Rattle.rasn_oer.specs.Headline.{is_settled, started, Begins, Decoded, HasNone, NotRead, Says}
 use Rattle.oer_read.specs.Law.{Reads, RefusedBy}
-use Rattle.oer_read.specs.State.{State, closed}
+use Rattle.oer_read.specs.State.{State}
 
 -- what is written is read in both modes
 pub written_in : (m : Codec) (t : Tree) (d : ℕ) → IsTree t → IsEncodable t → levels t ≤ d → IsEncoding (mode_of m) d (canonical_octets t) t
@@ -28,10 +28,6 @@ written_in Oer t d i f l = canonical_within_lenient t d (canonical_octets t) (ow
 older_in : (m : Codec) (n t : Tree) (d : ℕ) (o : Octets) → IsTree n → IsTree t → Drops (is_settled m) n t → IsEncoding (mode_of m) d o n → IsEncoding (mode_of m) d o t
 older_in Coer n t d o i j f g = skips_canonical n t d o i j f g
 older_in Oer n t d o i j f g = skips_lenient n t d o i j f g
-
--- a new decoder
-abbrev started : Codec → ℕ → Octets → State
-started m d input = record { input = input; codec = m; levels = d; frame = closed }
 
 module _ {A : Type 0} (tree : A → Tree) (IsValue : A → Type 0) (is_tree : (v : A) → IsValue v → IsTree (tree v)) (alike : (v w : A) → IsValue v → IsValue w → Alike (tree v) (tree w)) where
   only_one : (m : Codec) (d : ℕ) (input : Octets) (v w : A) (o p r s : Octets) → Begins tree IsValue m d input v o r → Begins tree IsValue m d input w p s → (p ≡ o) × (s ≡ r) × Same (tree v) (tree w)
@@ -51,16 +47,16 @@ module _ {A : Type 0} (tree : A → Tree) (IsValue : A → Type 0) (is_tree : (v
     taken = taken;
     begins = b;
     only = λ w o r c. only_one m d input v w taken o rest r b c;
-    one = λ f. own_is_canonical (tree v) d taken f;
-    equal = λ w e o j s f g. own_is_canonical (tree w) e o g ∙ sym (same_octets (tree v) (tree w) s) ∙ sym (own_is_canonical (tree v) d taken f);
-    older = λ n w o r i j f e g. only_one m d input v w taken o rest r b (newer_begins m d input n w o r i j f e g);
-    again = λ w r j f l e. let u = only_one m d input v w taken (canonical_octets (tree w)) rest r b (written_begins m d input w r j f l e) in (sym u.0, sym u.1, u.2);
+    own_sized = λ f. own_is_canonical (tree v) d taken f;
+    own_sized_once = λ w e o j s f g. own_is_canonical (tree w) e o g ∙ sym (same_octets (tree v) (tree w) s) ∙ sym (own_is_canonical (tree v) d taken f);
+    newer_sender = λ n w o r i j f e g. only_one m d input v w taken o rest r b (newer_begins m d input n w o r i j f e g);
+    round_trip = λ w r j f l e. let u = only_one m d input v w taken (canonical_octets (tree w)) rest r b (written_begins m d input w r j f l e) in (sym u.0, sym u.1, u.2);
   }
 
   pub has_none : (m : Codec) (d : ℕ) (input : Octets) → ((w : A) (o r : Octets) → IsValue w → input ≡ o ++ r → IsEncoding (mode_of m) d o (tree w) → ⊥) → HasNone tree IsValue m d input
   has_none m d input none = record {
     none = λ w o r c. none w o r c.value c.split c.spells;
-    newer = λ n w o r i j f e g. let b = newer_begins m d input n w o r i j f e g in none w o r j e b.spells;
+    newer_sender = λ n w o r i j f e g. let b = newer_begins m d input n w o r i j f e g in none w o r j e b.spells;
     written = λ w r j f l e. let b = written_begins m d input w r j f l e in none w (canonical_octets (tree w)) r j e b.spells;
   }
 
@@ -71,7 +67,17 @@ module _ {A : Type 0} (tree : A → Tree) (IsValue : A → Type 0) (is_tree : (v
       go : (s : State) → s ≡ started m d input → Reads tree IsValue s v new → Decoded tree IsValue m d input v new.input
       go s e r = subst (λ z. Reads tree IsValue z v new → Decoded tree IsValue m d input v new.input) (sym e) (λ q. decoded m d input v q.taken new.input (record { value = q.value; split = q.split; spells = q.encoding })) r
 
-  pub refused_value : (m : Codec) (d : ℕ) (input : Octets) (old new : State) (x : DecodeError) → old ≡ started m d input → RefusedBy tree IsValue x old new → (x.kind ≡ OutOfMemory → ⊥) → HasNone tree IsValue m d input
-  refused_value m d input old new x e r k =
-      subst (λ z. RefusedBy tree IsValue x z new → HasNone tree IsValue m d input) (sym e)
-      (λ q. has_none m d input (λ w o rest i s f. q.none k w o i (record { rest = rest; split = s; encoding = f }))) r
+  pub refused_value : (m : Codec) (d : ℕ) (input : Octets) (old new : State) (x : DecodeError) → old ≡ started m d input → RefusedBy tree IsValue x old new → NotRead tree IsValue m d input x
+  refused_value m d input old new x e r =
+      subst (λ z. RefusedBy tree IsValue x z new → NotRead tree IsValue m d input x) (sym e)
+      (λ q. record { mode = q.mode; none = λ k. has_none m d input (λ w o rest i s f. q.none k w o i (record { rest = rest; split = s; encoding = f })) }) r
+
+  -- what the type says of its answers holds of the call's
+  pub says_read : (Answered : State → Result A DecodeError → State → Type 0) (m : Codec) (d : ℕ) (input : Octets) (old new : State) (v : A) (rest : Bor Octets) → old ≡ started m d input → rest.now ≡ new.input → Reads tree IsValue old v new → Answered old (Ok v) new → Says tree IsValue Answered m d input (Ok (v, rest))
+  says_read Answered m d input old new v rest e f r a =
+      let left : new ≡ started m d rest.now = r.rest ∙ ap (λ (z : State). record z { input = new.input }) e ∙ ap (λ (z : Octets). started m d z) (sym f) in
+      subst (λ (z : State). Answered (started m d input) (Ok v) z) left (subst (λ (z : State). Answered z (Ok v) new) e a)
+
+  pub says_refused : (Answered : State → Result A DecodeError → State → Type 0) (m : Codec) (d : ℕ) (input : Octets) (old new : State) (x : DecodeError) → old ≡ started m d input → RefusedBy tree IsValue x old new → Answered old (Err x) new → Says tree IsValue Answered m d input (Err x)
+  says_refused Answered m d input old new x e r a =
+      subst (λ (z : State). Answered (started m d input) (Err x) z) (r.same ∙ e) (subst (λ (z : State). Answered z (Err x) new) e a)

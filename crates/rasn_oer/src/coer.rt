@@ -1,12 +1,12 @@
 //! Canonical octet encoding rules (X.696): canonical reading, and canonical writing.
 ghost use Rattle.asn1_core.specs.declared.codec.Codec.TheVariants.{Coer};
 ghost use Rattle.oer_spec.specs.Spelled.{IsConsistent};
-ghost use Rattle.rasn_oer.specs.Conversions.{IsAsOlder};
-ghost use Rattle.rasn_oer.specs.Headline.{IsAppended, IsRead, IsReadAlone, IsWritten};
+ghost use Rattle.rasn_oer.specs.Conversions.{IsAsNewer, IsAsOlder};
+ghost use Rattle.rasn_oer.specs.Headline.{IsAppended, IsRead, IsReadAlone, IsWritten, Says, SaysAlone};
 
 use crate::entry::{append_value, decode_value, encode_value};
-pub use crate::oer::{CodecError, Decoder, Encoder, EncodingRules, de, enc};
-use crate::recode::older_value;
+pub use crate::oer::{CodecError, Decoder, Encoder, EncodingRules, de, decode_with_options, enc};
+use crate::recode::other_version;
 use asn1_core::{Constraints, DecodeError, EncodeError};
 use oer_read::Decode;
 use oer_read::de::DecoderOptions;
@@ -53,7 +53,8 @@ pub fn encode_buf<T: Encode>(
 /// Refused exactly where no such encoding begins the input (docs/REFUSALS.md has the kinds and their order), or for want
 /// of memory.
 pub fn decode<T: Decode>(alloc: Global, input: &[u8]) -> Result<T, DecodeError>
-    ensures { IsReadAlone (T.tree T.CONSTRAINTS) T.IsValue Coer 128 input.now result }
+    ensures read { IsReadAlone (T.tree T.CONSTRAINTS) T.IsValue Coer DecoderOptions.DEFAULT_DEPTH input.now result }
+    ensures says { SaysAlone (T.tree T.CONSTRAINTS) T.IsValue (T.Answered T.CONSTRAINTS) Coer DecoderOptions.DEFAULT_DEPTH input.now result }
 {
     let (value, _rest) = decode_value(alloc, DecoderOptions::coer(), T::CONSTRAINTS, input)?;
     Ok(value)
@@ -66,9 +67,10 @@ pub fn decode_with_remainder<'a, T: Decode>(
     alloc: Global,
     input: &'a [u8],
 ) -> Result<(T, &'a [u8]), DecodeError>
-    ensures { IsRead (T.tree T.CONSTRAINTS) T.IsValue Coer 128 input.entry.now result }
+    ensures read { IsRead (T.tree T.CONSTRAINTS) T.IsValue Coer DecoderOptions.DEFAULT_DEPTH input.entry.now result }
+    ensures says { Says (T.tree T.CONSTRAINTS) T.IsValue (T.Answered T.CONSTRAINTS) Coer DecoderOptions.DEFAULT_DEPTH input.entry.now result }
 {
-    decode_value(alloc, DecoderOptions::coer(), T::CONSTRAINTS, input)
+    decode_with_options(alloc, DecoderOptions::coer(), input)
 }
 
 /// The same as `decode` under these constraints, which are consistent and stand in place of the type's own.
@@ -78,7 +80,8 @@ pub fn decode_with_constraints<T: Decode>(
     input: &[u8],
 ) -> Result<T, DecodeError>
     requires { IsConsistent constraints }
-    ensures { IsReadAlone (T.tree constraints) T.IsValue Coer 128 input.now result }
+    ensures read { IsReadAlone (T.tree constraints) T.IsValue Coer DecoderOptions.DEFAULT_DEPTH input.now result }
+    ensures says { SaysAlone (T.tree constraints) T.IsValue (T.Answered constraints) Coer DecoderOptions.DEFAULT_DEPTH input.now result }
 {
     let (value, _rest) = decode_value(alloc, DecoderOptions::coer(), constraints, input)?;
     Ok(value)
@@ -89,7 +92,17 @@ pub fn decode_with_constraints<T: Decode>(
 /// Refused as `encode` refuses the newer value, or as `decode` refuses its octets as the older type: also where a
 /// component's default leaves out what the newer value spells out.
 pub fn as_older<New: Encode, Old: Decode>(alloc: Global, newer: &New) -> Result<Old, CodecError>
-    ensures { IsAsOlder (New.tree New.CONSTRAINTS) New.IsValue (Old.tree Old.CONSTRAINTS) Old.IsValue Coer 128 newer.now result }
+    ensures { IsAsOlder (New.tree New.CONSTRAINTS) New.IsValue (Old.tree Old.CONSTRAINTS) Old.IsValue Coer DecoderOptions.DEFAULT_DEPTH newer.now result }
 {
-    older_value(alloc, DecoderOptions::coer(), newer)
+    other_version(alloc, DecoderOptions::coer(), newer)
+}
+
+/// An older version's value as one of a newer version, without the newer version's further components: what canonical reading
+/// of its canonical octets answers.
+///
+/// Refused as `encode` refuses the older value, or as `decode` refuses its octets as the newer type.
+pub fn as_newer<Old: Encode, New: Decode>(alloc: Global, older: &Old) -> Result<New, CodecError>
+    ensures { IsAsNewer (Old.tree Old.CONSTRAINTS) Old.IsValue (New.tree New.CONSTRAINTS) New.IsValue Coer DecoderOptions.DEFAULT_DEPTH older.now result }
+{
+    other_version(alloc, DecoderOptions::coer(), older)
 }

@@ -1,7 +1,7 @@
 //! What both modules' calls come down to: one function for each direction.
 ghost use Rattle.asn1_core.specs.declared.codec.Codec.{Codec};
 ghost use Rattle.oer_spec.specs.Spelled.{IsConsistent};
-ghost use Rattle.rasn_oer.specs.Headline.{IsAppended, IsWritten, IsRead};
+ghost use Rattle.rasn_oer.specs.Headline.{IsAppended, IsWritten, IsRead, Says};
 
 use asn1_core::{Constraints, DecodeError, EncodeError};
 use oer_read::de::DecoderOptions;
@@ -34,7 +34,8 @@ pub(crate) fn decode_value<'a, T: Decode>(
     input: &'a [u8],
 ) -> Result<(T, &'a [u8]), DecodeError>
     requires { IsConsistent constraints }
-    ensures { IsRead (T.tree constraints) T.IsValue options.codec options.levels input.entry.now result }
+    ensures read { IsRead (T.tree constraints) T.IsValue options.codec options.levels input.entry.now result }
+    ensures says { Says (T.tree constraints) T.IsValue (T.Answered constraints) options.codec options.levels input.entry.now result }
 {
     let mut decoder = Decoder::new(input, options);
     match T::decode_with_constraints(alloc, &mut decoder, constraints) {

@@ -1,12 +1,12 @@
 //! Basic octet encoding rules (X.696): lenient reading, and canonical writing.
 ghost use Rattle.asn1_core.specs.declared.codec.Codec.TheVariants.{Oer};
 ghost use Rattle.oer_spec.specs.Spelled.{IsConsistent};
-ghost use Rattle.rasn_oer.specs.Conversions.{IsAsOlder, IsCanonicalised};
-ghost use Rattle.rasn_oer.specs.Headline.{IsAppended, IsRead, IsReadAlone, IsWritten};
+ghost use Rattle.rasn_oer.specs.Conversions.{IsAsNewer, IsAsOlder, IsCanonicalised};
+ghost use Rattle.rasn_oer.specs.Headline.{IsAppended, IsRead, IsReadAlone, IsWritten, Says, SaysAlone};
 
 pub use crate::codec_error::CodecError;
 use crate::entry::{append_value, decode_value, encode_value};
-use crate::recode::{canonical_value, older_value};
+use crate::recode::{canonical_value, other_version};
 use asn1_core::{Constraints, DecodeError, EncodeError};
 use oer_read::Decode;
 use oer_read::de::DecoderOptions;
@@ -55,10 +55,26 @@ pub fn encode_buf<T: Encode>(
 /// Refused exactly where no such encoding begins the input (docs/REFUSALS.md has the kinds and their order), or for want
 /// of memory.
 pub fn decode<T: Decode>(alloc: Global, input: &[u8]) -> Result<T, DecodeError>
-    ensures { IsReadAlone (T.tree T.CONSTRAINTS) T.IsValue Oer 128 input.now result }
+    ensures read { IsReadAlone (T.tree T.CONSTRAINTS) T.IsValue Oer DecoderOptions.DEFAULT_DEPTH input.now result }
+    ensures says { SaysAlone (T.tree T.CONSTRAINTS) T.IsValue (T.Answered T.CONSTRAINTS) Oer DecoderOptions.DEFAULT_DEPTH input.now result }
 {
     let (value, _rest) = decode_value(alloc, DecoderOptions::oer(), T::CONSTRAINTS, input)?;
     Ok(value)
+}
+
+/// The value whose encoding begins the input, by the rules and within the levels of the options, and the octets behind it.
+///
+/// Refused exactly where no such encoding begins the input (docs/REFUSALS.md has the kinds and their order), or for want
+/// of memory.
+pub fn decode_with_options<'a, T: Decode>(
+    alloc: Global,
+    options: DecoderOptions,
+    input: &'a [u8],
+) -> Result<(T, &'a [u8]), DecodeError>
+    ensures read { IsRead (T.tree T.CONSTRAINTS) T.IsValue options.codec options.levels input.entry.now result }
+    ensures says { Says (T.tree T.CONSTRAINTS) T.IsValue (T.Answered T.CONSTRAINTS) options.codec options.levels input.entry.now result }
+{
+    decode_value(alloc, options, T::CONSTRAINTS, input)
 }
 
 /// The value whose lenient encoding begins the input, within 128 levels, and the octets behind it.
@@ -68,9 +84,10 @@ pub fn decode_with_remainder<'a, T: Decode>(
     alloc: Global,
     input: &'a [u8],
 ) -> Result<(T, &'a [u8]), DecodeError>
-    ensures { IsRead (T.tree T.CONSTRAINTS) T.IsValue Oer 128 input.entry.now result }
+    ensures read { IsRead (T.tree T.CONSTRAINTS) T.IsValue Oer DecoderOptions.DEFAULT_DEPTH input.entry.now result }
+    ensures says { Says (T.tree T.CONSTRAINTS) T.IsValue (T.Answered T.CONSTRAINTS) Oer DecoderOptions.DEFAULT_DEPTH input.entry.now result }
 {
-    decode_value(alloc, DecoderOptions::oer(), T::CONSTRAINTS, input)
+    decode_with_options(alloc, DecoderOptions::oer(), input)
 }
 
 /// The same as `decode` under these constraints, which are consistent and stand in place of the type's own.
@@ -80,7 +97,8 @@ pub fn decode_with_constraints<T: Decode>(
     input: &[u8],
 ) -> Result<T, DecodeError>
     requires { IsConsistent constraints }
-    ensures { IsReadAlone (T.tree constraints) T.IsValue Oer 128 input.now result }
+    ensures read { IsReadAlone (T.tree constraints) T.IsValue Oer DecoderOptions.DEFAULT_DEPTH input.now result }
+    ensures says { SaysAlone (T.tree constraints) T.IsValue (T.Answered constraints) Oer DecoderOptions.DEFAULT_DEPTH input.now result }
 {
     let (value, _rest) = decode_value(alloc, DecoderOptions::oer(), constraints, input)?;
     Ok(value)
@@ -94,7 +112,7 @@ pub fn canonicalise<'a, T: Decode + Encode>(
     alloc: Global,
     input: &'a [u8],
 ) -> Result<(Vec<u8>, &'a [u8]), CodecError>
-    ensures { IsCanonicalised (T.tree T.CONSTRAINTS) T.IsValue 128 input.entry.now result }
+    ensures { IsCanonicalised (T.tree T.CONSTRAINTS) T.IsValue DecoderOptions.DEFAULT_DEPTH input.entry.now result }
 {
     canonical_value::<T>(alloc, input)
 }
@@ -103,7 +121,17 @@ pub fn canonicalise<'a, T: Decode + Encode>(
 ///
 /// Refused as `encode` refuses the newer value, or as `decode` refuses its octets as the older type.
 pub fn as_older<New: Encode, Old: Decode>(alloc: Global, newer: &New) -> Result<Old, CodecError>
-    ensures { IsAsOlder (New.tree New.CONSTRAINTS) New.IsValue (Old.tree Old.CONSTRAINTS) Old.IsValue Oer 128 newer.now result }
+    ensures { IsAsOlder (New.tree New.CONSTRAINTS) New.IsValue (Old.tree Old.CONSTRAINTS) Old.IsValue Oer DecoderOptions.DEFAULT_DEPTH newer.now result }
 {
-    older_value(alloc, DecoderOptions::oer(), newer)
+    other_version(alloc, DecoderOptions::oer(), newer)
+}
+
+/// An older version's value as one of a newer version, without the newer version's further components: what lenient reading
+/// of its canonical octets answers.
+///
+/// Refused as `encode` refuses the older value, or as `decode` refuses its octets as the newer type.
+pub fn as_newer<Old: Encode, New: Decode>(alloc: Global, older: &Old) -> Result<New, CodecError>
+    ensures { IsAsNewer (Old.tree Old.CONSTRAINTS) Old.IsValue (New.tree New.CONSTRAINTS) New.IsValue Oer DecoderOptions.DEFAULT_DEPTH older.now result }
+{
+    other_version(alloc, DecoderOptions::oer(), older)
 }

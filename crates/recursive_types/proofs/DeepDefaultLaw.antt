@@ -2,7 +2,6 @@
 use Rattle.std.proofs.Common.{◌≡◌, Result, Ok, Err, ap, ap₂, sym, ◌∙◌, subst}
 use Rattle.std.specs.Result.{IsErrAnd}
 use Rattle.asn1_core.specs.declared.error.EncodeError.{EncodeError}
-use Rattle.asn1_core.specs.declared.error.EncodeErrorKind.{EncodeErrorKind}
 use Rattle.asn1_core.specs.declared.tag.Tag.{Tag}
 use Rattle.oer_spec.specs.Tree.{Tree, Rows, NoRows, Default, Slot}
 use Rattle.oer_write.specs.Rows.{RowsDone, RowsRefused, WritesRows, defaulted, present_unless}
@@ -30,7 +29,7 @@ pub compared_done : (v : DeepDefault) (d : Nest) (g : Tag) (s t : Written) → g
 compared_done v d g s t q e h = subst (λ (r : Rows). RowsDone r NoRows s t) (rows_compared v d g q e) h
 
 pub compared_refused : (v : DeepDefault) (d : Nest) (g : Tag) (s t : Written) (Q : EncodeError → Type 0) (x : EncodeError) (result : Result (Unit {0}) EncodeError) → g ≡ context 0 → nest_tree d ≡ deep_lists
-    → IsErrAnd result Q → ((y : EncodeError) → Q y → y ≡ x) → RowsRefused (rows_by g v.n d) NoRows x.kind s t → WritesRows (deep_default_rows v) NoRows s result t
+    → IsErrAnd result Q → ((y : EncodeError) → Q y → y ≡ x) → RowsRefused (rows_by g v.n d) NoRows x s t → WritesRows (deep_default_rows v) NoRows s result t
 compared_refused v d g s t Q x (Ok u) q e i b h = absurd i
 compared_refused v d g s t Q x (Err y) q e i b h =
-    subst (λ (k : EncodeErrorKind). RowsRefused (deep_default_rows v) NoRows k s t) (ap (λ (z : EncodeError). z.kind) (sym (b y i))) (subst (λ (r : Rows). RowsRefused r NoRows x.kind s t) (rows_compared v d g q e) h)
+    subst (λ (z : EncodeError). RowsRefused (deep_default_rows v) NoRows z s t) (sym (b y i)) (subst (λ (r : Rows). RowsRefused r NoRows x s t) (rows_compared v d g q e) h)

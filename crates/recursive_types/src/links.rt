@@ -194,7 +194,7 @@ impl Spelled for LinkChoice {
 #[tactic(auto, unfolding(crate::specs::Links::link_tree))]
 fn encode_link(value: &Link, encoder: &mut Encoder<'_>) -> Result<(), EncodeError>
     ensures done { OnOk result (Encodes (link_tree value.now) encoder.old encoder.new) }
-    ensures refused { IfErr result (λ x. Refused (link_tree value.now) x.kind encoder.old encoder.new) }
+    ensures refused { IfErr result (λ x. Refused (link_tree value.now) x encoder.old encoder.new) }
 {
     encoder.encode_sequence::<2, 0, Link, _>(
         Tag::SEQUENCE,
@@ -218,7 +218,7 @@ fn encode_link(value: &Link, encoder: &mut Encoder<'_>) -> Result<(), EncodeErro
 #[tactic(auto, unfolding(crate::specs::Links::link_choice_tree, crate::specs::Links::link_tree))]
 fn encode_link_choice(value: &LinkChoice, encoder: &mut Encoder<'_>) -> Result<(), EncodeError>
     ensures done { OnOk result (Encodes (link_choice_tree value.now) encoder.old encoder.new) }
-    ensures refused { IfErr result (λ x. Refused (link_choice_tree value.now) x.kind encoder.old encoder.new) }
+    ensures refused { IfErr result (λ x. Refused (link_choice_tree value.now) x encoder.old encoder.new) }
 {
     match value {
         LinkChoice::A(value) => put_alternative::<LinkChoice, bool>(

@@ -55,7 +55,7 @@ impl EqualAsSpelled for Nest {
 /// Writes a nest: by its depth.
 fn encode_nest(value: &Nest, encoder: &mut Encoder<'_>) -> Result<(), EncodeError>
     ensures done { OnOk result (Encodes (nest_tree value.now) encoder.old encoder.new) }
-    ensures refused { IfErr result (λ x. Refused (nest_tree value.now) x.kind encoder.old encoder.new) }
+    ensures refused { IfErr result (λ x. Refused (nest_tree value.now) x encoder.old encoder.new) }
 {
     encoder.encode_sequence_of_with(
         Tag::SEQUENCE,

@@ -207,7 +207,7 @@ impl Spelled for TestChoice {
 #[tactic(auto, unfolding(crate::specs::TopLevels::top_tree))]
 fn encode_top(value: &TopLevel, encoder: &mut Encoder<'_>) -> Result<(), EncodeError>
     ensures done { OnOk result (Encodes (top_tree value.now) encoder.old encoder.new) }
-    ensures refused { IfErr result (λ x. Refused (top_tree value.now) x.kind encoder.old encoder.new) }
+    ensures refused { IfErr result (λ x. Refused (top_tree value.now) x encoder.old encoder.new) }
 {
     encoder.encode_sequence::<2, 0, TopLevel, _>(
         Tag::SEQUENCE,
@@ -232,7 +232,7 @@ fn encode_top(value: &TopLevel, encoder: &mut Encoder<'_>) -> Result<(), EncodeE
 #[tactic(auto, unfolding(crate::specs::TopLevels::test_tree, crate::specs::TopLevels::top_tree))]
 fn encode_test(value: &TestChoice, encoder: &mut Encoder<'_>) -> Result<(), EncodeError>
     ensures done { OnOk result (Encodes (test_tree value.now) encoder.old encoder.new) }
-    ensures refused { IfErr result (λ x. Refused (test_tree value.now) x.kind encoder.old encoder.new) }
+    ensures refused { IfErr result (λ x. Refused (test_tree value.now) x encoder.old encoder.new) }
 {
     match value {
         TestChoice::Number1(value) => put_alternative::<TestChoice, ()>(

@@ -20,7 +20,7 @@ pub fn put_option<E: Encode>(
     ensures in_sequence { encoder.old.frame.is_set ≡ false → OnOk result (RowsDone (optional tag (slot_of (E.tree constraints) value.now)) NoRows encoder.old encoder.new) }
     ensures in_set { encoder.old.frame.is_set ≡ true → OnOk result (SetDone (optional tag (slot_of (E.tree constraints) value.now)) NoRows encoder.old encoder.new) }
     ensures value { OnOk result (IfSome value.now E.IsValue) }
-    ensures refused { IfErr result (λ x. RowsRefused (optional tag (slot_of (E.tree constraints) value.now)) NoRows x.kind encoder.old encoder.new) }
+    ensures refused { IfErr result (λ x. RowsRefused (optional tag (slot_of (E.tree constraints) value.now)) NoRows x encoder.old encoder.new) }
 {
     match value {
         Some(value) => encoder.encode_some_with_tag_and_constraints(tag, constraints, value),

@@ -6,6 +6,7 @@ use Rattle.std.specs.List.{AllByRecursion}
 use Rattle.std.specs.Result.{IfOk, IfErr, OnErr}
 use Rattle.asn1_core.specs.Rows.{Row}
 use Rattle.asn1_core.specs.Tags.{by_tag}
+use Rattle.asn1_core.specs.declared.codec.Codec.{Codec}
 use Rattle.asn1_core.specs.declared.constraints.TheConstants.Constraints.{NONE}
 use Rattle.asn1_core.specs.declared.error.DecodeError.{DecodeError}
 use Rattle.asn1_core.specs.declared.tag.Tag.{Tag}
@@ -83,20 +84,11 @@ z_default = record {
   );
 }
 
--- no component has another index
-pub mixed_other : (Says : State → Result Bool DecodeError → State → Type 0) (n : ℕ) (g : Tag) (s : State) (e : DecodeError) (t : State) → (n ≡ 0 → ⊥) → (n ≡ 1 → ⊥) → (n ≡ 2 → ⊥) → (n ≡ 3 → ⊥) → MixedReads Says n g s (Err e) t
-mixed_other Says zero g s e t a b c d = absurd (a refl)
-mixed_other Says (suc zero) g s e t a b c d = absurd (b refl)
-mixed_other Says (suc (suc zero)) g s e t a b c d = absurd (c refl)
-mixed_other Says (suc (suc (suc zero))) g s e t a b c d = absurd (d refl)
-mixed_other Says (suc (suc (suc (suc n)))) g s e t a b c d = tt
-
 pub mixed_rear : (Says : State → Result Bool DecodeError → State → Type 0) (n : ℕ) (g : Tag) (s : State) (v : MixedField) (t : State) → MixedReads Says n g s (Ok v) t → IsRear s.input t.input
 mixed_rear Says zero g s v t d = record { front = d.read.taken; split = d.read.split }
 mixed_rear Says (suc zero) g s v t d = record { front = d.read.taken; split = d.read.split }
 mixed_rear Says (suc (suc zero)) g s v t d = record { front = d.read.0.taken; split = d.read.0.split }
-mixed_rear Says (suc (suc (suc zero))) g s v t d = asks_rear boolean IsAny Says N s g v t d
-mixed_rear Says (suc (suc (suc (suc n)))) g s v t d = absurd d
+mixed_rear Says (suc (suc (suc n))) g s v t d = asks_rear boolean IsAny Says N s g v t d
 
 pub mixed_more : (fields : List MixedField) (p : MixedParts) (v : MixedField) → MixedSoFar fields p → MixedSoFar (fields ++ v ∷ []) (mixed_put p v)
 mixed_more fields p (X b) m = record { x = found_push mixed_index 0 fields (X b); y = found_push mixed_index 1 fields (X b) ∙ m.y; z = found_push mixed_index 2 fields (X b) ∙ m.z; n = found_push mixed_index 3 fields (X b) ∙ m.n }
@@ -153,9 +145,9 @@ module _ (Says : State → Result Bool DecodeError → State → Type 0) (Ran : 
   added_out : (ws : List MixedField) (a : Rows) → Added ws a → AllOut mixed_index ws mixed_sorted
   added_out ws a (o, e, _) = subst (λ (z : List MixedField). AllOut mixed_index z mixed_sorted) (sym e) ((refl, tt), ((refl, tt), ((refl, tt), tt)))
 
-  mixed_makes : (bits : List Bool) (vs ws : List MixedField) (a : Rows) (r : Result MixedSet DecodeError) → Came mixed_field_tree IsMixedAt mixed_eq mixed_default Ran mixed_sorted bits vs → Added ws a → Makes (vs ++ ws) r
-      → IfOk r (λ v. Agrees mixed_field_tree IsMixedAt mixed_eq mixed_default Ran (mixed_slot v) mixed_sorted bits vs × (mixed_additions v ≡ a)) × IfErr r (λ e. IsForMemory e)
-  mixed_makes bits vs ws a (Ok v) came added made =
+  mixed_makes : (codec : Codec) (bits : List Bool) (vs ws : List MixedField) (a : Rows) (r : Result MixedSet DecodeError) → Came mixed_field_tree IsMixedAt mixed_eq mixed_default Ran mixed_sorted bits vs → Added ws a → Makes (vs ++ ws) r
+      → IfOk r (λ v. Agrees mixed_field_tree IsMixedAt mixed_eq mixed_default Ran (mixed_slot v) mixed_sorted bits vs × (mixed_additions v ≡ a)) × IfErr r (λ e. IsForMemory e × (e.codec ≡ codec))
+  mixed_makes codec bits vs ws a (Ok v) came added made =
       let m : MixedMade (vs ++ ws) v = answer (vs ++ ws) (Ok v) made in
       let last : found mixed_index 3 (vs ++ ws) ≡ Some (N added.0) = ap (λ (z : List MixedField). found mixed_index 3 (vs ++ z)) added.1 ∙ found_behind mixed_index 3 vs (N added.0 ∷ []) (N added.0) refl in
       let option : v.n ≡ added.0 = m.n_is ∙ held added.0 m.n (sym last ∙ m.n_found) in (
@@ -166,7 +158,7 @@ module _ (Says : State → Result Bool DecodeError → State → Type 0) (Ran : 
         ),
         tt,
       )
-  mixed_makes bits vs ws a (Err e) came added made =
+  mixed_makes codec bits vs ws a (Err e) came added made =
       absurd ((required_found mixed_field_tree IsMixedAt mixed_eq mixed_default Ran mixed_index (λ n v i. i) mixed_sorted bits vs ws came mixed_apart (added_out ws a added)).1.1.0 refl (answer (vs ++ ws) (Err e) made))
 
   -- it keeps the law of reading
@@ -176,4 +168,4 @@ module _ (Says : State → Result Bool DecodeError → State → Type 0) (Ran : 
       set_law mixed_field_tree IsMixedAt mixed_eq mixed_default Ran Makes true mixed_table (mixed_row ∷ []) (OptionalPart (context 0) (Admits boolean IsAny) NoParts) Added (refl, refl, tt) (λ e. absurd (cc e))
       (promise (record { index = 0; tag = context 2 }), (promise (record { index = 1; tag = context 1 }), ((promise (record { index = 2; tag = application 1 }), z_default), tt)))
       (one_addition boolean IsAny Says N Ran 3 mixed_row (promise (record { index = 3; tag = context 0 }))) mixed_tree IsAny mixed_slot mixed_additions (λ v. refl) (λ v x y. tt)
-      (λ v i. ((record { value = X v.x; is_value = refl; is = refl }, (y_fits v.y, ((z_fits v.z (int_eq v.z (pos 0)), unless_differs (pos 0) v.z), tt))), (refl, flag_made v.n, tt))) mixed_makes old result new read refused same
+      (λ v i. ((record { value = X v.x; is_value = refl; is = refl }, (y_fits v.y, ((z_fits v.z (int_eq v.z (pos 0)), unless_differs (pos 0) v.z), tt))), (refl, flag_made v.n, tt))) old.codec (mixed_makes old.codec) old result new refl read refused same

@@ -21,6 +21,7 @@ use Rattle.oer_read.specs.Law.{Decodes, IsForMemory}
 use Rattle.oer_read.specs.Parts.{NoParts}
 use Rattle.oer_read.specs.Sets.{Call, SetRead, SetRefused}
 use Rattle.oer_read.specs.State.{State}
+use Rattle.asn1_core.specs.declared.codec.Codec.{Codec}
 use Rattle.asn1_core.specs.declared.error.DecodeError.{DecodeError}
 use Rattle.oer_spec.specs.Spelled.{IsAny}
 use Rattle.sequence_types.specs.Tags.{context}
@@ -83,9 +84,9 @@ module _ (Ran : Call → State → Result FooField DecodeError → State → Typ
   foo_apart : AreApart foo_index foo_sorted
   foo_apart = (((refl, refl), ((refl, refl), tt)), (((refl, refl), tt), (tt, tt)))
 
-  foo_makes : (bits : List Bool) (vs ws : List FooField) (a : Rows) (r : Result Foo DecodeError) → Came foo_field_tree IsFooAt foo_eq foo_default Ran foo_sorted bits vs → NoneAdded ws a → Makes (vs ++ ws) r
-      → IfOk r (λ v. Agrees foo_field_tree IsFooAt foo_eq foo_default Ran (foo_slot v) foo_sorted bits vs × (NoRows ≡ a)) × IfErr r (λ e. IsForMemory e)
-  foo_makes bits vs ws a (Ok f) came added m = (
+  foo_makes : (codec : Codec) (bits : List Bool) (vs ws : List FooField) (a : Rows) (r : Result Foo DecodeError) → Came foo_field_tree IsFooAt foo_eq foo_default Ran foo_sorted bits vs → NoneAdded ws a → Makes (vs ++ ws) r
+      → IfOk r (λ v. Agrees foo_field_tree IsFooAt foo_eq foo_default Ran (foo_slot v) foo_sorted bits vs × (NoRows ≡ a)) × IfErr r (λ e. IsForMemory e × (e.codec ≡ codec))
+  foo_makes codec bits vs ws a (Ok f) came added m = (
     (
       found_agrees foo_field_tree IsFooAt foo_eq foo_default Ran foo_index (λ n v i. i) (foo_slot f) foo_sorted bits vs ws came foo_apart (none_out foo_index foo_sorted ws a added)
           (all_by_tag (SlotIs foo_field_tree IsFooAt foo_eq foo_default Ran foo_index (λ n v i. i) (foo_slot f) (vs ++ ws)) foo_table (foo_slots (vs ++ ws) f (answer (vs ++ ws) (Ok f) m))),
@@ -93,7 +94,7 @@ module _ (Ran : Call → State → Result FooField DecodeError → State → Typ
     ),
     tt,
   )
-  foo_makes bits vs ws a (Err e) came added m = absurd (answer (vs ++ ws) (Err e) m)
+  foo_makes codec bits vs ws a (Err e) came added m = absurd (answer (vs ++ ws) (Err e) m)
 
   -- it keeps the law of reading
   pub foo_law : (old : State) (result : Result Foo DecodeError) (new : State) → IfOk result (λ f. SetRead Ran Makes false foo_table [] old f new) → IfErr result (λ e. SetRefused Ran Makes false foo_table [] old e) → OnErr result (new ≡ old) → Decodes foo_tree IsAny old result new
@@ -102,4 +103,4 @@ module _ (Ran : Call → State → Result FooField DecodeError → State → Typ
       set_law foo_field_tree IsFooAt foo_eq foo_default Ran Makes false foo_table [] NoParts NoneAdded tt (λ e. refl)
       (promise (record { index = 0; tag = context 444 }), (promise (record { index = 1; tag = context 5 }), (promise (record { index = 2; tag = application 9 }), tt)))
       (no_additions Ran (length foo_table)) foo_tree IsAny foo_slot (λ f. NoRows) (λ f. refl) (λ f x y. tt)
-      (λ f i. ((number_fits 0 (omega arith) f.a, (number_fits 1 (omega arith) f.b, (number_fits 2 (omega arith) f.c, tt))), tt)) foo_makes old result new read refused same
+      (λ f i. ((number_fits 0 (omega arith) f.a, (number_fits 1 (omega arith) f.b, (number_fits 2 (omega arith) f.c, tt))), tt)) old.codec (foo_makes old.codec) old result new refl read refused same

@@ -85,14 +85,12 @@ mixed_slot v (suc (suc n)) = integer_unless (pos 0) v.z
 abbrev pub boolean_says : State → Result Bool DecodeError → State → Type 0
 boolean_says s r t = LeafAnswers (λ b. b) false s r t (bool_at s.codec s.input)
 
--- what the reading of each component promises; there is none of another index
+-- what the reading of each component promises, by its index
 abbrev pub MixedReads : (State → Result Bool DecodeError → State → Type 0) → ℕ → Tag → State → Result MixedField DecodeError → State → Type 0
 MixedReads Says zero g s r t = Decodes mixed_field_tree (IsMixedAt 0) s r t
 MixedReads Says (suc zero) g s r t = Decodes mixed_field_tree (IsMixedAt 1) s r t
 MixedReads Says (suc (suc zero)) g s r t = ReadsDefault mixed_field_tree (IsMixedAt 2) mixed_eq (Z (pos 0)) s r t
-MixedReads Says (suc (suc (suc zero))) g s r t = AsksAddition boolean IsAny Says N s g r t
-MixedReads Says (suc (suc (suc (suc n)))) g s (Ok v) t = ⊥
-MixedReads Says (suc (suc (suc (suc n)))) g s (Err e) t = ⊤
+MixedReads Says (suc (suc (suc n))) g s r t = AsksAddition boolean IsAny Says N s g r t
 
 -- the set has these components, of several for one row the last
 pub record MixedMade (fields : List MixedField) (v : MixedSet) : Type 0 where

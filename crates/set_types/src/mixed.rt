@@ -1,5 +1,5 @@
 //! A set with a required component, an optional one, one with a default, and an extension addition.
-ghost use Rattle.std.specs.Prelude.{◌≡◌, pos};
+ghost use Rattle.std.specs.Prelude.{◌≡◌, ◌<◌, pos};
 ghost use Rattle.oer_spec.specs.Spelled.{IsAny, boolean};
 ghost use Rattle.set_types.specs.Mixed.{mixed_roots, mixed_additions, mixed_field_tree, mixed_eq, IsMixedAt, boolean_says, MixedReads, mixed_put, MixedSoFar, MixedIs, MixedAnswer};
 ghost use Rattle.set_types.specs.declared.mixed.MixedField.TheVariants as mixed_field;
@@ -234,27 +234,21 @@ fn read_n(alloc: Global, decoder: &mut Decoder<'_>, tag: Tag) -> Result<MixedFie
     }
 }
 
-/// Reads the component of that index; refuses any other, as `MissingTagClassOrValueInSequenceOrSet`.
+/// Reads the component of that index; the last is the addition's.
 fn read_mixed_field(
     alloc: Global,
     decoder: &mut Decoder<'_>,
     index: usize,
     tag: Tag,
 ) -> Result<MixedField, DecodeError>
+    requires { index < 4 }
     ensures { MixedReads boolean_says index tag decoder.old result decoder.new }
 {
     match index {
         0 => read_x(alloc, decoder, tag),
         1 => read_y(alloc, decoder, tag),
         2 => read_z(alloc, decoder, tag),
-        3 => read_n(alloc, decoder, tag),
-        _ => Err(DecodeError {
-            kind: DecodeErrorKind::MissingTagClassOrValueInSequenceOrSet {
-                class: tag.class,
-                value: tag.value,
-            },
-            codec: decoder.codec(),
-        }),
+        _ => read_n(alloc, decoder, tag),
     }
 }
 
@@ -343,6 +337,7 @@ impl Decode for MixedSet {
             alloc,
             tag,
             |decoder: &mut Decoder<'_>, index: usize, tag: Tag| -> Result<MixedField, DecodeError>
+                requires { index < 4 }
                 ensures { MixedReads boolean_says index tag decoder.old result decoder.new }
             { read_mixed_field(alloc, decoder, index, tag) },
             |fields: Vec<MixedField>| -> Result<MixedSet, DecodeError>

@@ -7,8 +7,8 @@ ghost use Rattle.oer_write.specs.Rows.{InSet, SetDone, RowsRefused, optional, sl
 ghost use Rattle.oer_read.specs.Law.{Decodes};
 
 use asn1_core::{
-    AsnType, Class, Constraints, Constructed, DecodeError, DecodeErrorKind, EncodeError, Field,
-    FieldPresence, Fields, Tag,
+    AsnType, Class, Constraints, Constructed, DecodeError, EncodeError, Field, FieldPresence,
+    Fields, Tag,
 };
 use asn1_ints::Integer;
 use oer_read::{Decode, Decoder};
@@ -134,7 +134,7 @@ pub(crate) fn put_set_option<E: Encode>(
 ) -> Result<(), EncodeError>
     requires { IsConsistent constraints }
     ensures in_set { encoder.old.frame.is_set ≡ true → OnOk result (SetDone (optional tag (slot_of (E.tree constraints) value.now)) NoRows encoder.old encoder.new) }
-    ensures refused { IfErr result (λ x. RowsRefused (optional tag (slot_of (E.tree constraints) value.now)) NoRows x.kind encoder.old encoder.new) }
+    ensures refused { IfErr result (λ x. RowsRefused (optional tag (slot_of (E.tree constraints) value.now)) NoRows x encoder.old encoder.new) }
 {
     match value {
         Some(value) => encoder.encode_some_with_tag_and_constraints(tag, constraints, value),
@@ -191,24 +191,16 @@ fn foo_field(index: usize, value: Integer) -> FooField
     }
 }
 
-/// Reads the component of that index; refuses any other, as `MissingTagClassOrValueInSequenceOrSet`.
+/// Reads the component of that index.
 fn read_foo_field(
     alloc: Global,
     decoder: &mut Decoder<'_>,
     index: usize,
     tag: Tag,
 ) -> Result<FooField, DecodeError>
+    requires { index < 3 }
     ensures { Decodes foo_field_tree (IsFooAt index) decoder.old result decoder.new }
 {
-    if index >= 3 {
-        return Err(DecodeError {
-            kind: DecodeErrorKind::MissingTagClassOrValueInSequenceOrSet {
-                class: tag.class,
-                value: tag.value,
-            },
-            codec: decoder.codec(),
-        });
-    }
     match Integer::decode_with_tag(alloc, decoder, tag) {
         Err(e) => Err(e),
         Ok(value) => Ok(foo_field(index, value)),
@@ -268,6 +260,7 @@ impl Decode for Foo {
             alloc,
             tag,
             |decoder: &mut Decoder<'_>, index: usize, tag: Tag| -> Result<FooField, DecodeError>
+                requires { index < 3 }
                 ensures { Decodes foo_field_tree (IsFooAt index) decoder.old result decoder.new }
             { read_foo_field(alloc, decoder, index, tag) },
             |fields: Vec<FooField>| -> Result<Foo, DecodeError>

@@ -35,5 +35,5 @@ returns g c = record {
     takes = λ r a u k. (needed_read plain_integer IsWhole _ _ _ _ _ _ _ _ _ _ _ _ c.decode_with_tag.ensures.law c.branch-value.ensures c.in_ok-value.is refl (optional_read plain_integer IsWhole _ _ _ _ _ _ _ (context 1) _ _ _ _ _ _ c.decode_optional_with_tag.ensures c.new-2.ensures c.branch-integer1.ensures c.in_ok-integer1.is refl (optional_read octet_string IsOctets _ _ _ _ _ _ _ (context 2) _ _ _ _ _ _ c.decode_optional_with_tag-2.ensures c.new-3.ensures c.branch-octet1.ensures c.in_ok-octet1.is refl (optional_read plain_integer IsWhole _ _ _ _ _ _ _ (context 3) _ _ _ _ _ _ c.decode_optional_with_tag-3.ensures c.new-4.ensures c.branch-integer2.ensures c.in_ok-integer2.is refl (optional_read octet_string IsOctets _ _ _ _ _ _ _ (context 4) _ _ _ _ _ _ c.decode_optional_with_tag-4.ensures c.new-5.ensures c.branch-octet2.ensures c.in_ok-octet2.is refl (optional_read plain_integer IsWhole _ _ _ _ _ _ _ (context 5) _ _ _ _ _ _ c.decode_optional_with_tag-5.ensures c.new-6.ensures c.branch-integer3.ensures c.in_ok-integer3.is refl (optional_read octet_string IsOctets _ _ _ _ _ _ _ (context 6) _ _ _ _ _ _ c.decode_optional_with_tag-6.ensures c.new-7.ensures c.branch-octet3.ensures c.in_ok-octet3.is refl k)))))));
     stops = λ result k. (needed_passed plain_integer IsWhole _ _ _ _ _ _ _ _ _ c.decode_with_tag.ensures.law c.branch-value.ensures c.in_ok-value.is (optional_passed plain_integer IsWhole _ _ _ _ _ _ (context 1) _ _ _ _ c.decode_optional_with_tag.ensures c.new-2.ensures c.branch-integer1.ensures c.in_ok-integer1.is (optional_passed octet_string IsOctets _ _ _ _ _ _ (context 2) _ _ _ _ c.decode_optional_with_tag-2.ensures c.new-3.ensures c.branch-octet1.ensures c.in_ok-octet1.is (optional_passed plain_integer IsWhole _ _ _ _ _ _ (context 3) _ _ _ _ c.decode_optional_with_tag-3.ensures c.new-4.ensures c.branch-integer2.ensures c.in_ok-integer2.is (optional_passed octet_string IsOctets _ _ _ _ _ _ (context 4) _ _ _ _ c.decode_optional_with_tag-4.ensures c.new-5.ensures c.branch-octet2.ensures c.in_ok-octet2.is (optional_passed plain_integer IsWhole _ _ _ _ _ _ (context 5) _ _ _ _ c.decode_optional_with_tag-5.ensures c.new-6.ensures c.branch-integer3.ensures c.in_ok-integer3.is (optional_passed octet_string IsOctets _ _ _ _ _ _ (context 6) _ _ _ _ c.decode_optional_with_tag-6.ensures c.new-7.ensures c.branch-octet3.ensures c.in_ok-octet3.is k)))))));
   };
-  refused = record { none = tt };
+  refused = record { mode = tt; none = tt };
 }

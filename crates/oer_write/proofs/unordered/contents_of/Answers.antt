@@ -4,7 +4,7 @@ use Rattle.std.proofs.lemmas.Iterator.{YieldsList-from_slice}
 use Rattle.std.proofs.lemmas.Iterator.Consumers.{YieldsList-turn, YieldsList-end}
 use Rattle.std.proofs.lemmas.List.{length_push, take_all}
 use Rattle.std.proofs.lemmas.Result.{err_from_is_err_and}
-use Rattle.oer_write.proofs.Gathering.{gathered_more, gathered_broken}
+use Rattle.oer_write.proofs.Gathering.{gathered_more, gathered_first, gathered_broken}
 use Rattle.oer_write.proofs.unordered.contents_of.Goals as goal
 
 pub loop-x-preserved : goal.loop-x-preserved
@@ -18,7 +18,14 @@ returns-in_err-empty_count-clause-refused g c =
     let walked = YieldsList-from_slice c.args.elements.now (ap iter_rest c.into_iter-x-iterator.ensures.into_iter_gives ∙ c.iter-x-items.ensures) in
     let turn = YieldsList-turn walked c.loop-x.yielded _ c.loop-x.yielded_by _ _ c.in-Some.x c.in-Some.is c.next.ensures.steps in
     let p = err_from_is_err_and c.from_residual.result c.from_residual.ensures.1 in
-    rw (p.1, p.2) (gathered_broken _ _ _ _ _ _ _ _ turn.0 turn.1 c.loop-x.invariant c.in_err-empty_count.ensures.refused)
+    rw (p.1, p.2) (gathered_broken _ _ _ (gathered_first _ _ _ _ _ _ _ _ turn.0 turn.1 c.loop-x.invariant c.in_err-empty_count.ensures.refused c.in_err-empty_count.ensures.mode))
+
+pub returns-in_err-empty_count-clause-first : goal.returns-in_err-empty_count-clause-first
+returns-in_err-empty_count-clause-first g c =
+    let walked = YieldsList-from_slice c.args.elements.now (ap iter_rest c.into_iter-x-iterator.ensures.into_iter_gives ∙ c.iter-x-items.ensures) in
+    let turn = YieldsList-turn walked c.loop-x.yielded _ c.loop-x.yielded_by _ _ c.in-Some.x c.in-Some.is c.next.ensures.steps in
+    let p = err_from_is_err_and c.from_residual.result c.from_residual.ensures.1 in
+    rw (p.1, p.2) (gathered_first _ _ _ _ _ _ _ _ turn.0 turn.1 c.loop-x.invariant c.in_err-empty_count.ensures.refused c.in_err-empty_count.ensures.mode)
 
 pub returns-clause-done : goal.returns-clause-done
 returns-clause-done g c =

@@ -6,5 +6,5 @@ returns g c =
     let t = g.T.Spelled in
     let k = g.T.AsnType in
     canonicalised (t.tree k.CONSTRAINTS) t.IsValue (t.is_tree k.CONSTRAINTS k.consistent) 128 c.args.input.now c.in-Ok-encode_value.octets.items c.in-Ok.rest.now c.in-Ok.value
-    (rw (c.oer.ensures, c.CONSTRAINTS.ensures) at c.in-Ok.ensures)
+    (rw (c.oer.ensures, c.CONSTRAINTS.ensures) at c.in-Ok.ensures.read)
     (rw c.CONSTRAINTS-in-Ok.ensures at c.in-Ok-encode_value.ensures)

@@ -1,4 +1,4 @@
-use Rattle.std.proofs.Common.{◌≡◌, ◌<◌, refl, arith}
+use Rattle.std.proofs.Common.{◌≡◌, refl}
 use Rattle.sequence_types.specs.Pairs.{plain_integer, IsWhole}
 use Rattle.set_types.specs.Sets.{foo_field_tree, foo_field_at, IsFooAt}
 use Rattle.set_types.proofs.SetParts.{foo_holds}
@@ -7,10 +7,10 @@ use Rattle.set_types.proofs.sets.read_foo_field.Goals as goal
 
 pub returns-in-Err : goal.returns-in-Err
 returns-in-Err c =
-    let small : c.args.index < 3 = omega arith in
+    let small = c.requires in
     alternative_stops foo_field_tree (IsFooAt c.args.index) plain_integer IsWhole (foo_field_at c.args.index) (foo_holds c.args.index small) (λ y. y ≡ c.in-Err.e) _ _ c.in-Err.e _ c.in-Err.ensures.law refl (λ y k. k)
 
 pub returns-in-Ok : goal.returns-in-Ok
 returns-in-Ok c =
-    let small : c.args.index < 3 = omega arith in
+    let small = c.requires in
     rw c.foo_field.ensures (alternative_read foo_field_tree (IsFooAt c.args.index) plain_integer IsWhole (foo_field_at c.args.index) (foo_holds c.args.index small) _ _ _ c.in-Ok.ensures.law)

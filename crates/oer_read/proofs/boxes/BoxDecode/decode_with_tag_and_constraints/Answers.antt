@@ -20,7 +20,7 @@ reads_content tree IsValue content old b v new e k = record {
 pub returns-in-Err-clause-law : goal.returns-in-Err-clause-law
 returns-in-Err-clause-law g c =
     let k = rw c.again-behind.ensures at c.in-Err.ensures.law in
-    record { read = tt; refused = record { same = refl; none = λ m w o i f. k.refused.none m w.value o i f } }
+    record { read = tt; refused = record { same = refl; mode = k.refused.mode; none = λ m w o i f. k.refused.none m w.value o i f } }
 
 pub returns-clause-law : goal.returns-clause-law
 returns-clause-law g c =

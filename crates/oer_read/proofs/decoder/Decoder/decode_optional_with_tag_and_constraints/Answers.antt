@@ -14,5 +14,6 @@ returns-in-Err-decode_with_tag_and_constraints g c =
       refused = Inside more (next ∙ ap (λ (b : Bool). record { tag = c.args.tag; bit = b } ∷ more) c.in-Ok-true-default.field-0-0-test)
           c.decode_with_tag_and_constraints.new.decoder
           (subst (λ (s : State). g.D.Decode.Answered c.args.constraints s (Err c.in-Err-decode_with_tag_and_constraints.e) c.decode_with_tag_and_constraints.new.decoder) left c.in-Err-decode_with_tag_and_constraints.ensures.answered)
+          (refused.mode ∙ ap (λ (s : State). s.codec) left)
           (λ m. subst (λ (s : State). NoFront (g.D.Spelled.tree c.args.constraints) g.D.Spelled.IsValue s) left (refused.none m));
     }

@@ -4,10 +4,15 @@ use Rattle.oer_read.proofs.Openings.{closed_rear, rear_trans, rear_are_octets}
 use Rattle.oer_read.proofs.SetSteps.{ran_rear, set_opened_rear, refused_or_memory}
 use Rattle.oer_read.proofs.decoder.Decoder.decode_set.Goals as goal
 
+pub read_fields-requires : goal.read_fields-requires
+read_fields-requires g c =
+    let o = rw (c.root_fields-roots.ensures, c.addition_fields-additions.ensures, c.IS_EXTENSIBLE.ensures) at c.in-Ok.ensures.state in
+    record { callable = λ d s k. c.requires.callable d s (record { lent = _; bits = _; opened = o; called = rw (c.root_fields-roots.ensures, c.addition_fields-additions.ensures) at k }) }
+
 pub returns-in-Err-read_fields-clause-refused : goal.returns-in-Err-read_fields-clause-refused
 returns-in-Err-read_fields-clause-refused g c =
     let o = rw (c.root_fields-roots.ensures, c.addition_fields-additions.ensures, c.IS_EXTENSIBLE.ensures) at c.in-Ok.ensures.state in
-    let k = rw (c.root_fields-roots.ensures, c.addition_fields-additions.ensures) at c.in-Err-read_fields.ensures.err in
+    let k = rw (c.root_fields-roots.ensures, c.addition_fields-additions.ensures, c.codec.ensures) at c.in-Err-read_fields.ensures.err in
     refused_or_memory _ _ _ _ _ _ _ _ _ o k
 
 pub returns-in-Err-close-clause-refused : goal.returns-in-Err-close-clause-refused
@@ -44,7 +49,9 @@ pub returns-clause-rear : goal.returns-clause-rear
 returns-clause-rear g c =
     let fits = c.open_set.ensures.octets in
     let first = set_opened_rear _ _ _ _ _ _ fits c.in-Ok.ensures.state in
-    let second = ran_rear (FieldReturns g.D.Fn c.args.decode_fn) c.requires.keeps _ _ _ _ c.in-Ok-read_fields.ensures.ok in
+    let o = rw (c.root_fields-roots.ensures, c.addition_fields-additions.ensures, c.IS_EXTENSIBLE.ensures) at c.in-Ok.ensures.state in
+    let k = rw (c.root_fields-roots.ensures, c.addition_fields-additions.ensures) at c.in-Ok-read_fields.ensures.ok in
+    let second = ran_rear (FieldReturns g.D.Fn c.args.decode_fn) _ _ _ _ (λ d s after v called. c.requires.keeps d s after v (record { lent = _; bits = _; opened = o; called = called })) k in
     let both = rear_trans _ _ _ first second in
     let third = closed_rear _ _ (rear_are_octets _ _ both fits) c.in-Ok-close.ensures in
     rw c.set_remaining.ensures (rear_trans _ _ _ both third)

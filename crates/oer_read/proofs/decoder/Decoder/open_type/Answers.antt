@@ -1,4 +1,4 @@
-use Rattle.std.proofs.Common.{subst, Ok, Err}
+use Rattle.std.proofs.Common.{ap, ◌∙◌, subst, Ok, Err}
 use Rattle.oer_read.specs.Additions.{Within, LeftOver}
 use Rattle.oer_read.specs.Law.{NoFront, Reads}
 use Rattle.oer_read.specs.State.{State}
@@ -6,7 +6,7 @@ use Rattle.oer_read.proofs.decoder.Decoder.open_type.Goals as goal
 
 pub returns-in-Err-clause-err : goal.returns-in-Err-clause-err
 returns-in-Err-clause-err g c =
-    Within c.decode_with_tag_and_constraints.new.decoder (subst (λ (s : State). g.D.Decode.Answered c.args.constraints s (Err c.in-Err.e) c.decode_with_tag_and_constraints.new.decoder) c.inside-inner.ensures c.in-Err.ensures.answered) (λ m. subst (λ (s : State). NoFront (g.D.Spelled.tree c.args.constraints) g.D.Spelled.IsValue s) c.inside-inner.ensures (c.in-Err.ensures.law.refused.none m))
+    Within c.decode_with_tag_and_constraints.new.decoder (subst (λ (s : State). g.D.Decode.Answered c.args.constraints s (Err c.in-Err.e) c.decode_with_tag_and_constraints.new.decoder) c.inside-inner.ensures c.in-Err.ensures.answered) (c.in-Err.ensures.law.refused.mode ∙ ap (λ (s : State). s.codec) c.inside-inner.ensures) (λ m. subst (λ (s : State). NoFront (g.D.Spelled.tree c.args.constraints) g.D.Spelled.IsValue s) c.inside-inner.ensures (c.in-Err.ensures.law.refused.none m))
 
 pub returns-in-Err-require_whole-clause-err : goal.returns-in-Err-require_whole-clause-err
 returns-in-Err-require_whole-clause-err g c =

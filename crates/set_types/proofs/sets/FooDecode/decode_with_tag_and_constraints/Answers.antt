@@ -1,8 +1,15 @@
+use Rattle.std.proofs.Common.{◌<◌, rules, arith}
 use Rattle.set_types.specs.Sets.{foo_field_tree, IsFooAt, FooAnswer}
 use Rattle.set_types.proofs.SetParts.{foo_law}
 use Rattle.oer_read.specs.Law.{Decodes}
+use Rattle.oer_read.proofs.SetCalls.{lent_call}
 use Rattle.oer_read.proofs.SetPromises.{promise_of_field, promise_of_fields}
 use Rattle.set_types.proofs.sets.FooDecode.decode_with_tag_and_constraints.Goals as goal
+
+pub decode_set-requires-clause-callable : goal.decode_set-requires-clause-callable
+decode_set-requires-clause-callable c call s lends p e =
+    let h : call.index < 3 = lent_call _ (λ d. d.index < 3) _ _ _ _ call s (omega arith, (omega arith, (omega arith, tt))) tt lends in
+    search (rules, h)
 
 pub returns-clause-law : goal.returns-clause-law
 returns-clause-law c =

@@ -1,0 +1,79 @@
+-- From what a component's closure writes to the component's row.
+use Rattle.std.proofs.Common.{◌≡◌, [], ◌∷◌, ◌++◌, refl, ap, sym, ◌∙◌, subst, inl, inr, rules}
+use Rattle.std.proofs.lemmas.List.{append_cancel_left}
+use Rattle.asn1_core.specs.Octets.{Octets}
+use Rattle.asn1_core.specs.declared.error.EncodeError.{EncodeError}
+use Rattle.asn1_core.specs.declared.tag.Tag.{Tag}
+use Rattle.oer_spec.specs.Encoding.{IsEncodable, canonical_octets}
+use Rattle.oer_spec.specs.Places.{needed}
+use Rattle.oer_spec.specs.Tree.{Tree, NoRows}
+use Rattle.oer_spec.specs.Writing.{BeginsWith}
+use Rattle.oer_write.specs.ByClosure.{AppendedBy, RefusedBy, PutBy, KeptBy, ComponentBroken, IsKnownToWriteTree}
+use Rattle.oer_write.specs.Lists.{WroteElement}
+use Rattle.oer_write.specs.Rows.{RowsDone, SetDone, RowsRefused, required}
+use Rattle.oer_write.specs.Scopes.{Runs}
+use Rattle.oer_write.specs.Written.{Written, append, Keeps, Encodes}
+
+-- what was written has the octets of the tree
+tree_octets : {runs : Runs} (t : Tree) (o : Octets) → IsKnownToWriteTree runs t → WroteElement runs o → (o ≡ canonical_octets t) × IsEncodable t
+tree_octets t o known w =
+    let h : Encodes t w.entered w.left = known _ _ _ w.ran in
+    (append_cancel_left w.entered.octets _ _ (sym w.wrote ∙ ap (λ (e : Written). e.octets) h.written), h.encodable)
+
+appended_row : (t : Tree) (tag : Tag) (old : Written) → IsEncodable t → RowsDone (required tag t) NoRows old (append (canonical_octets t) old)
+appended_row t tag old h = record {
+  roots_encodable = (h, tt);
+  additions_encodable = tt;
+  octets = search rules;
+  frame = search rules;
+  outer = refl;
+}
+
+kept_row : (t : Tree) (tag : Tag) (old : Written) → IsEncodable t → SetDone (required tag t) NoRows old (record old { frame = record old.frame { components = old.frame.components ++ (needed tag (canonical_octets t) ∷ []) } })
+kept_row t tag old h = record {
+  roots_encodable = (h, tt);
+  additions_encodable = tt;
+  octets = search rules;
+  frame = search rules;
+  outer = refl;
+}
+
+-- a closure that writes a tree: its row is written
+pub row_done : {runs : Runs} {old new : Written} (tag : Tag) (t : Tree) → IsKnownToWriteTree runs t → PutBy runs old new → RowsDone (required tag t) NoRows old new
+row_done {runs} {old} {new} tag t known h =
+    let own = tree_octets t h.content known h.wrote in
+    subst (λ (e : Written). RowsDone (required tag t) NoRows old e) (sym (h.appended ∙ ap (λ (o : Octets). append o old) own.0)) (appended_row t tag old own.1)
+
+pub set_row_done : {runs : Runs} {old new : Written} (tag : Tag) (t : Tree) → IsKnownToWriteTree runs t → KeptBy runs tag old new → SetDone (required tag t) NoRows old new
+set_row_done {runs} {old} {new} tag t known h =
+    let own = tree_octets t h.content known h.wrote in
+    subst (λ (e : Written). SetDone (required tag t) NoRows old e) (sym (h.kept ∙ ap (λ (o : Octets). record old { frame = record old.frame { components = old.frame.components ++ (needed tag o ∷ []) } }) own.0)) (kept_row t tag old own.1)
+
+-- and where the component refuses, it does so by the law
+pub row_refused : {runs : Runs} {old new : Written} (tag : Tag) (t : Tree) → IsKnownToWriteTree runs t → (x : EncodeError) → ComponentBroken runs x old new → RowsRefused (required tag t) NoRows x old new
+row_refused {runs} {old} {new} tag t known x broken = record {
+  reason = elim broken.reason [
+    | inl m ↦ inl m.0
+    | inr s ↦ elim (known _ _ _ s.ran).reason [ inl m ↦ inl m | inr f ↦ inr (inl (inl f)) ]
+  ];
+  mode = elim broken.reason [ inl m ↦ m.1 | inr s ↦ (known _ _ _ s.ran).mode ];
+  keeps = broken.keeps;
+}
+
+-- ---- in a sequence
+
+inside_keeps : (old new : Written) → new ≡ record old { octets = new.octets } → BeginsWith old.octets new.octets → Keeps old new
+inside_keeps old new rest begins = record {
+  octets = begins;
+  is_open = ap (λ (e : Written). e.frame.is_open) rest;
+  is_set = ap (λ (e : Written). e.frame.is_set) rest;
+  extensible = ap (λ (e : Written). e.frame.extensible) rest;
+  start = ap (λ (e : Written). e.frame.start) rest;
+  outer = ap (λ (e : Written). e.outer) rest;
+}
+
+pub inside_done : {runs : Runs} (old new : Written) → new ≡ record old { octets = new.octets } → AppendedBy runs old.octets new.octets → PutBy runs old new
+inside_done old new rest h = record { content = h.content; wrote = h.wrote; appended = rest ∙ ap (λ (o : Octets). record old { octets = o }) h.appended }
+
+pub inside_broken : {runs : Runs} (x : EncodeError) (old new : Written) → new ≡ record old { octets = new.octets } → BeginsWith old.octets new.octets → RefusedBy runs x → ComponentBroken runs x old new
+inside_broken x old new rest begins h = record { keeps = inside_keeps old new rest begins; reason = inr h }

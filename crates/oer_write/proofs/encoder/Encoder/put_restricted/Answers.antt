@@ -1,0 +1,5 @@
+use Rattle.oer_write.proofs.Refusals.{text_by_law}
+use Rattle.oer_write.proofs.encoder.Encoder.put_restricted.Goals as goal
+
+pub returns-clause-law : goal.returns-clause-law
+returns-clause-law g c = text_by_law c.put_text.result g.C.CharacterSet.rule c.args.constraints c.args.value.now c.args.self.now c.put_text.new.self c.put_text.ensures.refused

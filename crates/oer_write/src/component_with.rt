@@ -1,0 +1,129 @@
+//! Components of the open scope that a closure writes.
+ghost use Rattle.std.specs.Prelude.{◌≡◌, ◌++◌, [], ◌∷◌, true, false, OnOk, IfOk, IfErr};
+ghost use Rattle.oer_spec.specs.Tree.{Tree, NoRows};
+ghost use Rattle.oer_spec.specs.Writing.{BeginsWith};
+ghost use Rattle.oer_write.specs.ByClosure.{AppendedBy, RefusedBy, PutBy, KeptBy, ComponentBroken, IsKnownToWriteTree};
+ghost use Rattle.oer_write.specs.Lists.{WroteElement, IsOrderlyHere};
+ghost use Rattle.oer_write.specs.Rows.{RowsDone, SetDone, RowsRefused, required};
+ghost use Rattle.oer_write.specs.Scopes.{Promise};
+ghost use Rattle.oer_write.specs.Written.{Keeps};
+
+use crate::enc::EncoderOptions;
+use crate::encoder::Encoder;
+use crate::scope::Scope;
+use asn1_core::{EncodeError, Tag};
+use std::alloc::Global;
+
+/// Lends an encoder to a closure.
+fn lend_to<F: FnOnce(&mut Encoder<'_>) -> Result<(), EncodeError>>(
+    encoder: &mut Encoder<'_>,
+    f: F,
+) -> Result<(), EncodeError>
+    requires callable { F.IsAlwaysCallable f }
+    ensures { Promise F.FnOnce f encoder.old result encoder.new }
+{
+    f(encoder)
+}
+
+/// Lends an encoder with no scope open to a closure.
+fn put_by<F: FnOnce(&mut Encoder<'_>) -> Result<(), EncodeError>>(
+    encoder: &mut Encoder<'_>,
+    f: F,
+) -> Result<(), EncodeError>
+    requires callable { F.IsAlwaysCallable f }
+    requires orderly { IsOrderlyHere (Promise F.FnOnce f) }
+    requires shut { encoder.old.frame.is_open ≡ false }
+    ensures done { OnOk result (AppendedBy (Promise F.FnOnce f) encoder.old.octets encoder.new.octets) }
+    ensures refused { IfErr result (λ x. RefusedBy (Promise F.FnOnce f) x) }
+    ensures keeps { Keeps encoder.old encoder.new }
+{
+    lend_to(encoder, f)?;
+    Ok(())
+}
+
+/// What a closure writes on its own.
+fn written_by<F: FnOnce(&mut Encoder<'_>) -> Result<(), EncodeError>>(
+    alloc: Global,
+    f: F,
+) -> Result<Vec<u8>, EncodeError>
+    requires callable { F.IsAlwaysCallable f }
+    requires orderly { IsOrderlyHere (Promise F.FnOnce f) }
+    ensures done { IfOk result (λ v. WroteElement (Promise F.FnOnce f) v.items) }
+    ensures refused { IfErr result (λ x. RefusedBy (Promise F.FnOnce f) x) }
+{
+    let mut output = Vec::new(alloc);
+    let mut worker = Vec::new(alloc);
+    let mut encoder = Encoder::from_buffer(alloc, EncoderOptions::coer(), &mut output, &mut worker);
+    put_by(&mut encoder, f)?;
+    let (octets, _scope) = encoder.into_parts();
+    Ok(octets)
+}
+
+impl<'buffer> Encoder<'buffer> {
+    /// Writes a required component by a closure (X.696, 16 and 18), as `encode_component` writes one by its type.
+    ///
+    /// The closure is lent an encoder with no scope open. What it appends there is in a sequence appended to what was
+    /// written before; in a set it is kept apart under the tag, until the set is closed. So a closure that is known to
+    /// write a tree writes that tree's row. Refused by what the closure refused, or for want of memory.
+    ///
+    /// rasn has no such call. It serves a component whose type contains itself: its writer calls itself in the closure.
+    pub fn encode_component_with<F: FnOnce(&mut Encoder<'_>) -> Result<(), EncodeError>>(
+        &mut self,
+        tag: Tag,
+        f: F,
+    ) -> Result<(), EncodeError>
+        requires callable { F.IsAlwaysCallable f }
+        requires orderly { IsOrderlyHere (Promise F.FnOnce f) }
+        ensures in_sequence { self.old.frame.is_set ≡ false → OnOk result (PutBy (Promise F.FnOnce f) self.old self.new) }
+        ensures in_set { self.old.frame.is_set ≡ true → OnOk result (KeptBy (Promise F.FnOnce f) tag self.old self.new) }
+        ensures refused { IfErr result (λ x. ComponentBroken (Promise F.FnOnce f) x self.old self.new) }
+        ensures tree { (t : Tree) → IsKnownToWriteTree (Promise F.FnOnce f) t → self.old.frame.is_set ≡ false → OnOk result (RowsDone (required tag t) NoRows self.old self.new) }
+        ensures tree_in_set { (t : Tree) → IsKnownToWriteTree (Promise F.FnOnce f) t → self.old.frame.is_set ≡ true → OnOk result (SetDone (required tag t) NoRows self.old self.new) }
+        ensures tree_refused { (t : Tree) → IsKnownToWriteTree (Promise F.FnOnce f) t → IfErr result (λ x. RowsRefused (required tag t) NoRows x self.old self.new) }
+    {
+        self.component_by(tag, f)
+    }
+
+    fn component_by<F: FnOnce(&mut Encoder<'_>) -> Result<(), EncodeError>>(
+        &mut self,
+        tag: Tag,
+        f: F,
+    ) -> Result<(), EncodeError>
+        requires callable { F.IsAlwaysCallable f }
+        requires orderly { IsOrderlyHere (Promise F.FnOnce f) }
+        ensures in_sequence { self.old.frame.is_set ≡ false → OnOk result (PutBy (Promise F.FnOnce f) self.old self.new) }
+        ensures in_set { self.old.frame.is_set ≡ true → OnOk result (KeptBy (Promise F.FnOnce f) tag self.old self.new) }
+        ensures refused { IfErr result (λ x. ComponentBroken (Promise F.FnOnce f) x self.old self.new) }
+    {
+        if self.scope.is_set {
+            let octets = written_by(self.alloc, f)?;
+            self.keep(tag, false, true, octets)?;
+            return Ok(());
+        }
+        self.put_inside(f)
+    }
+
+    /// Lends an encoder with no scope open, over the same output.
+    fn put_inside<F: FnOnce(&mut Encoder<'_>) -> Result<(), EncodeError>>(
+        &mut self,
+        f: F,
+    ) -> Result<(), EncodeError>
+        requires callable { F.IsAlwaysCallable f }
+        requires orderly { IsOrderlyHere (Promise F.FnOnce f) }
+        ensures done { OnOk result (AppendedBy (Promise F.FnOnce f) self.old.octets self.new.octets) }
+        ensures refused { IfErr result (λ x. RefusedBy (Promise F.FnOnce f) x) }
+        ensures begins { BeginsWith self.old.octets self.new.octets }
+        ensures left { self.new ≡ record self.old { octets = self.new.octets } }
+    {
+        let mut inner = Encoder {
+            output: &mut *self.output,
+            scope: Scope::none(self.alloc),
+            is_lent: true,
+            alloc: self.alloc,
+        };
+        let answer = put_by(&mut inner, f);
+        let (octets, _scope) = inner.into_parts();
+        *self.output = octets;
+        answer
+    }
+}

@@ -1,0 +1,118 @@
+#!/usr/bin/env python3
+"""Runs a command, hands its lines on, and prints before its last line the processor minutes of each crate.
+
+usage: minutes.py COMMAND..., for example: minutes.py rt ci
+
+A look each second at the processes below the command says which crate a prover works for, and whether it proves, proves
+tests, or tries an edit. The exit status is the command's.
+"""
+import os
+import resource
+import subprocess
+import sys
+import threading
+
+PARTS = ("proof", "tests", "edits")
+TICKS = os.sysconf("SC_CLK_TCK")
+
+
+def read(path):
+    try:
+        with open(path, "rb") as file:
+            return file.read().decode(errors="replace")
+    except OSError:
+        return ""
+
+
+def label(pid):
+    """The crate and the part that a prover works for, or nothing."""
+    words = read(f"/proc/{pid}/cmdline").split("\0")
+    if "--crate-name" not in words:
+        return None
+    crate = words[words.index("--crate-name") + 1]
+    try:
+        folder = os.readlink(f"/proc/{pid}/cwd")
+    except OSError:
+        folder = ""
+    if "rt-edit-" in folder:
+        return crate, "edits"
+    return crate, "tests" if "--test" in words else "proof"
+
+
+def processes():
+    """Each process: its parent, and the seconds of processor that it took."""
+    found = {}
+    for name in os.listdir("/proc"):
+        if name.isdigit():
+            fields = read(f"/proc/{name}/stat").rpartition(")")[2].split()
+            if fields:
+                found[int(name)] = (int(fields[1]), (int(fields[11]) + int(fields[12])) / TICKS)
+    return found
+
+
+class Watch(threading.Thread):
+    """Looks each second at the processes below one."""
+
+    def __init__(self, root):
+        super().__init__(daemon=True)
+        self.root, self.over, self.taken, self.labels = root, threading.Event(), {}, {}
+
+    def is_below(self, pid, found):
+        while pid in found and pid != self.root:
+            pid = found[pid][0]
+        return pid == self.root
+
+    def look(self):
+        found = processes()
+        for pid, (_, seconds) in found.items():
+            if self.is_below(pid, found):
+                self.labels[pid] = self.labels.get(pid) or label(pid)
+                self.taken[pid] = seconds
+
+    def run(self):
+        while not self.over.wait(1):
+            self.look()
+
+    def rows(self):
+        """The seconds of each crate by part."""
+        rows = {}
+        for pid, seconds in self.taken.items():
+            if self.labels.get(pid):
+                crate, part = self.labels[pid]
+                rows.setdefault(crate, dict.fromkeys(PARTS, 0.0))[part] += seconds
+        return rows
+
+
+def table(rows, whole):
+    """The minutes as text, and what no crate took."""
+    lines = [f"{'processor minutes':24}" + "".join(f"{part:>8}" for part in PARTS)]
+    sums = dict.fromkeys(PARTS, 0.0)
+    for crate, parts in rows.items():
+        lines.append(f"{crate:24}" + "".join(f"{parts[part] / 60:8.1f}" for part in PARTS))
+        for part in PARTS:
+            sums[part] += parts[part]
+    lines.append(f"{'all':24}" + "".join(f"{sums[part] / 60:8.1f}" for part in PARTS))
+    lines.append(f"{'besides':24}{(whole - sum(sums.values())) / 60:8.1f}")
+    return "\n".join(lines)
+
+
+def main():
+    command = subprocess.Popen(sys.argv[1:], stdout=subprocess.PIPE, stderr=subprocess.STDOUT)
+    watch = Watch(command.pid)
+    watch.start()
+    held = b""
+    for line in command.stdout:
+        sys.stdout.buffer.write(held)
+        sys.stdout.buffer.flush()
+        held = line
+    status = command.wait()
+    watch.over.set()
+    used = resource.getrusage(resource.RUSAGE_CHILDREN)
+    print(table(watch.rows(), used.ru_utime + used.ru_stime), flush=True)
+    sys.stdout.buffer.write(held)
+    sys.stdout.buffer.flush()
+    return status if status >= 0 else 128 - status
+
+
+if __name__ == "__main__":
+    sys.exit(main())
