@@ -5,18 +5,23 @@
 //!   refusal. Every call that reads such octets answers so, both modules write the value so, and a decoder that refuses is left
 //!   as it was.
 //! - `value MODE WORD HEX`: what is left, and the value that is read.
+//! - `depth N MODE WORD HEX`: the same as `read` within N levels; `none` where so many can't be chosen.
 //! - `fronts WORD HEX`: how many proper fronts of the octets are refused for want of octets, in both modes.
 //!
 //! MODE is `oer` or `coer`; WORD is one of the program's, or one of a type under constraints (not for `run`).
 #![tactic(auto)]
 
+mod depth;
 mod reading;
 mod values;
 
 use anyhow::{Error, Result};
 use asn1_core::Codec;
+use depth::WithOptions;
 use oer_words::constrained::with_word;
+use oer_words::known::with_type;
 use oer_words::run::run;
+use rasn_oer::DecoderOptions;
 use reading::Reading;
 use std::alloc::Global;
 use std::io::{BufRead, BufReader};
@@ -90,6 +95,30 @@ fn fronts(alloc: Global, word: &str, text: &str) -> Result<String> {
     Ok(format!(in alloc; "{}", octets.len())?)
 }
 
+/// The same within so many levels; `none` where these are too many to choose.
+fn at_depth(alloc: Global, row: &str) -> Result<String> {
+    let mut words = row.split(' ');
+    let levels = words.next().unwrap_or("").parse::<usize>()?;
+    let options = match codec_of(words.next().unwrap_or(""))? {
+        Codec::Oer => DecoderOptions::oer(),
+        Codec::Coer => DecoderOptions::coer(),
+    };
+    let word = words.next().unwrap_or("");
+    let octets = hex::decode(alloc, words.next().unwrap_or(""))?;
+    let Some(options) = options.with_depth(levels) else {
+        return Ok(String::from_str(alloc, "none")?);
+    };
+    let work = WithOptions {
+        alloc,
+        options,
+        octets: octets.as_slice(),
+    };
+    match with_type(word, work) {
+        Some(answer) => answer,
+        None => Err(Error::msg("no such type")),
+    }
+}
+
 fn answer(alloc: Global, row: &str) -> Result<String> {
     let mut words = row.split(' ');
     let verb = words.next().unwrap_or("");
@@ -98,6 +127,7 @@ fn answer(alloc: Global, row: &str) -> Result<String> {
     let third = words.next().unwrap_or("");
     match verb {
         "run" => printed(alloc, row.strip_prefix("run ").unwrap_or("")),
+        "depth" => at_depth(alloc, row.strip_prefix("depth ").unwrap_or("")),
         "fronts" => fronts(alloc, first, second),
         _ => {
             let codec = codec_of(first)?;

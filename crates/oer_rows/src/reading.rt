@@ -22,12 +22,12 @@ pub struct Reading<'a> {
 type Read<'a, T> = core::result::Result<(T, &'a [u8]), DecodeError>;
 
 /// The mode, the kind with its fields, and the message.
-fn refusal(alloc: Global, e: &DecodeError) -> Result<String> {
+pub fn refusal(alloc: Global, e: &DecodeError) -> Result<String> {
     Ok(format!(in alloc; "{:?} {:?}: {}", e.codec, e.kind, e)?)
 }
 
 /// Octets that were written, and octets that are left.
-fn octets_and_rest(alloc: Global, octets: &[u8], rest: &[u8]) -> Result<String> {
+pub fn octets_and_rest(alloc: Global, octets: &[u8], rest: &[u8]) -> Result<String> {
     let octets = hex::encode(alloc, octets)?;
     let rest = hex::encode(alloc, rest)?;
     Ok(format!(in alloc; "{};{}", octets, rest)?)
@@ -134,7 +134,8 @@ impl<'a> Reading<'a> {
             Codec::Oer => oer::decode_with_remainder(self.alloc, octets),
             Codec::Coer => coer::decode_with_remainder(self.alloc, octets),
         };
-        agree_but_for_rest(read, &alone) && agree(read, &with_rest)
+        let with_options = oer::decode_with_options(self.alloc, self.options(), octets);
+        agree_but_for_rest(read, &alone) && agree(read, &with_rest) && agree(read, &with_options)
     }
 
     /// What `canonicalise` answers.
