@@ -1,4 +1,4 @@
-//! Every input of at most two octets, against answers from outside; crates/oer_rows has rows, crates/call_tests the calls.
+//! Every input of at most two octets, against answers from outside; crates/oer_vectors has rows, crates/call_tests the calls.
 mod program;
 mod vectors;
 
