@@ -18,7 +18,10 @@ use std::fmt::Debug;
 pub trait UnderConstraints {
     type Output;
 
-    fn under<T: Decode + Encode + Debug + PartialEq>(self, constraints: Constraints) -> Self::Output;
+    fn under<T: Decode + Encode + Debug + PartialEq>(
+        self,
+        constraints: Constraints,
+    ) -> Self::Output;
 }
 
 /// The same under the type's own constraints.

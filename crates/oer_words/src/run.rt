@@ -1,15 +1,14 @@
 //! The program over any writer.
 
 use crate::known::{OnType, with_type};
-use asn1_core::Codec;
 use hex::FromHexError;
 use oer_write::Encode;
-use rasn_oer::{Decode, coer, oer};
+use rasn_oer::{Decode, DecoderOptions, coer, oer};
 use std::alloc::{AllocError, Global};
 use std::fmt::Debug;
 use std::io::{self, Write};
 
-const USAGE: &str = "usage: oertool oer|coer TYPE HEX\n";
+const USAGE: &str = "usage: oertool oer|coer [depth N] TYPE HEX\n";
 
 /// How a run ended.
 #[derive(Debug, Clone, Copy, PartialEq, Eq)]
@@ -59,11 +58,11 @@ fn hex_line(alloc: Global, octets: &[u8]) -> Result<String, Failure> {
     Ok(line)
 }
 
-/// Octets that are read in a mode and written again.
+/// Octets that are read by the options and written again.
 #[derive(Drop)]
 struct Recoding<'a> {
     alloc: Global,
-    codec: Codec,
+    options: DecoderOptions,
     input: &'a [u8],
 }
 
@@ -71,10 +70,7 @@ impl<'a> OnType for Recoding<'a> {
     type Output = Result<Lines, Failure>;
 
     fn on<T: Decode + Encode + Debug + PartialEq>(self) -> Result<Lines, Failure> {
-        let read = match self.codec {
-            Codec::Oer => oer::decode_with_remainder::<T>(self.alloc, self.input),
-            Codec::Coer => coer::decode_with_remainder::<T>(self.alloc, self.input),
-        };
+        let read = oer::decode_with_options::<T>(self.alloc, self.options, self.input);
         let (value, rest) = match read {
             Ok(read) => read,
             Err(e) => return Err(Failure::Refused(e.kind.name())),
@@ -99,26 +95,47 @@ fn octets_of(alloc: Global, text: &str) -> Result<Vec<u8>, Failure> {
     }
 }
 
-fn codec_of(word: &str) -> Option<Codec> {
+/// The number of a word of decimal digits alone.
+fn number_of(word: &str) -> Option<usize> {
+    if word.is_empty() || !word.bytes().all(|octet| octet.is_ascii_digit()) {
+        return None;
+    }
+    match word.parse::<usize>() {
+        Ok(number) => Some(number),
+        Err(_) => None,
+    }
+}
+
+/// The options of a mode's word.
+fn options_of(word: &str) -> Option<DecoderOptions> {
     match word {
-        "oer" => Some(Codec::Oer),
-        "coer" => Some(Codec::Coer),
+        "oer" => Some(DecoderOptions::oer()),
+        "coer" => Some(DecoderOptions::coer()),
+        _ => None,
+    }
+}
+
+/// What the words ask for: how to read, the type's word, and the octets in hexadecimal.
+fn asked(words: &[String]) -> Option<(DecoderOptions, &str, &str)> {
+    match words {
+        [mode, word, text] => Some((options_of(mode.as_str())?, word.as_str(), text.as_str())),
+        [mode, depth, levels, word, text] if depth.as_str() == "depth" => {
+            let options = options_of(mode.as_str())?.with_depth(number_of(levels.as_str())?)?;
+            Some((options, word.as_str(), text.as_str()))
+        }
         _ => None,
     }
 }
 
 fn answer(alloc: Global, words: &[String]) -> Result<Lines, Failure> {
-    let [mode, word, text] = words else {
-        return Err(Failure::Usage);
-    };
-    let codec = codec_of(mode.as_str()).ok_or(Failure::Usage)?;
-    let octets = octets_of(alloc, text.as_str())?;
+    let (options, word, text) = asked(words).ok_or(Failure::Usage)?;
+    let octets = octets_of(alloc, text)?;
     let recoding = Recoding {
         alloc,
-        codec,
+        options,
         input: octets.as_slice(),
     };
-    match with_type(word.as_str(), recoding) {
+    match with_type(word, recoding) {
         Some(lines) => lines,
         None => Err(Failure::Usage),
     }

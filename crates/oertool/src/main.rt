@@ -1,4 +1,4 @@
-//! `oertool oer|coer TYPE HEX` reads octets as a value of a type, and prints its canonical octets and what is left.
+//! `oertool oer|coer [depth N] TYPE HEX` reads octets as a value of a type, and prints its canonical octets and what is left.
 #![tactic(auto)]
 
 #[cfg(test)]

@@ -5,7 +5,7 @@ use std::io::{self, Write};
 use std::process::Abort;
 use std::test::Fail;
 
-const USAGE: &str = "usage: oertool oer|coer TYPE HEX\n";
+const USAGE: &str = "usage: oertool oer|coer [depth N] TYPE HEX\n";
 
 fn words_of(alloc: Global, row: &str) -> Result<Vec<String>, AllocError> {
     let mut words = Vec::new(alloc);
@@ -27,6 +27,17 @@ fn other_words_are_answered_by_the_usage(rt: HostRuntime) -> Result<(), Fail> {
         "coer",
         "oer,bool",
         "oer,bool,ff,00",
+        "coer,depth,1025,nest,0100",
+        "coer,depth,,nest,0100",
+        "coer,depth,+1,nest,0100",
+        "coer,depth,-1,nest,0100",
+        "coer,depth, 1,nest,0100",
+        "coer,depth,0x1,nest,0100",
+        "coer,depth,99999999999999999999999,nest,0100",
+        "coer,depth,nest,0100",
+        "coer,Depth,1,nest,0100",
+        "depth,1,coer,nest,0100",
+        "coer,depth,1,nest",
         "OER,bool,ff",
         "oer,Bool,ff",
         "oer,bool,f",
