@@ -53,11 +53,16 @@ fn arcs_of(alloc: Global, text: &str) -> Result<String, Fail> {
 }
 
 #[test]
-fn identifiers_have_their_octets(rt: HostRuntime) -> Result<(), Fail> {
+fn arcs_have_their_octets(rt: HostRuntime) -> Result<(), Fail> {
     for line in ARCS.split('\n') {
         let (arcs, octets) = line.split_once(" => ").unwrap_or((line, ""));
         assert_eq!(rt; octets_of(rt.alloc(), arcs)?.as_str(), octets, "at {arcs}");
     }
+    Ok(())
+}
+
+#[test]
+fn octets_have_their_arcs(rt: HostRuntime) -> Result<(), Fail> {
     for line in IDENTIFIERS.split('\n') {
         let (octets, arcs) = line.split_once(" => ").unwrap_or((line, ""));
         assert_eq!(rt; arcs_of(rt.alloc(), octets)?.as_str(), arcs, "at {octets}");
