@@ -1,7 +1,8 @@
 //! Reading within a chosen number of levels.
 use crate::reading::{octets_and_rest, refusal};
 use anyhow::{Error, Result};
-use oer_words::known::OnType;
+use asn1_core::Constraints;
+use oer_words::constrained::UnderConstraints;
 use oer_write::Encode;
 use rasn_oer::{Decode, DecoderOptions, coer, oer};
 use std::alloc::Global;
@@ -15,11 +16,15 @@ pub struct WithOptions<'a> {
     pub octets: &'a [u8],
 }
 
-impl<'a> OnType for WithOptions<'a> {
+impl<'a> UnderConstraints for WithOptions<'a> {
     type Output = Result<String>;
 
-    /// What is written again and what is left, or the refusal: by both modules, for which the options alone count.
-    fn on<T: Decode + Encode + Debug + PartialEq>(self) -> Result<String> {
+    /// What is written again and what is left, or the refusal: by both modules, for which the options alone count. The
+    /// type's own constraints stand.
+    fn under<T: Decode + Encode + Debug + PartialEq>(
+        self,
+        _constraints: Constraints,
+    ) -> Result<String> {
         let one = oer::decode_with_options::<T>(self.alloc, self.options, self.octets);
         let other = coer::decode_with_options::<T>(self.alloc, self.options, self.octets);
         match (one, other) {

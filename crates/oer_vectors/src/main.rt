@@ -19,7 +19,6 @@ use anyhow::{Error, Result};
 use asn1_core::Codec;
 use depth::WithOptions;
 use oer_words::constrained::with_word;
-use oer_words::known::with_type;
 use oer_words::run::run;
 use rasn_oer::DecoderOptions;
 use reading::Reading;
@@ -113,7 +112,7 @@ fn at_depth(alloc: Global, row: &str) -> Result<String> {
         options,
         octets: octets.as_slice(),
     };
-    match with_type(word, work) {
+    match with_word(word, work) {
         Some(answer) => answer,
         None => Err(Error::msg("no such type")),
     }
