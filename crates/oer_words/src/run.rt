@@ -128,7 +128,9 @@ fn asked(words: &[String]) -> Option<(DecoderOptions, &str, &str)> {
 }
 
 fn answer(alloc: Global, words: &[String]) -> Result<Lines, Failure> {
-    let (options, word, text) = asked(words).ok_or(Failure::Usage)?;
+    let Some((options, word, text)) = asked(words) else {
+        return Err(Failure::Usage);
+    };
     let octets = octets_of(alloc, text)?;
     let recoding = Recoding {
         alloc,
