@@ -1,0 +1,28 @@
+-- Trees of components that may be absent.
+use Rattle.std.specs.Prelude.{Option, Some, None, ⊤, refl}
+use Rattle.oer_spec.specs.Encoding.{IsTree, AreSlot}
+use Rattle.oer_spec.specs.Same.{Alike, AlikeSlot}
+use Rattle.oer_spec.specs.Tree.{Tree}
+use Rattle.oer_read.specs.Components.{slot_of}
+use Rattle.oer_read.specs.Parts.{Admits, OnPresent}
+
+-- each value that is there is one that the type admits
+abbrev pub IfThere : {A : Type 0} → (A → Type 0) → Option A → Type 0
+IfThere IsValue None = ⊤
+IfThere IsValue (Some v) = IsValue v
+
+module _ {A : Type 0} (tree : A → Tree) (IsValue : A → Type 0) where
+  pub slot_is : ((v : A) → IsValue v → IsTree (tree v)) → (o : Option A) → IfThere IsValue o → AreSlot (slot_of tree o)
+  unfolding Rattle.oer_spec.specs.Encoding.IsTree
+  slot_is is None i = tt
+  slot_is is (Some v) i = is v i
+
+  pub slots_alike : ((v w : A) → IsValue v → IsValue w → Alike (tree v) (tree w)) → (o p : Option A) → IfThere IsValue o → IfThere IsValue p → AlikeSlot (slot_of tree o) (slot_of tree p)
+  unfolding Rattle.oer_spec.specs.Same.Alike
+  slots_alike like None p i j = tt
+  slots_alike like (Some v) None i j = tt
+  slots_alike like (Some v) (Some w) i j = like v w i j
+
+  pub slot_made : (o : Option A) → IfThere IsValue o → OnPresent (Admits tree IsValue) (slot_of tree o)
+  slot_made None i = tt
+  slot_made (Some v) i = record { value = v; is_value = i; is = refl }

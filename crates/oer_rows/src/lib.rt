@@ -1,0 +1,40 @@
+//! Sequences whose components are said once, as a type: a row, from which their trees, what reads them and what writes
+//! them are derived.
+#![tactic(auto)]
+
+mod additions;
+mod components;
+mod lists;
+mod places;
+mod reading;
+mod rowed;
+mod sequences;
+mod views;
+mod writing;
+
+pub use additions::{Additions, Extensible, MayAdd};
+#[doc(hidden)]
+pub use asn1_core::{Class, Field, FieldPresence, Tag};
+pub use components::{Components, Defaults, MayHave, Needs, NoMore};
+pub use lists::ListOf;
+pub use places::{
+    Application, Context, IsFalse, IsNumber, IsTrue, Place, Private, Standard, Universal,
+};
+pub use reading::decode_row;
+pub use rowed::{Rowed, Schemed};
+pub use sequences::{Sequence, Tabled};
+pub use views::{AdditionViews, Views};
+pub use writing::{Writes, encode_rows, put_addition, put_default, put_needed, put_optional};
+
+/// A table of components: the index, the need, the tag's class and number, and the name of each.
+#[macro_export]
+macro_rules! fields {
+    ($($index:literal $presence:ident $class:ident $number:literal $name:literal),*) => {
+        &[$($crate::Field {
+            index: $index,
+            tag: $crate::Tag { class: $crate::Class::$class, value: $number },
+            presence: $crate::FieldPresence::$presence,
+            name: $name,
+        }),*]
+    };
+}

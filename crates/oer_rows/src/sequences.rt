@@ -1,0 +1,155 @@
+//! Sequences of the components of a type: every impl of a codec's traits is the library's.
+
+use crate::components::Components;
+use crate::reading::decode_row;
+use crate::rowed::Rowed;
+use crate::writing::{Writes, encode_rows};
+use asn1_core::{AsnType, Constraints, Constructed, DecodeError, EncodeError, Field, Fields, Tag};
+use oer_read::{Decode, Decoder};
+use oer_spec::Spelled;
+use oer_write::{Encode, Encoder};
+use std::alloc::Global;
+
+/// What a type says beside its row to be the content of a `Sequence`: its tables, and its components as its row writes
+/// them.
+pub trait Tabled<const RC: usize, const EC: usize>: Rowed + Drop {
+    ghost use Rattle.std.specs.Prelude.{◌≡◌, length, map, OnOk};
+    ghost use Rattle.asn1_core.specs.Rows.{row};
+    ghost use Rattle.oer_write.specs.Rows.{InSequence};
+    ghost use Rattle.oer_rows.specs.Schema.{IsOf};
+
+    /// The root components, in the order of the row.
+    const FIELDS: Fields<RC>;
+
+    /// The extension additions, where the row is extensible.
+    const EXTENDED_FIELDS: Option<Fields<EC>>;
+
+    /// The rows of `FIELDS`: the row's own.
+    fn root_fields() -> &'static [Field<'static>]
+        ensures { map row result.now ≡ Self.Row.schema.roots.fields 0 };
+
+    /// The rows of `EXTENDED_FIELDS`, none where it is absent: the row's own.
+    fn addition_fields() -> &'static [Field<'static>]
+        ensures { map row result.now ≡ Self.Row.schema.additions.fields 0 };
+
+    /// Writes the components, by `Views::write` of the row: `Ok` only for admitted values.
+    ///
+    /// Refused by what a component is refused by.
+    fn put(&self, encoder: &mut Encoder<'_>) -> Result<(), EncodeError>
+        ensures written { InSequence (Self.Row.schema.roots.rows (Self.components self.now)) (Self.Row.schema.additions.rows (Self.components self.now)) encoder.old result encoder.new }
+        ensures value { OnOk result (IsOf Self.Row.schema (Self.components self.now)) };
+
+    ghost root_count: { length (Self.Row.schema.roots.fields 0) ≡ RC };
+
+    ghost addition_count: { length (Self.Row.schema.additions.fields 0) ≡ EC };
+}
+
+/// The SEQUENCE (X.680, clause 25) of the components of `T`, with `RC` root components and `EC` extension additions.
+#[derive(Debug, PartialEq, Eq, Drop)]
+pub struct Sequence<T, const RC: usize, const EC: usize>(pub T);
+
+impl<const RC: usize, const EC: usize, T: Tabled<RC, EC>> Rowed for Sequence<T, RC, EC> {
+    type Row = T::Row;
+
+    ghost components = { λ v. T.components v.0 };
+
+    fn from_row(row: <T::Row as Components>::Values) -> Sequence<T, RC, EC> {
+        Sequence(T::from_row(row))
+    }
+}
+
+impl<const RC: usize, const EC: usize, T: Tabled<RC, EC>> AsnType for Sequence<T, RC, EC> {
+    ghost use Rattle.std.specs.Prelude.{refl};
+    ghost use Rattle.asn1_core.specs.declared.tag.TheConstants.Tag.{SEQUENCE};
+    ghost use Rattle.asn1_core.specs.declared.constraints.TheConstants.Constraints.{NONE};
+
+    ghost TAG = { SEQUENCE };
+
+    const TAG: Tag = Tag::SEQUENCE;
+
+    ghost CONSTRAINTS = { NONE };
+
+    const CONSTRAINTS: Constraints = Constraints::NONE;
+
+    ghost consistent = { refl };
+
+    const IS_CHOICE: bool = false;
+}
+
+impl<const RC: usize, const EC: usize, T: Tabled<RC, EC>> Constructed<RC, EC>
+    for Sequence<T, RC, EC> {
+    ghost use Rattle.std.specs.Prelude.{false};
+    ghost use Rattle.oer_rows.specs.Schema.{schema_tables};
+
+    ghost is_set = { false };
+
+    ghost root_rows = { T.Row.schema.roots.fields 0 };
+
+    ghost addition_rows = { T.Row.schema.additions.fields 0 };
+
+    ghost IS_EXTENSIBLE = { T.Row.EXTENSIBLE };
+
+    const IS_EXTENSIBLE: bool = T::Row::EXTENSIBLE;
+
+    const FIELDS: Fields<RC> = T::FIELDS;
+
+    const EXTENDED_FIELDS: Option<Fields<EC>> = T::EXTENDED_FIELDS;
+
+    fn root_fields() -> &'static [Field<'static>] {
+        T::root_fields()
+    }
+
+    fn addition_fields() -> &'static [Field<'static>] {
+        T::addition_fields()
+    }
+
+    ghost tables = { schema_tables T.Row.schema T.Row.EXTENSIBLE T.Row.Components.is_schema RC EC T.root_count T.addition_count };
+}
+
+impl<const RC: usize, const EC: usize, T: Tabled<RC, EC>> Spelled for Sequence<T, RC, EC> {
+    ghost use Rattle.oer_rows.specs.Schema.{tree_of, IsOf, schema_is, schema_like};
+
+    ghost tree = { λ c v. tree_of T.Row.schema T.Row.EXTENSIBLE (T.components v.0) };
+
+    ghost IsValue = { λ v. IsOf T.Row.schema (T.components v.0) };
+
+    ghost is_tree = { λ c k v i. schema_is T.Row.schema T.Row.EXTENSIBLE T.Row.Components.is_schema (T.components v.0) i };
+
+    ghost alike = { λ c k v w i j. schema_like T.Row.schema T.Row.EXTENSIBLE T.Row.Components.is_schema (T.components v.0) (T.components w.0) i j };
+}
+
+impl<const RC: usize, const EC: usize, T: Tabled<RC, EC>> Writes for Sequence<T, RC, EC> {
+    ghost roots = { λ v. T.Row.schema.roots.rows (T.components v.0) };
+
+    ghost additions = { λ v. T.Row.schema.additions.rows (T.components v.0) };
+
+    fn put(&self, encoder: &mut Encoder<'_>) -> Result<(), EncodeError> {
+        self.0.put(encoder)
+    }
+}
+
+impl<const RC: usize, const EC: usize, T: Tabled<RC, EC>> Encode for Sequence<T, RC, EC> {
+    fn encode_with_tag_and_constraints(
+        &self,
+        encoder: &mut Encoder<'_>,
+        tag: Tag,
+        _constraints: Constraints,
+    ) -> Result<(), EncodeError> {
+        encode_rows::<RC, EC, Sequence<T, RC, EC>, Sequence<T, RC, EC>>(self, encoder, tag)
+    }
+}
+
+impl<const RC: usize, const EC: usize, T: Tabled<RC, EC>> Decode for Sequence<T, RC, EC> {
+    ghost use Rattle.std.specs.Prelude.{⊤};
+
+    ghost Answered = { λ c s r t. ⊤ };
+
+    fn decode_with_tag_and_constraints(
+        alloc: Global,
+        decoder: &mut Decoder<'_>,
+        tag: Tag,
+        constraints: Constraints,
+    ) -> Result<Sequence<T, RC, EC>, DecodeError> {
+        decode_row::<RC, EC, Sequence<T, RC, EC>>(alloc, decoder, tag, constraints)
+    }
+}

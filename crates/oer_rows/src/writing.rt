@@ -1,0 +1,118 @@
+//! The components of a sequence, written one by one.
+ghost use Rattle.std.specs.Prelude.{◌≡◌, true, false, OnOk, IfErr, IfSome};
+ghost use Rattle.oer_spec.specs.Tree.{NoRows, Struct};
+ghost use Rattle.oer_write.specs.Written.{Encodes, Refused};
+ghost use Rattle.oer_read.specs.Defaults.{IsDefault};
+ghost use Rattle.oer_write.specs.Rows.{InSequence, RowsDone, SetDone, RowsRefused, required, optional, defaulted, slot_of, present_unless};
+
+use crate::places::Standard;
+use asn1_core::{Constructed, EncodeError, Tag};
+use oer_spec::{EqualAsSpelled, Spelled};
+use oer_write::{Encode, Encoder};
+
+/// Writes a required component (X.696, 16).
+///
+/// Refused by what the value is refused by.
+pub fn put_needed<E: Encode>(
+    encoder: &mut Encoder<'_>,
+    tag: Tag,
+    value: &E,
+) -> Result<(), EncodeError>
+    ensures in_sequence { encoder.old.frame.is_set ≡ false → OnOk result (RowsDone (required tag (E.tree E.CONSTRAINTS value.now)) NoRows encoder.old encoder.new) }
+    ensures in_set { encoder.old.frame.is_set ≡ true → OnOk result (SetDone (required tag (E.tree E.CONSTRAINTS value.now)) NoRows encoder.old encoder.new) }
+    ensures value { OnOk result (E.IsValue value.now) }
+    ensures refused { IfErr result (λ x. RowsRefused (required tag (E.tree E.CONSTRAINTS value.now)) NoRows x encoder.old encoder.new) }
+{
+    encoder.encode_component(tag, E::CONSTRAINTS, value)
+}
+
+/// Writes an OPTIONAL component: its presence bit, and the value that is there.
+///
+/// Refused by what the value is refused by.
+pub fn put_optional<E: Encode>(
+    encoder: &mut Encoder<'_>,
+    tag: Tag,
+    value: &Option<E>,
+) -> Result<(), EncodeError>
+    ensures in_sequence { encoder.old.frame.is_set ≡ false → OnOk result (RowsDone (optional tag (slot_of (E.tree E.CONSTRAINTS) value.now)) NoRows encoder.old encoder.new) }
+    ensures in_set { encoder.old.frame.is_set ≡ true → OnOk result (SetDone (optional tag (slot_of (E.tree E.CONSTRAINTS) value.now)) NoRows encoder.old encoder.new) }
+    ensures value { OnOk result (IfSome value.now E.IsValue) }
+    ensures refused { IfErr result (λ x. RowsRefused (optional tag (slot_of (E.tree E.CONSTRAINTS) value.now)) NoRows x encoder.old encoder.new) }
+{
+    match value {
+        Some(value) => encoder.encode_some_with_tag_and_constraints(tag, E::CONSTRAINTS, value),
+        None => encoder.encode_none_with_tag(tag),
+    }
+}
+
+/// Writes a component with the DEFAULT `D`: nothing but its presence bit where the value equals it.
+///
+/// Refused by what the value is refused by.
+pub fn put_default<D: Standard<E>, E: Encode + EqualAsSpelled>(
+    encoder: &mut Encoder<'_>,
+    tag: Tag,
+    value: &E,
+) -> Result<(), EncodeError>
+    ensures in_sequence { encoder.old.frame.is_set ≡ false → OnOk result (RowsDone (defaulted tag (E.tree E.CONSTRAINTS D.value) (present_unless (E.eq value.now D.value) (E.tree E.CONSTRAINTS value.now))) NoRows encoder.old encoder.new) }
+    ensures in_set { encoder.old.frame.is_set ≡ true → OnOk result (SetDone (defaulted tag (E.tree E.CONSTRAINTS D.value) (present_unless (E.eq value.now D.value) (E.tree E.CONSTRAINTS value.now))) NoRows encoder.old encoder.new) }
+    ensures value { E.eq value.now D.value ≡ false → OnOk result (E.IsValue value.now) }
+    ensures known { IsDefault (E.tree E.CONSTRAINTS) E.IsValue E.eq D.value }
+    ensures refused { IfErr result (λ x. RowsRefused (defaulted tag (E.tree E.CONSTRAINTS D.value) (present_unless (E.eq value.now D.value) (E.tree E.CONSTRAINTS value.now))) NoRows x encoder.old encoder.new) }
+{
+    let default = D::value();
+    encoder.encode_default_with_tag_and_constraints(tag, E::CONSTRAINTS, value, &default)
+}
+
+/// Writes an OPTIONAL extension addition, one that is there as an open type (X.696, 16.4 and 30).
+///
+/// Refused by what the value is refused by.
+pub fn put_addition<E: Encode>(
+    encoder: &mut Encoder<'_>,
+    tag: Tag,
+    value: &Option<E>,
+) -> Result<(), EncodeError>
+    ensures done { OnOk result (RowsDone NoRows (optional tag (slot_of (E.tree E.CONSTRAINTS) value.now)) encoder.old encoder.new) }
+    ensures in_set { encoder.old.frame.is_set ≡ true → OnOk result (SetDone NoRows (optional tag (slot_of (E.tree E.CONSTRAINTS) value.now)) encoder.old encoder.new) }
+    ensures value { OnOk result (IfSome value.now E.IsValue) }
+    ensures refused { IfErr result (λ x. RowsRefused NoRows (optional tag (slot_of (E.tree E.CONSTRAINTS) value.now)) x encoder.old encoder.new) }
+{
+    encoder.encode_extension_addition(tag, E::CONSTRAINTS, value.as_ref())
+}
+
+/// A type whose components are written one by one.
+pub trait Writes: Spelled {
+    ghost use Rattle.oer_spec.specs.Tree.{Rows};
+
+    ghost roots: { Self → Rows };
+
+    ghost additions: { Self → Rows };
+
+    /// Writes the components, root ones first, inside the scope of a sequence (X.696, 16): `Ok` only for an admitted
+    /// value.
+    ///
+    /// Refused by what a component is refused by.
+    fn put(&self, encoder: &mut Encoder<'_>) -> Result<(), EncodeError>
+        ensures written { InSequence (roots self.now) (additions self.now) encoder.old result encoder.new }
+        ensures value { OnOk result (Self.IsValue self.now) };
+}
+
+/// Writes a SEQUENCE (X.696, 16) by the rows of its value, with the tables of `C`: by the law of writing.
+///
+/// Refused by what a component is refused by, or for want of memory.
+pub fn encode_rows<const RC: usize, const EC: usize, C: Constructed<RC, EC>, T: Writes>(
+    value: &T,
+    encoder: &mut Encoder<'_>,
+    tag: Tag,
+) -> Result<(), EncodeError>
+    ensures done { OnOk result (Encodes (Struct false C.IS_EXTENSIBLE (T.roots value.now) (T.additions value.now)) encoder.old encoder.new) }
+    ensures value { OnOk result (T.IsValue value.now) }
+    ensures refused { IfErr result (λ x. Refused (Struct false C.IS_EXTENSIBLE (T.roots value.now) (T.additions value.now)) x encoder.old encoder.new) }
+{
+    encoder.encode_sequence::<RC, EC, C, _>(
+        tag,
+        |encoder: &mut Encoder<'_>| -> Result<(), EncodeError>
+            ensures written { InSequence (T.roots value.entry.now) (T.additions value.entry.now) encoder.old result encoder.new }
+            ensures value { OnOk result (T.IsValue value.entry.now) }
+        { value.put(encoder) },
+    )
+}

@@ -1,0 +1,60 @@
+//! A sequence of a choice, and of a list.
+
+use asn1_core::{EncodeError, Field, Fields};
+use asn1_strings::OctetString;
+use choice_types::PriorityChoice;
+use oer_read::Encoder;
+use oer_rows::{
+    Components, Context, ListOf, Needs, NoMore, Rowed, Sequence, Tabled, Views, fields,
+};
+
+/// `SEQUENCE { priority PriorityChoice, names SEQUENCE OF OCTET STRING }`
+pub type Mixed = Sequence<MixedComponents, 2, 0>;
+
+/// The components of a `Mixed`.
+#[derive(Debug, PartialEq, Eq, Drop)]
+pub struct MixedComponents {
+    pub priority: PriorityChoice,
+    pub names: ListOf<OctetString>,
+}
+
+type MixedRow = Needs<Context<0>, PriorityChoice, Needs<Context<1>, ListOf<OctetString>, NoMore>>;
+
+const MIXED_FIELDS: &'static [Field<'static>] =
+    fields![0 Required Context 0 "priority", 1 Required Context 1 "names"];
+
+impl Rowed for MixedComponents {
+    type Row = MixedRow;
+
+    ghost components = { λ v. (v.priority, (v.names, tt)) };
+
+    fn from_row((priority, (names, ())): <MixedRow as Components>::Values) -> MixedComponents {
+        MixedComponents { priority, names }
+    }
+}
+
+impl Tabled<2, 0> for MixedComponents {
+    ghost use Rattle.std.specs.Prelude.{refl};
+
+    const FIELDS: Fields<2> = Fields {
+        fields: MIXED_FIELDS,
+    };
+
+    const EXTENDED_FIELDS: Option<Fields<0>> = None;
+
+    fn root_fields() -> &'static [Field<'static>] {
+        MIXED_FIELDS
+    }
+
+    fn addition_fields() -> &'static [Field<'static>] {
+        &[]
+    }
+
+    fn put(&self, encoder: &mut Encoder<'_>) -> Result<(), EncodeError> {
+        MixedRow::write((&self.priority, (&self.names, ())), encoder)
+    }
+
+    ghost root_count = { refl };
+
+    ghost addition_count = { refl };
+}

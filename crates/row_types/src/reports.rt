@@ -1,0 +1,59 @@
+//! A sequence of a component with a default, and an optional one.
+
+use asn1_core::{EncodeError, Field, Fields};
+use asn1_ints::Integer;
+use oer_read::Encoder;
+use oer_rows::{
+    Components, Context, Defaults, IsFalse, MayHave, NoMore, Rowed, Sequence, Tabled, Views, fields,
+};
+
+/// `SEQUENCE { urgent BOOLEAN DEFAULT FALSE, number INTEGER OPTIONAL }`
+pub type Report = Sequence<ReportComponents, 2, 0>;
+
+/// The components of a `Report`.
+#[derive(Debug, PartialEq, Eq, Drop)]
+pub struct ReportComponents {
+    pub urgent: bool,
+    pub number: Option<Integer>,
+}
+
+type ReportRow = Defaults<Context<0>, bool, IsFalse, MayHave<Context<1>, Integer, NoMore>>;
+
+const REPORT_FIELDS: &'static [Field<'static>] =
+    fields![0 Default Context 0 "urgent", 1 Optional Context 1 "number"];
+
+impl Rowed for ReportComponents {
+    type Row = ReportRow;
+
+    ghost components = { λ v. (v.urgent, (v.number, tt)) };
+
+    fn from_row((urgent, (number, ())): <ReportRow as Components>::Values) -> ReportComponents {
+        ReportComponents { urgent, number }
+    }
+}
+
+impl Tabled<2, 0> for ReportComponents {
+    ghost use Rattle.std.specs.Prelude.{refl};
+
+    const FIELDS: Fields<2> = Fields {
+        fields: REPORT_FIELDS,
+    };
+
+    const EXTENDED_FIELDS: Option<Fields<0>> = None;
+
+    fn root_fields() -> &'static [Field<'static>] {
+        REPORT_FIELDS
+    }
+
+    fn addition_fields() -> &'static [Field<'static>] {
+        &[]
+    }
+
+    fn put(&self, encoder: &mut Encoder<'_>) -> Result<(), EncodeError> {
+        ReportRow::write((&self.urgent, (&self.number, ())), encoder)
+    }
+
+    ghost root_count = { refl };
+
+    ghost addition_count = { refl };
+}

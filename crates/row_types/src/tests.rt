@@ -1,0 +1,94 @@
+//! Octets by hand from X.696, of each type by its row.
+
+use crate::{
+    Mixed, MixedComponents, Report, ReportComponents, Sequence2, Twelve, TwelveComponents,
+};
+use asn1_ints::Integer;
+use asn1_strings::OctetString;
+use choice_types::PriorityChoice;
+use oer_read::{Decode, Decoder, DecoderOptions, Encode, Encoder};
+use oer_rows::{ListOf, Sequence};
+use oer_write::enc::EncoderOptions;
+use std::alloc::Global;
+use std::test::Fail;
+
+/// Whether the value is written as these octets, and they are read as the value.
+fn agrees<T: Encode + Decode + PartialEq>(
+    alloc: Global,
+    value: &T,
+    octets: &[u8],
+) -> Result<bool, Fail> {
+    let mut output = Vec::new(alloc);
+    let mut worker = Vec::new(alloc);
+    let mut encoder = Encoder::from_buffer(alloc, EncoderOptions::coer(), &mut output, &mut worker);
+    value.encode(&mut encoder)?;
+    let mut decoder = Decoder::new(octets, DecoderOptions::coer());
+    let read = T::decode(alloc, &mut decoder)?;
+    Ok(encoder.output().as_slice() == octets && read == *value && decoder.remaining().is_empty())
+}
+
+fn twelve() -> Twelve {
+    Sequence(TwelveComponents {
+        a: Integer::from_i128(1),
+        b: None,
+        c: Some(Integer::from_i128(2)),
+        d: None,
+        e: None,
+        f: true,
+        g: None,
+        h: None,
+        i: None,
+        j: None,
+        k: None,
+        l: Some(false),
+    })
+}
+
+#[test]
+fn values_are_written_and_read(rt: HostRuntime) -> Result<(), Fail> {
+    let alloc = rt.alloc();
+    let report: Report = Sequence(ReportComponents {
+        urgent: true,
+        number: Some(Integer::from_i128(5)),
+    });
+    let sequence2 = Sequence2 {
+        a: true,
+        b: None,
+        c: Some(false),
+    };
+    let mixed: Mixed = Sequence(MixedComponents {
+        priority: PriorityChoice::Normal(Integer::from_i128(7)),
+        names: ListOf(Vec::from_array(alloc, [OctetString::from_slice(alloc, &[0xAA, 0xBB])?])?),
+    });
+    let table = [
+        ("Report", agrees(alloc, &report, &[0xC0, 0xFF, 0x01, 0x05])?),
+        (
+            "Sequence2",
+            agrees(
+                alloc,
+                &sequence2,
+                &[0x80, 0xFF, 0x02, 0x06, 0x40, 0x01, 0x00],
+            )?,
+        ),
+        (
+            "Twelve",
+            agrees(
+                alloc,
+                &twelve(),
+                &[0x40, 0x40, 0x01, 0x01, 0x01, 0x02, 0xFF, 0x00],
+            )?,
+        ),
+        (
+            "Mixed",
+            agrees(
+                alloc,
+                &mixed,
+                &[0x80, 0x01, 0x07, 0x01, 0x01, 0x02, 0xAA, 0xBB],
+            )?,
+        ),
+    ];
+    for (name, agree) in table {
+        assert!(rt; agree, "{name}");
+    }
+    Ok(())
+}
