@@ -225,7 +225,13 @@ impl<'input> Decoder<'input> {
             Err(kind) => Err(self.refusal(kind)),
             Ok((mut inner, presence)) => {
                 match read_fields::<RC, FIELDS, D>(
-                    alloc, &mut inner, roots, presence, additions, &decode_fn, self.codec(),
+                    alloc,
+                    &mut inner,
+                    roots,
+                    presence,
+                    additions,
+                    &decode_fn,
+                    self.codec(),
                 ) {
                     Err(e) => Err(e),
                     Ok(fields) => match inner.close() {

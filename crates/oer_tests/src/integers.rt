@@ -1,11 +1,11 @@
-use asn1_core::{AsnType, Bounded, Codec, DecodeError, DecodeErrorKind};
+use asn1_base::{AsnType, Codec};
 use asn1_ints::{ConstrainedInteger, Integer, IntegerRange, IntegerType};
 use std::alloc::Global;
-use std::cmp::Ordering;
 use std::process::Abort;
 use std::test::Fail;
 
 /// -5 to 5.
+#[derive(Drop)]
 struct Small;
 
 impl IntegerRange for Small {
@@ -22,178 +22,130 @@ impl IntegerRange for Small {
     ghost holds_number = { refl };
 }
 
-/// Numbers and their shortest octets in two's complement.
-const SIGNED: [(i128, &[u8]); 10] = [
-    (0, &[0x00]),
-    (-1, &[0xFF]),
-    (127, &[0x7F]),
-    (128, &[0x00, 0x80]),
-    (-128, &[0x80]),
-    (-129, &[0xFF, 0x7F]),
-    (255, &[0x00, 0xFF]),
-    (-255, &[0xFF, 0x01]),
-    (-32769, &[0xFF, 0x7F, 0xFF]),
-    (-1234567, &[0xED, 0x29, 0x79]),
-];
+/// A type, and a number in two's complement; the number, where it is one of i128, its shortest octets in two's complement, and
+/// its shortest unsigned ones, where it isn't negative; or the mode and the kind of the refusal.
+const ROWS: &str = "\
+int 00 => Some(0);00;00\n\
+int ff => Some(-1);ff;\n\
+int 7f => Some(127);7f;7f\n\
+int 0080 => Some(128);0080;80\n\
+int 80 => Some(-128);80;\n\
+int ff7f => Some(-129);ff7f;\n\
+int 00ff => Some(255);00ff;ff\n\
+int ff01 => Some(-255);ff01;\n\
+int ff7fff => Some(-32769);ff7fff;\n\
+int ed2979 => Some(-1234567);ed2979;\n\
+int 00ffffffffffffffffffffffffffffffffffffff => None;00ffffffffffffffffffffffffffffffffffffff;ffffffffffffffffffffffffffffffffffffff\n\
+int ff00000000000000000000000000000000000000 => None;ff00000000000000000000000000000000000000;\n\
+small 0100 => Some(256);0100;0100\n\
+i8 80 => Some(-128);80;\n\
+i16 8000 => Some(-32768);8000;\n\
+i32 ff7fff => Some(-32769);ff7fff;\n\
+i64 ed2979 => Some(-1234567);ed2979;\n\
+i128 00ff => Some(255);00ff;ff\n\
+isize 014d => Some(333);014d;014d\n\
+u8 00ff => Some(255);00ff;ff\n\
+u8 000005 => Some(5);05;05\n\
+u16 00 => Some(0);00;00\n\
+u32 010000 => Some(65536);010000;010000\n\
+u64 00ffffffffffffffff => Some(18446744073709551615);00ffffffffffffffff;ffffffffffffffff\n\
+u128 0080000000000000000000000000000000 => None;0080000000000000000000000000000000;80000000000000000000000000000000\n\
+usize 0080 => Some(128);0080;80\n\
+u8  => Coer EmptyInteger\n\
+int  => Coer EmptyInteger\n\
+u8 0100 => Coer IntegerOverflow\n\
+u8 ff => Coer IntegerOverflow\n\
+i8 0080 => Coer IntegerOverflow\n\
+u128 ff => Coer IntegerOverflow";
+
+/// Reads a number of octets in two's complement, writes it both ways, and reads what was written.
+fn both_ways<T: IntegerType>(alloc: Global, octets: &[u8]) -> Result<String, Fail> {
+    let value = match T::try_from_signed_bytes(alloc, octets, Codec::Coer) {
+        Ok(value) => value,
+        Err(e) => return Ok(format!(in alloc; "{:?} {:?}", e.codec, e.kind)?),
+    };
+    let mut signed = Vec::new(alloc);
+    value.write_signed_bytes_be(&mut signed)?;
+    let mut unsigned = Vec::new(alloc);
+    if !value.is_negative() {
+        value.write_unsigned_bytes_be(&mut unsigned)?;
+        let again = T::try_from_unsigned_bytes(alloc, unsigned.as_slice(), Codec::Oer)?;
+        if again.to_i128() != value.to_i128() {
+            return Err(Fail::from("unsigned octets are read as another number"));
+        }
+    }
+    let number = value.to_i128();
+    let signed = hex::encode(alloc, signed.as_slice())?;
+    let unsigned = hex::encode(alloc, unsigned.as_slice())?;
+    Ok(format!(in alloc; "{:?};{};{}", number, signed, unsigned)?)
+}
+
+fn answer(alloc: Global, row: &str) -> Result<String, Fail> {
+    let (word, text) = row.split_once(' ').unwrap_or((row, ""));
+    let octets = hex::decode(alloc, text)?;
+    let octets = octets.as_slice();
+    match word {
+        "int" => both_ways::<Integer>(alloc, octets),
+        "small" => both_ways::<ConstrainedInteger<Small>>(alloc, octets),
+        "i8" => both_ways::<i8>(alloc, octets),
+        "i16" => both_ways::<i16>(alloc, octets),
+        "i32" => both_ways::<i32>(alloc, octets),
+        "i64" => both_ways::<i64>(alloc, octets),
+        "i128" => both_ways::<i128>(alloc, octets),
+        "isize" => both_ways::<isize>(alloc, octets),
+        "u8" => both_ways::<u8>(alloc, octets),
+        "u16" => both_ways::<u16>(alloc, octets),
+        "u32" => both_ways::<u32>(alloc, octets),
+        "u64" => both_ways::<u64>(alloc, octets),
+        "u128" => both_ways::<u128>(alloc, octets),
+        "usize" => both_ways::<usize>(alloc, octets),
+        _ => Err(Fail::from("no such type")),
+    }
+}
 
 #[test]
-fn signed_octets(rt: HostRuntime) -> Result<(), Fail> {
-    for (n, octets) in SIGNED {
-        let number = Integer::from_i128(n);
-        assert_eq!(rt;
-            number.signed_octets(rt.alloc())?.as_slice(),
-            octets,
-            "of {n}"
-        );
-        let read = Integer::from_signed_octets(rt.alloc(), octets)?;
-        assert_eq!(rt; read.ok_or("no octets")?, number, "of {n}");
+fn integers_have_their_octets(rt: HostRuntime) -> Result<(), Fail> {
+    for line in ROWS.split('\n') {
+        let (row, expected) = line.split_once(" => ").unwrap_or((line, ""));
+        assert_eq!(rt; answer(rt.alloc(), row)?.as_str(), expected, "at {row}");
+    }
+    Ok(())
+}
+
+/// Numbers in ascending order, in two's complement: -256^127, -2^127, -1, 0, 2^127 - 1 and 256^127 - 1.
+const ASCENDING: &str = "\
+ff00000000000000000000000000000000000000000000000000000000000000000000000000000000000000000000000000000000000000000000000000000000000000000000000000000000000000000000000000000000000000000000000000000000000000000000000000000000000000000000000000000000000000 \
+80000000000000000000000000000000 ff 00 7fffffffffffffffffffffffffffffff \
+00ffffffffffffffffffffffffffffffffffffffffffffffffffffffffffffffffffffffffffffffffffffffffffffffffffffffffffffffffffffffffffffffffffffffffffffffffffffffffffffffffffffffffffffffffffffffffffffffffffffffffffffffffffffffffffffffffffffffffffffffffffffffffffffff";
+
+#[test]
+fn integers_have_the_order_of_their_numbers(rt: HostRuntime) -> Result<(), Fail> {
+    let mut before: Option<Integer> = None;
+    for text in ASCENDING.split(' ') {
+        let octets = hex::decode(rt.alloc(), text)?;
+        let number = Integer::from_signed_octets(rt.alloc(), octets.as_slice())?.ok_or("none")?;
+        let written = number.signed_octets(rt.alloc())?;
+        assert!(rt; written == octets);
+        assert!(rt; before.is_none_or(|before| before < number));
+        before = Some(number);
     }
     assert!(rt; Integer::from_signed_octets(rt.alloc(), &[])?.is_none());
     Ok(())
 }
 
-/// Writes a value and reads it back, by its octets in two's complement and, where it has them, its unsigned ones.
-fn both_ways<T: IntegerType + PartialEq>(
-    rt: &impl Abort,
-    alloc: Global,
-    value: &T,
-    signed: &[u8],
-    unsigned: &[u8],
-) -> Result<(), Fail> {
-    let mut out = Vec::new(alloc);
-    value.write_signed_bytes_be(&mut out)?;
-    assert_eq!(rt; out.as_slice(), signed);
-    assert!(rt;
-        T::try_from_signed_bytes(alloc, signed, Codec::Oer)
-            .ok()
-            .is_some_and(|read| read == *value)
-    );
-    if value.is_negative() {
-        return Ok(());
+#[test]
+fn constrained_integers_know_their_range(rt: HostRuntime) -> Result<(), Fail> {
+    let own = ConstrainedInteger::<Small>::CONSTRAINTS;
+    let mut told = format!(in rt.alloc(); "{:?}", own.value)?;
+    for number in [-6, -5, 5, 6] {
+        let inside = ConstrainedInteger::<Small>::try_new(number).is_some();
+        let any = ConstrainedInteger::<Small>::new(number);
+        let line = format!(in rt.alloc(); " {} {:?}", inside, any.get().to_i128())?;
+        told.push_str(line.as_str())?;
     }
-    let mut out = Vec::new(alloc);
-    value.write_unsigned_bytes_be(&mut out)?;
-    assert_eq!(rt; out.as_slice(), unsigned);
-    assert!(rt;
-        T::try_from_unsigned_bytes(alloc, unsigned, Codec::Oer)
-            .ok()
-            .is_some_and(|read| read == *value)
+    assert_eq!(rt;
+        told.as_str(),
+        "Some((Range { start: Some(-5), end: Some(5) }, false)) false Some(-6) true Some(-5) true Some(5) false Some(6)"
     );
     Ok(())
-}
-
-#[test]
-fn signed_types(rt: HostRuntime) -> Result<(), Fail> {
-    let alloc = rt.alloc();
-    both_ways(&rt, alloc, &-128i8, &[0x80], &[])?;
-    both_ways(&rt, alloc, &-32768i16, &[0x80, 0x00], &[])?;
-    both_ways(&rt, alloc, &-32769i32, &[0xFF, 0x7F, 0xFF], &[])?;
-    both_ways(&rt, alloc, &-1234567i64, &[0xED, 0x29, 0x79], &[])?;
-    both_ways(&rt, alloc, &255i128, &[0x00, 0xFF], &[0xFF])?;
-    both_ways(&rt, alloc, &333isize, &[0x01, 0x4D], &[0x01, 0x4D])
-}
-
-#[test]
-fn unsigned_types(rt: HostRuntime) -> Result<(), Fail> {
-    let alloc = rt.alloc();
-    both_ways(&rt, alloc, &255u8, &[0x00, 0xFF], &[0xFF])?;
-    both_ways(&rt, alloc, &0u16, &[0x00], &[0x00])?;
-    both_ways(
-        &rt,
-        alloc,
-        &65536u32,
-        &[0x01, 0x00, 0x00],
-        &[0x01, 0x00, 0x00],
-    )?;
-    both_ways(
-        &rt,
-        alloc,
-        &u64::MAX,
-        &[0, 255, 255, 255, 255, 255, 255, 255, 255],
-        &[255; 8],
-    )?;
-    both_ways(&rt, alloc, &128usize, &[0x00, 0x80], &[0x80])?;
-    both_ways(
-        &rt,
-        alloc,
-        &(1u128 << 127),
-        &[0, 128, 0, 0, 0, 0, 0, 0, 0, 0, 0, 0, 0, 0, 0, 0, 0],
-        &[128, 0, 0, 0, 0, 0, 0, 0, 0, 0, 0, 0, 0, 0, 0, 0],
-    )
-}
-
-#[test]
-fn integers(rt: HostRuntime) -> Result<(), Fail> {
-    let alloc = rt.alloc();
-    both_ways(&rt, alloc, &Integer::from_i128(-255), &[0xFF, 0x01], &[])?;
-    both_ways(
-        &rt,
-        alloc,
-        &ConstrainedInteger::<Small>::new(256),
-        &[0x01, 0x00],
-        &[0x01, 0x00],
-    )?;
-    // 256^127 - 1
-    let ones = [255; 127];
-    let mut signed = Vec::new(alloc);
-    signed.push(0)?;
-    signed.extend_from_slice(&ones)?;
-    let large = Integer::from_signed_octets(alloc, signed.as_slice())?.ok_or("no octets")?;
-    both_ways(&rt, alloc, &large, signed.as_slice(), &ones)?;
-    assert_eq!(rt; large.to_i128(), None);
-    assert_eq!(rt;
-        large.cmp(&Integer::from_i128(i128::MAX)),
-        Ordering::Greater
-    );
-    // -256^127 is FF and 127 times 00
-    let mut lower = Vec::new(alloc);
-    lower.push(255)?;
-    lower.extend_from_slice(&[0; 127])?;
-    let least = Integer::from_signed_octets(alloc, lower.as_slice())?.ok_or("no octets")?;
-    assert!(rt; least < Integer::from_i128(i128::MIN));
-    assert!(rt; least < large);
-    Ok(())
-}
-
-/// The kind that octets in two's complement are refused by.
-fn refused<T: IntegerType>(alloc: Global, octets: &[u8]) -> Option<DecodeError> {
-    T::try_from_signed_bytes(alloc, octets, Codec::Coer).err()
-}
-
-#[test]
-fn refusals(rt: HostRuntime) {
-    let empty = Some(DecodeError {
-        kind: DecodeErrorKind::EmptyInteger,
-        codec: Codec::Coer,
-    });
-    let overflow = Some(DecodeError {
-        kind: DecodeErrorKind::IntegerOverflow,
-        codec: Codec::Coer,
-    });
-    assert_eq!(rt; refused::<u8>(rt.alloc(), &[]), empty);
-    assert_eq!(rt; refused::<Integer>(rt.alloc(), &[]), empty);
-    assert_eq!(rt; refused::<u8>(rt.alloc(), &[0x01, 0x00]), overflow);
-    assert_eq!(rt; refused::<u8>(rt.alloc(), &[0xFF]), overflow);
-    assert_eq!(rt; refused::<i8>(rt.alloc(), &[0x00, 0x80]), overflow);
-    assert_eq!(rt; refused::<u128>(rt.alloc(), &[0xFF]), overflow);
-    assert_eq!(rt; refused::<u8>(rt.alloc(), &[0x00, 0x00, 0x05]), None);
-}
-
-#[test]
-fn constrained(rt: HostRuntime) {
-    let range = Bounded::Range {
-        start: Some(-5),
-        end: Some(5),
-    };
-    assert_eq!(rt;
-        ConstrainedInteger::<Small>::CONSTRAINTS.value,
-        Some((range, false))
-    );
-    assert!(rt; ConstrainedInteger::<Small>::try_new(6).is_none());
-    let least = ConstrainedInteger::<Small>::try_new(-5);
-    assert_eq!(rt; least, Some(ConstrainedInteger::new(-5)));
-    assert_eq!(rt;
-        ConstrainedInteger::<Small>::new(6).get().to_i128(),
-        Some(6)
-    );
 }

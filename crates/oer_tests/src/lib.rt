@@ -1,4 +1,5 @@
-//! Tests of the crates of values, and of the readers and writers of leaves, over vectors from outside.
+//! Tests of the crates of values, and of the readers and writers of leaves, by the two crates that hand them on: a row of text
+//! has what goes in, and behind `=>` what is answered.
 #![tactic(auto)]
 
 #[cfg(test)]
@@ -6,8 +7,8 @@ mod base;
 #[cfg(test)]
 mod integers;
 #[cfg(test)]
-mod numbers;
+mod leaves;
 #[cfg(test)]
-mod strings;
+mod numbers;
 #[cfg(test)]
 mod values;

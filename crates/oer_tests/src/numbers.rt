@@ -1,300 +1,281 @@
-use asn1_core::{Bounded, Class, Codec, Constraints, DecodeErrorKind, EncodeErrorKind, Tag};
+use asn1_base::{Bounded, Codec, Constraints, DecodeErrorKind, EncodeErrorKind};
 use asn1_ints::{Integer, IntegerType};
-use oer_leaf_read::{
+use oer_forms::leaf::{
     read_bool, read_content, read_enumerated, read_integer, read_length, read_number_content,
-    read_octet, read_octets, read_quantity, read_tag,
+    read_octet, read_octets, read_quantity, read_tag, write_bool, write_content, write_enumerated,
+    write_integer, write_length, write_quantity, write_tag,
 };
-use oer_leaf_write::{
-    write_bool, write_content, write_enumerated, write_integer, write_length, write_quantity,
-    write_tag,
-};
+use std::alloc::Global;
+use std::fmt::Debug;
 use std::process::Abort;
 use std::test::Fail;
 
-const BOTH: [Codec; 2] = [Codec::Oer, Codec::Coer];
-
-/// The numbers from `start` to `end`.
-fn between(start: i128, end: i128) -> Constraints {
-    Constraints::NONE.with_value(Bounded::Range {
-        start: Some(start),
-        end: Some(end),
-    })
-}
-
-fn context(value: u32) -> Tag {
-    Tag {
-        class: Class::Context,
-        value,
+/// A range, as `5..8`, or `5..8,...` where it is extensible, of values and of sizes; none where it is `-`.
+pub(super) fn constraints_of(text: &str) -> Constraints {
+    let (range, is_extensible) = match text.strip_suffix(",...") {
+        Some(range) => (range, true),
+        None => (text, false),
+    };
+    let Some((start, end)) = range.split_once("..") else {
+        return Constraints::NONE;
+    };
+    let values = Bounded::Range {
+        start: start.parse::<i128>().ok(),
+        end: end.parse::<i128>().ok(),
+    };
+    let sizes = Bounded::Range {
+        start: start.parse::<usize>().ok(),
+        end: end.parse::<usize>().ok(),
+    };
+    if is_extensible {
+        Constraints::NONE.with_extensible_value(values)
+    } else {
+        Constraints::NONE.with_value(values).with_size(sizes)
     }
 }
 
-#[test]
-fn octets_and_lengths(rt: HostRuntime) {
-    assert_eq!(rt;
-        read_octet(&[]),
-        Err(DecodeErrorKind::Incomplete { needed: 1 })
-    );
-    assert_eq!(rt;
-        read_octets(5, &[1, 2]),
-        Err(DecodeErrorKind::Incomplete { needed: 3 })
-    );
-    for codec in BOTH {
-        assert_eq!(rt;
-            read_length(codec, &[0x80]),
-            Err(DecodeErrorKind::ZeroLengthOfLength)
-        );
-        assert_eq!(rt;
-            read_length(codec, &[0x89, 1, 0, 0, 0, 0, 0, 0, 0, 0]),
-            Err(DecodeErrorKind::LengthExceedsPlatformWidth)
-        );
-        assert_eq!(rt; read_length(codec, &[0x82, 1, 0]), Ok((256, [].as_slice())));
-        assert_eq!(rt;
-            read_content(codec, &[5, 1, 2]),
-            Err(DecodeErrorKind::Incomplete { needed: 3 })
-        );
-        assert_eq!(rt;
-            read_content(codec, &[4, 1, 2, 3, 4, 5]),
-            Ok(([1, 2, 3, 4].as_slice(), [5].as_slice()))
-        );
-    }
-    let padded = [0x8A, 0, 0, 0, 0, 0, 0, 0, 0, 0, 1, 0xAA];
-    assert_eq!(rt;
-        read_content(Codec::Oer, &padded),
-        Ok(([0xAA].as_slice(), [].as_slice()))
-    );
-    assert_eq!(rt;
-        read_content(Codec::Coer, &padded),
-        Err(DecodeErrorKind::NotValidCanonicalEncoding)
-    );
-    assert_eq!(rt;
-        read_quantity(Codec::Coer, &[1, 3, 0]),
-        Ok((3, [0].as_slice()))
-    );
-    assert_eq!(rt;
-        read_quantity(Codec::Oer, &[0]),
-        Err(DecodeErrorKind::EmptyInteger)
-    );
+/// A value that was read, what is left, and what is written of the value; or why it was refused.
+pub(super) fn told<T: Debug>(
+    alloc: Global,
+    value: &T,
+    rest: &[u8],
+    written: Result<(), EncodeErrorKind>,
+    out: &[u8],
+) -> Result<String, Fail> {
+    written?;
+    let rest = hex::encode(alloc, rest)?;
+    let out = hex::encode(alloc, out)?;
+    Ok(format!(in alloc; "{:?};{};{}", value, rest, out)?)
 }
 
-#[test]
-fn tags_and_booleans(rt: HostRuntime) {
-    for codec in BOTH {
-        assert_eq!(rt; read_tag(codec, &[0x83]), Ok((context(3), [].as_slice())));
-        assert_eq!(rt;
-            read_tag(codec, &[0xBF, 0x81, 2, 0xFF]),
-            Ok((context(130), [0xFF].as_slice()))
-        );
-        assert_eq!(rt;
-            read_tag(codec, &[0xBF, 0x8F, 0xFF, 0xFF, 0xFF, 0x7F]),
-            Ok((context(4294967295), [].as_slice()))
-        );
-        assert_eq!(rt;
-            read_tag(codec, &[0xBF, 0x90, 0x80, 0x80, 0x80, 0]),
-            Err(DecodeErrorKind::InvalidTagNumberOnChoice)
-        );
-        assert_eq!(rt;
-            read_tag(codec, &[0xBF, 0]),
-            Err(DecodeErrorKind::InvalidTagNumberOnChoice)
-        );
-    }
-    assert_eq!(rt;
-        read_tag(Codec::Oer, &[0xBF, 1]),
-        Ok((context(1), [].as_slice()))
-    );
-    assert_eq!(rt;
-        read_tag(Codec::Coer, &[0xBF, 1]),
-        Err(DecodeErrorKind::NotValidCanonicalEncoding)
-    );
-    assert_eq!(rt;
-        read_bool(Codec::Oer, &[0x33, 0]),
-        Ok((true, [0].as_slice()))
-    );
-    assert_eq!(rt;
-        read_bool(Codec::Coer, &[0x33, 0]),
-        Err(DecodeErrorKind::InvalidBool { value: 51 })
-    );
+pub(super) fn refused(alloc: Global, kind: &DecodeErrorKind) -> Result<String, Fail> {
+    Ok(format!(in alloc; "{:?}", kind)?)
 }
 
-/// A number, the range that it is written under, and its octets.
-const NUMBERS: [(i128, Option<(i128, i128)>, &[u8]); 14] = [
-    (0, None, &[1, 0]),
-    (255, None, &[2, 0, 0xFF]),
-    (-255, None, &[2, 0xFF, 1]),
-    (-32769, None, &[3, 0xFF, 0x7F, 0xFF]),
-    (244, None, &[2, 0, 0xF4]),
-    (-1234567, None, &[3, 0xED, 0x29, 0x79]),
-    (255, Some((0, 65535)), &[0, 0xFF]),
-    (-4, Some((-5, 5)), &[0xFC]),
-    (
-        1 << 64,
-        Some((0, i128::MAX)),
-        &[9, 1, 0, 0, 0, 0, 0, 0, 0, 0],
-    ),
-    (255, Some((0, 255)), &[0xFF]),
-    (2, Some((2, 65535)), &[0, 2]),
-    (-1, Some((-32768, 32767)), &[0xFF, 0xFF]),
-    (5, Some((5, 5)), &[5]),
-    (255, Some((0, 1 << 64)), &[1, 0xFF]),
-];
+/// What is read in a mode, under constraints.
+#[derive(Clone, Copy)]
+pub(super) struct Input<'a> {
+    pub alloc: Global,
+    pub codec: Codec,
+    pub constraints: Constraints,
+    pub octets: &'a [u8],
+}
 
-#[test]
-fn integers(rt: HostRuntime) -> Result<(), Fail> {
-    for (n, range, octets) in NUMBERS {
-        let constraints = match range {
-            Some((start, end)) => between(start, end),
-            None => Constraints::NONE,
+fn integer<I: IntegerType>(input: Input<'_>) -> Result<String, Fail> {
+    let mut out = Vec::new(input.alloc);
+    match read_integer::<I>(input.alloc, input.codec, input.constraints, input.octets) {
+        Ok((value, rest)) => {
+            let written = write_integer(input.constraints, &value, &mut out);
+            told(input.alloc, &value.to_i128(), rest, written, out.as_slice())
+        }
+        Err(kind) => refused(input.alloc, &kind),
+    }
+}
+
+/// Lengths, quantities and contents.
+fn counted(word: &str, input: Input<'_>) -> Result<String, Fail> {
+    let mut out = Vec::new(input.alloc);
+    match word {
+        "length" => match read_length(input.codec, input.octets) {
+            Ok((value, rest)) => {
+                let written = write_length(value, &mut out);
+                told(input.alloc, &value, rest, written, out.as_slice())
+            }
+            Err(kind) => refused(input.alloc, &kind),
+        },
+        "quantity" => match read_quantity(input.codec, input.octets) {
+            Ok((value, rest)) => {
+                let written = write_quantity(value, &mut out);
+                told(input.alloc, &value, rest, written, out.as_slice())
+            }
+            Err(kind) => refused(input.alloc, &kind),
+        },
+        _ => match read_content(input.codec, input.octets) {
+            Ok((value, rest)) => {
+                let written = write_content(value, &mut out);
+                told(input.alloc, &value, rest, written, out.as_slice())
+            }
+            Err(kind) => refused(input.alloc, &kind),
+        },
+    }
+}
+
+/// Tags, booleans and enumerated values.
+fn plain(word: &str, input: Input<'_>) -> Result<String, Fail> {
+    let mut out = Vec::new(input.alloc);
+    match word {
+        "tag" => match read_tag(input.codec, input.octets) {
+            Ok((value, rest)) => {
+                let written = write_tag(value, &mut out);
+                told(input.alloc, &value, rest, written, out.as_slice())
+            }
+            Err(kind) => refused(input.alloc, &kind),
+        },
+        "bool" => match read_bool(input.codec, input.octets) {
+            Ok((value, rest)) => {
+                let written = write_bool(value, &mut out);
+                told(input.alloc, &value, rest, written, out.as_slice())
+            }
+            Err(kind) => refused(input.alloc, &kind),
+        },
+        _ => match read_enumerated(input.codec, input.octets) {
+            Ok((value, rest)) => {
+                let written = write_enumerated(value, &mut out);
+                told(input.alloc, &value, rest, written, out.as_slice())
+            }
+            Err(kind) => refused(input.alloc, &kind),
+        },
+    }
+}
+
+/// Octets without a length, and the octets of a number behind one, as they stand.
+fn parts(word: &str, input: Input<'_>) -> Result<String, Fail> {
+    let read = match word {
+        "octet" => match read_octet(input.octets) {
+            Ok((_octet, rest)) => Ok((input.octets, rest)),
+            Err(kind) => Err(kind),
+        },
+        "octets" => read_octets(5, input.octets),
+        _ => read_number_content(true, input.codec, input.octets),
+    };
+    match read {
+        Ok((value, rest)) => told(input.alloc, &value, rest, Ok(()), &[]),
+        Err(kind) => refused(input.alloc, &kind),
+    }
+}
+
+fn answer(word: &str, input: Input<'_>) -> Result<String, Fail> {
+    match word {
+        "octet" | "octets" | "number" => parts(word, input),
+        "length" | "quantity" | "content" => counted(word, input),
+        "tag" | "bool" | "enumerated" => plain(word, input),
+        "int" => integer::<Integer>(input),
+        "i128" => integer::<i128>(input),
+        "i64" => integer::<i64>(input),
+        "u64" => integer::<u64>(input),
+        "u8" => integer::<u8>(input),
+        "i8" => integer::<i8>(input),
+        _ => Err(Fail::from("no such reader")),
+    }
+}
+
+/// A row's input, and what it asks to be read; a row is the mode, the word, a range and octets.
+pub(super) fn codec_of(mode: &str) -> Codec {
+    if mode == "oer" {
+        Codec::Oer
+    } else {
+        Codec::Coer
+    }
+}
+
+/// The modes, what is read, a range, and octets; then the value, what is left, and what is written of the value; or the kind.
+const ROWS: &str = "\
+oer+coer octet -  => Incomplete { needed: 1 }\n\
+oer+coer octets - 0102 => Incomplete { needed: 3 }\n\
+oer+coer octets - 010203040506 => [1, 2, 3, 4, 5];06;\n\
+oer+coer length - 80 => ZeroLengthOfLength\n\
+oer+coer length - 89010000000000000000 => LengthExceedsPlatformWidth\n\
+oer+coer length - 820100 => 256;;820100\n\
+oer+coer content - 050102 => Incomplete { needed: 3 }\n\
+oer+coer content - 040102030405 => [1, 2, 3, 4];05;0401020304\n\
+oer+coer content - 02aabb => [170, 187];;02aabb\n\
+oer content - 8a00000000000000000001aa => [170];;01aa\n\
+coer content - 8a00000000000000000001aa => NotValidCanonicalEncoding\n\
+oer+coer quantity - 010300 => 3;00;0103\n\
+oer+coer quantity - 0100 => 0;;0100\n\
+oer+coer quantity - 00 => EmptyInteger\n\
+oer+coer tag - 83 => Tag { class: Context, value: 3 };;83\n\
+oer+coer tag - bf8102ff => Tag { class: Context, value: 130 };ff;bf8102\n\
+oer+coer tag - bf8fffffff7f => Tag { class: Context, value: 4294967295 };;bf8fffffff7f\n\
+oer+coer tag - bf9080808000 => InvalidTagNumberOnChoice\n\
+oer+coer tag - bf00 => InvalidTagNumberOnChoice\n\
+oer tag - bf01 => Tag { class: Context, value: 1 };;81\n\
+coer tag - bf01 => NotValidCanonicalEncoding\n\
+oer+coer bool - ff => true;;ff\n\
+oer bool - 3300 => true;00;ff\n\
+coer bool - 3300 => InvalidBool { value: 51 }\n\
+oer+coer enumerated - 82fc18 => -1000;;82fc18\n\
+oer+coer enumerated - 07 => 7;;07\n\
+oer+coer enumerated - 80 => EmptyInteger\n\
+oer enumerated - 830003e8 => 1000;;8203e8\n\
+coer enumerated - 830003e8 => NotValidCanonicalEncoding\n\
+oer+coer number - 00 => EmptyInteger";
+
+/// Numbers, each of which `int` and `i128` read alike.
+const NUMBERS: &str = "\
+- 0100 => Some(0);;0100\n\
+- 0200ff => Some(255);;0200ff\n\
+- 02ff01 => Some(-255);;02ff01\n\
+- 03ff7fff => Some(-32769);;03ff7fff\n\
+- 0200f4 => Some(244);;0200f4\n\
+- 03ed2979 => Some(-1234567);;03ed2979\n\
+0..65535 00ff => Some(255);;00ff\n\
+-5..5 fc => Some(-4);;fc\n\
+0..170141183460469231731687303715884105727 09010000000000000000 => Some(18446744073709551616);;09010000000000000000\n\
+0..255 ff => Some(255);;ff\n\
+2..65535 0002 => Some(2);;0002\n\
+-32768..32767 ffff => Some(-1);;ffff\n\
+5..5 05 => Some(5);;05\n\
+0..18446744073709551616 01ff => Some(255);;01ff";
+
+/// Numbers of Rust's types, and one past i128.
+const TYPES: &str = "\
+oer i64 - 020000 => Some(0);;0100\n\
+coer i64 - 020000 => NotValidCanonicalEncoding\n\
+oer u64 0..18446744073709551616 030000ff => Some(255);;01ff\n\
+coer u64 0..18446744073709551616 030000ff => NotValidCanonicalEncoding\n\
+oer+coer u8 1..8 0980 => ValueConstraintNotSatisfied\n\
+oer+coer i8 - 020080 => IntegerOverflow\n\
+oer+coer i64 1..8,... 02012c => Some(300);;02012c\n\
+oer+coer int - 818000ffffffffffffffffffffffffffffffffffffffffffffffffffffffffffffffffffffffffffffffffffffffffffffffffffffffffffffffffffffffffffffffffffffffffffffffffffffffffffffffffffffffffffffffffffffffffffffffffffffffffffffffffffffffffffffffffffffffffffffffffffffffffffffff => None;;818000ffffffffffffffffffffffffffffffffffffffffffffffffffffffffffffffffffffffffffffffffffffffffffffffffffffffffffffffffffffffffffffffffffffffffffffffffffffffffffffffffffffffffffffffffffffffffffffffffffffffffffffffffffffffffffffffffffffffffffffffffffffffffffffff";
+
+/// One row in each of its modes.
+fn agrees(rt: &impl Abort, alloc: Global, line: &str) -> Result<(), Fail> {
+    let (row, expected) = line.split_once(" => ").unwrap_or((line, ""));
+    let mut words = row.split(' ');
+    let modes = words.next().unwrap_or("");
+    let word = words.next().unwrap_or("");
+    let constraints = constraints_of(words.next().unwrap_or(""));
+    let octets = hex::decode(alloc, words.next().unwrap_or(""))?;
+    for mode in modes.split('+') {
+        let input = Input {
+            alloc,
+            codec: codec_of(mode),
+            constraints,
+            octets: octets.as_slice(),
         };
-        let mut out = Vec::new(rt.alloc());
-        write_integer(constraints, &Integer::from_i128(n), &mut out)?;
-        assert_eq!(rt; out.as_slice(), octets, "of {n}");
-        for codec in BOTH {
-            let (number, rest): (Integer, &[u8]) = read_integer(
-                rt.alloc(),
-                codec,
-                constraints,
-                octets,
-            )?;
-            assert_eq!(rt; number, Integer::from_i128(n), "of {n}");
-            assert_eq!(rt; rest.len(), 0);
-            let (number, rest): (i128, &[u8]) = read_integer(
-                rt.alloc(),
-                codec,
-                constraints,
-                octets,
-            )?;
-            assert_eq!(rt; number, n);
-            assert_eq!(rt; rest.len(), 0);
+        assert_eq!(rt; answer(word, input)?.as_str(), expected, "at {row}");
+    }
+    Ok(())
+}
+
+#[test]
+fn parts_and_plain_values(rt: HostRuntime) -> Result<(), Fail> {
+    for line in ROWS.split('\n') {
+        agrees(&rt, rt.alloc(), line)?;
+    }
+    Ok(())
+}
+
+#[test]
+fn integers_under_constraints(rt: HostRuntime) -> Result<(), Fail> {
+    for line in NUMBERS.split('\n') {
+        for word in ["int", "i128"] {
+            let row = format!(in rt.alloc(); "oer+coer {} {}", word, line)?;
+            agrees(&rt, rt.alloc(), row.as_str())?;
         }
     }
-    Ok(())
-}
-
-#[test]
-fn refused_integers(rt: HostRuntime) {
-    let none = Constraints::NONE;
-    assert_eq!(rt;
-        read_integer::<i64>(rt.alloc(), Codec::Oer, none, &[2, 0, 0]),
-        Ok((0, [].as_slice()))
-    );
-    assert_eq!(rt;
-        read_integer::<i64>(rt.alloc(), Codec::Coer, none, &[2, 0, 0]),
-        Err(DecodeErrorKind::NotValidCanonicalEncoding)
-    );
-    assert_eq!(rt;
-        read_integer::<u64>(
-            rt.alloc(),
-            Codec::Oer,
-            between(0, 1 << 64),
-            &[3, 0, 0, 0xFF]
-        ),
-        Ok((255, [].as_slice()))
-    );
-    assert_eq!(rt;
-        read_integer::<u64>(
-            rt.alloc(),
-            Codec::Coer,
-            between(0, 1 << 64),
-            &[3, 0, 0, 0xFF]
-        ),
-        Err(DecodeErrorKind::NotValidCanonicalEncoding)
-    );
-    assert_eq!(rt;
-        read_integer::<u8>(rt.alloc(), Codec::Coer, between(1, 8), &[9, 0x80]),
-        Err(DecodeErrorKind::ValueConstraintNotSatisfied)
-    );
-    assert_eq!(rt;
-        read_integer::<i8>(rt.alloc(), Codec::Coer, none, &[2, 0, 0x80]),
-        Err(DecodeErrorKind::IntegerOverflow)
-    );
-    assert_eq!(rt;
-        read_number_content(true, Codec::Oer, &[0]),
-        Err(DecodeErrorKind::EmptyInteger)
-    );
-    let small = Bounded::Range {
-        start: Some(1),
-        end: Some(8),
-    };
-    assert_eq!(rt;
-        read_integer::<i64>(
-            rt.alloc(),
-            Codec::Coer,
-            none.with_extensible_value(small),
-            &[2, 1, 0x2C]
-        ),
-        Ok((300, [].as_slice()))
-    );
-    let mut out = Vec::new(rt.alloc());
-    assert_eq!(rt;
-        write_integer(between(0, 255), &Integer::from_i128(256), &mut out),
-        Err(EncodeErrorKind::ValueConstraintNotSatisfied)
-    );
-    assert_eq!(rt; out.len(), 0);
-}
-
-#[test]
-fn a_long_integer(rt: HostRuntime) -> Result<(), Fail> {
-    let mut octets = Vec::new(rt.alloc());
-    octets.push(0)?;
-    for _ in 0..127 {
-        octets.push(0xFF)?;
+    for line in TYPES.split('\n') {
+        agrees(&rt, rt.alloc(), line)?;
     }
-    let number = Integer::from_signed_octets(rt.alloc(), &octets)?.ok_or("no octets")?;
-    let mut out = Vec::new(rt.alloc());
-    write_integer(Constraints::NONE, &number, &mut out)?;
-    assert_eq!(rt; out.len(), 130);
-    assert_eq!(rt; &out[..3], [0x81, 0x80, 0].as_slice());
-    let (back, rest): (Integer, &[u8]) = read_integer(
-        rt.alloc(),
-        Codec::Coer,
-        Constraints::NONE,
-        &out,
-    )?;
-    assert_eq!(rt; back, number);
-    assert_eq!(rt; rest.len(), 0);
     Ok(())
 }
 
 #[test]
-fn enumerated_values(rt: HostRuntime) {
-    for codec in BOTH {
-        assert_eq!(rt;
-            read_enumerated(codec, &[0x82, 0xFC, 0x18]),
-            Ok((-1000, [].as_slice()))
-        );
-        assert_eq!(rt; read_enumerated(codec, &[7]), Ok((7, [].as_slice())));
-        assert_eq!(rt;
-            read_enumerated(codec, &[0x80]),
-            Err(DecodeErrorKind::EmptyInteger)
-        );
-    }
-    assert_eq!(rt;
-        read_enumerated(Codec::Oer, &[0x83, 0, 3, 0xE8]),
-        Ok((1000, [].as_slice()))
-    );
-    assert_eq!(rt;
-        read_enumerated(Codec::Coer, &[0x83, 0, 3, 0xE8]),
-        Err(DecodeErrorKind::NotValidCanonicalEncoding)
-    );
-}
-
-#[test]
-fn written_parts(rt: HostRuntime) -> Result<(), Fail> {
+fn a_number_outside_its_range_is_not_written(rt: HostRuntime) {
     let mut out = Vec::new(rt.alloc());
-    write_bool(true, &mut out)?;
-    write_enumerated(-1000, &mut out)?;
-    write_tag(context(4294967295), &mut out)?;
-    write_tag(context(130), &mut out)?;
-    write_length(256, &mut out)?;
-    write_content(&[0xAA, 0xBB], &mut out)?;
-    write_quantity(3, &mut out)?;
-    write_quantity(0, &mut out)?;
-    assert_eq!(rt;
-        out.as_slice(),
-        [
-            0xFF, 0x82, 0xFC, 0x18, 0xBF, 0x8F, 0xFF, 0xFF, 0xFF, 0x7F, 0xBF, 0x81, 2, 0x82, 1, 0,
-            2, 0xAA, 0xBB, 1, 3, 1, 0
-        ]
-        .as_slice()
-    );
-    Ok(())
+    let range = constraints_of("0..255");
+    let answer = write_integer(range, &Integer::from_i128(256), &mut out);
+    assert!(rt; answer == Err(EncodeErrorKind::ValueConstraintNotSatisfied));
+    assert!(rt; out.is_empty());
 }

@@ -17,7 +17,7 @@ pub use group_types::{
 };
 pub use long_types::{ExtendedOptional, ManyOptional};
 pub use ranges::{FiveAroundZero, FromZeroTo64Bits, GreatPositive, Small};
-pub use recursive_types::{DeepDefault, Link, LinkChoice, Nest, TestChoice, TopLevel};
+pub use recursive_types::{Bush, DeepDefault, Link, LinkChoice, Nest, TestChoice, TopLevel};
 pub use sequence_types::{
     AllDefault, AllOptional, DefaultAndOptional, DefaultInteger, Empty, Nested, Pair,
 };

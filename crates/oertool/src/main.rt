@@ -1,12 +1,10 @@
-//! `oertool oer|coer TYPE HEX` reads octets as a value of a type, and prints its canonical octets and what is left.
+//! `oertool oer|coer [depth N] TYPE HEX` reads octets as a value of a type, and prints its canonical octets and what is left.
 #![tactic(auto)]
 
-mod known;
-mod run;
 #[cfg(test)]
 mod tests;
 
-use run::{run, run_without_text};
+use oer_words::run::{run, run_without_text};
 use std::process::ExitCode;
 use std::rt::Env;
 use std::{env, io};

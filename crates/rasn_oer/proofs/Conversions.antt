@@ -4,14 +4,15 @@ use Rattle.asn1_core.specs.Octets.{Octets}
 use Rattle.asn1_core.specs.declared.codec.Codec.{Codec}
 use Rattle.asn1_core.specs.declared.codec.Codec.TheVariants.{Oer, Coer}
 use Rattle.oer_spec.proofs.Canonical.{same_octets}
+use Rattle.oer_spec.proofs.Lifts.{lift}
 use Rattle.oer_spec.proofs.Readable.{form_levels}
 use Rattle.oer_spec.proofs.Within.{canonical_within_lenient}
 use Rattle.oer_spec.specs.Encoding.{IsTree, IsEncodable, IsEncoding, canonical_octets, levels}
 use Rattle.oer_spec.specs.Mode.{Lenient, mode_of}
 use Rattle.oer_spec.specs.Same.{Same}
 use Rattle.oer_spec.specs.Tree.{Tree}
-use Rattle.oer_spec.specs.Versions.{Drops}
-use Rattle.rasn_oer.specs.Conversions.{Canonicalised, ReadAsOlder, NoneIsOlder}
+use Rattle.oer_spec.specs.Versions.{Drops, Lacks}
+use Rattle.rasn_oer.specs.Conversions.{Canonicalised, ReadAsOlder, NoneIsOlder, ReadAsNewer, NoneIsNewer}
 use Rattle.rasn_oer.specs.Headline.{is_settled, Begins, Decoded, HasNone, Written}
 use Rattle.rasn_oer.proofs.Entries.{written_in}
 
@@ -33,6 +34,11 @@ module _ {A : Type 0} (tree : A → Tree) (IsValue : A → Type 0) (is_tree : (v
         let u = k.only x o r (record { value = b.value; split = b.split; spells = canonical_within_lenient (tree x) d o b.spells }) in
         (u.1, u.2);
   }
+
+-- what an older version wrote is read as a newer one in both modes
+lifted_in : (m : Codec) (t n : Tree) (d : ℕ) → IsTree t → IsTree n → Lacks t n → IsEncodable t → IsEncodable n → levels t ≤ d → IsEncoding (mode_of m) d (canonical_octets t) n
+lifted_in Coer t n d i j k f g l = lift t n d i j k f g l
+lifted_in Oer t n d i j k f g l = canonical_within_lenient n d (canonical_octets t) (lift t n d i j k f g l)
 
 module _ {A B : Type 0} (newer : A → Tree) (IsNewer : A → Type 0) (is_newer : (v : A) → IsNewer v → IsTree (newer v)) (older : B → Tree) (IsOlder : B → Type 0) (m : Codec) (d : ℕ) (n : A) where
   pub read_as_older : (octets rest : Octets) (v : B) → Written newer IsNewer n octets → Decoded older IsOlder m d octets v rest → ReadAsOlder newer IsNewer older IsOlder m d n v
@@ -56,4 +62,34 @@ module _ {A B : Type 0} (newer : A → Tree) (IsNewer : A → Type 0) (is_newer 
         none = k;
         dropped = λ t i f l.
             k.newer_sender (newer n) t (canonical_octets (newer n)) [] (is_newer n w.value) i f (sym (append-nil (canonical_octets (newer n)))) (written_in m (newer n) d (is_newer n w.value) w.encodable l);
+      }
+
+module _ {A B : Type 0} (older : A → Tree) (IsOlder : A → Type 0) (is_older : (v : A) → IsOlder v → IsTree (older v)) (newer : B → Tree) (IsNewer : B → Type 0) (is_newer : (v : B) → IsNewer v → IsTree (newer v)) (m : Codec) (d : ℕ) (t : A) where
+  -- the older one's octets begin with an encoding of such a newer value
+  lifted : (n : B) → IsOlder t → IsNewer n → IsEncodable (older t) → IsEncodable (newer n) → Lacks (older t) (newer n) → levels (older t) ≤ d → Begins newer IsNewer m d (canonical_octets (older t)) n (canonical_octets (older t)) []
+  lifted n i j f g k l = record {
+    value = j;
+    split = sym (append-nil (canonical_octets (older t)));
+    spells = lifted_in m (older t) (newer n) d (is_older t i) (is_newer n j) k f g l;
+  }
+
+  pub read_as_newer : (octets rest : Octets) (v : B) → Written older IsOlder t octets → Decoded newer IsNewer m d octets v rest → ReadAsNewer older IsOlder newer IsNewer m d t v
+  read_as_newer octets rest v w k' =
+      let k : Decoded newer IsNewer m d (canonical_octets (older t)) v rest = subst (λ o. Decoded newer IsNewer m d o v rest) w.octets_are k' in
+      record {
+        value = w.value;
+        encodable = w.encodable;
+        rest = rest;
+        read = k;
+        same = λ n j g h l. (k.only n (canonical_octets (older t)) [] (lifted n w.value j w.encodable g h l)).2;
+      }
+
+  pub none_is_newer : (octets : Octets) → Written older IsOlder t octets → HasNone newer IsNewer m d octets → NoneIsNewer older IsOlder newer IsNewer m d t
+  none_is_newer octets w k' =
+      let k : HasNone newer IsNewer m d (canonical_octets (older t)) = subst (λ o. HasNone newer IsNewer m d o) w.octets_are k' in
+      record {
+        value = w.value;
+        encodable = w.encodable;
+        none = k;
+        lacking = λ n j g h l. k.none n (canonical_octets (older t)) [] (lifted n w.value j w.encodable g h l);
       }

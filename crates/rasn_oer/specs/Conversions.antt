@@ -1,4 +1,5 @@
--- What the calls promise that read and write: into canonical octets, and from a newer version of a type into an older one.
+-- What the calls promise that read and write: into canonical octets, from a newer version of a type into an older one, and
+-- from an older one into a newer one.
 use Rattle.std.specs.Prelude.{◌≡◌, ℕ, ◌≤◌, ◌++◌, Result, Ok, Err, Vec}
 use Rattle.std.specs.Borrow.{Bor}
 use Rattle.std.specs.declared.alloc.Global.{Global}
@@ -9,7 +10,7 @@ use Rattle.asn1_core.specs.declared.error.DecodeErrorKind.TheVariants as decode
 use Rattle.oer_spec.specs.Encoding.{IsEncodable, canonical_octets, levels}
 use Rattle.oer_spec.specs.Same.{Same}
 use Rattle.oer_spec.specs.Tree.{Tree}
-use Rattle.oer_spec.specs.Versions.{Drops}
+use Rattle.oer_spec.specs.Versions.{Drops, Lacks}
 use Rattle.rasn_oer.specs.Headline.{is_settled, Begins, Decoded, HasNone, NotRead, NotWritten, Written}
 use Rattle.rasn_oer.specs.declared.codec_error.CodecError.{CodecError}
 use Rattle.rasn_oer.specs.declared.codec_error.CodecError.TheVariants.{Decode, Encode}
@@ -55,3 +56,26 @@ module _ {A B : Type 0} (newer : A → Tree) (IsNewer : A → Type 0) (older : B
   IsAsOlder (Ok v) = ReadAsOlder v
   IsAsOlder (Err (Decode e)) = (e.codec ≡ m) × ((e.kind ≡ decode.OutOfMemory → ⊥) → NoneIsOlder)
   IsAsOlder (Err (Encode x)) = NotWritten newer IsNewer n x
+
+module _ {A B : Type 0} (older : A → Tree) (IsOlder : A → Type 0) (newer : B → Tree) (IsNewer : B → Type 0) (m : Codec) (d : ℕ) (t : A) where
+  -- The older value can be written, and the newer one is what is read of its canonical octets.
+  pub record ReadAsNewer (v : B) : Type 0 where
+    pub value : IsOlder t
+    pub encodable : IsEncodable (older t)
+    pub rest : Octets
+    pub read : Decoded newer IsNewer m d (canonical_octets (older t)) v rest
+    -- a newer value that has what the older one has, and none of the later additions, is that value
+    pub same : (n : B) → IsNewer n → IsEncodable (newer n) → Lacks (older t) (newer n) → levels (older t) ≤ d → Same (newer v) (newer n)
+
+  -- No value of the newer type is read of the older one's canonical octets.
+  pub record NoneIsNewer : Type 0 where
+    pub value : IsOlder t
+    pub encodable : IsEncodable (older t)
+    pub none : HasNone newer IsNewer m d (canonical_octets (older t))
+    pub lacking : (n : B) → IsNewer n → IsEncodable (newer n) → Lacks (older t) (newer n) → levels (older t) ≤ d → ⊥
+
+  -- Refused only where the older value can't be written, or no newer one is read of its octets; want of memory aside.
+  abbrev pub IsAsNewer : Result B CodecError → Type 0
+  IsAsNewer (Ok v) = ReadAsNewer v
+  IsAsNewer (Err (Decode e)) = (e.codec ≡ m) × ((e.kind ≡ decode.OutOfMemory → ⊥) → NoneIsNewer)
+  IsAsNewer (Err (Encode x)) = NotWritten older IsOlder t x

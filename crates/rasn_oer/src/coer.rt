@@ -1,12 +1,12 @@
 //! Canonical octet encoding rules (X.696): canonical reading, and canonical writing.
 ghost use Rattle.asn1_core.specs.declared.codec.Codec.TheVariants.{Coer};
 ghost use Rattle.oer_spec.specs.Spelled.{IsConsistent};
-ghost use Rattle.rasn_oer.specs.Conversions.{IsAsOlder};
+ghost use Rattle.rasn_oer.specs.Conversions.{IsAsNewer, IsAsOlder};
 ghost use Rattle.rasn_oer.specs.Headline.{IsAppended, IsRead, IsReadAlone, IsWritten, Says, SaysAlone};
 
 use crate::entry::{append_value, decode_value, encode_value};
 pub use crate::oer::{CodecError, Decoder, Encoder, EncodingRules, de, decode_with_options, enc};
-use crate::recode::older_value;
+use crate::recode::other_version;
 use asn1_core::{Constraints, DecodeError, EncodeError};
 use oer_read::Decode;
 use oer_read::de::DecoderOptions;
@@ -94,5 +94,15 @@ pub fn decode_with_constraints<T: Decode>(
 pub fn as_older<New: Encode, Old: Decode>(alloc: Global, newer: &New) -> Result<Old, CodecError>
     ensures { IsAsOlder (New.tree New.CONSTRAINTS) New.IsValue (Old.tree Old.CONSTRAINTS) Old.IsValue Coer DecoderOptions.DEFAULT_DEPTH newer.now result }
 {
-    older_value(alloc, DecoderOptions::coer(), newer)
+    other_version(alloc, DecoderOptions::coer(), newer)
+}
+
+/// An older version's value as one of a newer version, without the newer version's further components: what canonical reading
+/// of its canonical octets answers.
+///
+/// Refused as `encode` refuses the older value, or as `decode` refuses its octets as the newer type.
+pub fn as_newer<Old: Encode, New: Decode>(alloc: Global, older: &Old) -> Result<New, CodecError>
+    ensures { IsAsNewer (Old.tree Old.CONSTRAINTS) Old.IsValue (New.tree New.CONSTRAINTS) New.IsValue Coer DecoderOptions.DEFAULT_DEPTH older.now result }
+{
+    other_version(alloc, DecoderOptions::coer(), older)
 }

@@ -1,12 +1,12 @@
 //! Basic octet encoding rules (X.696): lenient reading, and canonical writing.
 ghost use Rattle.asn1_core.specs.declared.codec.Codec.TheVariants.{Oer};
 ghost use Rattle.oer_spec.specs.Spelled.{IsConsistent};
-ghost use Rattle.rasn_oer.specs.Conversions.{IsAsOlder, IsCanonicalised};
+ghost use Rattle.rasn_oer.specs.Conversions.{IsAsNewer, IsAsOlder, IsCanonicalised};
 ghost use Rattle.rasn_oer.specs.Headline.{IsAppended, IsRead, IsReadAlone, IsWritten, Says, SaysAlone};
 
 pub use crate::codec_error::CodecError;
 use crate::entry::{append_value, decode_value, encode_value};
-use crate::recode::{canonical_value, older_value};
+use crate::recode::{canonical_value, other_version};
 use asn1_core::{Constraints, DecodeError, EncodeError};
 use oer_read::Decode;
 use oer_read::de::DecoderOptions;
@@ -123,5 +123,15 @@ pub fn canonicalise<'a, T: Decode + Encode>(
 pub fn as_older<New: Encode, Old: Decode>(alloc: Global, newer: &New) -> Result<Old, CodecError>
     ensures { IsAsOlder (New.tree New.CONSTRAINTS) New.IsValue (Old.tree Old.CONSTRAINTS) Old.IsValue Oer DecoderOptions.DEFAULT_DEPTH newer.now result }
 {
-    older_value(alloc, DecoderOptions::oer(), newer)
+    other_version(alloc, DecoderOptions::oer(), newer)
+}
+
+/// An older version's value as one of a newer version, without the newer version's further components: what lenient reading
+/// of its canonical octets answers.
+///
+/// Refused as `encode` refuses the older value, or as `decode` refuses its octets as the newer type.
+pub fn as_newer<Old: Encode, New: Decode>(alloc: Global, older: &Old) -> Result<New, CodecError>
+    ensures { IsAsNewer (Old.tree Old.CONSTRAINTS) Old.IsValue (New.tree New.CONSTRAINTS) New.IsValue Oer DecoderOptions.DEFAULT_DEPTH older.now result }
+{
+    other_version(alloc, DecoderOptions::oer(), older)
 }

@@ -1,5 +1,5 @@
 //! Calls that read and write.
-ghost use Rattle.rasn_oer.specs.Conversions.{IsAsOlder, IsCanonicalised};
+ghost use Rattle.rasn_oer.specs.Conversions.{IsAsNewer, IsAsOlder, IsCanonicalised};
 
 use crate::codec_error::CodecError;
 use crate::entry::{decode_value, encode_value};
@@ -24,20 +24,21 @@ pub(crate) fn canonical_value<'a, T: Decode + Encode>(
     }
 }
 
-/// The value of the older type that is read of a newer value's canonical octets.
-pub(crate) fn older_value<New: Encode, Old: Decode>(
+/// The value of another version of a type that is read of a value's canonical octets.
+pub(crate) fn other_version<Sent: Encode, Wanted: Decode>(
     alloc: Global,
     options: DecoderOptions,
-    newer: &New,
-) -> Result<Old, CodecError>
-    ensures { IsAsOlder (New.tree New.CONSTRAINTS) New.IsValue (Old.tree Old.CONSTRAINTS) Old.IsValue options.codec options.levels newer.now result }
+    value: &Sent,
+) -> Result<Wanted, CodecError>
+    ensures older { IsAsOlder (Sent.tree Sent.CONSTRAINTS) Sent.IsValue (Wanted.tree Wanted.CONSTRAINTS) Wanted.IsValue options.codec options.levels value.now result }
+    ensures newer { IsAsNewer (Sent.tree Sent.CONSTRAINTS) Sent.IsValue (Wanted.tree Wanted.CONSTRAINTS) Wanted.IsValue options.codec options.levels value.now result }
 {
-    match encode_value(alloc, New::CONSTRAINTS, newer) {
+    match encode_value(alloc, Sent::CONSTRAINTS, value) {
         Err(e) => Err(CodecError::Encode(e)),
-        Ok(octets) => match decode_value::<Old>(
+        Ok(octets) => match decode_value::<Wanted>(
             alloc,
             options,
-            Old::CONSTRAINTS,
+            Wanted::CONSTRAINTS,
             octets.as_slice(),
         ) {
             Err(e) => Err(CodecError::Decode(e)),

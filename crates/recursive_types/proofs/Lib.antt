@@ -1,3 +1,4 @@
+pub mod BushLaw
 pub mod DeepDefaultLaw
 pub mod LinkLaw
 pub mod NestLaw

@@ -46,7 +46,7 @@ small_read s (Ok v) t d =
       read = record { taken = p.taken; split = p.split; encoding = p.encoding; value = tt; only = λ w o i f. p.only w o (is_byte _ _ o w f.encoding) f; rest = p.rest };
       refused = tt;
     }
-small_read s (Err e) t d = record { read = tt; refused = record { same = d.refused.same; none = λ m w o i f. d.refused.none m w o (is_byte _ _ o w f.encoding) f } }
+small_read s (Err e) t d = record { read = tt; refused = record { same = d.refused.same; mode = d.refused.mode; none = λ m w o i f. d.refused.none m w o (is_byte _ _ o w f.encoding) f } }
 
 -- ---- the alternatives
 

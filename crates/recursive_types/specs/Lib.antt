@@ -1,3 +1,4 @@
+pub mod Bushes
 pub mod DeepDefaults
 pub mod Links
 pub mod NestedLists

@@ -42,11 +42,14 @@ impl Tabled<2, 0> for ReportComponents {
     const EXTENDED_FIELDS: Option<Fields<0>> = None;
 
     fn root_fields() -> &'static [Field<'static>] {
-        REPORT_FIELDS
+        Self::FIELDS.fields
     }
 
     fn addition_fields() -> &'static [Field<'static>] {
-        &[]
+        match Self::EXTENDED_FIELDS {
+            Some(table) => table.fields,
+            None => &[],
+        }
     }
 
     fn put(&self, encoder: &mut Encoder<'_>) -> Result<(), EncodeError> {

@@ -78,11 +78,14 @@ impl Constructed<1, 2> for Sequence2 {
     });
 
     fn root_fields() -> &'static [Field<'static>] {
-        SEQUENCE2_FIELDS
+        Self::FIELDS.fields
     }
 
     fn addition_fields() -> &'static [Field<'static>] {
-        SEQUENCE2_ADDITIONS
+        match Self::EXTENDED_FIELDS {
+            Some(table) => table.fields,
+            None => &[],
+        }
     }
 
     ghost tables = { schema_tables ⟦<Sequence2 as Schemed>⟧.schema true ⟦<Sequence2 as Schemed>⟧.is_schema 1 2 refl refl };

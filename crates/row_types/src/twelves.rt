@@ -168,11 +168,14 @@ impl Tabled<12, 0> for TwelveComponents {
     const EXTENDED_FIELDS: Option<Fields<0>> = None;
 
     fn root_fields() -> &'static [Field<'static>] {
-        TWELVE_FIELDS
+        Self::FIELDS.fields
     }
 
     fn addition_fields() -> &'static [Field<'static>] {
-        &[]
+        match Self::EXTENDED_FIELDS {
+            Some(table) => table.fields,
+            None => &[],
+        }
     }
 
     fn put(&self, encoder: &mut Encoder<'_>) -> Result<(), EncodeError> {

@@ -1,11 +1,19 @@
 //! The program's words that are none, and writers that fail.
-use crate::run::{Status, run, run_without_text};
-use crate::tests::words_between;
+use oer_words::run::{Status, run, run_without_text};
+use std::alloc::{AllocError, Global};
 use std::io::{self, Write};
 use std::process::Abort;
 use std::test::Fail;
 
-const USAGE: &str = "usage: oertool oer|coer TYPE HEX\n";
+const USAGE: &str = "usage: oertool oer|coer [depth N] TYPE HEX\n";
+
+fn words_of(alloc: Global, row: &str) -> Result<Vec<String>, AllocError> {
+    let mut words = Vec::new(alloc);
+    for word in row.split(',') {
+        words.push(String::from_str(alloc, word)?)?;
+    }
+    Ok(words)
+}
 
 #[test]
 fn other_words_are_answered_by_the_usage(rt: HostRuntime) -> Result<(), Fail> {
@@ -19,6 +27,17 @@ fn other_words_are_answered_by_the_usage(rt: HostRuntime) -> Result<(), Fail> {
         "coer",
         "oer,bool",
         "oer,bool,ff,00",
+        "coer,depth,1025,nest,0100",
+        "coer,depth,,nest,0100",
+        "coer,depth,+1,nest,0100",
+        "coer,depth,-1,nest,0100",
+        "coer,depth, 1,nest,0100",
+        "coer,depth,0x1,nest,0100",
+        "coer,depth,99999999999999999999999,nest,0100",
+        "coer,depth,nest,0100",
+        "coer,Depth,1,nest,0100",
+        "depth,1,coer,nest,0100",
+        "coer,depth,1,nest",
         "OER,bool,ff",
         "oer,Bool,ff",
         "oer,bool,f",
@@ -34,7 +53,7 @@ fn other_words_are_answered_by_the_usage(rt: HostRuntime) -> Result<(), Fail> {
         "bool,oer,ff",
     ];
     for row in rows {
-        let words = words_between(alloc, row, ',')?;
+        let words = words_of(alloc, row)?;
         let mut out = Vec::new(alloc);
         let ended = run(alloc, words.as_slice(), &mut out);
         assert_eq!(rt; out.as_slice(), USAGE.as_bytes(), "at {row}");
@@ -54,7 +73,7 @@ fn octets_are_of_either_case_or_none(rt: HostRuntime) -> Result<(), Fail> {
         ("oer,empty,aAbB", "\naabb\n"),
     ];
     for (row, printed) in rows {
-        let words = words_between(alloc, row, ',')?;
+        let words = words_of(alloc, row)?;
         let mut out = Vec::new(alloc);
         assert_eq!(rt; run(alloc, words.as_slice(), &mut out), Status::Done);
         assert_eq!(rt; out.as_slice(), printed.as_bytes());
@@ -111,7 +130,7 @@ fn a_write_that_fails_ends_with_status_1(rt: HostRuntime) -> Result<(), Fail> {
         ("oer,int", 2, USAGE, 2),
     ];
     for (row, failing, written, status) in rows {
-        let words = words_between(alloc, row, ',')?;
+        let words = words_of(alloc, row)?;
         let mut out = Failing {
             written: Vec::new(alloc),
             calls: 0,

@@ -11,7 +11,7 @@ use Rattle.set_types.proofs.mixed.read_z.Goals as goal
 pub returns-in-Err : goal.returns-in-Err
 returns-in-Err c =
     let d = alternative_stops mixed_field_tree (IsMixedAt 2) plain_integer IsWhole Z z_holds (λ y. y ≡ c.in-Err.e) _ _ c.in-Err.e (Err c.in-Err.e) c.in-Err.ensures.law refl (λ y k. k) in
-    record { read = tt; refused = inl d.refused.none }
+    record { read = tt; refused = inl (d.refused.mode, d.refused.none) }
 
 pub returns-in-Err-refuse_default : goal.returns-in-Err-refuse_default
 returns-in-Err-refuse_default c =

@@ -1,0 +1,5 @@
+use Rattle.call_tests.proofs.Rear.{asks_rear}
+use Rattle.call_tests.proofs.closures.ask.Goals as goal
+
+pub returns : goal.returns
+returns c = asks_rear _ _ _ _ _ _ _ c.decode_optional_with_tag.ensures

@@ -1,0 +1,64 @@
+//! Paths, constants and derives of the codec's crate.
+use asn1_core::Tag;
+use rasn_oer::oer::de::DecoderOptions;
+use rasn_oer::oer::enc::{EncoderOptions, ITU_T_X696_OER_EDITION};
+use rasn_oer::oer::{Decoder, Encoder, EncodingRules};
+use rasn_oer::{Spelled, coer, laws, oer};
+use std::process::Abort;
+use std::test::Fail;
+
+/// The tag of a type whose values have trees.
+fn tag_of<T: Spelled>() -> Tag {
+    T::TAG
+}
+
+const SHOWN: &str = "\
+Coer Coer; DecoderOptions { codec: Oer, levels: 128 }; EncoderOptions { encoding_rules: Coer }; \
+Some(Decode(DecodeError { kind: Incomplete { needed: 1 }, codec: Oer }))";
+
+#[test]
+fn options_rules_and_refusals_have_their_derives(rt: HostRuntime) -> Result<(), Fail> {
+    let alloc = rt.alloc();
+    laws::unambiguous();
+    laws::within();
+    laws::canonical();
+    laws::skips();
+    laws::lifts();
+    let rules = EncodingRules::Coer;
+    let copy = rules;
+    assert!(rt; copy == rules && rules.is_coer() && !rules.is_oer());
+    assert!(rt; EncodingRules::Oer < rules && EncodingRules::Oer.cmp(&rules).is_lt());
+    assert!(rt; EncodingRules::Oer.is_oer() && ITU_T_X696_OER_EDITION == 3);
+    assert!(rt; tag_of::<bool>() == Tag::BOOL);
+    let shown = format!(in alloc;
+        "{:?} {:?}; {:?}; {:?}; {:?}",
+        rules,
+        rules.clone()?,
+        DecoderOptions::oer().clone()?,
+        EncoderOptions::default().clone()?,
+        oer::canonicalise::<bool>(alloc, &[]).err()
+    )?;
+    assert_eq!(rt; shown.as_str(), SHOWN);
+    Ok(())
+}
+
+#[test]
+fn both_modules_have_the_same_paths(rt: HostRuntime) -> Result<(), Fail> {
+    let alloc = rt.alloc();
+    let input = [0xff, 0x00];
+    let mut output = Vec::new(alloc);
+    let mut worker = Vec::new(alloc);
+    let mut decoder = Decoder::new(&input, DecoderOptions::oer());
+    let mut encoder = Encoder::from_buffer(alloc, EncoderOptions::coer(), &mut output, &mut worker);
+    encoder.encode_bool(Tag::BOOL, decoder.decode_bool(Tag::BOOL)?)?;
+    let mut first = encoder.output();
+    let options = coer::enc::EncoderOptions::coer();
+    let rules: coer::EncodingRules = options.encoding_rules;
+    let mut decoder = coer::Decoder::new(decoder.remaining(), coer::de::DecoderOptions::coer());
+    let mut encoder = coer::Encoder::from_buffer(alloc, options, &mut first, &mut worker);
+    encoder.encode_bool(Tag::BOOL, decoder.decode_bool(Tag::BOOL)?)?;
+    let octets = encoder.output();
+    assert!(rt; rules.is_coer());
+    assert_eq!(rt; octets.as_slice(), input.as_slice());
+    Ok(())
+}

@@ -1,0 +1,153 @@
+//! Rows of standard input, one a line, and what is answered to each, behind ` => ` on standard output.
+//!
+//! - `run MODE WORD HEX`: what the program prints, a `|` for each line's end, and its status.
+//! - `read MODE WORD HEX`: the octets that are written again and what is left; or the mode, the kind and the message of the
+//!   refusal. Every call that reads such octets answers so, both modules write the value so, and a decoder that refuses is left
+//!   as it was.
+//! - `value MODE WORD HEX`: what is left, and the value that is read.
+//! - `depth N MODE WORD HEX`: the same as `read` within N levels; `none` where so many can't be chosen.
+//! - `fronts WORD HEX`: how many proper fronts of the octets are refused for want of octets, in both modes.
+//!
+//! MODE is `oer` or `coer`; WORD is one of the program's, or one of a type under constraints (not for `run`).
+#![tactic(auto)]
+
+mod depth;
+mod reading;
+mod values;
+
+use anyhow::{Error, Result};
+use asn1_core::Codec;
+use depth::WithOptions;
+use oer_words::constrained::with_word;
+use oer_words::run::run;
+use rasn_oer::DecoderOptions;
+use reading::Reading;
+use std::alloc::Global;
+use std::io::{BufRead, BufReader};
+use values::Shown;
+
+fn codec_of(word: &str) -> Result<Codec> {
+    match word {
+        "oer" => Ok(Codec::Oer),
+        "coer" => Ok(Codec::Coer),
+        _ => Err(Error::msg("no such mode")),
+    }
+}
+
+/// What the program prints, a `|` for each line's end, and its status.
+fn printed(alloc: Global, row: &str) -> Result<String> {
+    let mut words = Vec::new(alloc);
+    for word in row.split(' ') {
+        words.push(String::from_str(alloc, word)?)?;
+    }
+    let mut out = Vec::new(alloc);
+    let status = run(alloc, words.as_slice(), &mut out);
+    let text = String::from_utf8(out)?;
+    let text = text.as_str().replace(alloc, "\n", "|")?;
+    Ok(format!(in alloc; "{};{}", text, status.code())?)
+}
+
+/// The octets, behind the octet of a boolean.
+fn behind_a_boolean(alloc: Global, octets: &[u8]) -> Result<Vec<u8>> {
+    let mut whole = Vec::new(alloc);
+    whole.push(0xff)?;
+    whole.extend_from_slice(octets)?;
+    Ok(whole)
+}
+
+fn read(alloc: Global, codec: Codec, word: &str, octets: &[u8]) -> Result<String> {
+    let whole = behind_a_boolean(alloc, octets)?;
+    let reading = Reading {
+        alloc,
+        codec,
+        behind: whole.as_slice(),
+    };
+    match with_word(word, reading) {
+        Some(answer) => answer,
+        None => Err(Error::msg("no such type")),
+    }
+}
+
+fn shown(alloc: Global, codec: Codec, word: &str, octets: &[u8]) -> Result<String> {
+    let shown = Shown {
+        alloc,
+        codec,
+        octets,
+    };
+    match with_word(word, shown) {
+        Some(answer) => answer,
+        None => Err(Error::msg("no such type")),
+    }
+}
+
+/// How many proper fronts there are, all of which lack octets.
+fn fronts(alloc: Global, word: &str, text: &str) -> Result<String> {
+    let octets = hex::decode(alloc, text)?;
+    for length in 0..octets.len() {
+        let front = octets.as_slice().get(..length).unwrap_or(&[]);
+        if !read(alloc, Codec::Oer, word, front)?.starts_with("Oer Incomplete")
+            || !read(alloc, Codec::Coer, word, front)?.starts_with("Coer Incomplete")
+        {
+            return Err(Error::msg("a front is read, or refused otherwise"));
+        }
+    }
+    Ok(format!(in alloc; "{}", octets.len())?)
+}
+
+/// The same within so many levels; `none` where these are too many to choose.
+fn at_depth(alloc: Global, row: &str) -> Result<String> {
+    let mut words = row.split(' ');
+    let levels = words.next().unwrap_or("").parse::<usize>()?;
+    let options = match codec_of(words.next().unwrap_or(""))? {
+        Codec::Oer => DecoderOptions::oer(),
+        Codec::Coer => DecoderOptions::coer(),
+    };
+    let word = words.next().unwrap_or("");
+    let octets = hex::decode(alloc, words.next().unwrap_or(""))?;
+    let Some(options) = options.with_depth(levels) else {
+        return Ok(String::from_str(alloc, "none")?);
+    };
+    let work = WithOptions {
+        alloc,
+        options,
+        octets: octets.as_slice(),
+    };
+    match with_word(word, work) {
+        Some(answer) => answer,
+        None => Err(Error::msg("no such type")),
+    }
+}
+
+fn answer(alloc: Global, row: &str) -> Result<String> {
+    let mut words = row.split(' ');
+    let verb = words.next().unwrap_or("");
+    let first = words.next().unwrap_or("");
+    let second = words.next().unwrap_or("");
+    let third = words.next().unwrap_or("");
+    match verb {
+        "run" => printed(alloc, row.strip_prefix("run ").unwrap_or("")),
+        "depth" => at_depth(alloc, row.strip_prefix("depth ").unwrap_or("")),
+        "fronts" => fronts(alloc, first, second),
+        _ => {
+            let codec = codec_of(first)?;
+            let octets = hex::decode(alloc, third)?;
+            match verb {
+                "read" => read(alloc, codec, second, octets.as_slice()),
+                "value" => shown(alloc, codec, second, octets.as_slice()),
+                _ => Err(Error::msg("no such verb")),
+            }
+        }
+    }
+}
+
+fn main(rt: HostRuntime) -> Result<()> {
+    let alloc = rt.alloc();
+    for line in BufReader::new(alloc, rt.reader())?.lines(alloc) {
+        let row = line?;
+        match answer(alloc, row.as_str()) {
+            Ok(answer) => println!(rt; "{} => {}", row, answer)?,
+            Err(fault) => println!(rt; "{} => fault: {}", row, fault)?,
+        }
+    }
+    Ok(())
+}

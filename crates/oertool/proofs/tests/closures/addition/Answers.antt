@@ -1,5 +1,0 @@
-use Rattle.oertool.proofs.Rear.{adds_rear}
-use Rattle.oertool.proofs.tests.closures.addition.Goals as goal
-
-pub returns : goal.returns
-returns c = adds_rear _ _ _ _ _ _ _ c.decode_extension_addition_with_tag_and_constraints.ensures
