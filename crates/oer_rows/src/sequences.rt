@@ -72,6 +72,8 @@ impl<const RC: usize, const EC: usize, T: Tabled<RC, EC>> AsnType for Sequence<T
     const CONSTRAINTS: Constraints = Constraints::NONE;
 
     ghost consistent = { refl };
+
+    const IS_CHOICE: bool = false;
 }
 
 impl<const RC: usize, const EC: usize, T: Tabled<RC, EC>> Constructed<RC, EC>
