@@ -4,5 +4,5 @@ use Rattle.oer_read.specs.Law.{IsRear}
 use Rattle.call_tests.proofs.closures.calls_of.Goals as goal
 
 pub decode_set-requires-clause-keeps : goal.decode_set-requires-clause-keeps
-decode_set-requires-clause-keeps g c call s after v lends k =
+decode_set-requires-clause-keeps c call s after v lends k =
     promise_of_field _ _ (λ call s r t. OnOk r (IsRear s.input t.input)) (λ p q n tag r k. k.1) call s _ after k
