@@ -72,6 +72,9 @@ impl<const RC: usize, const EC: usize, T: Tabled<RC, EC>> AsnType for Sequence<T
     const CONSTRAINTS: Constraints = Constraints::NONE;
 
     ghost consistent = { refl };
+
+    // said again, since the trait's own would ask that a `T` is not too large
+    const IS_CHOICE: bool = false;
 }
 
 impl<const RC: usize, const EC: usize, T: Tabled<RC, EC>> Constructed<RC, EC>
