@@ -73,6 +73,7 @@ impl<const RC: usize, const EC: usize, T: Tabled<RC, EC>> AsnType for Sequence<T
 
     ghost consistent = { refl };
 
+    // said again, since the trait's own would ask that a `T` is not too large
     const IS_CHOICE: bool = false;
 }
 

@@ -46,11 +46,14 @@ impl Tabled<1, 1> for SureComponents {
     });
 
     fn root_fields() -> &'static [Field<'static>] {
-        SURE_FIELDS
+        Self::FIELDS.fields
     }
 
     fn addition_fields() -> &'static [Field<'static>] {
-        SURE_ADDITIONS
+        match Self::EXTENDED_FIELDS {
+            Some(table) => table.fields,
+            None => &[],
+        }
     }
 
     fn put(&self, encoder: &mut Encoder<'_>) -> Result<(), EncodeError> {
@@ -104,11 +107,14 @@ impl Tabled<1, 1> for LevelledComponents {
     });
 
     fn root_fields() -> &'static [Field<'static>] {
-        LEVELLED_FIELDS
+        Self::FIELDS.fields
     }
 
     fn addition_fields() -> &'static [Field<'static>] {
-        LEVELLED_ADDITIONS
+        match Self::EXTENDED_FIELDS {
+            Some(table) => table.fields,
+            None => &[],
+        }
     }
 
     fn put(&self, encoder: &mut Encoder<'_>) -> Result<(), EncodeError> {
@@ -155,11 +161,14 @@ impl Tabled<2, 0> for GroupComponents {
     const EXTENDED_FIELDS: Option<Fields<0>> = None;
 
     fn root_fields() -> &'static [Field<'static>] {
-        GROUP_FIELDS
+        Self::FIELDS.fields
     }
 
     fn addition_fields() -> &'static [Field<'static>] {
-        &[]
+        match Self::EXTENDED_FIELDS {
+            Some(table) => table.fields,
+            None => &[],
+        }
     }
 
     fn put(&self, encoder: &mut Encoder<'_>) -> Result<(), EncodeError> {
@@ -209,11 +218,14 @@ impl Tabled<1, 1> for GroupedComponents {
     });
 
     fn root_fields() -> &'static [Field<'static>] {
-        GROUPED_FIELDS
+        Self::FIELDS.fields
     }
 
     fn addition_fields() -> &'static [Field<'static>] {
-        GROUPED_ADDITIONS
+        match Self::EXTENDED_FIELDS {
+            Some(table) => table.fields,
+            None => &[],
+        }
     }
 
     fn put(&self, encoder: &mut Encoder<'_>) -> Result<(), EncodeError> {

@@ -46,8 +46,8 @@ fn twelve() -> Twelve {
     })
 }
 
-/// Whether sequences with additions of each sort agree, each with its name.
-fn additions(alloc: Global) -> Result<[(&'static str, bool); 3], Fail> {
+/// Whether sequences with additions of each sort agree: a required one, one with a default, a group.
+fn additions(alloc: Global) -> Result<[bool; 3], Fail> {
     let sure: Sure = Sequence(SureComponents {
         ok: true,
         sure: false,
@@ -64,19 +64,13 @@ fn additions(alloc: Global) -> Result<[(&'static str, bool); 3], Fail> {
         })),
     });
     Ok([
-        (
-            "Sure",
-            agrees(alloc, &sure, &[0x80, 0xFF, 0x02, 0x07, 0x80, 0x01, 0x00])?,
-        ),
-        ("Levelled", agrees(alloc, &levelled, &[0x00, 0xFF])?),
-        (
-            "Grouped",
-            agrees(
-                alloc,
-                &grouped,
-                &[0x80, 0xFF, 0x02, 0x07, 0x80, 0x04, 0x80, 0x01, 0x05, 0xFF],
-            )?,
-        ),
+        agrees(alloc, &sure, &[0x80, 0xFF, 0x02, 0x07, 0x80, 0x01, 0x00])?,
+        agrees(alloc, &levelled, &[0x00, 0xFF])?,
+        agrees(
+            alloc,
+            &grouped,
+            &[0x80, 0xFF, 0x02, 0x07, 0x80, 0x04, 0x80, 0x01, 0x05, 0xFF],
+        )?,
     ])
 }
 
@@ -96,7 +90,11 @@ fn values_are_written_and_read(rt: HostRuntime) -> Result<(), Fail> {
         priority: PriorityChoice::Normal(Integer::from_i128(7)),
         names: ListOf(Vec::from_array(alloc, [OctetString::from_slice(alloc, &[0xAA, 0xBB])?])?),
     });
+    let [sure, levelled, grouped] = additions(alloc)?;
     let table = [
+        ("Sure", sure),
+        ("Levelled", levelled),
+        ("Grouped", grouped),
         ("Report", agrees(alloc, &report, &[0xC0, 0xFF, 0x01, 0x05])?),
         (
             "Sequence2",
@@ -123,7 +121,7 @@ fn values_are_written_and_read(rt: HostRuntime) -> Result<(), Fail> {
             )?,
         ),
     ];
-    for (name, agree) in table.into_iter().chain(additions(alloc)?) {
+    for (name, agree) in table {
         assert!(rt; agree, "{name}");
     }
     Ok(())
