@@ -43,22 +43,31 @@ fn options_rules_and_refusals_have_their_derives(rt: HostRuntime) -> Result<(), 
 }
 
 #[test]
-fn both_modules_have_the_same_paths(rt: HostRuntime) -> Result<(), Fail> {
+fn the_lenient_module_has_its_paths(rt: HostRuntime) -> Result<(), Fail> {
     let alloc = rt.alloc();
-    let input = [0xff, 0x00];
+    let mut decoder = Decoder::new(&[0xff], DecoderOptions::oer());
+    assert!(rt; decoder.decode_bool(Tag::BOOL)?);
     let mut output = Vec::new(alloc);
     let mut worker = Vec::new(alloc);
-    let mut decoder = Decoder::new(&input, DecoderOptions::oer());
     let mut encoder = Encoder::from_buffer(alloc, EncoderOptions::coer(), &mut output, &mut worker);
-    encoder.encode_bool(Tag::BOOL, decoder.decode_bool(Tag::BOOL)?)?;
-    let mut first = encoder.output();
+    encoder.encode_bool(Tag::BOOL, true)?;
+    assert_eq!(rt; encoder.output().as_slice(), [0xff].as_slice());
+    Ok(())
+}
+
+#[test]
+fn the_canonical_module_has_its_paths(rt: HostRuntime) -> Result<(), Fail> {
+    let alloc = rt.alloc();
+    let options = coer::de::DecoderOptions::coer();
+    let mut decoder = coer::Decoder::new(&[0xff], options);
+    assert!(rt; decoder.decode_bool(Tag::BOOL)?);
+    let mut output = Vec::new(alloc);
+    let mut worker = Vec::new(alloc);
     let options = coer::enc::EncoderOptions::coer();
     let rules: coer::EncodingRules = options.encoding_rules;
-    let mut decoder = coer::Decoder::new(decoder.remaining(), coer::de::DecoderOptions::coer());
-    let mut encoder = coer::Encoder::from_buffer(alloc, options, &mut first, &mut worker);
-    encoder.encode_bool(Tag::BOOL, decoder.decode_bool(Tag::BOOL)?)?;
-    let octets = encoder.output();
+    let mut encoder = coer::Encoder::from_buffer(alloc, options, &mut output, &mut worker);
+    encoder.encode_bool(Tag::BOOL, true)?;
+    assert_eq!(rt; encoder.output().as_slice(), [0xff].as_slice());
     assert!(rt; rules.is_coer());
-    assert_eq!(rt; octets.as_slice(), input.as_slice());
     Ok(())
 }

@@ -19,7 +19,7 @@ pub struct Reading<'a> {
 }
 
 /// A value and what is left, or why it was refused.
-type Read<'a, T> = core::result::Result<(T, &'a [u8]), DecodeError>;
+type Read<'a, T> = std::result::Result<(T, &'a [u8]), DecodeError>;
 
 /// The mode, the kind with its fields, and the message.
 pub fn refusal(alloc: Global, e: &DecodeError) -> Result<String> {
@@ -69,7 +69,7 @@ fn agree<T: PartialEq>(one: &Read<'_, T>, other: &Read<'_, T>) -> bool {
 /// Whether a call that doesn't answer what is left has the same answer.
 fn agree_but_for_rest<T: PartialEq>(
     one: &Read<'_, T>,
-    other: &core::result::Result<T, DecodeError>,
+    other: &std::result::Result<T, DecodeError>,
 ) -> bool {
     match (one, other) {
         (Ok((value, _rest)), Ok(other)) => value == other,
