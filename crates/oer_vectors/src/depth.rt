@@ -25,15 +25,30 @@ impl<'a> UnderConstraints for WithOptions<'a> {
         self,
         _constraints: Constraints,
     ) -> Result<String> {
-        let one = oer::decode_with_options::<T>(self.alloc, self.options, self.octets);
-        let other = coer::decode_with_options::<T>(self.alloc, self.options, self.octets);
-        match (one, other) {
-            (Ok((value, rest)), Ok((same, left))) if value == same && rest == left => {
-                let octets = coer::encode(self.alloc, &value)?;
-                octets_and_rest(self.alloc, octets.as_slice(), rest)
-            }
-            (Err(e), Err(same)) if e == same => refusal(self.alloc, &e),
-            _ => Err(Error::msg("the modules answer differently")),
+        let options = self.options;
+        let one = oer::decode_with_options::<T>(self.alloc, options, self.octets);
+        let other = coer::decode_with_options::<T>(self.alloc, options, self.octets);
+        let differ = "the modules answer differently";
+        match one {
+            Ok((value, rest)) => match other {
+                Ok((same, left)) => {
+                    if value != same || rest != left {
+                        return Err(Error::msg(differ));
+                    }
+                    let octets = coer::encode(self.alloc, &value)?;
+                    octets_and_rest(self.alloc, octets.as_slice(), rest)
+                }
+                Err(_) => Err(Error::msg(differ)),
+            },
+            Err(e) => match other {
+                Err(same) => {
+                    if e != same {
+                        return Err(Error::msg(differ));
+                    }
+                    refusal(self.alloc, &e)
+                }
+                Ok(_) => Err(Error::msg(differ)),
+            },
         }
     }
 }
