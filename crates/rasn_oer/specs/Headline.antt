@@ -79,9 +79,9 @@ module _ {A : Type 0} (tree : A → Tree) (IsValue : A → Type 0) where
   Says Answered m d input (Ok read) = Answered (started m d input) (Ok read.0) (started m d read.1.now)
   Says Answered m d input (Err e) = Answered (started m d input) (Err e) (started m d input)
 
-  -- the same, where the octets behind the encoding aren't answered
+  -- the same, where the octets behind the encoding aren't answered: of those that `Decoded` speaks of
   abbrev pub SaysAlone : (State → Result A DecodeError → State → Type 0) → Codec → ℕ → Octets → Result A DecodeError → Type 0
-  SaysAlone Answered m d input (Ok v) = (rest : Octets) × Answered (started m d input) (Ok v) (started m d rest)
+  SaysAlone Answered m d input (Ok v) = (rest : Octets) × Decoded m d input v rest × Answered (started m d input) (Ok v) (started m d rest)
   SaysAlone Answered m d input (Err e) = Answered (started m d input) (Err e) (started m d input)
 
   -- Writing answers exactly where the tree can be written.
