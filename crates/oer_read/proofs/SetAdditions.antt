@@ -1,18 +1,17 @@
 -- The additions of a set, as its closure asks them.
 use Rattle.std.proofs.Common.{◌≡◌, ℕ, Option, Some, None, Result, Ok, Err, List, [], ◌∷◌, inl, inr, refl, sym, ap, ◌∙◌, subst, Continue}
-use Rattle.std.specs.Result.{IfOk, IfErr}
 use Rattle.asn1_core.specs.Octets.{Octets}
 use Rattle.asn1_core.specs.Rows.{Row}
 use Rattle.asn1_core.specs.declared.error.DecodeError.{DecodeError}
 use Rattle.asn1_core.specs.declared.tag.Tag.{Tag}
 use Rattle.oer_spec.specs.Tree.{Tree, Rows, NoRows, Optional}
-use Rattle.oer_read.specs.Additions.{Added, AddRefused, Adds, addition_at}
+use Rattle.oer_read.specs.Additions.{AddRefused, Adds}
 use Rattle.oer_read.specs.Components.{slot_of}
 use Rattle.oer_read.specs.Law.{IsForMemory, IsRear}
-use Rattle.oer_read.specs.Parts.{Comes, Parts, NoParts, OptionalPart, Admits, AreOf, Takes, Refuses}
+use Rattle.oer_read.specs.Parts.{Comes, Parts, NoParts, OptionalPart, Admits, Takes, Refuses}
 use Rattle.oer_read.specs.SetRows.{held_as, AsksAddition}
 use Rattle.oer_read.specs.Sets.{Call, addition_calls, RanInTurn, RefusedInTurn}
-use Rattle.oer_read.specs.State.{Frame, State}
+use Rattle.oer_read.specs.State.{State}
 use Rattle.oer_read.proofs.AdditionRows.{passes}
 use Rattle.oer_read.proofs.AdditionSteps.{addition_mode, addition_read, addition_refuses}
 use Rattle.oer_read.proofs.SetLaw.{asking_on, AdditionsRead}

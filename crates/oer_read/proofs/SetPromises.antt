@@ -1,5 +1,5 @@
 -- What the promises of a set's closures say of their runs.
-use Rattle.std.proofs.Common.{◌≡◌, ℕ, Result, List, Vec, subst}
+use Rattle.std.proofs.Common.{ℕ, Result, List, Vec, subst}
 use Rattle.std.specs.Borrow.{MutBor}
 use Rattle.std.specs.declared.alloc.Global.{Global}
 use denote.Param.Members.{Once, Shared}

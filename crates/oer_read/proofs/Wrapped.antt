@@ -1,9 +1,8 @@
 -- A value that is read by its content.
 use Rattle.std.proofs.Common.{◌≡◌, Result, Ok, Err, subst}
-use Rattle.asn1_core.specs.Octets.{Octets}
 use Rattle.asn1_core.specs.declared.error.DecodeError.{DecodeError}
 use Rattle.oer_spec.specs.Tree.{Tree}
-use Rattle.oer_read.specs.Law.{Reads, RefusedBy, Decodes, NoFront, Fronts}
+use Rattle.oer_read.specs.Law.{Reads, Decodes}
 use Rattle.oer_read.specs.State.{State}
 
 module _ {A B : Type 0} (content : B → A) (tree : A → Tree) (IsValue : A → Type 0) where

@@ -52,6 +52,10 @@ bits_now (Some b) = b
 abbrev pub behind_place : State → Octets → State
 behind_place s rest = record s { input = rest; frame = record s.frame { additions = drop 1 s.frame.additions; bitmap = Some (drop 1 (bits_now s.frame.bitmap)) } }
 
+-- behind the next addition row, with these bits and octets
+abbrev pub past_place : State → List Bool → Octets → State
+past_place s bits rest = record s { input = rest; frame = record s.frame { additions = drop 1 s.frame.additions; bitmap = Some bits } }
+
 -- the octets of the next addition, where its bit is set, and the decoder behind it
 abbrev pub open_content : State → Bool → Result (Option Octets × State) DecodeErrorKind
 open_content s false = Ok (None, behind_place s s.input)

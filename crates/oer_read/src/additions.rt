@@ -7,7 +7,7 @@ ghost use Rattle.asn1_core.specs.Rows.{row, may_be_absent};
 ghost use Rattle.oer_spec.specs.Reading.{Gives};
 ghost use Rattle.oer_spec.specs.Spelled.{IsConsistent};
 ghost use Rattle.oer_leaf_read.specs.Views.{bits_left};
-ghost use Rattle.oer_read.specs.Additions.{row_present, all_present, with_bitmap, bitmap_first, mapped_at, next_place, open_content, bits_now, addition_at, behind_place, inside, OpenRead, OpenRefused, Adds};
+ghost use Rattle.oer_read.specs.Additions.{row_present, all_present, with_bitmap, bitmap_first, mapped_at, next_place, open_content, addition_at, past_place, inside, OpenRead, OpenRefused, Adds};
 ghost use Rattle.oer_read.specs.State.{places_of};
 
 use crate::decode::Decode;
@@ -63,114 +63,85 @@ fn require_next<'a>(
     }
 }
 
-impl<'input> Decoder<'input> {
-    /// The same decoder behind a bitmap.
-    fn with_bitmap(&self, bits: BitSlice<'input>, rest: &'input [u8]) -> Decoder<'input>
-        ensures { result ≡ with_bitmap self.now (bits_left bits.entry) rest.entry.now }
-    {
-        Decoder {
-            input: rest,
-            codec: self.codec,
-            levels: self.levels,
-            scope: OpenScope {
-                is_set: self.scope.is_set,
-                roots: self.scope.roots,
-                presence: self.scope.presence,
-                extensible: self.scope.extensible,
-                extended: self.scope.extended,
-                additions: self.scope.additions,
-                bitmap: Some(bits),
-            },
-        }
-    }
+/// What an addition's row finds: its octets, where its bit is set, and the bits and the octets behind it.
+#[derive(Clone, Copy)]
+struct Found<'input> {
+    content: Option<&'input [u8]>,
+    bits: BitSlice<'input>,
+    rest: &'input [u8],
+}
 
-    /// The decoder behind the bitmap, which is read where it was not yet.
+impl<'input> Decoder<'input> {
+    /// The bits of the bitmap that are left, which is read where it was not yet, and what is left behind it.
     #[tactic(auto, unfolding(crate::specs::Additions::mapped_at))]
-    fn mapped(&self) -> Result<Decoder<'input>, DecodeErrorKind>
-        ensures { Gives (λ d. d) result (mapped_at self.now) }
+    fn mapped(&self) -> Result<(BitSlice<'input>, &'input [u8]), DecodeErrorKind>
+        ensures { Gives (λ x. with_bitmap self.now (bits_left x.0) x.1.now) result (mapped_at self.now) }
     {
         match self.scope.bitmap {
-            Some(bits) => Ok(self.with_bitmap(bits, self.input)),
+            Some(bits) => Ok((bits, self.input)),
             None if self.scope.extended => {
                 let (bits, rest): (BitSlice<'input>, &'input [u8]) = read_bitmap(
                     self.codec, self.input,
                 )?;
                 require_present(self.scope.additions, bits)?;
-                Ok(self.with_bitmap(bits, rest))
+                Ok((bits, rest))
             }
             None => {
                 let bits: BitSlice<'input> = BitSlice::new(&[], 0);
                 require_present(self.scope.additions, bits)?;
-                Ok(self.with_bitmap(bits, self.input))
+                Ok((bits, self.input))
             }
         }
     }
-}
 
-impl<'input> Decoder<'input> {
-    /// The bits of the bitmap that are left.
-    fn bits_now(&self) -> BitSlice<'input>
-        ensures { bits_left result ≡ bits_now self.now.frame.bitmap }
+    /// The next addition's octets, where its bit is set, and what is behind it.
+    fn open_content(
+        &self,
+        bits: BitSlice<'input>,
+        rest: &'input [u8],
+    ) -> Result<Found<'input>, DecodeErrorKind>
+        ensures { Gives (λ x. (option_map (λ o. o.now) x.content, past_place self.now (bits_left x.bits) x.rest.now)) result
+            (open_content (with_bitmap self.now (bits_left bits.entry) rest.entry.now) (get_or (bits_left bits.entry) 0 false)) }
     {
-        match self.scope.bitmap {
-            Some(bits) => bits,
-            None => BitSlice::new(&[], 0),
-        }
-    }
-
-    /// The decoder behind the next addition's row.
-    fn behind_place(&self, bits: BitSlice<'input>, rest: &'input [u8]) -> Decoder<'input>
-        requires { bits_left bits ≡ drop 1 (bits_now self.now.frame.bitmap) }
-        ensures { result ≡ behind_place self.now rest.entry.now }
-    {
-        let additions: &'input [Field<'input>] = match self.scope.additions {
-            [] => self.scope.additions,
-            [_, later @ ..] => later,
-        };
-        Decoder {
-            input: rest,
-            codec: self.codec,
-            levels: self.levels,
-            scope: OpenScope {
-                is_set: self.scope.is_set,
-                roots: self.scope.roots,
-                presence: self.scope.presence,
-                extensible: self.scope.extensible,
-                extended: self.scope.extended,
-                additions,
-                bitmap: Some(bits),
-            },
-        }
-    }
-
-    /// The next addition's octets, where its bit is set, and the decoder behind it.
-    fn open_content(&self) -> Result<(Option<&'input [u8]>, Decoder<'input>), DecodeErrorKind>
-        ensures { Gives (λ x. (option_map (λ o. o.now) x.0, x.1)) result (open_content self.now (get_or (bits_now self.now.frame.bitmap) 0 false)) }
-    {
-        let (bit, bits): (bool, BitSlice<'input>) = next_bit(self.bits_now());
+        let (bit, bits): (bool, BitSlice<'input>) = next_bit(bits);
         if bit {
-            let (content, rest): (&'input [u8], &'input [u8]) = read_content(
-                self.codec(),
-                self.remaining(),
-            )?;
-            Ok((Some(content), self.behind_place(bits, rest)))
+            let (content, rest): (&'input [u8], &'input [u8]) = read_content(self.codec(), rest)?;
+            Ok(Found {
+                content: Some(content),
+                bits,
+                rest,
+            })
         } else {
-            Ok((None, self.behind_place(bits, self.remaining())))
+            Ok(Found {
+                content: None,
+                bits,
+                rest,
+            })
         }
     }
 
     /// The next addition: its row, the bitmap, and its octets, where its bit is set.
     #[tactic(auto, unfolding(crate::specs::Additions::addition_at))]
-    fn next_addition(
-        &self,
-        tag: Option<Tag>,
-    ) -> Result<(Option<&'input [u8]>, Decoder<'input>), DecodeErrorKind>
-        ensures { Gives (λ x. (option_map (λ o. o.now) x.0, x.1)) result (addition_at self.now tag) }
+    fn next_addition(&self, tag: Option<Tag>) -> Result<Found<'input>, DecodeErrorKind>
+        ensures { Gives (λ x. (option_map (λ o. o.now) x.content, past_place self.now (bits_left x.bits) x.rest.now)) result (addition_at self.now tag) }
     {
         require_next(tag, self.scope.extensible, self.scope.additions)?;
-        let mapped: Decoder<'input> = self.mapped()?;
-        let (content, behind): (Option<&'input [u8]>, Decoder<'input>) = mapped.open_content()?;
-        Ok((content, behind))
+        let (bits, rest): (BitSlice<'input>, &'input [u8]) = self.mapped()?;
+        let found: Found<'input> = self.open_content(bits, rest)?;
+        Ok(found)
+    }
+
+    /// Goes on behind the next addition's row, with these bits and octets.
+    fn pass_place(&mut self, bits: BitSlice<'input>, rest: &'input [u8])
+        ensures { self.new ≡ past_place self.old (bits_left bits.entry) rest.entry.now }
+    {
+        let additions: &'input [Field<'input>] = match self.scope.additions {
+            [] => self.scope.additions,
+            [_, later @ ..] => later,
+        };
+        self.input = rest;
+        self.scope.additions = additions;
+        self.scope.bitmap = Some(bits);
     }
 
     /// A decoder of an open type's octets.
@@ -234,19 +205,19 @@ impl<'input> Decoder<'input> {
         let _octets = self.octets();
         match self.next_addition(asked) {
             Err(kind) => Err(self.refusal(kind)),
-            Ok((None, behind)) => {
-                self.resume(behind);
-                Ok(None)
-            }
-            Ok((Some(content), behind)) => {
-                match self.open_type::<D>(alloc, content, tag, constraints) {
+            Ok(found) => match found.content {
+                None => {
+                    self.pass_place(found.bits, found.rest);
+                    Ok(None)
+                }
+                Some(content) => match self.open_type::<D>(alloc, content, tag, constraints) {
                     Err(e) => Err(e),
                     Ok(value) => {
-                        self.resume(behind);
+                        self.pass_place(found.bits, found.rest);
                         Ok(Some(value))
                     }
-                }
-            }
+                },
+            },
         }
     }
 }

@@ -17,15 +17,15 @@ impl<T: Decode> Decode for Box<T> {
         tag: Tag,
         constraints: Constraints,
     ) -> Result<Box<T>, DecodeError> {
-        let mut behind = decoder.again();
-        match T::decode_with_tag_and_constraints(alloc, &mut behind, tag, constraints) {
+        let input = decoder.remaining();
+        match T::decode_with_tag_and_constraints(alloc, decoder, tag, constraints) {
             Err(e) => Err(e),
             Ok(value) => match Box::new(alloc, value) {
-                Err(_) => Err(decoder.want_of_memory()),
-                Ok(boxed) => {
-                    decoder.resume(behind);
-                    Ok(boxed)
+                Err(_) => {
+                    decoder.set_remaining(input);
+                    Err(decoder.want_of_memory())
                 }
+                Ok(boxed) => Ok(boxed),
             },
         }
     }

@@ -5,7 +5,7 @@ ghost use Rattle.asn1_core.specs.declared.error.DecodeError.{DecodeError};
 ghost use Rattle.asn1_core.specs.declared.error.DecodeErrorKind.{DecodeErrorKind};
 ghost use Rattle.asn1_core.specs.Octets.{AreOctets};
 ghost use Rattle.oer_read.specs.Answers.{Took};
-ghost use Rattle.oer_read.specs.Seen.{frame_of};
+ghost use Rattle.oer_read.specs.Seen.{frame_of, at_mark};
 ghost use Rattle.oer_read.specs.State.{closed};
 
 use crate::de::DecoderOptions;
@@ -40,6 +40,16 @@ impl<'input> OpenScope<'input> {
             bitmap: None,
         }
     }
+}
+
+/// What the calls that ask components move on, to go back to where a value that was read is refused.
+#[derive(Clone, Copy)]
+pub(crate) struct Mark<'input> {
+    input: &'input [u8],
+    roots: &'input [Field<'input>],
+    presence: BitSlice<'input>,
+    additions: &'input [Field<'input>],
+    bitmap: Option<BitSlice<'input>>,
 }
 
 /// Reads values from octets.
@@ -111,6 +121,30 @@ impl<'input> Decoder<'input> {
         ensures { self.new ≡ record self.old { input = rest.entry.now } }
     {
         self.input = rest;
+    }
+
+    /// What components were asked up to here.
+    pub(crate) fn mark(&self) -> Mark<'input>
+        ensures { at_mark self.now result ≡ self.now }
+    {
+        Mark {
+            input: self.input,
+            roots: self.scope.roots,
+            presence: self.scope.presence,
+            additions: self.scope.additions,
+            bitmap: self.scope.bitmap,
+        }
+    }
+
+    /// Goes back to the mark.
+    pub(crate) fn go_back(&mut self, mark: Mark<'input>)
+        ensures { self.new ≡ at_mark self.old mark.entry }
+    {
+        self.input = mark.input;
+        self.scope.roots = mark.roots;
+        self.scope.presence = mark.presence;
+        self.scope.additions = mark.additions;
+        self.scope.bitmap = mark.bitmap;
     }
 
     /// A refusal in the decoder's mode.

@@ -10,18 +10,6 @@ use asn1_core::{Codec, Constraints, DecodeError, DecodeErrorKind, Tag};
 use std::alloc::Global;
 
 impl<'input> Decoder<'input> {
-    /// The same decoder once more, to be given up where a value is refused.
-    pub(crate) fn again(&self) -> Decoder<'input>
-        ensures { result ≡ self.now }
-    {
-        Decoder {
-            input: self.input,
-            codec: self.codec,
-            levels: self.levels,
-            scope: self.scope,
-        }
-    }
-
     /// Tests that a component's value isn't equal to its default, which canonically isn't spelled (X.696, 16.2 and 18).
     ///
     /// A set's closure asks this of each such value that it read; the methods `decode_default..` do it themselves.
@@ -57,19 +45,16 @@ impl<'input> Decoder<'input> {
         requires { IsConsistent constraints }
         ensures { AsksDefault (D.tree constraints) D.IsValue (D.Answered constraints) D.eq self.old tag default result self.new }
     {
-        let mut behind: Decoder<'input> = self.again();
-        match behind.decode_optional_with_tag_and_constraints::<D>(alloc, tag, constraints) {
+        let before = self.mark();
+        match self.decode_optional_with_tag_and_constraints::<D>(alloc, tag, constraints) {
             Err(e) => Err(e),
-            Ok(None) => {
-                self.resume(behind);
-                Ok(default)
-            }
+            Ok(None) => Ok(default),
             Ok(Some(value)) => match self.refuse_default(&value, &default) {
-                Err(e) => Err(e),
-                Ok(()) => {
-                    self.resume(behind);
-                    Ok(value)
+                Err(e) => {
+                    self.go_back(before);
+                    Err(e)
                 }
+                Ok(()) => Ok(value),
             },
         }
     }
@@ -128,23 +113,17 @@ impl<'input> Decoder<'input> {
         requires { IsConsistent constraints }
         ensures { AddsDefault (D.tree constraints) D.IsValue (D.Answered constraints) D.eq self.old tag default result self.new }
     {
-        let mut behind: Decoder<'input> = self.again();
-        match behind.decode_extension_addition_with_tag_and_constraints::<D>(
-            alloc,
-            tag,
-            constraints,
-        ) {
+        let before = self.mark();
+        match self.decode_extension_addition_with_tag_and_constraints::<D>(alloc, tag, constraints)
+        {
             Err(e) => Err(e),
-            Ok(None) => {
-                self.resume(behind);
-                Ok(default)
-            }
+            Ok(None) => Ok(default),
             Ok(Some(value)) => match self.refuse_default(&value, &default) {
-                Err(e) => Err(e),
-                Ok(()) => {
-                    self.resume(behind);
-                    Ok(value)
+                Err(e) => {
+                    self.go_back(before);
+                    Err(e)
                 }
+                Ok(()) => Ok(value),
             },
         }
     }

@@ -1,47 +1,35 @@
 //! Optional and default components: each is asked by the next presence bit, in the order of the table.
 
-ghost use Rattle.std.specs.Prelude.{◌≡◌, ◌∷◌, List, IfOk, IfErr, Bool};
+ghost use Rattle.std.specs.Prelude.{◌≡◌, ◌∷◌, List, IfOk, IfErr, OnErr, Bool, map};
+ghost use Rattle.asn1_core.specs.Rows.{row};
+ghost use Rattle.oer_leaf_read.specs.Views.{bits_left};
 ghost use Rattle.oer_spec.specs.Spelled.{IsConsistent};
 ghost use Rattle.oer_read.specs.Components.{asking, Asks};
 ghost use Rattle.oer_read.specs.Law.{Decodes};
 ghost use Rattle.oer_read.specs.Scopes.{missing};
-ghost use Rattle.oer_read.specs.State.{Ask};
+ghost use Rattle.oer_read.specs.State.{Ask, asks_of};
 
 use crate::decode::Decode;
-use crate::decoder::{Decoder, OpenScope};
+use crate::decoder::Decoder;
 use crate::scopes::{missing, next_bit, next_marked};
-use asn1_core::{Constraints, DecodeError, Tag};
+use asn1_core::{Constraints, DecodeError, Field, Tag};
 use oer_leaf_read::BitSlice;
 use std::alloc::Global;
 
 impl<'input> Decoder<'input> {
-    /// The bit of the next row, which has to have that tag, and the decoder behind the row.
-    fn next_row(&self, tag: Tag) -> Result<(bool, Decoder<'input>), DecodeError>
-        ensures ok { IfOk result (λ p. (more : List Ask) × (self.now.frame.asks ≡ record { tag = tag; bit = p.0 } ∷ more) × (p.1 ≡ asking self.now more)) }
-        ensures err { IfErr result (λ e. ((b : Bool) (more : List Ask) → ◌≡◌ {A = List Ask} self.now.frame.asks (record { tag = tag; bit = b } ∷ more) → ⊥) × (e ≡ record { kind = missing tag; codec = self.now.codec })) }
+    /// The bit of the next row, which has to have that tag. The decoder goes on behind the row.
+    fn next_row(&mut self, tag: Tag) -> Result<bool, DecodeError>
+        ensures ok { IfOk result (λ b. (more : List Ask) × (self.old.frame.asks ≡ record { tag = tag; bit = b } ∷ more) × (self.new ≡ asking self.old more)) }
+        ensures err { IfErr result (λ e. ((b : Bool) (more : List Ask) → ◌≡◌ {A = List Ask} self.old.frame.asks (record { tag = tag; bit = b } ∷ more) → ⊥) × (e ≡ record { kind = missing tag; codec = self.old.codec })) }
+        ensures same { OnErr result (self.new ≡ self.old) }
     {
         match next_marked(self.scope.roots) {
             None => Err(self.refusal(missing(tag))),
             Some((field, roots)) => {
                 if field.tag == tag {
                     let (bit, presence): (bool, BitSlice<'input>) = next_bit(self.scope.presence);
-                    Ok((
-                        bit,
-                        Decoder {
-                            input: self.input,
-                            codec: self.codec,
-                            levels: self.levels,
-                            scope: OpenScope {
-                                is_set: self.scope.is_set,
-                                roots,
-                                presence,
-                                extensible: self.scope.extensible,
-                                extended: self.scope.extended,
-                                additions: self.scope.additions,
-                                bitmap: self.scope.bitmap,
-                            },
-                        },
-                    ))
+                    self.ask_from(roots, presence);
+                    Ok(bit)
                 } else {
                     Err(self.refusal(missing(tag)))
                 }
@@ -49,14 +37,12 @@ impl<'input> Decoder<'input> {
         }
     }
 
-    /// Goes on as another decoder of the same input.
-    pub(crate) fn resume(&mut self, other: Decoder<'input>)
-        ensures { self.new ≡ other.entry }
+    /// Goes on with these root rows and presence bits.
+    fn ask_from(&mut self, roots: &'input [Field<'input>], presence: BitSlice<'input>)
+        ensures { self.new ≡ asking self.old (asks_of (map row roots.entry.now) (bits_left presence.entry)) }
     {
-        self.input = other.input;
-        self.codec = other.codec;
-        self.levels = other.levels;
-        self.scope = other.scope;
+        self.scope.roots = roots;
+        self.scope.presence = presence;
     }
 
     /// Reads an optional component under the handed-in tag and constraints: none where the next presence bit is 0.
@@ -72,22 +58,18 @@ impl<'input> Decoder<'input> {
         requires { IsConsistent constraints }
         ensures { Asks (D.tree constraints) D.IsValue (D.Answered constraints) self.old tag result self.new }
     {
+        let roots = self.scope.roots;
+        let presence = self.scope.presence;
         match self.next_row(tag) {
             Err(e) => Err(e),
-            Ok((false, behind)) => {
-                self.resume(behind);
-                Ok(None)
-            }
-            Ok((true, behind)) => {
-                let mut behind: Decoder<'input> = behind;
-                match D::decode_with_tag_and_constraints(alloc, &mut behind, tag, constraints) {
-                    Err(e) => Err(e),
-                    Ok(value) => {
-                        self.resume(behind);
-                        Ok(Some(value))
-                    }
+            Ok(false) => Ok(None),
+            Ok(true) => match D::decode_with_tag_and_constraints(alloc, self, tag, constraints) {
+                Err(e) => {
+                    self.ask_from(roots, presence);
+                    Err(e)
                 }
-            }
+                Ok(value) => Ok(Some(value)),
+            },
         }
     }
 

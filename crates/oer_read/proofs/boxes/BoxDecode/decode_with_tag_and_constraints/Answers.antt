@@ -1,4 +1,4 @@
-use Rattle.std.proofs.Common.{◌≡◌, refl, sym, subst}
+use Rattle.std.proofs.Common.{◌≡◌, sym, subst}
 use Rattle.oer_spec.specs.Encoding.{IsEncoding}
 use Rattle.oer_spec.specs.Mode.{mode_of}
 use Rattle.oer_spec.specs.Tree.{Tree}
@@ -19,10 +19,8 @@ reads_content tree IsValue content old b v new e k = record {
 
 pub returns-in-Err-clause-law : goal.returns-in-Err-clause-law
 returns-in-Err-clause-law g c =
-    let k = rw c.again-behind.ensures at c.in-Err.ensures.law in
-    record { read = tt; refused = record { same = refl; mode = k.refused.mode; none = λ m w o i f. k.refused.none m w.value o i f } }
+    let k = c.in-Err.ensures.law.refused in
+    record { read = tt; refused = record { same = k.same; mode = k.mode; none = λ m w o i f. k.none m w.value o i f } }
 
 pub returns-clause-law : goal.returns-clause-law
-returns-clause-law g c =
-    let k = rw c.again-behind.ensures at c.in-Ok.ensures.law in
-    rw c.resume.ensures (record { read = reads_content (g.T.Spelled.tree c.args.constraints) g.T.Spelled.IsValue (λ b. b.value) c.args.decoder.now c.in-Ok-new.boxed c.in-Ok.value _ c.in-Ok-new.ensures.ok k.read; refused = tt })
+returns-clause-law g c = record { read = reads_content (g.T.Spelled.tree c.args.constraints) g.T.Spelled.IsValue (λ b. b.value) c.args.decoder.now c.in-Ok-new.boxed c.in-Ok.value _ c.in-Ok-new.ensures.ok c.in-Ok.ensures.law.read; refused = tt }

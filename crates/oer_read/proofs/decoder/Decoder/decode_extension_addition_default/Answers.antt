@@ -1,12 +1,29 @@
-use Rattle.std.proofs.Common.{refl}
-use Rattle.oer_read.specs.Defaults.{NotRead, SpelledOut}
+use Rattle.std.proofs.Common.{Some, sym, ap, ◌∙◌}
+use Rattle.oer_read.specs.Defaults.{only_lenient, NotRead, Set, SpelledOut}
+use Rattle.oer_read.specs.Seen.{at_mark}
+use Rattle.oer_read.specs.State.{State}
+use Rattle.oer_read.proofs.AdditionRows.{passes}
 use Rattle.oer_read.proofs.decoder.Decoder.decode_extension_addition_default.Goals as goal
 
 pub returns-in-Err : goal.returns-in-Err
-returns-in-Err g c = record { read = tt; same = refl; octets = rw c.again-behind.ensures at c.decode_extension_addition_with_tag_and_constraints.ensures.octets; refused = NotRead (rw c.again-behind.ensures at c.in-Err.ensures.refused) }
+returns-in-Err g c = record { read = tt; same = c.in-Err.ensures.same; octets = c.decode_extension_addition_with_tag_and_constraints.ensures.octets; refused = NotRead c.in-Err.ensures.refused }
 
 pub returns-in-Err-refuse_default : goal.returns-in-Err-refuse_default
 returns-in-Err-refuse_default g c =
     let k = c.in-Err-refuse_default.ensures.err in
-    let read = rw (c.in-Ok-Some.field-0-is, c.again-behind.ensures) at c.in-Ok-Some.ensures.read in
-    record { read = tt; same = refl; octets = rw c.again-behind.ensures at c.decode_extension_addition_with_tag_and_constraints.ensures.octets; refused = SpelledOut c.in-Ok-Some.value c.decode_extension_addition_with_tag_and_constraints.new.self read k.0 k.1 k.2 }
+    let octets = c.decode_extension_addition_with_tag_and_constraints.ensures.octets in
+    let read = rw c.in-Ok-Some.field-0-is at c.in-Ok-Some.ensures.read in
+    let p = passes c.args.self.now c.decode_extension_addition_with_tag_and_constraints.new.self (Some c.args.tag) (Some read.content) octets read.next in
+    record {
+      read = tt;
+      same = c.go_back.ensures ∙ ap (λ (s : State). at_mark s c.mark-before.result) p.is ∙ c.mark-before.ensures;
+      octets = octets;
+      refused = SpelledOut c.in-Ok-Some.value c.decode_extension_addition_with_tag_and_constraints.new.self read (sym (ap (λ (s : State). s.codec) p.is) ∙ k.0) k.1 (k.2 ∙ ap only_lenient p.is);
+    }
+
+pub returns : goal.returns
+returns g c =
+    let octets = c.decode_extension_addition_with_tag_and_constraints.ensures.octets in
+    let read = rw c.in-Ok-Some.field-0-is at c.in-Ok-Some.ensures.read in
+    let p = passes c.args.self.now c.decode_extension_addition_with_tag_and_constraints.new.self (Some c.args.tag) (Some read.content) octets read.next in
+    record { read = Set read (λ coer. c.in-Ok.ensures.ok (ap (λ (s : State). s.codec) p.is ∙ coer)); same = tt; refused = tt; octets = octets }

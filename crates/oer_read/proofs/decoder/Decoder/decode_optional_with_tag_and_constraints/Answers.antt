@@ -1,17 +1,20 @@
-use Rattle.std.proofs.Common.{◌∷◌, Bool, refl, ap, ◌∙◌, subst, Err}
-use Rattle.oer_read.specs.Components.{Inside}
+use Rattle.std.proofs.Common.{◌∷◌, Bool, ap, ◌∙◌, subst, Err, List, map}
+use Rattle.asn1_core.specs.Rows.{row}
+use Rattle.oer_leaf_read.specs.Views.{bits_left}
+use Rattle.oer_read.specs.Components.{asking, Inside}
 use Rattle.oer_read.specs.Law.{NoFront}
-use Rattle.oer_read.specs.State.{State}
+use Rattle.oer_read.specs.State.{Ask, State, asks_of}
 use Rattle.oer_read.proofs.decoder.Decoder.decode_optional_with_tag_and_constraints.Goals as goal
 
 pub returns-in-Err-decode_with_tag_and_constraints : goal.returns-in-Err-decode_with_tag_and_constraints
 returns-in-Err-decode_with_tag_and_constraints g c =
-    let (more, next, left) = c.in-Ok-true-default.ensures.ok in
+    let (more, next, left) = c.in-Ok-true.ensures.ok in
     let refused = c.in-Err-decode_with_tag_and_constraints.ensures.law.refused in
+    let asks : List Ask = asks_of (map row c.self.inside.scope.roots.now) (bits_left c.self.inside.scope.presence) in
     record {
       read = tt;
-      same = refl;
-      refused = Inside more (next ∙ ap (λ (b : Bool). record { tag = c.args.tag; bit = b } ∷ more) c.in-Ok-true-default.field-0-0-test)
+      same = c.ask_from.ensures ∙ ap (λ (s : State). asking s asks) (refused.same ∙ left) ∙ ap (λ (s : State). asking c.args.self.now s.frame.asks) c.self.view_is;
+      refused = Inside more (next ∙ ap (λ (b : Bool). record { tag = c.args.tag; bit = b } ∷ more) c.in-Ok-true.field-0-test)
           c.decode_with_tag_and_constraints.new.decoder
           (subst (λ (s : State). g.D.Decode.Answered c.args.constraints s (Err c.in-Err-decode_with_tag_and_constraints.e) c.decode_with_tag_and_constraints.new.decoder) left c.in-Err-decode_with_tag_and_constraints.ensures.answered)
           (refused.mode ∙ ap (λ (s : State). s.codec) left)
