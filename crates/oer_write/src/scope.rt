@@ -10,7 +10,11 @@ ghost use Rattle.oer_write.specs.Written.{fresh, closed};
 use crate::component::Component;
 use asn1_core::EncodeErrorKind;
 use oer_leaf_write::{write_bitmap, write_preamble};
+use smallvec::SmallVec;
 use std::alloc::Global;
+
+/// Bits of which the first 64 take no memory of their own.
+pub(crate) type Bits = SmallVec<bool, 64>;
 
 /// What was recorded in a scope so far.
 #[derive(Drop)]
@@ -19,11 +23,11 @@ pub(crate) struct Scope {
     pub(crate) is_set: bool,
     pub(crate) extensible: bool,
     /// A sequence's presence bits.
-    pub(crate) presence: Vec<bool>,
+    pub(crate) presence: Bits,
     /// A set's root components, in the order handed in.
     pub(crate) components: Vec<Component>,
     /// For each addition whether it is present.
-    pub(crate) bitmap: Vec<bool>,
+    pub(crate) bitmap: Bits,
     /// The open types of the additions that are present.
     pub(crate) opens: Vec<u8>,
 }
@@ -37,9 +41,9 @@ impl Scope {
             is_open: true,
             is_set,
             extensible,
-            presence: Vec::new(alloc),
+            presence: Bits::new(alloc),
             components: Vec::new(alloc),
-            bitmap: Vec::new(alloc),
+            bitmap: Bits::new(alloc),
             opens: Vec::new(alloc),
         }
     }
@@ -52,9 +56,9 @@ impl Scope {
             is_open: false,
             is_set: false,
             extensible: false,
-            presence: Vec::new(alloc),
+            presence: Bits::new(alloc),
             components: Vec::new(alloc),
-            bitmap: Vec::new(alloc),
+            bitmap: Bits::new(alloc),
             opens: Vec::new(alloc),
         }
     }
@@ -68,7 +72,7 @@ impl Scope {
     ) -> Result<(), EncodeErrorKind>
         ensures { Appends result (sequence_octets (frame_of self.now) components.now) out.old.items out.new.items }
     {
-        self.write_preamble(alloc, &self.presence, out)?;
+        self.write_preamble(alloc, self.presence.as_slice(), out)?;
         out.extend_from_slice(components)?;
         self.write_extension(out)
     }
@@ -85,20 +89,20 @@ impl Scope {
         if !self.extensible {
             return write_preamble(presence, out);
         }
-        let mut bits = Vec::new(alloc);
-        bits.push(any(&self.bitmap))?;
+        let mut bits: SmallVec<bool, 65> = SmallVec::new(alloc);
+        bits.push(any(self.bitmap.as_slice()))?;
         bits.extend_from_slice(presence)?;
-        write_preamble(&bits, out)
+        write_preamble(bits.as_slice(), out)
     }
 
     /// Writes the bitmap and the open types, where some addition is present (X.696, 16.4 and 16.5).
     pub(crate) fn write_extension(&self, out: &mut Vec<u8>) -> Result<(), EncodeErrorKind>
         ensures { Appends result (extension_of self.now.bitmap.items self.now.opens.items) out.old.items out.new.items }
     {
-        if !any(&self.bitmap) {
+        if !any(self.bitmap.as_slice()) {
             return Ok(());
         }
-        write_bitmap(&self.bitmap, out)?;
+        write_bitmap(self.bitmap.as_slice(), out)?;
         out.extend_from_slice(&self.opens)?;
         Ok(())
     }

@@ -11,7 +11,7 @@ ghost use Rattle.oer_write.specs.Written.{Encodes, Refused};
 
 use crate::component::Component;
 use crate::encoder::Encoder;
-use crate::scope::Scope;
+use crate::scope::{Bits, Scope};
 use crate::scopes::run;
 use asn1_core::{Constructed, EncodeError, EncodeErrorKind, Tag};
 use std::alloc::Global;
@@ -26,7 +26,7 @@ fn arrange(components: &mut Vec<Component>) -> Result<(), EncodeErrorKind>
 }
 
 /// Appends the presence bits of components.
-fn put_presence(components: &[Component], bits: &mut Vec<bool>) -> Result<(), EncodeErrorKind>
+fn put_presence(components: &[Component], bits: &mut Bits) -> Result<(), EncodeErrorKind>
     ensures done { OnOk result (bits.new.items ≡ bits.old.items ++ presence (map item components.now)) }
     ensures refused { IfErr result (λ k. k ≡ OutOfMemory) }
 {
@@ -60,9 +60,9 @@ impl Scope {
         ensures { Appends result (set_octets (frame_of self.old)) out.old.items out.new.items }
     {
         arrange(&mut self.components)?;
-        let mut presence = Vec::new(alloc);
+        let mut presence = Bits::new(alloc);
         put_presence(&self.components, &mut presence)?;
-        self.write_preamble(alloc, &presence, out)?;
+        self.write_preamble(alloc, presence.as_slice(), out)?;
         put_bodies(&self.components, out)?;
         self.write_extension(out)
     }
