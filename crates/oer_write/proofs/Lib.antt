@@ -12,3 +12,4 @@ pub mod Gathering
 pub mod AnyOrder
 pub mod Joined
 pub mod ByClosure
+pub mod Filling

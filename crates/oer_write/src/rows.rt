@@ -6,6 +6,7 @@ ghost use Rattle.oer_spec.specs.Encoding.{IsEncodable, canonical_octets};
 ghost use Rattle.oer_spec.specs.Spelled.{IsConsistent};
 ghost use Rattle.oer_spec.specs.Tree.{NoRows, Present, Absent};
 ghost use Rattle.oer_spec.specs.Failures.{Fails};
+ghost use Rattle.oer_spec.specs.Writing.{BeginsWith};
 ghost use Rattle.oer_write.specs.Rows.{RowsDone, SetDone, RowsRefused, required, optional, defaulted, present_unless};
 ghost use Rattle.oer_write.specs.Written.{Keeps, Encodes, Refused, WantsMemory};
 
@@ -15,6 +16,29 @@ use crate::encode::Encode;
 use crate::encoder::Encoder;
 use asn1_core::{Constraints, EncodeError, EncodeErrorKind, Tag};
 use std::alloc::Global;
+
+/// Appends a value's octets to those of before.
+pub(crate) fn append_value<E: Encode>(
+    alloc: Global,
+    tag: Tag,
+    constraints: Constraints,
+    value: &E,
+    out: &mut Vec<u8>,
+) -> Result<(), EncodeError>
+    requires { IsConsistent constraints }
+    ensures done { OnOk result (IsEncodable (E.tree constraints value.now) × (out.new.items ≡ out.old.items ++ canonical_octets (E.tree constraints value.now))) }
+    ensures value { OnOk result (E.IsValue value.now) }
+    ensures refused { IfErr result (λ x. (x.kind ≡ OutOfMemory) ⊎ Fails (E.tree constraints value.now) x.kind) }
+    ensures mode { IfErr result (λ x. x.codec ≡ Coer) }
+    ensures begins { BeginsWith out.old.items out.new.items }
+{
+    let mut worker = Vec::new(alloc);
+    let mut encoder = Encoder::from_buffer(alloc, EncoderOptions::coer(), &mut *out, &mut worker);
+    let answer = value.encode_with_tag_and_constraints(&mut encoder, tag, constraints);
+    let (octets, _scope) = encoder.into_parts();
+    *out = octets;
+    answer
+}
 
 /// The octets of a value on its own.
 pub(crate) fn content_of<E: Encode>(
@@ -29,11 +53,8 @@ pub(crate) fn content_of<E: Encode>(
     ensures refused { IfErr result (λ x. (x.kind ≡ OutOfMemory) ⊎ Fails (E.tree constraints value.now) x.kind) }
     ensures mode { IfErr result (λ x. x.codec ≡ Coer) }
 {
-    let mut output = Vec::new(alloc);
-    let mut worker = Vec::new(alloc);
-    let mut encoder = Encoder::from_buffer(alloc, EncoderOptions::coer(), &mut output, &mut worker);
-    value.encode_with_tag_and_constraints(&mut encoder, tag, constraints)?;
-    let octets = encoder.output();
+    let mut octets = Vec::new(alloc);
+    append_value(alloc, tag, constraints, value, &mut octets)?;
     let _size = octets.len();
     Ok(octets)
 }

@@ -1,13 +1,15 @@
 //! What is recorded in an open scope, and how it is written as the scope closes.
-ghost use Rattle.std.specs.Prelude.{◌≡◌, ◌++◌};
+ghost use Rattle.std.specs.Prelude.{◌≡◌, ◌+◌, ◌≤◌, ◌++◌, take, drop, vec_len, OnOk, IfErr};
 ghost use Rattle.asn1_core.specs.Octets.{pack};
 ghost use Rattle.oer_spec.specs.Places.{extension_bit};
-ghost use Rattle.oer_spec.specs.Writing.{Appends};
+ghost use Rattle.asn1_core.specs.declared.error.EncodeErrorKind.TheVariants.{OutOfMemory};
+ghost use Rattle.oer_spec.specs.Writing.{Appends, BeginsWith};
 ghost use Rattle.oer_write.specs.Scopes.{any_true, extension_of, sequence_octets};
 ghost use Rattle.oer_write.specs.Seen.{frame_of, item};
 ghost use Rattle.oer_write.specs.Written.{fresh, closed};
 
 use crate::component::Component;
+use crate::holes::fill;
 use asn1_core::EncodeErrorKind;
 use oer_leaf_write::{write_bitmap, write_preamble};
 use smallvec::SmallVec;
@@ -22,6 +24,8 @@ pub(crate) struct Scope {
     pub(crate) is_open: bool,
     pub(crate) is_set: bool,
     pub(crate) extensible: bool,
+    /// How many octets were written when it was opened.
+    pub(crate) start: usize,
     /// A sequence's presence bits.
     pub(crate) presence: Bits,
     /// A set's root components, in the order handed in.
@@ -34,13 +38,14 @@ pub(crate) struct Scope {
 
 impl Scope {
     /// An open scope in which nothing was recorded.
-    pub(crate) fn open(alloc: Global, is_set: bool, extensible: bool) -> Scope
-        ensures { frame_of result ≡ fresh is_set extensible 0 }
+    pub(crate) fn open(alloc: Global, is_set: bool, extensible: bool, start: usize) -> Scope
+        ensures { frame_of result ≡ fresh is_set extensible start }
     {
         Scope {
             is_open: true,
             is_set,
             extensible,
+            start,
             presence: Bits::new(alloc),
             components: Vec::new(alloc),
             bitmap: Bits::new(alloc),
@@ -56,6 +61,7 @@ impl Scope {
             is_open: false,
             is_set: false,
             extensible: false,
+            start: 0,
             presence: Bits::new(alloc),
             components: Vec::new(alloc),
             bitmap: Bits::new(alloc),
@@ -63,18 +69,25 @@ impl Scope {
         }
     }
 
-    /// Writes a sequence that has these root components.
-    pub(crate) fn write_sequence(
+    /// Closes a sequence whose root components stand behind `size` octets that are free at `start`: the preamble is put
+    /// there, and the additions are written behind.
+    #[tactic(auto, using(crate::proofs::Filling::begins_taken, crate::proofs::Filling::sequence_closed))]
+    pub(crate) fn close_sequence(
         &self,
         alloc: Global,
-        components: &[u8],
+        start: usize,
+        size: usize,
         out: &mut Vec<u8>,
     ) -> Result<(), EncodeErrorKind>
-        ensures { Appends result (sequence_octets (frame_of self.now) components.now) out.old.items out.new.items }
+        requires { start + size ≤ vec_len out.old }
+        ensures done { OnOk result (out.new.items ≡ take start out.old.items ++ sequence_octets (frame_of self.now) (drop (start + size) out.old.items)) }
+        ensures refused { IfErr result (λ k. (k ≡ OutOfMemory) × BeginsWith (take start out.old.items) out.new.items) }
     {
+        let end = out.len();
         self.write_preamble(alloc, self.presence.as_slice(), out)?;
-        out.extend_from_slice(components)?;
-        self.write_extension(out)
+        fill(start, size, end, out);
+        self.write_extension(out)?;
+        Ok(())
     }
 
     /// Writes the extension bit and the presence bits, in whole octets (X.696, 16.2).

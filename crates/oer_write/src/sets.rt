@@ -1,13 +1,14 @@
 //! Sets: root components in the order of their tags, whatever the order in which they are handed in.
-ghost use Rattle.std.specs.Prelude.{◌≡◌, ◌++◌, true, map, OnOk, IfErr};
+ghost use Rattle.std.specs.Prelude.{◌≡◌, ◌++◌, ◌⊎◌, true, map, OnOk, IfErr};
+ghost use Rattle.asn1_core.specs.Octets.{Octets};
 ghost use Rattle.asn1_core.specs.declared.error.EncodeErrorKind.TheVariants.{OutOfMemory};
 ghost use Rattle.oer_spec.specs.Places.{bodies, by_tag, presence};
 ghost use Rattle.oer_spec.specs.Tree.{Rows, Struct};
 ghost use Rattle.oer_spec.specs.Writing.{Appends, BeginsWith};
 ghost use Rattle.oer_write.specs.Rows.{IsKnownToWriteSet};
-ghost use Rattle.oer_write.specs.Scopes.{Promise, IsOrderly, IsSameInAnyOrder, SetClosed, Broken, set_octets};
+ghost use Rattle.oer_write.specs.Scopes.{Promise, IsOrderly, IsSameInAnyOrder, RanInScope, SetClosed, Stopped, Broken, set_octets};
 ghost use Rattle.oer_write.specs.Seen.{frame_of, item};
-ghost use Rattle.oer_write.specs.Written.{Encodes, Refused};
+ghost use Rattle.oer_write.specs.Written.{Frame, Encodes, Refused, WantsMemory};
 
 use crate::component::Component;
 use crate::encoder::Encoder;
@@ -68,6 +69,26 @@ impl Scope {
     }
 }
 
+/// Writes a set; octets that the closure writes otherwise than by the calls for components and additions are dropped.
+fn write_set<F: FnOnce(&mut Encoder<'_>) -> Result<(), EncodeError>>(
+    alloc: Global,
+    extensible: bool,
+    output: &mut Vec<u8>,
+    f: F,
+) -> Result<(), EncodeError>
+    requires callable { F.IsAlwaysCallable f }
+    requires orderly { IsOrderly true (Promise F.FnOnce f) }
+    ensures done { OnOk result ((frame : Frame) × (o : Octets) × RanInScope (Promise F.FnOnce f) true extensible frame o × (output.new.items ≡ output.old.items ++ set_octets frame)) }
+    ensures refused { IfErr result (λ x. WantsMemory x ⊎ Stopped (Promise F.FnOnce f) true extensible x) }
+    ensures begins { BeginsWith output.old.items output.new.items }
+{
+    let start = output.len();
+    let mut scope = run(alloc, true, extensible, &mut *output, f)?;
+    output.truncate(start);
+    scope.write_set(alloc, output)?;
+    Ok(())
+}
+
 impl<'buffer> Encoder<'buffer> {
     /// Writes a SET (X.696, 18), whose components the closure writes in a scope of its own.
     ///
@@ -101,8 +122,7 @@ impl<'buffer> Encoder<'buffer> {
         ensures done { OnOk result (SetClosed (Promise F.FnOnce f) extensible self.old self.new) }
         ensures refused { IfErr result (λ x. Broken (Promise F.FnOnce f) true extensible x self.old self.new) }
     {
-        let mut ran = run(self.alloc, true, extensible, f)?;
-        ran.scope.write_set(self.alloc, &mut *self.output)?;
+        write_set(self.alloc, extensible, &mut *self.output, f)?;
         Ok(())
     }
 }
