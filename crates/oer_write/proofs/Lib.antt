@@ -13,3 +13,4 @@ pub mod AnyOrder
 pub mod Joined
 pub mod ByClosure
 pub mod Filling
+pub mod Cutting
