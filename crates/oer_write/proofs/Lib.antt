@@ -14,3 +14,4 @@ pub mod Joined
 pub mod ByClosure
 pub mod Filling
 pub mod Cutting
+pub mod Places

@@ -10,7 +10,6 @@ ghost use Rattle.oer_spec.specs.Writing.{BeginsWith};
 ghost use Rattle.oer_write.specs.Rows.{RowsDone, SetDone, RowsRefused, required, optional, defaulted, present_unless};
 ghost use Rattle.oer_write.specs.Written.{Keeps, Encodes, Refused, WantsMemory};
 
-use crate::component::Component;
 use crate::enc::EncoderOptions;
 use crate::encode::Encode;
 use crate::encoder::Encoder;
@@ -40,43 +39,7 @@ pub(crate) fn append_value<E: Encode>(
     answer
 }
 
-/// The octets of a value on its own.
-pub(crate) fn content_of<E: Encode>(
-    alloc: Global,
-    tag: Tag,
-    constraints: Constraints,
-    value: &E,
-) -> Result<Vec<u8>, EncodeError>
-    requires { IsConsistent constraints }
-    ensures done { IfOk result (λ v. IsEncodable (E.tree constraints value.now) × (v.items ≡ canonical_octets (E.tree constraints value.now)) × (length v.items < 2 ^ 64)) }
-    ensures value { OnOk result (E.IsValue value.now) }
-    ensures refused { IfErr result (λ x. (x.kind ≡ OutOfMemory) ⊎ Fails (E.tree constraints value.now) x.kind) }
-    ensures mode { IfErr result (λ x. x.codec ≡ Coer) }
-{
-    let mut octets = Vec::new(alloc);
-    append_value(alloc, tag, constraints, value, &mut octets)?;
-    let _size = octets.len();
-    Ok(octets)
-}
-
 impl<'buffer> Encoder<'buffer> {
-    /// Keeps a root component of a set apart.
-    pub(crate) fn keep(
-        &mut self,
-        tag: Tag,
-        marked: bool,
-        bit: bool,
-        octets: Vec<u8>,
-    ) -> Result<(), EncodeErrorKind>
-        ensures done { OnOk result (self.new ≡ record self.old { frame = record self.old.frame { components = self.old.frame.components ++ (record { tag = tag; marked = marked; bit = bit; octets = octets.items } ∷ []) } }) }
-        ensures refused { IfErr result (λ k. (k ≡ OutOfMemory) × Keeps self.old self.new) }
-    {
-        self.scope
-            .components
-            .push(Component::new(tag, marked, bit, octets))?;
-        Ok(())
-    }
-
     /// Records a presence bit of a sequence.
     fn mark(&mut self, bit: bool) -> Result<(), EncodeErrorKind>
         ensures done { OnOk result (self.new ≡ record self.old { frame = record self.old.frame { presence = self.old.frame.presence ++ (bit ∷ []) } }) }
@@ -102,8 +65,9 @@ impl<'buffer> Encoder<'buffer> {
         ensures refused { IfErr result (λ x. RowsRefused (required tag (E.tree constraints value.now)) NoRows x self.old self.new) }
     {
         if self.scope.is_set {
-            let octets = content_of(self.alloc, tag, constraints, value)?;
-            self.keep(tag, false, true, octets)?;
+            self.scope
+                .components
+                .push_value(self.alloc, tag, constraints, false, value)?;
             return Ok(());
         }
         value.encode_with_tag_and_constraints(self, tag, constraints)?;
@@ -126,8 +90,9 @@ impl<'buffer> Encoder<'buffer> {
         ensures refused { IfErr result (λ x. RowsRefused (optional tag (Present (E.tree constraints value.now))) NoRows x self.old self.new) }
     {
         if self.scope.is_set {
-            let octets = content_of(self.alloc, tag, constraints, value)?;
-            self.keep(tag, true, true, octets)?;
+            self.scope
+                .components
+                .push_value(self.alloc, tag, constraints, true, value)?;
             return Ok(());
         }
         self.mark(true)?;
@@ -156,7 +121,7 @@ impl<'buffer> Encoder<'buffer> {
         ensures refused { IfErr result (λ x. WantsMemory x × Keeps self.old self.new) }
     {
         if self.scope.is_set {
-            self.keep(tag, true, false, Vec::new(self.alloc))?;
+            self.scope.components.push_absent(tag)?;
             return Ok(());
         }
         self.mark(false)?;

@@ -5,10 +5,10 @@ ghost use Rattle.oer_spec.specs.Places.{extension_bit};
 ghost use Rattle.asn1_core.specs.declared.error.EncodeErrorKind.TheVariants.{OutOfMemory};
 ghost use Rattle.oer_spec.specs.Writing.{Appends, BeginsWith};
 ghost use Rattle.oer_write.specs.Scopes.{any_true, extension_of, sequence_octets};
-ghost use Rattle.oer_write.specs.Seen.{frame_of, item};
+ghost use Rattle.oer_write.specs.Seen.{frame_of};
 ghost use Rattle.oer_write.specs.Written.{fresh, closed};
 
-use crate::component::Component;
+use crate::component::Components;
 use crate::holes::fill;
 use asn1_core::EncodeErrorKind;
 use oer_leaf_write::{write_bitmap, write_preamble};
@@ -29,7 +29,7 @@ pub(crate) struct Scope {
     /// A sequence's presence bits.
     pub(crate) presence: Bits,
     /// A set's root components, in the order handed in.
-    pub(crate) components: Vec<Component>,
+    pub(crate) components: Components,
     /// For each addition whether it is present.
     pub(crate) bitmap: Bits,
     /// The open types of the additions that are present.
@@ -47,7 +47,7 @@ impl Scope {
             extensible,
             start,
             presence: Bits::new(alloc),
-            components: Vec::new(alloc),
+            components: Components::new(alloc),
             bitmap: Bits::new(alloc),
             opens: Vec::new(alloc),
         }
@@ -63,7 +63,7 @@ impl Scope {
             extensible: false,
             start: 0,
             presence: Bits::new(alloc),
-            components: Vec::new(alloc),
+            components: Components::new(alloc),
             bitmap: Bits::new(alloc),
             opens: Vec::new(alloc),
         }

@@ -1,16 +1,17 @@
 //! Sets: root components in the order of their tags, whatever the order in which they are handed in.
-ghost use Rattle.std.specs.Prelude.{◌≡◌, ◌++◌, ◌⊎◌, true, map, OnOk, IfErr};
+ghost use Rattle.std.specs.Prelude.{◌≡◌, ◌++◌, ◌⊎◌, [], true, map, OnOk, IfErr};
 ghost use Rattle.asn1_core.specs.Octets.{Octets};
 ghost use Rattle.asn1_core.specs.declared.error.EncodeErrorKind.TheVariants.{OutOfMemory};
 ghost use Rattle.oer_spec.specs.Places.{bodies, by_tag, presence};
 ghost use Rattle.oer_spec.specs.Tree.{Rows, Struct};
 ghost use Rattle.oer_spec.specs.Writing.{Appends, BeginsWith};
+ghost use Rattle.oer_write.specs.Kept.{item};
 ghost use Rattle.oer_write.specs.Rows.{IsKnownToWriteSet};
 ghost use Rattle.oer_write.specs.Scopes.{Promise, IsOrderly, IsSameInAnyOrder, RanInScope, SetClosed, Stopped, Broken, set_octets};
-ghost use Rattle.oer_write.specs.Seen.{frame_of, item};
+ghost use Rattle.oer_write.specs.Seen.{frame_of};
 ghost use Rattle.oer_write.specs.Written.{Frame, Encodes, Refused, WantsMemory};
 
-use crate::component::Component;
+use crate::component::{Component, Components, body_of};
 use crate::encoder::Encoder;
 use crate::scope::{Bits, Scope};
 use crate::scopes::run;
@@ -19,7 +20,7 @@ use std::alloc::Global;
 
 /// Sorts components by their tags.
 fn arrange(components: &mut Vec<Component>) -> Result<(), EncodeErrorKind>
-    ensures done { OnOk result (map item components.new.items ≡ by_tag (map item components.old.items)) }
+    ensures done { OnOk result ((o : Octets) → map (item o) components.new.items ≡ by_tag (map (item o) components.old.items)) }
     ensures refused { IfErr result (λ k. k ≡ OutOfMemory) }
 {
     components.sort_by_key(|component| component.key)?;
@@ -28,7 +29,7 @@ fn arrange(components: &mut Vec<Component>) -> Result<(), EncodeErrorKind>
 
 /// Appends the presence bits of components.
 fn put_presence(components: &[Component], bits: &mut Bits) -> Result<(), EncodeErrorKind>
-    ensures done { OnOk result (bits.new.items ≡ bits.old.items ++ presence (map item components.now)) }
+    ensures done { OnOk result (bits.new.items ≡ bits.old.items ++ presence (map (item []) components.now)) }
     ensures refused { IfErr result (λ k. k ≡ OutOfMemory) }
 {
     for component in components {
@@ -40,13 +41,17 @@ fn put_presence(components: &[Component], bits: &mut Bits) -> Result<(), EncodeE
 }
 
 /// Appends the octets of components.
-fn put_bodies(components: &[Component], out: &mut Vec<u8>) -> Result<(), EncodeErrorKind>
-    ensures done { OnOk result (out.new.items ≡ out.old.items ++ bodies (map item components.now)) }
+fn put_bodies(
+    components: &[Component],
+    octets: &[u8],
+    out: &mut Vec<u8>,
+) -> Result<(), EncodeErrorKind>
+    ensures done { OnOk result (out.new.items ≡ out.old.items ++ bodies (map (item octets.now) components.now)) }
     ensures refused { IfErr result (λ k. k ≡ OutOfMemory) }
     ensures begins { BeginsWith out.old.items out.new.items }
 {
     for component in components {
-        out.extend_from_slice(&component.octets)?;
+        out.extend_from_slice(body_of(component, octets))?;
     }
     Ok(())
 }
@@ -60,11 +65,15 @@ impl Scope {
     ) -> Result<(), EncodeErrorKind>
         ensures { Appends result (set_octets (frame_of self.old)) out.old.items out.new.items }
     {
-        arrange(&mut self.components)?;
+        let Components { mut places, octets } = std::mem::replace(
+            &mut self.components,
+            Components::new(alloc),
+        );
+        arrange(&mut places)?;
         let mut presence = Bits::new(alloc);
-        put_presence(&self.components, &mut presence)?;
+        put_presence(&places, &mut presence)?;
         self.write_preamble(alloc, presence.as_slice(), out)?;
-        put_bodies(&self.components, out)?;
+        put_bodies(&places, &octets, out)?;
         self.write_extension(out)
     }
 }
