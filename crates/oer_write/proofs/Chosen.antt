@@ -1,7 +1,7 @@
 -- From what the closure of a choice writes to what the choice writes.
-use Rattle.std.proofs.Common.{◌≡◌, ℕ, suc, ◌+◌, ◌^◌, ◌<◌, ◌≤◌, Bool, true, false, not, ◌&&◌, List, ◌++◌, length, take, drop, ◌⊎◌, refl, ap, sym, ◌∙◌, subst, arith, append_assoc, inl, inr}
+use Rattle.std.proofs.Common.{◌≡◌, ℕ, suc, ◌+◌, ◌^◌, ◌<◌, ◌≤◌, Bool, true, false, not, ◌&&◌, List, ◌++◌, length, take, drop, ◌⊎◌, refl, ap, sym, ◌∙◌, subst, arith, append_assoc, append-nil, [], inl, inr}
 use Rattle.std.specs.Prelude.{nat_lt}
-use Rattle.std.proofs.lemmas.List.{append_cancel_left}
+use Rattle.std.proofs.lemmas.List.{append_cancel_left, take_at}
 use Rattle.asn1_core.specs.Octets.{Octets, usize_max}
 use Rattle.asn1_core.specs.Tags.{holds}
 use Rattle.asn1_core.specs.declared.error.EncodeError.{EncodeError}
@@ -108,4 +108,21 @@ addition_done picks tag old middle new first rest h = record {
   done = h.done;
   short = λ e. h.short;
   appended = rest ∙ ap (λ (o : Octets). record middle { octets = o }) h.appended ∙ ap (λ (e : Written). record e { octets = e.octets ++ behind_length h.content }) first ∙ ap (λ (o : Octets). record old { octets = o }) (append_assoc old.octets _ _);
+}
+
+-- what a refused choice wrote is cut off
+pub choice_cut_octets : (picks : Picks) (x : EncodeError) (old new cut : Written) (start : ℕ) → ChoiceBroken picks x old new → start ≡ length old.octets → cut ≡ record new { octets = take start new.octets } → cut.octets ≡ old.octets
+choice_cut_octets picks x old new cut start h s c = ap (λ (e : Written). e.octets) c ∙ ap (take start) h.keeps.octets.1 ∙ take_at old.octets h.keeps.octets.0 start (sym s)
+
+pub choice_cut : (picks : Picks) (x : EncodeError) (old new cut : Written) (start : ℕ) → ChoiceBroken picks x old new → start ≡ length old.octets → cut ≡ record new { octets = take start new.octets } → ChoiceBroken picks x old cut
+choice_cut picks x old new cut start h s c = record {
+  keeps = record {
+    octets = ([], choice_cut_octets picks x old new cut start h s c ∙ sym (append-nil old.octets));
+    is_open = ap (λ (e : Written). e.frame.is_open) c ∙ h.keeps.is_open;
+    is_set = ap (λ (e : Written). e.frame.is_set) c ∙ h.keeps.is_set;
+    extensible = ap (λ (e : Written). e.frame.extensible) c ∙ h.keeps.extensible;
+    start = ap (λ (e : Written). e.frame.start) c ∙ h.keeps.start;
+    outer = ap (λ (e : Written). e.outer) c ∙ h.keeps.outer;
+  };
+  reason = h.reason;
 }

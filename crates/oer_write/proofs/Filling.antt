@@ -119,3 +119,7 @@ open_written old free all content new start s f e g =
 
 pub open_short : (old free all content : Octets) → length all < 2 ^ 64 → all ≡ (old ++ free) ++ content → length content ≤ usize_max
 open_short old free all content h e = omega (arith, ap length e, length-append (old ++ free) content)
+
+-- what was written behind is cut off
+pub cut_begun : (old new cut : Octets) (start : ℕ) → start ≡ length old → BeginsWith old new → cut ≡ take start new → cut ≡ old
+cut_begun old new cut start s b e = e ∙ ap (take start) b.1 ∙ take_at old b.0 start (sym s)

@@ -1,5 +1,5 @@
 //! Choices: a tag, and the alternative that the closure writes.
-ghost use Rattle.std.specs.Prelude.{◌≡◌, ◌⊎◌, Bool, true, false, OnOk, IfErr};
+ghost use Rattle.std.specs.Prelude.{◌≡◌, ◌⊎◌, Bool, true, false, OnOk, OnErr, IfErr};
 ghost use Rattle.asn1_core.specs.Tags.{holds};
 ghost use Rattle.asn1_core.specs.declared.error.EncodeErrorKind.TheVariants.{OutOfMemory};
 ghost use Rattle.oer_spec.specs.Lengths.{tag_octets};
@@ -123,7 +123,31 @@ impl<'buffer> Encoder<'buffer> {
         self.choice(tag, is_among(E::root_tags(), tag), f)
     }
 
+    /// Writes a choice; where it refuses, the octets are as before.
+    #[tactic(auto, using(crate::proofs::Chosen::choice_cut, crate::proofs::Chosen::choice_cut_octets))]
     fn choice<F: FnOnce(&mut Encoder<'_>) -> Result<Tag, EncodeError>>(
+        &mut self,
+        tag: Tag,
+        is_root: bool,
+        f: F,
+    ) -> Result<(), EncodeError>
+        requires callable { F.IsAlwaysCallable f }
+        requires picks { PicksTag (PromisePick F.FnOnce f) tag }
+        ensures done { OnOk result (ChoiceDone (PromisePick F.FnOnce f) is_root tag self.old self.new) }
+        ensures refused { IfErr result (λ x. ChoiceBroken (PromisePick F.FnOnce f) x self.old self.new) }
+        ensures octets { OnErr result (self.new.octets ≡ self.old.octets) }
+    {
+        let start = self.written();
+        match self.put_choice(tag, is_root, f) {
+            Ok(()) => Ok(()),
+            Err(e) => {
+                self.output.truncate(start);
+                Err(e)
+            }
+        }
+    }
+
+    fn put_choice<F: FnOnce(&mut Encoder<'_>) -> Result<Tag, EncodeError>>(
         &mut self,
         tag: Tag,
         is_root: bool,

@@ -32,12 +32,16 @@ pub(crate) fn preamble_size(extensible: bool, fields: &[Field<'static>]) -> usiz
     octets.min(MOST_FREE)
 }
 
+/// Room that a scope asks for at once, so that the octets of a small value take one request for memory.
+const ROOM: usize = 32;
+
 /// Appends so many octets, whose values mean nothing.
 pub(crate) fn keep_free(size: usize, out: &mut Vec<u8>) -> Result<(), EncodeErrorKind>
     requires { size ≤ 16 }
     ensures done { OnOk result ((free : Octets) × (length free ≡ size) × (out.new.items ≡ out.old.items ++ free)) }
     ensures refused { IfErr result (λ k. (k ≡ OutOfMemory) × (out.new.items ≡ out.old.items)) }
 {
+    out.reserve(ROOM)?;
     let free = [0u8; MOST_FREE];
     out.extend_from_slice(&free[..size])?;
     Ok(())

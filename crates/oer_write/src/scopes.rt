@@ -1,6 +1,6 @@
 //! Scopes: closures that write the components of a sequence straight behind the octets of before, its preamble into octets
 //! kept free in front of them.
-ghost use Rattle.std.specs.Prelude.{◌≡◌, ◌≤◌, ◌++◌, ◌⊎◌, false, OnOk, IfOk, IfErr};
+ghost use Rattle.std.specs.Prelude.{◌≡◌, ◌≤◌, ◌++◌, ◌⊎◌, false, OnOk, OnErr, IfOk, IfErr};
 ghost use Rattle.asn1_core.specs.Octets.{Octets};
 ghost use Rattle.asn1_core.specs.declared.error.EncodeErrorKind.TheVariants.{OutOfMemory};
 ghost use Rattle.oer_spec.specs.Tree.{Rows, Struct};
@@ -80,6 +80,32 @@ fn write_sequence<F: FnOnce(&mut Encoder<'_>) -> Result<(), EncodeError>>(
     Ok(())
 }
 
+/// Writes a sequence; where it refuses, the output is as before.
+#[tactic(auto, using(crate::proofs::Filling::cut_begun))]
+fn put_sequence<F: FnOnce(&mut Encoder<'_>) -> Result<(), EncodeError>>(
+    alloc: Global,
+    extensible: bool,
+    size: usize,
+    output: &mut Vec<u8>,
+    f: F,
+) -> Result<(), EncodeError>
+    requires callable { F.IsAlwaysCallable f }
+    requires orderly { IsOrderly false (Promise F.FnOnce f) }
+    requires few { size ≤ 16 }
+    ensures done { OnOk result ((frame : Frame) × (o : Octets) × RanInScope (Promise F.FnOnce f) false extensible frame o × (output.new.items ≡ output.old.items ++ sequence_octets frame o)) }
+    ensures refused { IfErr result (λ x. WantsMemory x ⊎ Stopped (Promise F.FnOnce f) false extensible x) }
+    ensures unchanged { OnErr result (output.new.items ≡ output.old.items) }
+{
+    let start = output.len();
+    match write_sequence(alloc, extensible, size, &mut *output, f) {
+        Ok(()) => Ok(()),
+        Err(e) => {
+            output.truncate(start);
+            Err(e)
+        }
+    }
+}
+
 impl<'buffer> Encoder<'buffer> {
     /// Writes a SEQUENCE (X.696, 16), whose components the closure writes in a scope of its own.
     ///
@@ -116,8 +142,9 @@ impl<'buffer> Encoder<'buffer> {
         requires few { size ≤ 16 }
         ensures done { OnOk result (Closed (Promise F.FnOnce f) extensible self.old self.new) }
         ensures refused { IfErr result (λ x. Broken (Promise F.FnOnce f) false extensible x self.old self.new) }
+        ensures unchanged { OnErr result (self.new ≡ self.old) }
     {
-        write_sequence(self.alloc, extensible, size, &mut *self.output, f)?;
+        put_sequence(self.alloc, extensible, size, &mut *self.output, f)?;
         Ok(())
     }
 }

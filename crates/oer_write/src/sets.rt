@@ -1,5 +1,5 @@
 //! Sets: root components in the order of their tags, whatever the order in which they are handed in.
-ghost use Rattle.std.specs.Prelude.{◌≡◌, ◌++◌, ◌⊎◌, [], true, map, OnOk, IfErr};
+ghost use Rattle.std.specs.Prelude.{◌≡◌, ◌++◌, ◌⊎◌, [], true, map, OnOk, OnErr, IfErr};
 ghost use Rattle.asn1_core.specs.Octets.{Octets};
 ghost use Rattle.asn1_core.specs.declared.error.EncodeErrorKind.TheVariants.{OutOfMemory};
 ghost use Rattle.oer_spec.specs.Places.{bodies, by_tag, presence};
@@ -98,6 +98,30 @@ fn write_set<F: FnOnce(&mut Encoder<'_>) -> Result<(), EncodeError>>(
     Ok(())
 }
 
+/// Writes a set; where it refuses, the output is as before.
+#[tactic(auto, using(crate::proofs::Filling::cut_begun))]
+fn put_set<F: FnOnce(&mut Encoder<'_>) -> Result<(), EncodeError>>(
+    alloc: Global,
+    extensible: bool,
+    output: &mut Vec<u8>,
+    f: F,
+) -> Result<(), EncodeError>
+    requires callable { F.IsAlwaysCallable f }
+    requires orderly { IsOrderly true (Promise F.FnOnce f) }
+    ensures done { OnOk result ((frame : Frame) × (o : Octets) × RanInScope (Promise F.FnOnce f) true extensible frame o × (output.new.items ≡ output.old.items ++ set_octets frame)) }
+    ensures refused { IfErr result (λ x. WantsMemory x ⊎ Stopped (Promise F.FnOnce f) true extensible x) }
+    ensures unchanged { OnErr result (output.new.items ≡ output.old.items) }
+{
+    let start = output.len();
+    match write_set(alloc, extensible, &mut *output, f) {
+        Ok(()) => Ok(()),
+        Err(e) => {
+            output.truncate(start);
+            Err(e)
+        }
+    }
+}
+
 impl<'buffer> Encoder<'buffer> {
     /// Writes a SET (X.696, 18), whose components the closure writes in a scope of its own.
     ///
@@ -130,8 +154,9 @@ impl<'buffer> Encoder<'buffer> {
         requires orderly { IsOrderly true (Promise F.FnOnce f) }
         ensures done { OnOk result (SetClosed (Promise F.FnOnce f) extensible self.old self.new) }
         ensures refused { IfErr result (λ x. Broken (Promise F.FnOnce f) true extensible x self.old self.new) }
+        ensures unchanged { OnErr result (self.new ≡ self.old) }
     {
-        write_set(self.alloc, extensible, &mut *self.output, f)?;
+        put_set(self.alloc, extensible, &mut *self.output, f)?;
         Ok(())
     }
 }
