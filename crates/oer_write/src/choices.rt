@@ -75,8 +75,7 @@ fn pick_into<F: FnOnce(&mut Encoder<'_>) -> Result<Tag, EncodeError>>(
         alloc,
     };
     let answer = pick(&mut inner, tag, f);
-    let (octets, _scope) = inner.into_parts();
-    *out = octets;
+    *out = inner.into_octets();
     answer
 }
 

@@ -62,8 +62,7 @@ fn put_into<F: FnOnce(&mut Encoder<'_>) -> Result<(), EncodeError>>(
         alloc,
     };
     let answer = put_by(&mut inner, f);
-    let (octets, _scope) = inner.into_parts();
-    *out = octets;
+    *out = inner.into_octets();
     answer
 }
 

@@ -34,8 +34,7 @@ pub(crate) fn append_value<E: Encode>(
     let mut worker = Vec::new(alloc);
     let mut encoder = Encoder::from_buffer(alloc, EncoderOptions::coer(), &mut *out, &mut worker);
     let answer = value.encode_with_tag_and_constraints(&mut encoder, tag, constraints);
-    let (octets, _scope) = encoder.into_parts();
-    *out = octets;
+    *out = encoder.into_octets();
     answer
 }
 

@@ -15,8 +15,10 @@ use oer_leaf_write::{write_bitmap, write_preamble};
 use smallvec::SmallVec;
 use std::alloc::Global;
 
-/// Bits of which the first 64 take no memory of their own.
-pub(crate) type Bits = SmallVec<bool, 64>;
+/// Bits of which the first 24 take no memory of their own.
+///
+/// They lie within the scope, so more of them would make each level of nesting take more of the stack.
+pub(crate) type Bits = SmallVec<bool, 24>;
 
 /// What was recorded in a scope so far.
 #[derive(Drop)]
@@ -102,7 +104,7 @@ impl Scope {
         if !self.extensible {
             return write_preamble(presence, out);
         }
-        let mut bits: SmallVec<bool, 65> = SmallVec::new(alloc);
+        let mut bits = Bits::new(alloc);
         bits.push(any(self.bitmap.as_slice()))?;
         bits.extend_from_slice(presence)?;
         write_preamble(bits.as_slice(), out)
