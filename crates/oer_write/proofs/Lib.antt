@@ -12,3 +12,6 @@ pub mod Gathering
 pub mod AnyOrder
 pub mod Joined
 pub mod ByClosure
+pub mod Filling
+pub mod Cutting
+pub mod Places

@@ -1,9 +1,9 @@
 -- Octets in ascending order, as a sort gives them.
-use Rattle.std.proofs.Common.{◌≡◌, ℕ, ◌<◌, ◌==◌, Bool, true, false, cond, not, List, [], ◌∷◌, map, refl, ap, sym, ◌∙◌, arith, ◌⊎◌, inl, inr, Vec}
+use Rattle.std.proofs.Common.{◌≡◌, ℕ, ◌<◌, ◌==◌, Bool, true, false, cond, not, List, [], ◌∷◌, map, refl, ap, sym, ◌∙◌, arith, ◌⊎◌, inl, inr}
+use Rattle.std.specs.Borrow.{Bor}
 use Rattle.std.specs.Prelude.{nat_lt}
 use Rattle.std.specs.Cmp.Lexicographic.{slice_cmp}
 use Rattle.std.specs.Ordering.{is_lt, nat_cmp, ordering_then}
-use Rattle.std.specs.declared.alloc.Global.{Global}
 use Rattle.std.specs.declared.cmp.Ordering.{Ordering}
 use Rattle.std.specs.declared.cmp.Ordering.TheVariants.{Less, Equal, Greater}
 use Rattle.std.proofs.lemmas.Bool.{cases_order, cond-true, cond-false, eq-eqb, ne_eqb, lt-ltb, le-ltb}
@@ -31,23 +31,23 @@ less_is [] (y ∷ p) = refl
 less_is (x ∷ o) [] = refl
 less_is (x ∷ o) (y ∷ p) = compares x y (slice_cmp nat_cmp p o) (cases_order x y) (octets_le o p) (less_is o p)
 
-abbrev pub by_octets : Vec ℕ Global → Vec ℕ Global → Bool
-by_octets a b = octets_le a.items b.items
+abbrev pub by_octets : Bor Octets → Bor Octets → Bool
+by_octets a b = octets_le a.now b.now
 
 pub octet_order : IsOrderTest by_octets
 octet_order = record {
-  total = λ a b h. le_total a.items b.items h;
-  trans = λ a b c h i. le_trans' a.items b.items c.items h i;
+  total = λ a b h. le_total a.now b.now h;
+  trans = λ a b c h i. le_trans' a.now b.now c.now h i;
 }
 
-put_is : (v : Vec ℕ Global) (vs : List (Vec ℕ Global)) → map octets_in (put by_octets v vs) ≡ put_octets v.items (map octets_in vs)
+put_is : (v : Bor Octets) (vs : List (Bor Octets)) → map octets_in (put by_octets v vs) ≡ put_octets v.now (map octets_in vs)
 put_is v [] = refl
-put_is v (w ∷ ws) = go (octets_le v.items w.items) (put_is v ws)
+put_is v (w ∷ ws) = go (octets_le v.now w.now) (put_is v ws)
   where
-    go : (b : Bool) → map octets_in (put by_octets v ws) ≡ put_octets v.items (map octets_in ws) → map octets_in (cond b (v ∷ w ∷ ws) (w ∷ put by_octets v ws)) ≡ cond b (v.items ∷ w.items ∷ map octets_in ws) (w.items ∷ put_octets v.items (map octets_in ws))
+    go : (b : Bool) → map octets_in (put by_octets v ws) ≡ put_octets v.now (map octets_in ws) → map octets_in (cond b (v ∷ w ∷ ws) (w ∷ put by_octets v ws)) ≡ cond b (v.now ∷ w.now ∷ map octets_in ws) (w.now ∷ put_octets v.now (map octets_in ws))
     go true more = refl
-    go false more = ap (λ (os : List Octets). w.items ∷ os) more
+    go false more = ap (λ (os : List Octets). w.now ∷ os) more
 
-pub arranged_octets : (vs : List (Vec ℕ Global)) → map octets_in (arranged by_octets vs) ≡ sorted (map octets_in vs)
+pub arranged_octets : (vs : List (Bor Octets)) → map octets_in (arranged by_octets vs) ≡ sorted (map octets_in vs)
 arranged_octets [] = refl
-arranged_octets (v ∷ vs) = put_is v (arranged by_octets vs) ∙ ap (put_octets v.items) (arranged_octets vs)
+arranged_octets (v ∷ vs) = put_is v (arranged by_octets vs) ∙ ap (put_octets v.now) (arranged_octets vs)

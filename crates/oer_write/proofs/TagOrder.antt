@@ -3,9 +3,10 @@ use Rattle.std.proofs.Common.{◌≡◌, ℕ, ◌+◌, ◌*◌, ◌^◌, ◌<◌
 use Rattle.std.specs.Prelude.{nat_le, nat_lt}
 use Rattle.std.specs.Ordering.{is_lt, nat_cmp}
 use Rattle.std.proofs.lemmas.Bool.{cases_order, cond-true, cond-false, eq-eqb, ne_eqb, lt-ltb, le-ltb, le-leb, lt-leb, leb-true, leb-false}
+use Rattle.asn1_core.specs.Octets.{Octets}
 use Rattle.asn1_core.specs.Tags.{class_number, tag_le}
 use Rattle.oer_spec.specs.Places.{Item, put_by_tag, by_tag}
-use Rattle.oer_write.specs.Seen.{item}
+use Rattle.oer_write.specs.Kept.{item}
 use Rattle.oer_write.specs.declared.component.Component.{Component}
 use Rattle.oer_write.proofs.Arranging.{IsOrderTest, put, arranged}
 
@@ -46,14 +47,14 @@ key_order = record {
   trans = λ a b c h i. le-leb a.key c.key (let l = leb-true a.key b.key h in let m = leb-true b.key c.key i in omega (arith, l, m));
 }
 
-put_is : (c : Component) (cs : List Component) → map item (put by_key c cs) ≡ put_by_tag (item c) (map item cs)
-put_is c [] = refl
-put_is c (d ∷ ds) = go (nat_le c.key d.key) (put_is c ds) ∙ ap (λ (b : Bool). cond b (item c ∷ item d ∷ map item ds) (item d ∷ put_by_tag (item c) (map item ds))) (le_is c d)
+put_is : (o : Octets) (c : Component) (cs : List Component) → map (item o) (put by_key c cs) ≡ put_by_tag (item o c) (map (item o) cs)
+put_is o c [] = refl
+put_is o c (d ∷ ds) = go (nat_le c.key d.key) (put_is o c ds) ∙ ap (λ (b : Bool). cond b (item o c ∷ item o d ∷ map (item o) ds) (item o d ∷ put_by_tag (item o c) (map (item o) ds))) (le_is c d)
   where
-    go : (b : Bool) → map item (put by_key c ds) ≡ put_by_tag (item c) (map item ds) → map item (cond b (c ∷ d ∷ ds) (d ∷ put by_key c ds)) ≡ cond b (item c ∷ item d ∷ map item ds) (item d ∷ put_by_tag (item c) (map item ds))
+    go : (b : Bool) → map (item o) (put by_key c ds) ≡ put_by_tag (item o c) (map (item o) ds) → map (item o) (cond b (c ∷ d ∷ ds) (d ∷ put by_key c ds)) ≡ cond b (item o c ∷ item o d ∷ map (item o) ds) (item o d ∷ put_by_tag (item o c) (map (item o) ds))
     go true more = refl
-    go false more = ap (λ (is : List Item). item d ∷ is) more
+    go false more = ap (λ (is : List Item). item o d ∷ is) more
 
-pub arranged_items : (cs : List Component) → map item (arranged by_key cs) ≡ by_tag (map item cs)
-arranged_items [] = refl
-arranged_items (c ∷ cs) = put_is c (arranged by_key cs) ∙ ap (put_by_tag (item c)) (arranged_items cs)
+pub arranged_items : (o : Octets) (cs : List Component) → map (item o) (arranged by_key cs) ≡ by_tag (map (item o) cs)
+arranged_items o [] = refl
+arranged_items o (c ∷ cs) = put_is o c (arranged by_key cs) ∙ ap (put_by_tag (item o c)) (arranged_items o cs)

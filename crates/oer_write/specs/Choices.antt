@@ -38,6 +38,13 @@ pub record Appended (picks : Picks) (old new : Octets) : Type 0 where
   pub done : ContentDone picks content
   pub appended : new ≡ old ++ content
 
+-- and so it does, behind its length
+pub record AppendedOpen (picks : Picks) (old new : Octets) : Type 0 where
+  pub content : Octets
+  pub done : ContentDone picks content
+  pub short : length content < 2 ^ 64
+  pub appended : new ≡ old ++ behind_length content
+
 -- the closure refused
 pub record ContentRefused (picks : Picks) (x : EncodeError) : Type 0 where
   pub entered : Written

@@ -1,5 +1,6 @@
 pub mod Written
 pub mod Seen
+pub mod Kept
 pub mod Rows
 pub mod Scopes
 pub mod Rules

@@ -1,18 +1,23 @@
 -- The elements of an unordered list, each written on its own.
-use Rattle.std.specs.Prelude.{◌≡◌, ℕ, ◌+◌, ◌<◌, true, false, cond, List, [], ◌∷◌, ◌++◌, ◌⊎◌, map, Vec}
+use Rattle.std.specs.Prelude.{◌≡◌, ℕ, ◌+◌, ◌<◌, true, false, cond, List, [], ◌∷◌, ◌++◌, ◌⊎◌, map, take, drop}
+use Rattle.std.specs.Borrow.{Bor}
 use Rattle.asn1_core.specs.declared.error.EncodeErrorKind.{EncodeErrorKind}
 use Rattle.asn1_core.specs.declared.error.EncodeErrorKind.TheVariants.{OutOfMemory, TooManyEmptyElements}
 use Rattle.oer_spec.specs.Failures.{Fails}
 use Rattle.oer_write.specs.Lists.{is_nil}
-use Rattle.std.specs.declared.alloc.Global.{Global}
 use Rattle.asn1_core.specs.Octets.{Octets}
 use Rattle.oer_spec.specs.Encoding.{IsEncodable, canonical_octets, empties}
 use Rattle.oer_spec.specs.Orders.{Reorders}
 use Rattle.oer_spec.specs.Spelled.{EachValue, list_of}
 use Rattle.oer_spec.specs.Tree.{Tree}
 
-abbrev pub octets_in : Vec ℕ Global → Octets
-octets_in v = v.items
+abbrev pub octets_in : Bor Octets → Octets
+octets_in v = v.now
+
+-- octets one behind the other, cut by how many each has
+abbrev pub parts : List ℕ → Octets → List Octets
+parts [] o = []
+parts (n ∷ ns) o = take n o ∷ parts ns (drop n o)
 
 -- these elements were written, in their order, so many of them without octets
 pub record Gathered {E : Type 0} (tree : E → Tree) (IsValue : E → Type 0) (xs : List E) (contents : List Octets) (count : ℕ) : Type 0 where

@@ -1,24 +1,72 @@
 //! Extension additions of the open scope: each that is present is written as an open type.
-ghost use Rattle.std.specs.Prelude.{◌≡◌, true, false, List, [], ◌∷◌, ◌++◌, OnOk, IfErr, IfSome};
+ghost use Rattle.std.specs.Prelude.{◌≡◌, ◌⊎◌, true, false, List, [], ◌∷◌, ◌++◌, OnOk, OnErr, IfErr, IfSome};
+ghost use Rattle.asn1_core.specs.declared.codec.Codec.TheVariants.{Coer};
 ghost use Rattle.asn1_core.specs.declared.error.EncodeErrorKind.TheVariants.{OutOfMemory};
+ghost use Rattle.oer_spec.specs.Encoding.{canonical_octets};
+ghost use Rattle.oer_spec.specs.Failures.{Fails};
 ghost use Rattle.oer_spec.specs.Spelled.{IsConsistent};
+ghost use Rattle.oer_spec.specs.Writing.{BeginsWith};
 ghost use Rattle.oer_spec.specs.Tree.{NoRows, Present, Absent};
-ghost use Rattle.oer_spec.specs.Writing.{Appends};
-ghost use Rattle.oer_write.specs.Rows.{RowsDone, SetDone, RowsRefused, optional, defaulted, present_unless, slot_of, open_type};
+ghost use Rattle.oer_write.specs.Rows.{RowsDone, SetDone, RowsRefused, IsOpenEncodable, optional, defaulted, present_unless, slot_of, open_type};
 ghost use Rattle.oer_write.specs.Written.{Keeps, WantsMemory};
 
 use crate::encode::Encode;
 use crate::encoder::Encoder;
-use crate::rows::content_of;
+use crate::holes::{close_open, keep_free};
+use crate::rows::append_value;
 use asn1_core::{Constraints, EncodeError, EncodeErrorKind, Tag};
-use oer_leaf_write::write_content;
+use std::alloc::Global;
 
-/// Appends an open type (X.696, 30).
-#[tactic(auto, unfolding(crate::specs::Rows::open_type))]
-fn write_open_type(content: &[u8], out: &mut Vec<u8>) -> Result<(), EncodeErrorKind>
-    ensures { Appends result (open_type content.now) out.old.items out.new.items }
+/// Appends an open type (X.696, 30): the value behind its length, for which an octet is kept free.
+#[tactic(auto, unfolding(crate::specs::Rows::open_type), using(crate::proofs::Filling::open_written, crate::proofs::Filling::open_short))]
+fn write_open<E: Encode>(
+    alloc: Global,
+    tag: Tag,
+    constraints: Constraints,
+    value: &E,
+    out: &mut Vec<u8>,
+) -> Result<(), EncodeError>
+    requires { IsConsistent constraints }
+    ensures short { OnOk result (IsOpenEncodable (E.tree constraints value.now)) }
+    ensures done { OnOk result (out.new.items ≡ out.old.items ++ open_type (canonical_octets (E.tree constraints value.now))) }
+    ensures value { OnOk result (E.IsValue value.now) }
+    ensures refused { IfErr result (λ x. (x.kind ≡ OutOfMemory) ⊎ Fails (E.tree constraints value.now) x.kind) }
+    ensures mode { IfErr result (λ x. x.codec ≡ Coer) }
+    ensures begins { BeginsWith out.old.items out.new.items }
 {
-    write_content(content, out)
+    let start = out.len();
+    keep_free(1, out)?;
+    append_value(alloc, tag, constraints, value, out)?;
+    let _size = out.len();
+    close_open(start, out)?;
+    Ok(())
+}
+
+/// Appends an open type; where it refuses, the octets are as before.
+#[tactic(auto, using(crate::proofs::Filling::cut_begun))]
+fn put_open<E: Encode>(
+    alloc: Global,
+    tag: Tag,
+    constraints: Constraints,
+    value: &E,
+    out: &mut Vec<u8>,
+) -> Result<(), EncodeError>
+    requires { IsConsistent constraints }
+    ensures short { OnOk result (IsOpenEncodable (E.tree constraints value.now)) }
+    ensures done { OnOk result (out.new.items ≡ out.old.items ++ open_type (canonical_octets (E.tree constraints value.now))) }
+    ensures value { OnOk result (E.IsValue value.now) }
+    ensures refused { IfErr result (λ x. (x.kind ≡ OutOfMemory) ⊎ Fails (E.tree constraints value.now) x.kind) }
+    ensures mode { IfErr result (λ x. x.codec ≡ Coer) }
+    ensures unchanged { OnErr result (out.new.items ≡ out.old.items) }
+{
+    let start = out.len();
+    match write_open(alloc, tag, constraints, value, out) {
+        Ok(()) => Ok(()),
+        Err(e) => {
+            out.truncate(start);
+            Err(e)
+        }
+    }
 }
 
 impl<'buffer> Encoder<'buffer> {
@@ -103,8 +151,7 @@ impl<'buffer> Encoder<'buffer> {
         ensures value { OnOk result (E.IsValue value.now) }
         ensures refused { IfErr result (λ x. RowsRefused NoRows (optional tag (Present (E.tree constraints value.now))) x self.old self.new) }
     {
-        let content = content_of(self.alloc, tag, constraints, value)?;
-        write_open_type(&content, &mut self.scope.opens)?;
+        put_open(self.alloc, tag, constraints, value, &mut self.scope.opens)?;
         self.note_addition(true)?;
         Ok(())
     }

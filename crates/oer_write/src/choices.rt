@@ -1,18 +1,18 @@
 //! Choices: a tag, and the alternative that the closure writes.
-ghost use Rattle.std.specs.Prelude.{◌≡◌, ◌^◌, ◌<◌, Bool, true, false, ◌++◌, length, OnOk, IfOk, IfErr};
+ghost use Rattle.std.specs.Prelude.{◌≡◌, ◌⊎◌, Bool, true, false, OnOk, OnErr, IfErr};
 ghost use Rattle.asn1_core.specs.Tags.{holds};
 ghost use Rattle.asn1_core.specs.declared.error.EncodeErrorKind.TheVariants.{OutOfMemory};
-ghost use Rattle.oer_spec.specs.Lengths.{behind_length, tag_octets};
+ghost use Rattle.oer_spec.specs.Lengths.{tag_octets};
 ghost use Rattle.oer_spec.specs.Tree.{Tree, Choice};
-ghost use Rattle.oer_spec.specs.Writing.{Appends, BeginsWith};
-ghost use Rattle.oer_write.specs.Choices.{PromisePick, PicksTag, ContentDone, ContentRefused, Appended, ChoiceDone, ChoiceBroken, IsKnownToPick};
-ghost use Rattle.oer_write.specs.Written.{append, Keeps, Encodes, Refused};
+ghost use Rattle.oer_spec.specs.Writing.{BeginsWith};
+ghost use Rattle.oer_write.specs.Choices.{PromisePick, PicksTag, ContentRefused, Appended, AppendedOpen, ChoiceDone, ChoiceBroken, IsKnownToPick};
+ghost use Rattle.oer_write.specs.Written.{append, Keeps, Encodes, Refused, WantsMemory};
 
-use crate::enc::EncoderOptions;
 use crate::encoder::Encoder;
+use crate::holes::{close_open, keep_free};
 use crate::scope::Scope;
 use asn1_core::{Choice, Constraints, EncodeError, EncodeErrorKind, Tag};
-use oer_leaf_write::{write_content, write_tag};
+use oer_leaf_write::write_tag;
 use std::alloc::Global;
 
 /// Whether the tag is one of a table of alternatives.
@@ -25,14 +25,6 @@ pub fn is_among(tags: &[Tag], tag: Tag) -> bool
         }
     }
     false
-}
-
-/// Appends a tag and an open type.
-fn write_addition(tag: Tag, content: &[u8], out: &mut Vec<u8>) -> Result<(), EncodeErrorKind>
-    ensures { Appends result (tag_octets tag ++ behind_length content.now) out.old.items out.new.items }
-{
-    write_tag(tag, out)?;
-    write_content(content, out)
 }
 
 /// Lends an encoder to a closure that answers a tag.
@@ -63,24 +55,50 @@ fn pick<F: FnOnce(&mut Encoder<'_>) -> Result<Tag, EncodeError>>(
     Ok(())
 }
 
-/// What a closure writes on its own.
-fn content_by<F: FnOnce(&mut Encoder<'_>) -> Result<Tag, EncodeError>>(
+/// Lends an encoder with no scope open, over an output.
+fn pick_into<F: FnOnce(&mut Encoder<'_>) -> Result<Tag, EncodeError>>(
     alloc: Global,
     tag: Tag,
     f: F,
-) -> Result<Vec<u8>, EncodeError>
+    out: &mut Vec<u8>,
+) -> Result<(), EncodeError>
     requires callable { F.IsAlwaysCallable f }
     requires picks { PicksTag (PromisePick F.FnOnce f) tag }
-    ensures done { IfOk result (λ v. ContentDone (PromisePick F.FnOnce f) v.items × (length v.items < 2 ^ 64)) }
+    ensures done { OnOk result (Appended (PromisePick F.FnOnce f) out.old.items out.new.items) }
     ensures refused { IfErr result (λ x. ContentRefused (PromisePick F.FnOnce f) x) }
+    ensures begins { BeginsWith out.old.items out.new.items }
 {
-    let mut output = Vec::new(alloc);
-    let mut worker = Vec::new(alloc);
-    let mut encoder = Encoder::from_buffer(alloc, EncoderOptions::coer(), &mut output, &mut worker);
-    pick(&mut encoder, tag, f)?;
-    let (octets, _scope) = encoder.into_parts();
-    let _size = octets.len();
-    Ok(octets)
+    let mut inner = Encoder {
+        output: &mut *out,
+        scope: Scope::none(alloc),
+        is_lent: true,
+        alloc,
+    };
+    let answer = pick(&mut inner, tag, f);
+    *out = inner.into_octets();
+    answer
+}
+
+/// Appends an open type: what a closure writes behind its length, for which an octet is kept free (X.696, 30).
+#[tactic(auto, using(crate::proofs::Chosen::open_picked))]
+fn pick_open<F: FnOnce(&mut Encoder<'_>) -> Result<Tag, EncodeError>>(
+    alloc: Global,
+    tag: Tag,
+    f: F,
+    out: &mut Vec<u8>,
+) -> Result<(), EncodeError>
+    requires callable { F.IsAlwaysCallable f }
+    requires picks { PicksTag (PromisePick F.FnOnce f) tag }
+    ensures done { OnOk result (AppendedOpen (PromisePick F.FnOnce f) out.old.items out.new.items) }
+    ensures refused { IfErr result (λ x. WantsMemory x ⊎ ContentRefused (PromisePick F.FnOnce f) x) }
+    ensures begins { BeginsWith out.old.items out.new.items }
+{
+    let start = out.len();
+    keep_free(1, out)?;
+    pick_into(alloc, tag, f, &mut *out)?;
+    let _size = out.len();
+    close_open(start, out)?;
+    Ok(())
 }
 
 impl<'buffer> Encoder<'buffer> {
@@ -104,7 +122,31 @@ impl<'buffer> Encoder<'buffer> {
         self.choice(tag, is_among(E::root_tags(), tag), f)
     }
 
+    /// Writes a choice; where it refuses, the octets are as before.
+    #[tactic(auto, using(crate::proofs::Chosen::choice_cut, crate::proofs::Chosen::choice_cut_octets))]
     fn choice<F: FnOnce(&mut Encoder<'_>) -> Result<Tag, EncodeError>>(
+        &mut self,
+        tag: Tag,
+        is_root: bool,
+        f: F,
+    ) -> Result<(), EncodeError>
+        requires callable { F.IsAlwaysCallable f }
+        requires picks { PicksTag (PromisePick F.FnOnce f) tag }
+        ensures done { OnOk result (ChoiceDone (PromisePick F.FnOnce f) is_root tag self.old self.new) }
+        ensures refused { IfErr result (λ x. ChoiceBroken (PromisePick F.FnOnce f) x self.old self.new) }
+        ensures octets { OnErr result (self.new.octets ≡ self.old.octets) }
+    {
+        let start = self.written();
+        match self.put_choice(tag, is_root, f) {
+            Ok(()) => Ok(()),
+            Err(e) => {
+                self.output.truncate(start);
+                Err(e)
+            }
+        }
+    }
+
+    fn put_choice<F: FnOnce(&mut Encoder<'_>) -> Result<Tag, EncodeError>>(
         &mut self,
         tag: Tag,
         is_root: bool,
@@ -118,17 +160,7 @@ impl<'buffer> Encoder<'buffer> {
         if is_root {
             return self.root_choice(tag, f);
         }
-        let content = content_by(self.alloc, tag, f)?;
-        self.put_addition_choice(tag, &content)?;
-        Ok(())
-    }
-
-    fn put_addition_choice(&mut self, tag: Tag, content: &[u8]) -> Result<(), EncodeErrorKind>
-        ensures done { OnOk result (self.new ≡ append (tag_octets tag ++ behind_length content.now) self.old) }
-        ensures refused { IfErr result (λ k. (k ≡ OutOfMemory) × Keeps self.old self.new) }
-    {
-        write_addition(tag, content, &mut *self.output)?;
-        Ok(())
+        self.addition_choice(tag, f)
     }
 
     fn put_tag(&mut self, tag: Tag) -> Result<(), EncodeErrorKind>
@@ -167,15 +199,37 @@ impl<'buffer> Encoder<'buffer> {
         ensures begins { BeginsWith self.old.octets self.new.octets }
         ensures left { self.new ≡ record self.old { octets = self.new.octets } }
     {
-        let mut inner = Encoder {
-            output: &mut *self.output,
-            scope: Scope::none(self.alloc),
-            is_lent: true,
-            alloc: self.alloc,
-        };
-        let answer = pick(&mut inner, tag, f);
-        let (octets, _scope) = inner.into_parts();
-        *self.output = octets;
-        answer
+        pick_into(self.alloc, tag, f, &mut *self.output)
+    }
+
+    /// Writes an alternative beyond the root as an open type behind the tag.
+    fn addition_choice<F: FnOnce(&mut Encoder<'_>) -> Result<Tag, EncodeError>>(
+        &mut self,
+        tag: Tag,
+        f: F,
+    ) -> Result<(), EncodeError>
+        requires callable { F.IsAlwaysCallable f }
+        requires picks { PicksTag (PromisePick F.FnOnce f) tag }
+        ensures done { OnOk result (ChoiceDone (PromisePick F.FnOnce f) false tag self.old self.new) }
+        ensures refused { IfErr result (λ x. ChoiceBroken (PromisePick F.FnOnce f) x self.old self.new) }
+    {
+        self.put_tag(tag)?;
+        self.lend_open(tag, f)
+    }
+
+    /// Lends an encoder with no scope open, over the same output, and puts the length in front.
+    fn lend_open<F: FnOnce(&mut Encoder<'_>) -> Result<Tag, EncodeError>>(
+        &mut self,
+        tag: Tag,
+        f: F,
+    ) -> Result<(), EncodeError>
+        requires callable { F.IsAlwaysCallable f }
+        requires picks { PicksTag (PromisePick F.FnOnce f) tag }
+        ensures done { OnOk result (AppendedOpen (PromisePick F.FnOnce f) self.old.octets self.new.octets) }
+        ensures refused { IfErr result (λ x. WantsMemory x ⊎ ContentRefused (PromisePick F.FnOnce f) x) }
+        ensures begins { BeginsWith self.old.octets self.new.octets }
+        ensures left { self.new ≡ record self.old { octets = self.new.octets } }
+    {
+        pick_open(self.alloc, tag, f, &mut *self.output)
     }
 }

@@ -1,14 +1,16 @@
 //! Components of the open scope that a closure writes.
-ghost use Rattle.std.specs.Prelude.{◌≡◌, ◌++◌, [], ◌∷◌, true, false, OnOk, IfOk, IfErr};
+ghost use Rattle.std.specs.Prelude.{◌≡◌, ◌⊎◌, ◌++◌, [], ◌∷◌, true, false, OnOk, IfErr};
+ghost use Rattle.asn1_core.specs.Octets.{Octets};
+ghost use Rattle.oer_spec.specs.Places.{needed};
 ghost use Rattle.oer_spec.specs.Tree.{Tree, NoRows};
 ghost use Rattle.oer_spec.specs.Writing.{BeginsWith};
 ghost use Rattle.oer_write.specs.ByClosure.{AppendedBy, RefusedBy, PutBy, KeptBy, ComponentBroken, IsKnownToWriteTree};
 ghost use Rattle.oer_write.specs.Lists.{WroteElement, IsOrderlyHere};
 ghost use Rattle.oer_write.specs.Rows.{RowsDone, SetDone, RowsRefused, required};
 ghost use Rattle.oer_write.specs.Scopes.{Promise};
-ghost use Rattle.oer_write.specs.Written.{Keeps};
+ghost use Rattle.oer_write.specs.Written.{Keeps, WantsMemory};
 
-use crate::enc::EncoderOptions;
+use crate::component::{Component, Components, push_place};
 use crate::encoder::Encoder;
 use crate::scope::Scope;
 use asn1_core::{EncodeError, Tag};
@@ -41,22 +43,51 @@ fn put_by<F: FnOnce(&mut Encoder<'_>) -> Result<(), EncodeError>>(
     Ok(())
 }
 
-/// What a closure writes on its own.
-fn written_by<F: FnOnce(&mut Encoder<'_>) -> Result<(), EncodeError>>(
+/// Lends an encoder with no scope open, over an output.
+fn put_into<F: FnOnce(&mut Encoder<'_>) -> Result<(), EncodeError>>(
     alloc: Global,
     f: F,
-) -> Result<Vec<u8>, EncodeError>
+    out: &mut Vec<u8>,
+) -> Result<(), EncodeError>
     requires callable { F.IsAlwaysCallable f }
     requires orderly { IsOrderlyHere (Promise F.FnOnce f) }
-    ensures done { IfOk result (λ v. WroteElement (Promise F.FnOnce f) v.items) }
+    ensures done { OnOk result (AppendedBy (Promise F.FnOnce f) out.old.items out.new.items) }
     ensures refused { IfErr result (λ x. RefusedBy (Promise F.FnOnce f) x) }
+    ensures begins { BeginsWith out.old.items out.new.items }
 {
-    let mut output = Vec::new(alloc);
-    let mut worker = Vec::new(alloc);
-    let mut encoder = Encoder::from_buffer(alloc, EncoderOptions::coer(), &mut output, &mut worker);
-    put_by(&mut encoder, f)?;
-    let (octets, _scope) = encoder.into_parts();
-    Ok(octets)
+    let mut inner = Encoder {
+        output: &mut *out,
+        scope: Scope::none(alloc),
+        is_lent: true,
+        alloc,
+    };
+    let answer = put_by(&mut inner, f);
+    *out = inner.into_octets();
+    answer
+}
+
+impl Components {
+    /// Writes a required component by a closure behind the others.
+    fn push_by<F: FnOnce(&mut Encoder<'_>) -> Result<(), EncodeError>>(
+        &mut self,
+        alloc: Global,
+        tag: Tag,
+        f: F,
+    ) -> Result<(), EncodeError>
+        requires callable { F.IsAlwaysCallable f }
+        requires orderly { IsOrderlyHere (Promise F.FnOnce f) }
+        ensures done { OnOk result ((o : Octets) × WroteElement (Promise F.FnOnce f) o × (self.new ≡ self.old ++ (needed tag o ∷ []))) }
+        ensures refused { IfErr result (λ x. WantsMemory x ⊎ RefusedBy (Promise F.FnOnce f) x) }
+    {
+        let start = self.octets.len();
+        put_into(alloc, f, &mut self.octets)?;
+        let size = self.octets.len() - start;
+        push_place(
+            &mut self.places,
+            Component::new(tag, false, true, start, size),
+        )?;
+        Ok(())
+    }
 }
 
 impl<'buffer> Encoder<'buffer> {
@@ -96,8 +127,7 @@ impl<'buffer> Encoder<'buffer> {
         ensures refused { IfErr result (λ x. ComponentBroken (Promise F.FnOnce f) x self.old self.new) }
     {
         if self.scope.is_set {
-            let octets = written_by(self.alloc, f)?;
-            self.keep(tag, false, true, octets)?;
+            self.scope.components.push_by(self.alloc, tag, f)?;
             return Ok(());
         }
         self.put_inside(f)
@@ -115,15 +145,6 @@ impl<'buffer> Encoder<'buffer> {
         ensures begins { BeginsWith self.old.octets self.new.octets }
         ensures left { self.new ≡ record self.old { octets = self.new.octets } }
     {
-        let mut inner = Encoder {
-            output: &mut *self.output,
-            scope: Scope::none(self.alloc),
-            is_lent: true,
-            alloc: self.alloc,
-        };
-        let answer = put_by(&mut inner, f);
-        let (octets, _scope) = inner.into_parts();
-        *self.output = octets;
-        answer
+        put_into(self.alloc, f, &mut *self.output)
     }
 }

@@ -94,4 +94,16 @@ impl<'buffer> Encoder<'buffer> {
         } = self;
         (std::mem::replace(output, Vec::new(alloc)), scope)
     }
+    /// The octets written.
+    pub(crate) fn into_octets(self) -> Vec<u8>
+        ensures { result.items ≡ self.entry.octets }
+    {
+        let Encoder {
+            output,
+            scope: _,
+            is_lent: _,
+            alloc,
+        } = self;
+        std::mem::replace(output, Vec::new(alloc))
+    }
 }

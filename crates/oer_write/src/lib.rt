@@ -8,6 +8,7 @@ mod component_with;
 pub mod enc;
 pub mod encode;
 mod encoder;
+mod holes;
 mod identifiers;
 mod integers;
 mod leaves;

@@ -159,8 +159,7 @@ impl<'buffer> Encoder<'buffer> {
             alloc: self.alloc,
         };
         let answer = put_elements(&mut inner, value, f);
-        let (octets, _scope) = inner.into_parts();
-        *self.output = octets;
+        *self.output = inner.into_octets();
         answer
     }
 }

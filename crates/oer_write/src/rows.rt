@@ -6,56 +6,39 @@ ghost use Rattle.oer_spec.specs.Encoding.{IsEncodable, canonical_octets};
 ghost use Rattle.oer_spec.specs.Spelled.{IsConsistent};
 ghost use Rattle.oer_spec.specs.Tree.{NoRows, Present, Absent};
 ghost use Rattle.oer_spec.specs.Failures.{Fails};
+ghost use Rattle.oer_spec.specs.Writing.{BeginsWith};
 ghost use Rattle.oer_write.specs.Rows.{RowsDone, SetDone, RowsRefused, required, optional, defaulted, present_unless};
 ghost use Rattle.oer_write.specs.Written.{Keeps, Encodes, Refused, WantsMemory};
 
-use crate::component::Component;
 use crate::enc::EncoderOptions;
 use crate::encode::Encode;
 use crate::encoder::Encoder;
 use asn1_core::{Constraints, EncodeError, EncodeErrorKind, Tag};
 use std::alloc::Global;
 
-/// The octets of a value on its own.
-pub(crate) fn content_of<E: Encode>(
+/// Appends a value's octets to those of before.
+pub(crate) fn append_value<E: Encode>(
     alloc: Global,
     tag: Tag,
     constraints: Constraints,
     value: &E,
-) -> Result<Vec<u8>, EncodeError>
+    out: &mut Vec<u8>,
+) -> Result<(), EncodeError>
     requires { IsConsistent constraints }
-    ensures done { IfOk result (λ v. IsEncodable (E.tree constraints value.now) × (v.items ≡ canonical_octets (E.tree constraints value.now)) × (length v.items < 2 ^ 64)) }
+    ensures done { OnOk result (IsEncodable (E.tree constraints value.now) × (out.new.items ≡ out.old.items ++ canonical_octets (E.tree constraints value.now))) }
     ensures value { OnOk result (E.IsValue value.now) }
     ensures refused { IfErr result (λ x. (x.kind ≡ OutOfMemory) ⊎ Fails (E.tree constraints value.now) x.kind) }
     ensures mode { IfErr result (λ x. x.codec ≡ Coer) }
+    ensures begins { BeginsWith out.old.items out.new.items }
 {
-    let mut output = Vec::new(alloc);
     let mut worker = Vec::new(alloc);
-    let mut encoder = Encoder::from_buffer(alloc, EncoderOptions::coer(), &mut output, &mut worker);
-    value.encode_with_tag_and_constraints(&mut encoder, tag, constraints)?;
-    let octets = encoder.output();
-    let _size = octets.len();
-    Ok(octets)
+    let mut encoder = Encoder::from_buffer(alloc, EncoderOptions::coer(), &mut *out, &mut worker);
+    let answer = value.encode_with_tag_and_constraints(&mut encoder, tag, constraints);
+    *out = encoder.into_octets();
+    answer
 }
 
 impl<'buffer> Encoder<'buffer> {
-    /// Keeps a root component of a set apart.
-    pub(crate) fn keep(
-        &mut self,
-        tag: Tag,
-        marked: bool,
-        bit: bool,
-        octets: Vec<u8>,
-    ) -> Result<(), EncodeErrorKind>
-        ensures done { OnOk result (self.new ≡ record self.old { frame = record self.old.frame { components = self.old.frame.components ++ (record { tag = tag; marked = marked; bit = bit; octets = octets.items } ∷ []) } }) }
-        ensures refused { IfErr result (λ k. (k ≡ OutOfMemory) × Keeps self.old self.new) }
-    {
-        self.scope
-            .components
-            .push(Component::new(tag, marked, bit, octets))?;
-        Ok(())
-    }
-
     /// Records a presence bit of a sequence.
     fn mark(&mut self, bit: bool) -> Result<(), EncodeErrorKind>
         ensures done { OnOk result (self.new ≡ record self.old { frame = record self.old.frame { presence = self.old.frame.presence ++ (bit ∷ []) } }) }
@@ -81,8 +64,9 @@ impl<'buffer> Encoder<'buffer> {
         ensures refused { IfErr result (λ x. RowsRefused (required tag (E.tree constraints value.now)) NoRows x self.old self.new) }
     {
         if self.scope.is_set {
-            let octets = content_of(self.alloc, tag, constraints, value)?;
-            self.keep(tag, false, true, octets)?;
+            self.scope
+                .components
+                .push_value(self.alloc, tag, constraints, false, value)?;
             return Ok(());
         }
         value.encode_with_tag_and_constraints(self, tag, constraints)?;
@@ -105,8 +89,9 @@ impl<'buffer> Encoder<'buffer> {
         ensures refused { IfErr result (λ x. RowsRefused (optional tag (Present (E.tree constraints value.now))) NoRows x self.old self.new) }
     {
         if self.scope.is_set {
-            let octets = content_of(self.alloc, tag, constraints, value)?;
-            self.keep(tag, true, true, octets)?;
+            self.scope
+                .components
+                .push_value(self.alloc, tag, constraints, true, value)?;
             return Ok(());
         }
         self.mark(true)?;
@@ -135,7 +120,7 @@ impl<'buffer> Encoder<'buffer> {
         ensures refused { IfErr result (λ x. WantsMemory x × Keeps self.old self.new) }
     {
         if self.scope.is_set {
-            self.keep(tag, true, false, Vec::new(self.alloc))?;
+            self.scope.components.push_absent(tag)?;
             return Ok(());
         }
         self.mark(false)?;

@@ -1,16 +1,24 @@
 //! What is recorded in an open scope, and how it is written as the scope closes.
-ghost use Rattle.std.specs.Prelude.{◌≡◌, ◌++◌};
+ghost use Rattle.std.specs.Prelude.{◌≡◌, ◌+◌, ◌≤◌, ◌++◌, take, drop, vec_len, OnOk, IfErr};
 ghost use Rattle.asn1_core.specs.Octets.{pack};
 ghost use Rattle.oer_spec.specs.Places.{extension_bit};
-ghost use Rattle.oer_spec.specs.Writing.{Appends};
+ghost use Rattle.asn1_core.specs.declared.error.EncodeErrorKind.TheVariants.{OutOfMemory};
+ghost use Rattle.oer_spec.specs.Writing.{Appends, BeginsWith};
 ghost use Rattle.oer_write.specs.Scopes.{any_true, extension_of, sequence_octets};
-ghost use Rattle.oer_write.specs.Seen.{frame_of, item};
+ghost use Rattle.oer_write.specs.Seen.{frame_of};
 ghost use Rattle.oer_write.specs.Written.{fresh, closed};
 
-use crate::component::Component;
+use crate::component::Components;
+use crate::holes::fill;
 use asn1_core::EncodeErrorKind;
 use oer_leaf_write::{write_bitmap, write_preamble};
+use smallvec::SmallVec;
 use std::alloc::Global;
+
+/// Bits of which the first 24 take no memory of their own.
+///
+/// They lie within the scope, so more of them would make each level of nesting take more of the stack.
+pub(crate) type Bits = SmallVec<bool, 24>;
 
 /// What was recorded in a scope so far.
 #[derive(Drop)]
@@ -18,28 +26,31 @@ pub(crate) struct Scope {
     pub(crate) is_open: bool,
     pub(crate) is_set: bool,
     pub(crate) extensible: bool,
+    /// How many octets were written when it was opened.
+    pub(crate) start: usize,
     /// A sequence's presence bits.
-    pub(crate) presence: Vec<bool>,
+    pub(crate) presence: Bits,
     /// A set's root components, in the order handed in.
-    pub(crate) components: Vec<Component>,
+    pub(crate) components: Components,
     /// For each addition whether it is present.
-    pub(crate) bitmap: Vec<bool>,
+    pub(crate) bitmap: Bits,
     /// The open types of the additions that are present.
     pub(crate) opens: Vec<u8>,
 }
 
 impl Scope {
     /// An open scope in which nothing was recorded.
-    pub(crate) fn open(alloc: Global, is_set: bool, extensible: bool) -> Scope
-        ensures { frame_of result ≡ fresh is_set extensible 0 }
+    pub(crate) fn open(alloc: Global, is_set: bool, extensible: bool, start: usize) -> Scope
+        ensures { frame_of result ≡ fresh is_set extensible start }
     {
         Scope {
             is_open: true,
             is_set,
             extensible,
-            presence: Vec::new(alloc),
-            components: Vec::new(alloc),
-            bitmap: Vec::new(alloc),
+            start,
+            presence: Bits::new(alloc),
+            components: Components::new(alloc),
+            bitmap: Bits::new(alloc),
             opens: Vec::new(alloc),
         }
     }
@@ -52,25 +63,33 @@ impl Scope {
             is_open: false,
             is_set: false,
             extensible: false,
-            presence: Vec::new(alloc),
-            components: Vec::new(alloc),
-            bitmap: Vec::new(alloc),
+            start: 0,
+            presence: Bits::new(alloc),
+            components: Components::new(alloc),
+            bitmap: Bits::new(alloc),
             opens: Vec::new(alloc),
         }
     }
 
-    /// Writes a sequence that has these root components.
-    pub(crate) fn write_sequence(
+    /// Closes a sequence whose root components stand behind `size` octets that are free at `start`: the preamble is put
+    /// there, and the additions are written behind.
+    #[tactic(auto, using(crate::proofs::Filling::begins_taken, crate::proofs::Filling::sequence_closed))]
+    pub(crate) fn close_sequence(
         &self,
         alloc: Global,
-        components: &[u8],
+        start: usize,
+        size: usize,
         out: &mut Vec<u8>,
     ) -> Result<(), EncodeErrorKind>
-        ensures { Appends result (sequence_octets (frame_of self.now) components.now) out.old.items out.new.items }
+        requires { start + size ≤ vec_len out.old }
+        ensures done { OnOk result (out.new.items ≡ take start out.old.items ++ sequence_octets (frame_of self.now) (drop (start + size) out.old.items)) }
+        ensures refused { IfErr result (λ k. (k ≡ OutOfMemory) × BeginsWith (take start out.old.items) out.new.items) }
     {
-        self.write_preamble(alloc, &self.presence, out)?;
-        out.extend_from_slice(components)?;
-        self.write_extension(out)
+        let end = out.len();
+        self.write_preamble(alloc, self.presence.as_slice(), out)?;
+        fill(start, size, end, out);
+        self.write_extension(out)?;
+        Ok(())
     }
 
     /// Writes the extension bit and the presence bits, in whole octets (X.696, 16.2).
@@ -85,20 +104,20 @@ impl Scope {
         if !self.extensible {
             return write_preamble(presence, out);
         }
-        let mut bits = Vec::new(alloc);
-        bits.push(any(&self.bitmap))?;
+        let mut bits = Bits::new(alloc);
+        bits.push(any(self.bitmap.as_slice()))?;
         bits.extend_from_slice(presence)?;
-        write_preamble(&bits, out)
+        write_preamble(bits.as_slice(), out)
     }
 
     /// Writes the bitmap and the open types, where some addition is present (X.696, 16.4 and 16.5).
     pub(crate) fn write_extension(&self, out: &mut Vec<u8>) -> Result<(), EncodeErrorKind>
         ensures { Appends result (extension_of self.now.bitmap.items self.now.opens.items) out.old.items out.new.items }
     {
-        if !any(&self.bitmap) {
+        if !any(self.bitmap.as_slice()) {
             return Ok(());
         }
-        write_bitmap(&self.bitmap, out)?;
+        write_bitmap(self.bitmap.as_slice(), out)?;
         out.extend_from_slice(&self.opens)?;
         Ok(())
     }

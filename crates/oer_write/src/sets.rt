@@ -1,24 +1,26 @@
 //! Sets: root components in the order of their tags, whatever the order in which they are handed in.
-ghost use Rattle.std.specs.Prelude.{◌≡◌, ◌++◌, true, map, OnOk, IfErr};
+ghost use Rattle.std.specs.Prelude.{◌≡◌, ◌++◌, ◌⊎◌, [], true, map, OnOk, OnErr, IfErr};
+ghost use Rattle.asn1_core.specs.Octets.{Octets};
 ghost use Rattle.asn1_core.specs.declared.error.EncodeErrorKind.TheVariants.{OutOfMemory};
 ghost use Rattle.oer_spec.specs.Places.{bodies, by_tag, presence};
 ghost use Rattle.oer_spec.specs.Tree.{Rows, Struct};
 ghost use Rattle.oer_spec.specs.Writing.{Appends, BeginsWith};
+ghost use Rattle.oer_write.specs.Kept.{item};
 ghost use Rattle.oer_write.specs.Rows.{IsKnownToWriteSet};
-ghost use Rattle.oer_write.specs.Scopes.{Promise, IsOrderly, IsSameInAnyOrder, SetClosed, Broken, set_octets};
-ghost use Rattle.oer_write.specs.Seen.{frame_of, item};
-ghost use Rattle.oer_write.specs.Written.{Encodes, Refused};
+ghost use Rattle.oer_write.specs.Scopes.{Promise, IsOrderly, IsSameInAnyOrder, RanInScope, SetClosed, Stopped, Broken, set_octets};
+ghost use Rattle.oer_write.specs.Seen.{frame_of};
+ghost use Rattle.oer_write.specs.Written.{Frame, Encodes, Refused, WantsMemory};
 
-use crate::component::Component;
+use crate::component::{Component, Components, body_of};
 use crate::encoder::Encoder;
-use crate::scope::Scope;
+use crate::scope::{Bits, Scope};
 use crate::scopes::run;
 use asn1_core::{Constructed, EncodeError, EncodeErrorKind, Tag};
 use std::alloc::Global;
 
 /// Sorts components by their tags.
 fn arrange(components: &mut Vec<Component>) -> Result<(), EncodeErrorKind>
-    ensures done { OnOk result (map item components.new.items ≡ by_tag (map item components.old.items)) }
+    ensures done { OnOk result ((o : Octets) → map (item o) components.new.items ≡ by_tag (map (item o) components.old.items)) }
     ensures refused { IfErr result (λ k. k ≡ OutOfMemory) }
 {
     components.sort_by_key(|component| component.key)?;
@@ -26,8 +28,8 @@ fn arrange(components: &mut Vec<Component>) -> Result<(), EncodeErrorKind>
 }
 
 /// Appends the presence bits of components.
-fn put_presence(components: &[Component], bits: &mut Vec<bool>) -> Result<(), EncodeErrorKind>
-    ensures done { OnOk result (bits.new.items ≡ bits.old.items ++ presence (map item components.now)) }
+fn put_presence(components: &[Component], bits: &mut Bits) -> Result<(), EncodeErrorKind>
+    ensures done { OnOk result (bits.new.items ≡ bits.old.items ++ presence (map (item []) components.now)) }
     ensures refused { IfErr result (λ k. k ≡ OutOfMemory) }
 {
     for component in components {
@@ -39,13 +41,17 @@ fn put_presence(components: &[Component], bits: &mut Vec<bool>) -> Result<(), En
 }
 
 /// Appends the octets of components.
-fn put_bodies(components: &[Component], out: &mut Vec<u8>) -> Result<(), EncodeErrorKind>
-    ensures done { OnOk result (out.new.items ≡ out.old.items ++ bodies (map item components.now)) }
+fn put_bodies(
+    components: &[Component],
+    octets: &[u8],
+    out: &mut Vec<u8>,
+) -> Result<(), EncodeErrorKind>
+    ensures done { OnOk result (out.new.items ≡ out.old.items ++ bodies (map (item octets.now) components.now)) }
     ensures refused { IfErr result (λ k. k ≡ OutOfMemory) }
     ensures begins { BeginsWith out.old.items out.new.items }
 {
     for component in components {
-        out.extend_from_slice(&component.octets)?;
+        out.extend_from_slice(body_of(component, octets))?;
     }
     Ok(())
 }
@@ -59,12 +65,60 @@ impl Scope {
     ) -> Result<(), EncodeErrorKind>
         ensures { Appends result (set_octets (frame_of self.old)) out.old.items out.new.items }
     {
-        arrange(&mut self.components)?;
-        let mut presence = Vec::new(alloc);
-        put_presence(&self.components, &mut presence)?;
-        self.write_preamble(alloc, &presence, out)?;
-        put_bodies(&self.components, out)?;
+        let Components { mut places, octets } = std::mem::replace(
+            &mut self.components,
+            Components::new(alloc),
+        );
+        arrange(&mut places)?;
+        let mut presence = Bits::new(alloc);
+        put_presence(&places, &mut presence)?;
+        self.write_preamble(alloc, presence.as_slice(), out)?;
+        put_bodies(&places, &octets, out)?;
         self.write_extension(out)
+    }
+}
+
+/// Writes a set; octets that the closure writes otherwise than by the calls for components and additions are dropped.
+fn write_set<F: FnOnce(&mut Encoder<'_>) -> Result<(), EncodeError>>(
+    alloc: Global,
+    extensible: bool,
+    output: &mut Vec<u8>,
+    f: F,
+) -> Result<(), EncodeError>
+    requires callable { F.IsAlwaysCallable f }
+    requires orderly { IsOrderly true (Promise F.FnOnce f) }
+    ensures done { OnOk result ((frame : Frame) × (o : Octets) × RanInScope (Promise F.FnOnce f) true extensible frame o × (output.new.items ≡ output.old.items ++ set_octets frame)) }
+    ensures refused { IfErr result (λ x. WantsMemory x ⊎ Stopped (Promise F.FnOnce f) true extensible x) }
+    ensures begins { BeginsWith output.old.items output.new.items }
+{
+    let start = output.len();
+    let mut scope = run(alloc, true, extensible, &mut *output, f)?;
+    output.truncate(start);
+    scope.write_set(alloc, output)?;
+    Ok(())
+}
+
+/// Writes a set; where it refuses, the output is as before.
+#[tactic(auto, using(crate::proofs::Filling::cut_begun))]
+fn put_set<F: FnOnce(&mut Encoder<'_>) -> Result<(), EncodeError>>(
+    alloc: Global,
+    extensible: bool,
+    output: &mut Vec<u8>,
+    f: F,
+) -> Result<(), EncodeError>
+    requires callable { F.IsAlwaysCallable f }
+    requires orderly { IsOrderly true (Promise F.FnOnce f) }
+    ensures done { OnOk result ((frame : Frame) × (o : Octets) × RanInScope (Promise F.FnOnce f) true extensible frame o × (output.new.items ≡ output.old.items ++ set_octets frame)) }
+    ensures refused { IfErr result (λ x. WantsMemory x ⊎ Stopped (Promise F.FnOnce f) true extensible x) }
+    ensures unchanged { OnErr result (output.new.items ≡ output.old.items) }
+{
+    let start = output.len();
+    match write_set(alloc, extensible, &mut *output, f) {
+        Ok(()) => Ok(()),
+        Err(e) => {
+            output.truncate(start);
+            Err(e)
+        }
     }
 }
 
@@ -100,9 +154,9 @@ impl<'buffer> Encoder<'buffer> {
         requires orderly { IsOrderly true (Promise F.FnOnce f) }
         ensures done { OnOk result (SetClosed (Promise F.FnOnce f) extensible self.old self.new) }
         ensures refused { IfErr result (λ x. Broken (Promise F.FnOnce f) true extensible x self.old self.new) }
+        ensures unchanged { OnErr result (self.new ≡ self.old) }
     {
-        let mut ran = run(self.alloc, true, extensible, f)?;
-        ran.scope.write_set(self.alloc, &mut *self.output)?;
+        put_set(self.alloc, extensible, &mut *self.output, f)?;
         Ok(())
     }
 }

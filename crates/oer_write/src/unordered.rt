@@ -1,5 +1,5 @@
 //! Unordered lists: the elements in the order of their octets.
-ghost use Rattle.std.specs.Prelude.{◌≡◌, ℕ, ◌+◌, ◌<◌, List, [], ◌∷◌, ◌++◌, ◌⊎◌, cond, Bool, true, false, map, OnOk, IfOk, IfErr};
+ghost use Rattle.std.specs.Prelude.{◌≡◌, ℕ, ◌+◌, ◌<◌, List, [], ◌∷◌, ◌++◌, ◌⊎◌, cond, length, Bool, true, false, map, sum, OnOk, IfOk, IfErr};
 ghost use Rattle.asn1_core.specs.Octets.{joined};
 ghost use Rattle.asn1_core.specs.declared.codec.Codec.TheVariants.{Coer};
 ghost use Rattle.asn1_core.specs.declared.error.EncodeErrorKind.TheVariants.{OutOfMemory, TooManyEmptyElements};
@@ -8,14 +8,14 @@ ghost use Rattle.oer_spec.specs.Lengths.{quantity_octets};
 ghost use Rattle.oer_spec.specs.Places.{sorted};
 ghost use Rattle.oer_spec.specs.Spelled.{list_of, EachValue};
 ghost use Rattle.oer_spec.specs.Writing.{Appends, BeginsWith};
-ghost use Rattle.oer_write.specs.Lists.{is_nil, IsByFirst};
-ghost use Rattle.oer_write.specs.Unordered.{octets_in, Gathered, OneMore, OneRefused, IsSameInAnyWalk};
+ghost use Rattle.oer_write.specs.Lists.{IsByFirst};
+ghost use Rattle.oer_write.specs.Unordered.{octets_in, parts, Gathered, OneMore, OneRefused, IsSameInAnyWalk};
 ghost use Rattle.oer_write.specs.Written.{append, Keeps, Encodes, Refused};
 
 use crate::encode::Encode;
 use crate::encoder::Encoder;
 use crate::lists::MAX_EMPTY_ELEMENTS;
-use crate::rows::content_of;
+use crate::rows::append_value;
 use asn1_core::{Constraints, EncodeError, EncodeErrorKind, SetOf, Tag};
 use oer_leaf_write::write_quantity;
 use std::alloc::Global;
@@ -35,60 +35,83 @@ fn next_count(is_empty: bool, count: u32) -> Result<u32, EncodeErrorKind>
     Ok(count + 1)
 }
 
-/// Whether there are no octets.
-fn is_nothing(octets: &[u8]) -> bool
-    ensures { result ≡ is_nil octets.now }
-{
-    match octets {
-        [] => true,
-        _ => false,
-    }
+/// Elements' octets one behind the other, and how many each has.
+#[derive(Drop)]
+pub(crate) struct Contents {
+    octets: Vec<u8>,
+    sizes: Vec<usize>,
 }
 
-/// Writes one element on its own, and counts those without octets.
+/// Records how many octets an element has.
+fn push_size(sizes: &mut Vec<usize>, size: usize) -> Result<(), EncodeErrorKind>
+    ensures done { OnOk result (sizes.new.items ≡ sizes.old.items ++ size ∷ []) }
+    ensures refused { IfErr result (λ k. k ≡ OutOfMemory) }
+{
+    sizes.push(size)?;
+    Ok(())
+}
+
+/// Writes one element behind the others, and counts those without octets.
 fn put_one<E: Encode>(
     alloc: Global,
     x: &E,
     count: u32,
-    contents: &mut Vec<Vec<u8>>,
+    octets: &mut Vec<u8>,
+    sizes: &mut Vec<usize>,
 ) -> Result<u32, EncodeError>
     requires few { count < 65537 }
-    ensures done { IfOk result (λ n. OneMore (E.tree E.CONSTRAINTS) E.IsValue x.now (map octets_in contents.old.items) (map octets_in contents.new.items) count n) }
+    requires whole { sum sizes.old.items ≡ length octets.old.items }
+    ensures done { IfOk result (λ n. OneMore (E.tree E.CONSTRAINTS) E.IsValue x.now (parts sizes.old.items octets.old.items) (parts sizes.new.items octets.new.items) count n) }
+    ensures whole { OnOk result (sum sizes.new.items ≡ length octets.new.items) }
     ensures refused { IfErr result (λ e. OneRefused (E.tree E.CONSTRAINTS x.now) count e.kind) }
     ensures mode { IfErr result (λ e. e.codec ≡ Coer) }
 {
-    let octets = content_of(alloc, E::TAG, E::CONSTRAINTS, x)?;
-    let next = next_count(is_nothing(&octets), count)?;
-    push_content(contents, octets)?;
+    let before = octets.len();
+    append_value(alloc, E::TAG, E::CONSTRAINTS, x, octets)?;
+    let size = octets.len() - before;
+    let next = next_count(size == 0, count)?;
+    push_size(sizes, size)?;
     Ok(next)
 }
 
 /// Each element's octets, in the elements' order.
-fn contents_of<E: Encode>(alloc: Global, elements: &SetOf<E>) -> Result<Vec<Vec<u8>>, EncodeError>
-    ensures done { IfOk result (λ contents. (count : ℕ) × Gathered (E.tree E.CONSTRAINTS) E.IsValue elements.now (map octets_in contents.items) count) }
+fn contents_of<E: Encode>(alloc: Global, elements: &SetOf<E>) -> Result<Contents, EncodeError>
+    ensures done { IfOk result (λ contents. (count : ℕ) × Gathered (E.tree E.CONSTRAINTS) E.IsValue elements.now (parts contents.sizes.items contents.octets.items) count) }
     ensures refused { IfErr result (λ x. (x.kind ≡ OutOfMemory) ⊎ Fails (list_of false (E.tree E.CONSTRAINTS) elements.now) x.kind) }
     ensures mode { IfErr result (λ x. x.codec ≡ Coer) }
     ensures first { IfErr result (λ x. IsByFirst (E.tree E.CONSTRAINTS) elements.now x) }
 {
-    let mut contents = Vec::new(alloc);
+    let mut octets = Vec::new(alloc);
+    let mut sizes = Vec::new(alloc);
     let mut empty_count: u32 = 0;
     for x in elements.iter() {
-        empty_count = put_one(alloc, x, empty_count, &mut contents)?;
+        empty_count = put_one(alloc, x, empty_count, &mut octets, &mut sizes)?;
+    }
+    Ok(Contents { octets, sizes })
+}
+
+/// Where each element's octets lie.
+fn parts_of<'octets>(
+    alloc: Global,
+    octets: &'octets [u8],
+    sizes: &[usize],
+) -> Result<Vec<&'octets [u8]>, EncodeErrorKind>
+    ensures done { IfOk result (λ contents. map octets_in contents.items ≡ parts sizes.now octets.now) }
+    ensures refused { IfErr result (λ k. k ≡ OutOfMemory) }
+{
+    let mut contents = Vec::new(alloc);
+    contents.reserve(sizes.len())?;
+    let mut rest = octets;
+    for size in sizes {
+        let (content, more) = rest.split_at((*size).min(rest.len()));
+        contents.push(content)?;
+        rest = more;
     }
     Ok(contents)
 }
 
-/// Puts an element's octets behind the others.
-fn push_content(contents: &mut Vec<Vec<u8>>, octets: Vec<u8>) -> Result<(), EncodeErrorKind>
-    ensures done { OnOk result (map octets_in contents.new.items ≡ map octets_in contents.old.items ++ (octets.items ∷ [])) }
-    ensures refused { IfErr result (λ k. k ≡ OutOfMemory) }
-{
-    contents.push(octets)?;
-    Ok(())
-}
-
 /// Sorts octets.
-fn arrange_octets(contents: &mut Vec<Vec<u8>>) -> Result<(), EncodeErrorKind>
+fn arrange_octets(contents: &mut Vec<&[u8]>) -> Result<(), EncodeErrorKind>
     ensures done { OnOk result (map octets_in contents.new.items ≡ sorted (map octets_in contents.old.items)) }
     ensures refused { IfErr result (λ k. k ≡ OutOfMemory) }
 {
@@ -97,7 +120,7 @@ fn arrange_octets(contents: &mut Vec<Vec<u8>>) -> Result<(), EncodeErrorKind>
 }
 
 /// Appends each content.
-fn put_contents(contents: &[Vec<u8>], out: &mut Vec<u8>) -> Result<(), EncodeErrorKind>
+fn put_contents(contents: &[&[u8]], out: &mut Vec<u8>) -> Result<(), EncodeErrorKind>
     ensures done { OnOk result (out.new.items ≡ out.old.items ++ joined (map octets_in contents.now)) }
     ensures refused { IfErr result (λ k. k ≡ OutOfMemory) }
     ensures begins { BeginsWith out.old.items out.new.items }
@@ -110,7 +133,7 @@ fn put_contents(contents: &[Vec<u8>], out: &mut Vec<u8>) -> Result<(), EncodeErr
 
 /// Appends a quantity and each content.
 fn write_contents(
-    contents: &[Vec<u8>],
+    contents: &[&[u8]],
     count: usize,
     out: &mut Vec<u8>,
 ) -> Result<(), EncodeErrorKind>
@@ -149,22 +172,23 @@ impl<'buffer> Encoder<'buffer> {
         ensures refused { IfErr result (λ x. Refused (list_of false (E.tree E.CONSTRAINTS) elements.now) x self.old self.new) }
         ensures first { IfErr result (λ x. IsByFirst (E.tree E.CONSTRAINTS) elements.now x) }
     {
-        let mut contents = contents_of(self.alloc, elements)?;
-        self.put_sorted(&mut contents, elements.len())?;
+        let contents = contents_of(self.alloc, elements)?;
+        self.put_sorted(&contents, elements.len())?;
         Ok(())
     }
 
     /// Writes a quantity, and contents in ascending order.
-    fn put_sorted(
-        &mut self,
-        contents: &mut Vec<Vec<u8>>,
-        count: usize,
-    ) -> Result<(), EncodeErrorKind>
-        ensures done { OnOk result (self.new ≡ append (quantity_octets count ++ joined (sorted (map octets_in contents.old.items))) self.old) }
+    fn put_sorted(&mut self, contents: &Contents, count: usize) -> Result<(), EncodeErrorKind>
+        ensures done { OnOk result (self.new ≡ append (quantity_octets count ++ joined (sorted (parts contents.now.sizes.items contents.now.octets.items))) self.old) }
         ensures refused { IfErr result (λ k. (k ≡ OutOfMemory) × Keeps self.old self.new) }
     {
-        arrange_octets(contents)?;
-        write_contents(contents, count, &mut *self.output)?;
+        let mut contents = parts_of(
+            self.alloc,
+            contents.octets.as_slice(),
+            contents.sizes.as_slice(),
+        )?;
+        arrange_octets(&mut contents)?;
+        write_contents(contents.as_slice(), count, &mut *self.output)?;
         Ok(())
     }
 }

@@ -3,7 +3,7 @@ use Rattle.oer_write.proofs.Sequences.{sequence_done, sequence_refused}
 use Rattle.oer_write.proofs.encoder.Encoder.encode_sequence.Goals as goal
 
 pub returns-clause-tree : goal.returns-clause-tree
-returns-clause-tree g c = rw (← c.IS_EXTENSIBLE.ensures) (λ roots additions known. on_ok_weaker _ (sequence_done roots additions known) c.sequence.ensures.done)
+returns-clause-tree g c = rw (← c.IS_EXTENSIBLE-extensible.ensures) (λ roots additions known. on_ok_weaker _ (sequence_done roots additions known) c.sequence.ensures.done)
 
 pub returns-clause-tree_refused : goal.returns-clause-tree_refused
-returns-clause-tree_refused g c = rw (← c.IS_EXTENSIBLE.ensures) (λ roots additions known. IfErr-weaker _ _ _ (λ x h. sequence_refused roots additions known x h) c.sequence.ensures.refused)
+returns-clause-tree_refused g c = rw (← c.IS_EXTENSIBLE-extensible.ensures) (λ roots additions known. IfErr-weaker _ _ _ (λ x h. sequence_refused roots additions known x h) c.sequence.ensures.refused)
