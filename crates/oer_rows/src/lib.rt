@@ -10,6 +10,7 @@ mod places;
 mod reading;
 mod rowed;
 mod sequences;
+mod sets;
 mod views;
 mod writing;
 
@@ -25,6 +26,7 @@ pub use places::{
 pub use reading::decode_row;
 pub use rowed::{Rowed, Schemed};
 pub use sequences::{Sequence, Tabled};
+pub use sets::{InTagOrder, Set};
 pub use views::{AdditionViews, Views};
 pub use writing::{
     Writes, encode_rows, put_added, put_addition, put_default, put_default_addition, put_group,

@@ -8,7 +8,7 @@ use asn1_strings::{
 };
 use oer_types::{
     AddDef, AllDefault, AllOptional, BoolChoice, Bush, ConstrainedOptions, Enum3, HashedId3, Link,
-    Negative, Nested, Pair, Positive,
+    MixedSet, Negative, Nested, Pair, Positive,
 };
 use oer_write::Encode;
 use rasn_oer::Decode;
@@ -100,6 +100,7 @@ fn with_scope<W: UnderConstraints + Drop>(word: &str, work: W) -> Option<W::Outp
         "ConstrainedOptions" => Some(work.under::<ConstrainedOptions>(Constraints::NONE)),
         "AddDef" => Some(work.under::<AddDef>(Constraints::NONE)),
         "BoolChoice" => Some(work.under::<BoolChoice>(Constraints::NONE)),
+        "MixedSet" => Some(work.under::<MixedSet>(Constraints::NONE)),
         "Bush" => Some(work.under::<Bush>(Constraints::NONE)),
         "Link" => Some(work.under::<Link>(Constraints::NONE)),
         "SetOfOctets" => Some(work.under::<SetOf<OctetString>>(Constraints::NONE)),

@@ -3,10 +3,10 @@ use asn1_core::SetOf;
 use asn1_ints::Integer;
 use oer_types::{
     DeepDefault, DefaultAndOptional, DefaultInteger, Empty, EmptyExtensible, ExtendedOptional, Foo,
-    Holder1, Holder2, ManyOptional, MixedSet, Nest, Omitted, OnlyChoice, Outer, PriorityChoice,
-    Sequence1, Sequence2, Sequence3, Sequence5, Sequence6, SequenceDuplicatesExtended, TopLevel,
-    WideChoice,
+    Holder1, Holder2, ManyOptional, Nest, Omitted, OnlyChoice, Outer, PriorityChoice, Sequence1,
+    Sequence2, Sequence3, Sequence5, Sequence6, SequenceDuplicatesExtended, TopLevel, WideChoice,
 };
+use version_types::{MixSet, MixSet2, Sequence7};
 
 /// Does it with the sequence or set of that word; the work again where none has it.
 pub(super) fn with_sequence<W: OnType>(word: &str, work: W) -> Result<W::Output, W> {
@@ -18,6 +18,7 @@ pub(super) fn with_sequence<W: OnType>(word: &str, work: W) -> Result<W::Output,
         "seq3" => Ok(work.on::<Sequence3>()),
         "seq5" => Ok(work.on::<Sequence5>()),
         "seq6" => Ok(work.on::<Sequence6>()),
+        "seq7" => Ok(work.on::<Sequence7>()),
         "outer" => Ok(work.on::<Outer>()),
         "defint" => Ok(work.on::<DefaultInteger>()),
         "defopt" => Ok(work.on::<DefaultAndOptional>()),
@@ -30,7 +31,8 @@ pub(super) fn with_sequence<W: OnType>(word: &str, work: W) -> Result<W::Output,
         "manyopt" => Ok(work.on::<ManyOptional>()),
         "toplevel" => Ok(work.on::<TopLevel>()),
         "foo" => Ok(work.on::<Foo>()),
-        "mixset" => Ok(work.on::<MixedSet>()),
+        "mixset" => Ok(work.on::<MixSet>()),
+        "mixset2" => Ok(work.on::<MixSet2>()),
         _ => Err(work),
     }
 }
@@ -46,6 +48,7 @@ pub(super) fn with_list_or_choice<W: OnType>(word: &str, work: W) -> Result<W::O
         "intset" => Ok(work.on::<SetOf<Integer>>()),
         "bag1" => Ok(work.on::<SetOf<Sequence1>>()),
         "bag2" => Ok(work.on::<SetOf<Sequence2>>()),
+        "bag3" => Ok(work.on::<SetOf<Sequence7>>()),
         "nest" => Ok(work.on::<Nest>()),
         _ => Err(work),
     }

@@ -1,5 +1,6 @@
 //! Tallies of short inputs, made outside the project: a line has the word, the mode, a checksum, how many inputs are read,
-//! and how many are refused by each kind, by its place.
+//! and how many are refused by each kind, by its place. No extension bitmap fits into inputs so short behind a root component:
+//! the tallies of a version are those of the others.
 
 /// Tallies of booleans, integers and enumerated values.
 pub const NUMBERS: &str = "\
@@ -68,6 +69,8 @@ seq5 coer 883d5200 read=2 1=5 4=508 17=65278";
 pub const NESTED: &str = "\
 seq6 oer 366e2ea6 read=256 1=259 17=65278\n\
 seq6 coer 883d5200 read=2 1=5 4=508 17=65278\n\
+seq7 oer 366e2ea6 read=256 1=259 17=65278\n\
+seq7 coer 883d5200 read=2 1=5 4=508 17=65278\n\
 outer oer 366e2ea6 read=256 1=259 17=65278\n\
 outer coer 883d5200 read=2 1=5 4=508 17=65278\n\
 dup oer 8aa2c8f7 read=0 1=2041 2=8 6=8 17=63736\n\
@@ -88,7 +91,9 @@ tag130 coer 6520c0a7 read=0 1=513 10=8 11=65024 23=248\n\
 foo oer c4124351 read=257 1=1786 2=7 6=7 17=63736\n\
 foo coer c4124351 read=257 1=1786 2=7 6=7 17=63736\n\
 mixset oer 7e0072a6 read=256 1=1789 2=6 6=6 17=63736\n\
-mixset coer 2d440a98 read=2 1=1535 2=6 4=508 6=6 17=63736";
+mixset coer 2d440a98 read=2 1=1535 2=6 4=508 6=6 17=63736\n\
+mixset2 oer 7e0072a6 read=256 1=1789 2=6 6=6 17=63736\n\
+mixset2 coer 2d440a98 read=2 1=1535 2=6 4=508 6=6 17=63736";
 
 /// Tallies of lists, and of a default of lists.
 pub const LISTS: &str = "\
@@ -108,4 +113,6 @@ intset coer d2107310 read=1 1=65150 2=257 6=257 23=128\n\
 bag1 oer 292312ad read=1 1=65277 2=257 6=258\n\
 bag1 coer d2107310 read=1 1=65150 2=257 6=257 23=128\n\
 bag2 oer 292312ad read=1 1=65277 2=257 6=258\n\
-bag2 coer d2107310 read=1 1=65150 2=257 6=257 23=128";
+bag2 coer d2107310 read=1 1=65150 2=257 6=257 23=128\n\
+bag3 oer 292312ad read=1 1=65277 2=257 6=258\n\
+bag3 coer d2107310 read=1 1=65150 2=257 6=257 23=128";

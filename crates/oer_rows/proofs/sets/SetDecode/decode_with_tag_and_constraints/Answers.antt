@@ -1,0 +1,11 @@
+use Rattle.std.proofs.Common.{refl}
+use Rattle.oer_rows.proofs.TagOrder.{set_read, set_refused}
+use Rattle.oer_rows.proofs.sets.SetDecode.decode_with_tag_and_constraints.Goals as goal
+
+pub returns-in-Ok-clause-law : goal.returns-in-Ok-clause-law
+returns-in-Ok-clause-law g c =
+    set_read g.T.Row.Components.schema g.T.Row.Components.EXTENSIBLE g.T.Row.Components.is_schema (λ v. g.T.Rowed.components v.0) (λ w. record { 0 = w.0 }) _ _ _ _ g.met.T.InTagOrder.in_order refl c.in-Ok.ensures.law
+
+pub returns-in-Err-clause-law : goal.returns-in-Err-clause-law
+returns-in-Err-clause-law g c =
+    set_refused g.T.Row.Components.schema g.T.Row.Components.EXTENSIBLE g.T.Row.Components.is_schema (λ v. g.T.Rowed.components v.0) (λ w. record { 0 = w.0 }) _ _ _ c.in-Err.ensures.law

@@ -1,0 +1,129 @@
+//! Sets of the components of a type, which stand in its row in the order of their tags.
+
+use crate::components::Components;
+use crate::sequences::{Sequence, Tabled};
+use crate::writing::{Writes, encode_rows};
+use asn1_core::{AsnType, Constraints, Constructed, DecodeError, EncodeError, Field, Fields, Tag};
+use oer_read::{Decode, Decoder};
+use oer_spec::Spelled;
+use oer_write::{Encode, Encoder};
+use std::alloc::Global;
+
+/// A type whose root components stand in its row in the order of their tags (X.680, 8.6), no tag twice.
+///
+/// The order of a SET's components in its ASN.1 says nothing, so any set has such a row. Octets have a set's components in
+/// this order (X.696, 18): as those of the SEQUENCE of the row.
+pub trait InTagOrder<const RC: usize, const EC: usize>: Tabled<RC, EC> {
+    ghost use Rattle.oer_rows.specs.Sets.{IsInOrder};
+
+    ghost in_order: { IsInOrder Self.Row.schema };
+}
+
+/// The SET (X.680, clause 27) of the components of `T`, with `RC` root components and `EC` extension additions.
+#[derive(Debug, PartialEq, Eq, Drop)]
+pub struct Set<T, const RC: usize, const EC: usize>(pub T);
+
+impl<const RC: usize, const EC: usize, T: InTagOrder<RC, EC>> AsnType for Set<T, RC, EC> {
+    ghost use Rattle.std.specs.Prelude.{refl};
+    ghost use Rattle.asn1_core.specs.declared.tag.TheConstants.Tag.{SET};
+    ghost use Rattle.asn1_core.specs.declared.constraints.TheConstants.Constraints.{NONE};
+
+    ghost TAG = { SET };
+
+    const TAG: Tag = Tag::SET;
+
+    ghost CONSTRAINTS = { NONE };
+
+    const CONSTRAINTS: Constraints = Constraints::NONE;
+
+    ghost consistent = { refl };
+
+    // said again, since the trait's own would ask that a `T` is not too large
+    const IS_CHOICE: bool = false;
+}
+
+impl<const RC: usize, const EC: usize, T: InTagOrder<RC, EC>> Constructed<RC, EC>
+    for Set<T, RC, EC> {
+    ghost use Rattle.std.specs.Prelude.{true};
+    ghost use Rattle.oer_rows.specs.Sets.{set_tables};
+
+    ghost is_set = { true };
+
+    ghost root_rows = { T.Row.schema.roots.fields 0 };
+
+    ghost addition_rows = { T.Row.schema.additions.fields 0 };
+
+    ghost IS_EXTENSIBLE = { T.Row.EXTENSIBLE };
+
+    const IS_EXTENSIBLE: bool = T::Row::EXTENSIBLE;
+
+    const FIELDS: Fields<RC> = T::FIELDS;
+
+    const EXTENDED_FIELDS: Option<Fields<EC>> = T::EXTENDED_FIELDS;
+
+    fn root_fields() -> &'static [Field<'static>] {
+        T::root_fields()
+    }
+
+    fn addition_fields() -> &'static [Field<'static>] {
+        T::addition_fields()
+    }
+
+    ghost tables = { set_tables T.Row.schema T.Row.EXTENSIBLE T.Row.Components.is_schema T.in_order RC EC T.root_count T.addition_count };
+}
+
+impl<const RC: usize, const EC: usize, T: InTagOrder<RC, EC>> Spelled for Set<T, RC, EC> {
+    ghost use Rattle.oer_rows.specs.Sets.{IsInSet, set_of, set_is, set_like};
+
+    ghost tree = { λ c v. set_of T.Row.schema T.Row.EXTENSIBLE (T.components v.0) };
+
+    ghost IsValue = { λ v. IsInSet T.Row.schema (T.components v.0) };
+
+    ghost is_tree = { λ c k v i. set_is T.Row.schema T.Row.EXTENSIBLE T.Row.Components.is_schema (T.components v.0) i };
+
+    ghost alike = { λ c k v w i j. set_like T.Row.schema T.Row.EXTENSIBLE T.Row.Components.is_schema (T.components v.0) (T.components w.0) i j };
+}
+
+impl<const RC: usize, const EC: usize, T: InTagOrder<RC, EC>> Writes for Set<T, RC, EC> {
+    ghost roots = { λ v. T.Row.schema.roots.rows (T.components v.0) };
+
+    ghost additions = { λ v. T.Row.schema.additions.rows (T.components v.0) };
+
+    fn put(&self, encoder: &mut Encoder<'_>) -> Result<(), EncodeError> {
+        self.0.put(encoder)
+    }
+}
+
+impl<const RC: usize, const EC: usize, T: InTagOrder<RC, EC>> Encode for Set<T, RC, EC> {
+    fn encode_with_tag_and_constraints(
+        &self,
+        encoder: &mut Encoder<'_>,
+        tag: Tag,
+        _constraints: Constraints,
+    ) -> Result<(), EncodeError> {
+        encode_rows::<RC, EC, Set<T, RC, EC>, Set<T, RC, EC>>(self, encoder, tag)
+    }
+}
+
+impl<const RC: usize, const EC: usize, T: InTagOrder<RC, EC>> Decode for Set<T, RC, EC> {
+    ghost use Rattle.std.specs.Prelude.{⊤};
+
+    ghost Answered = { λ c s r t. ⊤ };
+
+    fn decode_with_tag_and_constraints(
+        alloc: Global,
+        decoder: &mut Decoder<'_>,
+        tag: Tag,
+        constraints: Constraints,
+    ) -> Result<Set<T, RC, EC>, DecodeError> {
+        match Sequence::<T, RC, EC>::decode_with_tag_and_constraints(
+            alloc,
+            decoder,
+            tag,
+            constraints,
+        ) {
+            Ok(sequence) => Ok(Set(sequence.0)),
+            Err(e) => Err(e),
+        }
+    }
+}

@@ -1,0 +1,80 @@
+//! Two versions of a type by one word, the newer first.
+
+use asn1_core::SetOf;
+use asn1_ints::Integer;
+use oer_types::{
+    DeepDefault, ExtendedOptional, Foo, Holder1, Holder2, Outer, PriorityChoice, Sequence1,
+    Sequence2, Sequence3, Sequence5, SequenceDuplicatesExtended, TopLevel,
+};
+use oer_write::Encode;
+use rasn_oer::Decode;
+use version_types::{MixSet, MixSet2, Sequence7};
+
+/// What is done with two versions of a type.
+pub trait OnPair {
+    type Output;
+
+    fn on<New: Decode + Encode + Eq, Old: Decode + Encode + Eq>(self) -> Self::Output;
+}
+
+/// Versions of a sequence; the work again where the word names none.
+fn with_sequences<W: OnPair>(pair: &str, work: W) -> Result<W::Output, W> {
+    match pair {
+        "seq1/seq1" => Ok(work.on::<Sequence1, Sequence1>()),
+        "seq5/seq1" => Ok(work.on::<Sequence5, Sequence1>()),
+        "seq5/seq5" => Ok(work.on::<Sequence5, Sequence5>()),
+        "seq2/seq1" => Ok(work.on::<Sequence2, Sequence1>()),
+        "seq2/seq5" => Ok(work.on::<Sequence2, Sequence5>()),
+        "seq2/seq2" => Ok(work.on::<Sequence2, Sequence2>()),
+        "seq7/seq1" => Ok(work.on::<Sequence7, Sequence1>()),
+        "seq7/seq5" => Ok(work.on::<Sequence7, Sequence5>()),
+        "seq7/seq2" => Ok(work.on::<Sequence7, Sequence2>()),
+        "seq7/seq7" => Ok(work.on::<Sequence7, Sequence7>()),
+        "seq3/seq1" => Ok(work.on::<Sequence3, Sequence1>()),
+        "outer/seq1" => Ok(work.on::<Outer, Sequence1>()),
+        "outer/outer" => Ok(work.on::<Outer, Outer>()),
+        _ => Err(work),
+    }
+}
+
+/// Versions of a list, of a sequence with a default, of a set; the work again where the word names none.
+fn with_others<W: OnPair>(pair: &str, work: W) -> Result<W::Output, W> {
+    match pair {
+        "bag1/bag1" => Ok(work.on::<SetOf<Sequence1>, SetOf<Sequence1>>()),
+        "bag2/bag1" => Ok(work.on::<SetOf<Sequence2>, SetOf<Sequence1>>()),
+        "bag2/bag2" => Ok(work.on::<SetOf<Sequence2>, SetOf<Sequence2>>()),
+        "bag3/bag1" => Ok(work.on::<SetOf<Sequence7>, SetOf<Sequence1>>()),
+        "bag3/bag2" => Ok(work.on::<SetOf<Sequence7>, SetOf<Sequence2>>()),
+        "bag3/bag3" => Ok(work.on::<SetOf<Sequence7>, SetOf<Sequence7>>()),
+        "holder1/holder1" => Ok(work.on::<Holder1, Holder1>()),
+        "holder2/holder1" => Ok(work.on::<Holder2, Holder1>()),
+        "holder2/holder2" => Ok(work.on::<Holder2, Holder2>()),
+        "mixset/mixset" => Ok(work.on::<MixSet, MixSet>()),
+        "mixset2/mixset" => Ok(work.on::<MixSet2, MixSet>()),
+        "mixset2/mixset2" => Ok(work.on::<MixSet2, MixSet2>()),
+        _ => Err(work),
+    }
+}
+
+/// Does it with the versions that the word names, or with a type of one version as both; none where it names none.
+pub fn with_pair<W: OnPair + Drop>(pair: &str, work: W) -> Option<W::Output> {
+    let work = match with_sequences(pair, work) {
+        Ok(output) => return Some(output),
+        Err(work) => work,
+    };
+    let work = match with_others(pair, work) {
+        Ok(output) => return Some(output),
+        Err(work) => work,
+    };
+    match pair {
+        "int/int" => Some(work.on::<Integer, Integer>()),
+        "ints/ints" => Some(work.on::<Vec<Integer>, Vec<Integer>>()),
+        "choice/choice" => Some(work.on::<PriorityChoice, PriorityChoice>()),
+        "foo/foo" => Some(work.on::<Foo, Foo>()),
+        "dup/dup" => Some(work.on::<SequenceDuplicatesExtended, SequenceDuplicatesExtended>()),
+        "extopt/extopt" => Some(work.on::<ExtendedOptional, ExtendedOptional>()),
+        "deepdef/deepdef" => Some(work.on::<DeepDefault, DeepDefault>()),
+        "toplevel/toplevel" => Some(work.on::<TopLevel, TopLevel>()),
+        _ => None,
+    }
+}

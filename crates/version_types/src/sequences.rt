@@ -1,0 +1,166 @@
+//! A later version of `SEQUENCE { a BOOLEAN, ..., b BOOLEAN OPTIONAL, c BOOLEAN OPTIONAL }`.
+
+use asn1_core::{DecodeError, EncodeError, Field, Fields};
+use asn1_ints::Integer;
+use oer_read::{Decoder, Encoder};
+use oer_rows::{
+    AdditionViews, Additions, Components, Context, Defaults, Extensible, IsNumber, MayAdd,
+    MayAddGroup, MayHave, Needs, NoMore, Rowed, Sequence, Tabled, Views, fields,
+};
+use std::alloc::Global;
+
+/// `[[ e BOOLEAN OPTIONAL, f INTEGER DEFAULT 0 ]]`, the group of `Sequence7`
+pub type Addition7 = Sequence<Addition7Components, 2, 0>;
+
+/// The components of an `Addition7`.
+#[derive(Debug, PartialEq, Eq, Drop)]
+pub struct Addition7Components {
+    pub e: Option<bool>,
+    pub f: Integer,
+}
+
+type Addition7Row = MayHave<Context<0>, bool, Defaults<Context<1>, Integer, IsNumber<0>, NoMore>>;
+
+const ADDITION7_FIELDS: &'static [Field<'static>] =
+    fields![0 Optional Context 0 "e", 1 Default Context 1 "f"];
+
+impl Rowed for Addition7Components {
+    type Row = Addition7Row;
+
+    ghost components = { λ v. (v.e, (v.f, tt)) };
+
+    fn from_row((e, (f, ())): <Addition7Row as Components>::Values) -> Addition7Components {
+        Addition7Components { e, f }
+    }
+}
+
+impl Tabled<2, 0> for Addition7Components {
+    ghost use Rattle.std.specs.Prelude.{refl};
+
+    const FIELDS: Fields<2> = Fields {
+        fields: ADDITION7_FIELDS,
+    };
+
+    const EXTENDED_FIELDS: Option<Fields<0>> = None;
+
+    fn root_fields() -> &'static [Field<'static>] {
+        Self::FIELDS.fields
+    }
+
+    fn addition_fields() -> &'static [Field<'static>] {
+        match Self::EXTENDED_FIELDS {
+            Some(table) => table.fields,
+            None => &[],
+        }
+    }
+
+    fn put(&self, encoder: &mut Encoder<'_>) -> Result<(), EncodeError> {
+        Addition7Row::write((&self.e, (&self.f, ())), encoder)
+    }
+
+    ghost root_count = { refl };
+
+    ghost addition_count = { refl };
+}
+
+/// `SEQUENCE { a BOOLEAN, ..., b BOOLEAN OPTIONAL, c BOOLEAN OPTIONAL, d INTEGER OPTIONAL, [[ e BOOLEAN OPTIONAL,
+/// f INTEGER DEFAULT 0 ]] }`: the group is there as a whole or not at all
+pub type Sequence7 = Sequence<Sequence7Components, 1, 4>;
+
+/// The components of a `Sequence7`.
+#[derive(Debug, PartialEq, Eq, Drop)]
+pub struct Sequence7Components {
+    pub a: bool,
+    pub b: Option<bool>,
+    pub c: Option<bool>,
+    pub d: Option<Integer>,
+    pub group: Option<Addition7>,
+}
+
+type Sequence7Row = Needs<
+    Context<0>,
+    bool,
+    Extensible<MayAdd<Context<1>, bool, MayAdd<Context<2>, bool, FromD>>>,
+>;
+
+/// The additions from `d` on.
+pub struct FromD;
+
+type FromDRow = MayAdd<Context<3>, Integer, MayAddGroup<2, 0, Addition7, NoMore>>;
+
+impl Additions for FromD {
+    type More = <FromDRow as Additions>::More;
+
+    ghost table = { ⟦<FromDRow as Additions>⟧.table };
+
+    ghost is_table = { ⟦<FromDRow as Additions>⟧.is_table };
+
+    fn read_additions(alloc: Global, decoder: &mut Decoder<'_>) -> Result<Self::More, DecodeError> {
+        FromDRow::read_additions(alloc, decoder)
+    }
+}
+
+impl<'v> AdditionViews<'v> for FromD {
+    type MoreView = <FromDRow as AdditionViews<'v>>::MoreView;
+
+    ghost seen = { ⟦<FromDRow as AdditionViews<'v>>⟧.seen };
+
+    fn write_additions(
+        view: <FromDRow as AdditionViews<'v>>::MoreView,
+        encoder: &mut Encoder<'_>,
+    ) -> Result<(), EncodeError> {
+        FromDRow::write_additions(view, encoder)
+    }
+}
+
+const SEQUENCE7_FIELDS: &'static [Field<'static>] = fields![0 Required Context 0 "a"];
+
+const SEQUENCE7_ADDITIONS: &'static [Field<'static>] = fields![
+    0 Optional Context 1 "b", 1 Optional Context 2 "c", 2 Optional Context 3 "d", 3 Optional Universal 16 "group"
+];
+
+impl Rowed for Sequence7Components {
+    type Row = Sequence7Row;
+
+    ghost components = { λ v. (v.a, (v.b, (v.c, (v.d, (v.group, tt))))) };
+
+    fn from_row(
+        (a, (b, (c, (d, (group, ()))))): <Sequence7Row as Components>::Values,
+    ) -> Sequence7Components {
+        Sequence7Components { a, b, c, d, group }
+    }
+}
+
+impl Tabled<1, 4> for Sequence7Components {
+    ghost use Rattle.std.specs.Prelude.{refl};
+
+    const FIELDS: Fields<1> = Fields {
+        fields: SEQUENCE7_FIELDS,
+    };
+
+    const EXTENDED_FIELDS: Option<Fields<4>> = Some(Fields {
+        fields: SEQUENCE7_ADDITIONS,
+    });
+
+    fn root_fields() -> &'static [Field<'static>] {
+        Self::FIELDS.fields
+    }
+
+    fn addition_fields() -> &'static [Field<'static>] {
+        match Self::EXTENDED_FIELDS {
+            Some(table) => table.fields,
+            None => &[],
+        }
+    }
+
+    fn put(&self, encoder: &mut Encoder<'_>) -> Result<(), EncodeError> {
+        Sequence7Row::write(
+            (&self.a, (&self.b, (&self.c, (&self.d, (&self.group, ()))))),
+            encoder,
+        )
+    }
+
+    ghost root_count = { refl };
+
+    ghost addition_count = { refl };
+}

@@ -1,0 +1,164 @@
+//! Two versions of a set, each by the row of its components in the order of their tags.
+
+use asn1_core::{EncodeError, Field, Fields};
+use asn1_ints::Integer;
+use asn1_strings::OctetString;
+use oer_read::Encoder;
+use oer_rows::{
+    Application, Components, Context, Defaults, Extensible, InTagOrder, IsNumber, MayAdd, MayHave,
+    Needs, NoMore, Rowed, Set, Tabled, Views, fields,
+};
+
+/// `SET { z [APPLICATION 1] INTEGER DEFAULT 0, y [1] INTEGER OPTIONAL, x [2] BOOLEAN, ..., n [0] BOOLEAN OPTIONAL }`
+pub type MixSet = Set<MixSetComponents, 3, 1>;
+
+/// The components of a `MixSet`.
+#[derive(Debug, PartialEq, Eq, Drop)]
+pub struct MixSetComponents {
+    pub x: bool,
+    pub y: Option<Integer>,
+    pub z: Integer,
+    pub n: Option<bool>,
+}
+
+type MixSetRow = Defaults<
+    Application<1>,
+    Integer,
+    IsNumber<0>,
+    MayHave<
+        Context<1>,
+        Integer,
+        Needs<Context<2>, bool, Extensible<MayAdd<Context<0>, bool, NoMore>>>,
+    >,
+>;
+
+const MIX_SET_FIELDS: &'static [Field<'static>] = fields![
+    0 Default Application 1 "z", 1 Optional Context 1 "y", 2 Required Context 2 "x"
+];
+
+const MIX_SET_ADDITIONS: &'static [Field<'static>] = fields![0 Optional Context 0 "n"];
+
+impl Rowed for MixSetComponents {
+    type Row = MixSetRow;
+
+    ghost components = { λ v. (v.z, (v.y, (v.x, (v.n, tt)))) };
+
+    fn from_row((z, (y, (x, (n, ())))): <MixSetRow as Components>::Values) -> MixSetComponents {
+        MixSetComponents { x, y, z, n }
+    }
+}
+
+impl Tabled<3, 1> for MixSetComponents {
+    ghost use Rattle.std.specs.Prelude.{refl};
+
+    const FIELDS: Fields<3> = Fields {
+        fields: MIX_SET_FIELDS,
+    };
+
+    const EXTENDED_FIELDS: Option<Fields<1>> = Some(Fields {
+        fields: MIX_SET_ADDITIONS,
+    });
+
+    fn root_fields() -> &'static [Field<'static>] {
+        Self::FIELDS.fields
+    }
+
+    fn addition_fields() -> &'static [Field<'static>] {
+        match Self::EXTENDED_FIELDS {
+            Some(table) => table.fields,
+            None => &[],
+        }
+    }
+
+    fn put(&self, encoder: &mut Encoder<'_>) -> Result<(), EncodeError> {
+        MixSetRow::write((&self.z, (&self.y, (&self.x, (&self.n, ())))), encoder)
+    }
+
+    ghost root_count = { refl };
+
+    ghost addition_count = { refl };
+}
+
+impl InTagOrder<3, 1> for MixSetComponents {
+    ghost use Rattle.std.specs.Prelude.{refl};
+
+    ghost in_order = { refl };
+}
+
+/// `SET { z [APPLICATION 1] INTEGER DEFAULT 0, y [1] INTEGER OPTIONAL, x [2] BOOLEAN, ..., n [0] BOOLEAN OPTIONAL,
+/// m [3] OCTET STRING OPTIONAL }`: a newer version of `MixSet`
+pub type MixSet2 = Set<MixSet2Components, 3, 2>;
+
+/// The components of a `MixSet2`.
+#[derive(Debug, PartialEq, Eq, Drop)]
+pub struct MixSet2Components {
+    pub x: bool,
+    pub y: Option<Integer>,
+    pub z: Integer,
+    pub n: Option<bool>,
+    pub m: Option<OctetString>,
+}
+
+type MixSet2Row = Defaults<
+    Application<1>,
+    Integer,
+    IsNumber<0>,
+    MayHave<Context<1>, Integer, Needs<Context<2>, bool, Extensible<FromN>>>,
+>;
+
+type FromN = MayAdd<Context<0>, bool, MayAdd<Context<3>, OctetString, NoMore>>;
+
+const MIX_SET2_ADDITIONS: &'static [Field<'static>] =
+    fields![0 Optional Context 0 "n", 1 Optional Context 3 "m"];
+
+impl Rowed for MixSet2Components {
+    type Row = MixSet2Row;
+
+    ghost components = { λ v. (v.z, (v.y, (v.x, (v.n, (v.m, tt))))) };
+
+    fn from_row(
+        (z, (y, (x, (n, (m, ()))))): <MixSet2Row as Components>::Values,
+    ) -> MixSet2Components {
+        MixSet2Components { x, y, z, n, m }
+    }
+}
+
+impl Tabled<3, 2> for MixSet2Components {
+    ghost use Rattle.std.specs.Prelude.{refl};
+
+    const FIELDS: Fields<3> = Fields {
+        fields: MIX_SET_FIELDS,
+    };
+
+    const EXTENDED_FIELDS: Option<Fields<2>> = Some(Fields {
+        fields: MIX_SET2_ADDITIONS,
+    });
+
+    fn root_fields() -> &'static [Field<'static>] {
+        Self::FIELDS.fields
+    }
+
+    fn addition_fields() -> &'static [Field<'static>] {
+        match Self::EXTENDED_FIELDS {
+            Some(table) => table.fields,
+            None => &[],
+        }
+    }
+
+    fn put(&self, encoder: &mut Encoder<'_>) -> Result<(), EncodeError> {
+        MixSet2Row::write(
+            (&self.z, (&self.y, (&self.x, (&self.n, (&self.m, ()))))),
+            encoder,
+        )
+    }
+
+    ghost root_count = { refl };
+
+    ghost addition_count = { refl };
+}
+
+impl InTagOrder<3, 2> for MixSet2Components {
+    ghost use Rattle.std.specs.Prelude.{refl};
+
+    ghost in_order = { refl };
+}
