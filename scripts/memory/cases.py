@@ -1,4 +1,4 @@
-"""The calls of crates/oer_memory with what each has to answer, typed from the requests, X.696 and X.690.
+"""The calls of crates/oer_memory with what each has to answer, typed by hand from docs/ENCODING.md, X.696 and X.690.
 
 A row is a type's word, octets, the value that is read of the whole of them in each mode or the name of the refusal, and the
 canonical octets of that value. Each row goes through each call, where the word names constraints through the calls that take
@@ -51,7 +51,7 @@ SEQ2 = "Sequence2 {{ a: {}, b: {}, c: {} }}"
 MOST = "[" + ", ".join(["()"] * 65536) + "]"
 
 ROWS = [
-    # the requests' rows: integers
+    # integers
     Row("int", "02 ff 01", number(-255)),
     Row("int", "81 80 00" + " ff" * 127, number(GREAT)),
     # both versions of a sequence with additions, and one within another
@@ -80,7 +80,7 @@ ROWS = [
     Row("date", "08" + hexed("20230229"), "InvalidTime"),
     # a set with an addition
     Row("mixset", "e0 01 03 01 05 ff 02 07 80 01 00", f"MixedSet {{ x: true, y: Some({number(5)}), z: {number(3)}, n: Some(false) }}"),
-    # what these don't reach
+    # what those don't reach
     Row("bool", "ff", "true"),
     Row("octets", "03 61 62 63", octets("abc")),
     Row("any", "03 61 62 63", octets("abc")),
