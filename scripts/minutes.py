@@ -1,12 +1,15 @@
 #!/usr/bin/env python3
 """Runs a command, hands its lines on, and prints before its last line the processor minutes of each crate.
 
-usage: minutes.py COMMAND..., for example: minutes.py rt ci
+usage: minutes.py COMMAND... [--then COMMAND...]..., for example: minutes.py rt ci --then scripts/memory/run.py
 
 A look each second at the processes below the command says which crate a prover works for, and whether it proves, proves
-tests, or tries an edit. The exit status is the command's.
+tests, or tries an edit. Where the command passes, those behind a `--then` run after it, and print before its last line. The
+exit status is the first that isn't 0. The last line is the command's own; where one behind a `--then` failed, it counts that as
+one more that failed.
 """
 import os
+import re
 import resource
 import subprocess
 import sys
@@ -96,8 +99,28 @@ def table(rows, whole):
     return "\n".join(lines)
 
 
+def commands(words):
+    """The command, and those behind it."""
+    found = [[]]
+    for word in words:
+        if word == "--then":
+            found.append([])
+        else:
+            found[-1].append(word)
+    return found
+
+
+def counting(line, failed):
+    """The last line, with so many more that failed."""
+    def more(found):
+        return b"%d failed" % (int(found[1]) + failed)
+
+    return re.sub(rb"(\d+) failed", more, line) if failed else line
+
+
 def main():
-    command = subprocess.Popen(sys.argv[1:], stdout=subprocess.PIPE, stderr=subprocess.STDOUT)
+    first, *others = commands(sys.argv[1:])
+    command = subprocess.Popen(first, stdout=subprocess.PIPE, stderr=subprocess.STDOUT)
     watch = Watch(command.pid)
     watch.start()
     held = b""
@@ -105,12 +128,15 @@ def main():
         sys.stdout.buffer.write(held)
         sys.stdout.buffer.flush()
         held = line
-    status = command.wait()
+    statuses = [command.wait()]
     watch.over.set()
     used = resource.getrusage(resource.RUSAGE_CHILDREN)
     print(table(watch.rows(), used.ru_utime + used.ru_stime), flush=True)
-    sys.stdout.buffer.write(held)
+    if statuses[0] == 0:
+        statuses += [subprocess.run(other, check=False).returncode for other in others]
+    sys.stdout.buffer.write(counting(held, sum(status != 0 for status in statuses[1:])))
     sys.stdout.buffer.flush()
+    status = next((status for status in statuses if status), 0)
     return status if status >= 0 else 128 - status
 
 

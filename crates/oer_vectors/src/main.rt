@@ -6,18 +6,21 @@
 //!   as it was.
 //! - `value MODE WORD HEX`: what is left, and the value that is read.
 //! - `depth N MODE WORD HEX`: the same as `read` within N levels; `none` where so many can't be chosen.
-//! - `fronts WORD HEX`: how many proper fronts of the octets are refused for want of octets, in both modes.
+//! - `fronts WORD HEX`: how many proper fronts of the octets are refused for want of octets, in both modes: by the modules' calls and
+//!   by a decoder behind a boolean, which lack as many octets and leave the whole front.
 //!
 //! MODE is `oer` or `coer`; WORD is one of the program's, or one of a type under constraints (not for `run`).
 #![tactic(auto)]
 
 mod depth;
+mod front;
 mod reading;
 mod values;
 
 use anyhow::{Error, Result};
 use asn1_core::Codec;
 use depth::WithOptions;
+use front::Front;
 use oer_words::constrained::with_word;
 use oer_words::run::run;
 use rasn_oer::DecoderOptions;
@@ -84,11 +87,14 @@ fn shown(alloc: Global, codec: Codec, word: &str, octets: &[u8]) -> Result<Strin
 fn fronts(alloc: Global, word: &str, text: &str) -> Result<String> {
     let octets = hex::decode(alloc, text)?;
     for length in 0..octets.len() {
-        let front = octets.as_slice().get(..length).unwrap_or(&[]);
-        if !read(alloc, Codec::Oer, word, front)?.starts_with("Oer Incomplete")
-            || !read(alloc, Codec::Coer, word, front)?.starts_with("Coer Incomplete")
-        {
-            return Err(Error::msg("a front is read, or refused otherwise"));
+        let whole = behind_a_boolean(alloc, octets.as_slice().get(..length).unwrap_or(&[]))?;
+        let front = Front {
+            alloc,
+            behind: whole.as_slice(),
+        };
+        match with_word(word, front) {
+            Some(answer) => answer?,
+            None => return Err(Error::msg("no such type")),
         }
     }
     Ok(format!(in alloc; "{}", octets.len())?)

@@ -1,0 +1,235 @@
+//! Methods of `Decoder` by their words, on a decoder in the middle of an input: behind a boolean.
+use crate::answers::left;
+use crate::entry::{Call, options_of};
+use crate::marks::begin;
+use anyhow::{Error, Result};
+use asn1_core::{Constraints, Tag};
+use asn1_ints::Integer;
+use oer_types::{Enum4, GreatPositive, PriorityChoice};
+use rasn_oer::{Decode, Decoder};
+
+const NONE: Constraints = Constraints::NONE;
+
+/// Those of the leaves that take memory, and of choices.
+fn with_memory(call: Call<'_>, d: &mut Decoder<'_>) -> Result<Option<String>> {
+    let alloc = call.alloc;
+    let line = match call.word {
+        "decode_any" => {
+            let it = d.decode_any(alloc, Tag::EOC);
+            left(alloc, d, &it)?
+        }
+        "decode_bit_string" => {
+            let it = d.decode_bit_string(alloc, Tag::BIT_STRING, NONE);
+            left(alloc, d, &it)?
+        }
+        "decode_integer::<Integer>" => {
+            let it = d.decode_integer::<Integer>(alloc, Tag::INTEGER, NONE);
+            left(alloc, d, &it)?
+        }
+        "decode_integer::<GreatPositive>" => {
+            let it = d.decode_integer::<GreatPositive>(alloc, Tag::INTEGER, NONE);
+            left(alloc, d, &it)?
+        }
+        "decode_object_identifier" => {
+            let it = d.decode_object_identifier(alloc, Tag::OBJECT_IDENTIFIER);
+            left(alloc, d, &it)?
+        }
+        "decode_choice" => {
+            let it = d.decode_choice::<PriorityChoice>(alloc, NONE);
+            left(alloc, d, &it)?
+        }
+        _ => return Ok(None),
+    };
+    Ok(Some(line))
+}
+
+/// Those of character strings.
+fn texts(call: Call<'_>, d: &mut Decoder<'_>) -> Result<Option<String>> {
+    let alloc = call.alloc;
+    let line = match call.word {
+        "decode_utf8_string" => {
+            let it = d.decode_utf8_string(alloc, Tag::UTF8_STRING, NONE);
+            left(alloc, d, &it)?
+        }
+        "decode_visible_string" => {
+            let it = d.decode_visible_string(alloc, Tag::VISIBLE_STRING, NONE);
+            left(alloc, d, &it)?
+        }
+        "decode_general_string" => {
+            let it = d.decode_general_string(alloc, Tag::GENERAL_STRING, NONE);
+            left(alloc, d, &it)?
+        }
+        "decode_graphic_string" => {
+            let it = d.decode_graphic_string(alloc, Tag::GRAPHIC_STRING, NONE);
+            left(alloc, d, &it)?
+        }
+        "decode_ia5_string" => {
+            let it = d.decode_ia5_string(alloc, Tag::IA5_STRING, NONE);
+            left(alloc, d, &it)?
+        }
+        _ => return further_texts(call, d),
+    };
+    Ok(Some(line))
+}
+
+/// The other four.
+fn further_texts(call: Call<'_>, d: &mut Decoder<'_>) -> Result<Option<String>> {
+    let alloc = call.alloc;
+    let line = match call.word {
+        "decode_printable_string" => {
+            let it = d.decode_printable_string(alloc, Tag::PRINTABLE_STRING, NONE);
+            left(alloc, d, &it)?
+        }
+        "decode_numeric_string" => {
+            let it = d.decode_numeric_string(alloc, Tag::NUMERIC_STRING, NONE);
+            left(alloc, d, &it)?
+        }
+        "decode_teletex_string" => {
+            let it = d.decode_teletex_string(alloc, Tag::TELETEX_STRING, NONE);
+            left(alloc, d, &it)?
+        }
+        "decode_bmp_string" => {
+            let it = d.decode_bmp_string(alloc, Tag::BMP_STRING, NONE);
+            left(alloc, d, &it)?
+        }
+        _ => return Ok(None),
+    };
+    Ok(Some(line))
+}
+
+/// Those that make no request.
+fn without_memory(call: Call<'_>, d: &mut Decoder<'_>) -> Result<Option<String>> {
+    let alloc = call.alloc;
+    let line = match call.word {
+        "remaining" => {
+            let it = Ok(d.remaining());
+            left(alloc, d, &it)?
+        }
+        "decode_bool" => {
+            let it = d.decode_bool(Tag::BOOL);
+            left(alloc, d, &it)?
+        }
+        "decode_null" => {
+            let it = d.decode_null(Tag::NULL);
+            left(alloc, d, &it)?
+        }
+        "decode_enumerated" => {
+            let it = d.decode_enumerated::<Enum4>(Tag::ENUMERATED);
+            left(alloc, d, &it)?
+        }
+        "decode_octet_string" => {
+            let it = d.decode_octet_string(Tag::OCTET_STRING, NONE);
+            left(alloc, d, &it)?
+        }
+        "refuse_default" => {
+            let it = d.refuse_default(&7, &7);
+            left(alloc, d, &it)?
+        }
+        _ => return times(call, d),
+    };
+    Ok(Some(line))
+}
+
+/// Those of times.
+fn times(call: Call<'_>, d: &mut Decoder<'_>) -> Result<Option<String>> {
+    let alloc = call.alloc;
+    let line = match call.word {
+        "decode_utc_time" => {
+            let it = d.decode_utc_time(Tag::UTC_TIME);
+            left(alloc, d, &it)?
+        }
+        "decode_generalized_time" => {
+            let it = d.decode_generalized_time(Tag::GENERALIZED_TIME);
+            left(alloc, d, &it)?
+        }
+        "decode_date" => {
+            let it = d.decode_date(Tag::DATE);
+            left(alloc, d, &it)?
+        }
+        _ => return Ok(None),
+    };
+    Ok(Some(line))
+}
+
+/// `decode_integer` into Rust's types of up to 32 bits.
+fn short_numbers(call: Call<'_>, d: &mut Decoder<'_>) -> Result<Option<String>> {
+    let alloc = call.alloc;
+    let line = match call.word {
+        "decode_integer::<i8>" => {
+            let it = d.decode_integer::<i8>(alloc, Tag::INTEGER, NONE);
+            left(alloc, d, &it)?
+        }
+        "decode_integer::<i16>" => {
+            let it = d.decode_integer::<i16>(alloc, Tag::INTEGER, NONE);
+            left(alloc, d, &it)?
+        }
+        "decode_integer::<i32>" => {
+            let it = d.decode_integer::<i32>(alloc, Tag::INTEGER, NONE);
+            left(alloc, d, &it)?
+        }
+        "decode_integer::<u8>" => {
+            let it = d.decode_integer::<u8>(alloc, Tag::INTEGER, NONE);
+            left(alloc, d, &it)?
+        }
+        "decode_integer::<u16>" => {
+            let it = d.decode_integer::<u16>(alloc, Tag::INTEGER, NONE);
+            left(alloc, d, &it)?
+        }
+        "decode_integer::<u32>" => {
+            let it = d.decode_integer::<u32>(alloc, Tag::INTEGER, NONE);
+            left(alloc, d, &it)?
+        }
+        _ => return long_numbers(call, d),
+    };
+    Ok(Some(line))
+}
+
+/// `decode_integer` into the longer ones.
+fn long_numbers(call: Call<'_>, d: &mut Decoder<'_>) -> Result<Option<String>> {
+    let alloc = call.alloc;
+    let line = match call.word {
+        "decode_integer::<i64>" => {
+            let it = d.decode_integer::<i64>(alloc, Tag::INTEGER, NONE);
+            left(alloc, d, &it)?
+        }
+        "decode_integer::<i128>" => {
+            let it = d.decode_integer::<i128>(alloc, Tag::INTEGER, NONE);
+            left(alloc, d, &it)?
+        }
+        "decode_integer::<isize>" => {
+            let it = d.decode_integer::<isize>(alloc, Tag::INTEGER, NONE);
+            left(alloc, d, &it)?
+        }
+        "decode_integer::<u64>" => {
+            let it = d.decode_integer::<u64>(alloc, Tag::INTEGER, NONE);
+            left(alloc, d, &it)?
+        }
+        "decode_integer::<u128>" => {
+            let it = d.decode_integer::<u128>(alloc, Tag::INTEGER, NONE);
+            left(alloc, d, &it)?
+        }
+        "decode_integer::<usize>" => {
+            let it = d.decode_integer::<usize>(alloc, Tag::INTEGER, NONE);
+            left(alloc, d, &it)?
+        }
+        _ => return Ok(None),
+    };
+    Ok(Some(line))
+}
+
+/// What a method answers, by its word; nothing where it is no leaf's.
+pub fn leaf_method(call: Call<'_>) -> Result<Option<String>> {
+    let mut decoder = Decoder::new(call.octets, options_of(call.codec));
+    let _boolean = bool::decode(call.alloc, &mut decoder)?;
+    begin(call.alloc)?;
+    if let Some(line) = with_memory(call, &mut decoder)? {
+        return Ok(Some(line));
+    }
+    if let Some(line) = texts(call, &mut decoder)? {
+        return Ok(Some(line));
+    }
+    if let Some(line) = without_memory(call, &mut decoder)? {
+        return Ok(Some(line));
+    }
+    short_numbers(call, &mut decoder)
+}

@@ -1,0 +1,244 @@
+//! Methods of `Encoder` by their words, behind a boolean: the value is what the octets are read as.
+use crate::answers::appended;
+use crate::entry::one;
+use crate::marks::begin;
+use anyhow::{Error, Result};
+use asn1_core::{Codec, Constraints, EncodeError, SetOf, Tag};
+use asn1_ints::Integer;
+use oer_types::{Enum4, Sequence4};
+use oer_write::enc::EncoderOptions;
+use rasn_oer::{Decoder, DecoderOptions, Encode, Encoder};
+use std::alloc::Global;
+
+const NONE: Constraints = Constraints::NONE;
+
+/// What a method answered; none where the word is no method's.
+pub type Done = Option<Result<(), EncodeError>>;
+
+/// A boolean, null, an enumerated value, numbers, octets and bits.
+fn plain(alloc: Global, word: &str, d: &mut Decoder<'_>, e: &mut Encoder<'_>) -> Result<Done> {
+    let done = match word {
+        "encode_bool" => {
+            begin(alloc)?;
+            e.encode_bool(Tag::BOOL, true)
+        }
+        "encode_null" => {
+            begin(alloc)?;
+            e.encode_null(Tag::NULL)
+        }
+        "encode_enumerated" => {
+            let value: Enum4 = d.decode_enumerated(Tag::ENUMERATED)?;
+            begin(alloc)?;
+            e.encode_enumerated(Tag::ENUMERATED, &value)
+        }
+        "encode_integer" => {
+            let value: Integer = d.decode_integer(alloc, Tag::INTEGER, NONE)?;
+            begin(alloc)?;
+            e.encode_integer(Tag::INTEGER, NONE, &value)
+        }
+        "encode_bit_string" => {
+            let value = d.decode_bit_string(alloc, Tag::BIT_STRING, NONE)?;
+            begin(alloc)?;
+            e.encode_bit_string(Tag::BIT_STRING, NONE, &value)
+        }
+        "encode_octet_string" => {
+            let value = d.decode_octet_string(Tag::OCTET_STRING, NONE)?;
+            begin(alloc)?;
+            e.encode_octet_string(Tag::OCTET_STRING, NONE, value)
+        }
+        _ => return octets_and_times(alloc, word, d, e),
+    };
+    Ok(Some(done))
+}
+
+/// Octets of an open type, an identifier, and times.
+fn octets_and_times(
+    alloc: Global,
+    word: &str,
+    d: &mut Decoder<'_>,
+    e: &mut Encoder<'_>,
+) -> Result<Done> {
+    let done = match word {
+        "encode_any" => {
+            let value = d.decode_any(alloc, Tag::EOC)?;
+            begin(alloc)?;
+            e.encode_any(Tag::EOC, &value)
+        }
+        "encode_object_identifier" => {
+            let value = d.decode_object_identifier(alloc, Tag::OBJECT_IDENTIFIER)?;
+            begin(alloc)?;
+            e.encode_object_identifier(Tag::OBJECT_IDENTIFIER, value.arcs())
+        }
+        "encode_utc_time" => {
+            let value = d.decode_utc_time(Tag::UTC_TIME)?;
+            begin(alloc)?;
+            e.encode_utc_time(Tag::UTC_TIME, &value)
+        }
+        "encode_generalized_time" => {
+            let value = d.decode_generalized_time(Tag::GENERALIZED_TIME)?;
+            begin(alloc)?;
+            e.encode_generalized_time(Tag::GENERALIZED_TIME, &value)
+        }
+        "encode_date" => {
+            let value = d.decode_date(Tag::DATE)?;
+            begin(alloc)?;
+            e.encode_date(Tag::DATE, &value)
+        }
+        _ => return Ok(None),
+    };
+    Ok(Some(done))
+}
+
+/// Five types of character strings.
+fn texts(alloc: Global, word: &str, d: &mut Decoder<'_>, e: &mut Encoder<'_>) -> Result<Done> {
+    let done = match word {
+        "encode_utf8_string" => {
+            let text = d.decode_utf8_string(alloc, Tag::UTF8_STRING, NONE)?;
+            begin(alloc)?;
+            e.encode_utf8_string(Tag::UTF8_STRING, NONE, text.as_str())
+        }
+        "encode_visible_string" => {
+            let text = d.decode_visible_string(alloc, Tag::VISIBLE_STRING, NONE)?;
+            begin(alloc)?;
+            e.encode_visible_string(Tag::VISIBLE_STRING, NONE, &text)
+        }
+        "encode_general_string" => {
+            let text = d.decode_general_string(alloc, Tag::GENERAL_STRING, NONE)?;
+            begin(alloc)?;
+            e.encode_general_string(Tag::GENERAL_STRING, NONE, &text)
+        }
+        "encode_graphic_string" => {
+            let text = d.decode_graphic_string(alloc, Tag::GRAPHIC_STRING, NONE)?;
+            begin(alloc)?;
+            e.encode_graphic_string(Tag::GRAPHIC_STRING, NONE, &text)
+        }
+        "encode_ia5_string" => {
+            let text = d.decode_ia5_string(alloc, Tag::IA5_STRING, NONE)?;
+            begin(alloc)?;
+            e.encode_ia5_string(Tag::IA5_STRING, NONE, &text)
+        }
+        _ => return further_texts(alloc, word, d, e),
+    };
+    Ok(Some(done))
+}
+
+/// The other four.
+fn further_texts(
+    alloc: Global,
+    word: &str,
+    d: &mut Decoder<'_>,
+    e: &mut Encoder<'_>,
+) -> Result<Done> {
+    let done = match word {
+        "encode_printable_string" => {
+            let text = d.decode_printable_string(alloc, Tag::PRINTABLE_STRING, NONE)?;
+            begin(alloc)?;
+            e.encode_printable_string(Tag::PRINTABLE_STRING, NONE, &text)
+        }
+        "encode_numeric_string" => {
+            let text = d.decode_numeric_string(alloc, Tag::NUMERIC_STRING, NONE)?;
+            begin(alloc)?;
+            e.encode_numeric_string(Tag::NUMERIC_STRING, NONE, &text)
+        }
+        "encode_teletex_string" => {
+            let text = d.decode_teletex_string(alloc, Tag::TELETEX_STRING, NONE)?;
+            begin(alloc)?;
+            e.encode_teletex_string(Tag::TELETEX_STRING, NONE, &text)
+        }
+        "encode_bmp_string" => {
+            let text = d.decode_bmp_string(alloc, Tag::BMP_STRING, NONE)?;
+            begin(alloc)?;
+            e.encode_bmp_string(Tag::BMP_STRING, NONE, &text)
+        }
+        _ => return Ok(None),
+    };
+    Ok(Some(done))
+}
+
+/// Components of a boolean, where no scope is open, and the calls of `Encode`.
+fn components(alloc: Global, word: &str, e: &mut Encoder<'_>) -> Result<Done> {
+    begin(alloc)?;
+    let done = match word {
+        "encode_component" => e.encode_component(one(), NONE, &true),
+        "encode_some" => e.encode_some(&true),
+        "encode_some_with_tag_and_constraints" => {
+            e.encode_some_with_tag_and_constraints(one(), NONE, &true)
+        }
+        "encode_none" => e.encode_none::<bool>(),
+        "encode_none_with_tag" => e.encode_none_with_tag(one()),
+        "encode_default" => e.encode_default(&true, &false),
+        "encode_default_with_tag_and_constraints" => {
+            e.encode_default_with_tag_and_constraints(one(), NONE, &true, &false)
+        }
+        "encode_extension_addition" => e.encode_extension_addition(one(), NONE, Some(&true)),
+        "encode_extension_addition_group" => {
+            e.encode_extension_addition_group(Some(&Sequence4 { a: true }))
+        }
+        "encode_extension_addition_default" => {
+            e.encode_extension_addition_default(one(), NONE, &true, &false)
+        }
+        "encode_explicit_prefix" => e.encode_explicit_prefix(one(), &true),
+        "Encode::encode" => true.encode(e),
+        "Encode::encode_with_tag" => true.encode_with_tag(e, one()),
+        "Encode::encode_with_constraints" => true.encode_with_constraints(e, NONE),
+        "Encode::encode_with_tag_and_constraints" => {
+            true.encode_with_tag_and_constraints(e, one(), NONE)
+        }
+        _ => return Ok(None),
+    };
+    Ok(Some(done))
+}
+
+/// Lists of both kinds.
+fn lists(alloc: Global, word: &str, d: &mut Decoder<'_>, e: &mut Encoder<'_>) -> Result<Done> {
+    let done = match word {
+        "encode_sequence_of" => {
+            let list: Vec<Integer> = d.decode_sequence_of(alloc, Tag::SEQUENCE, NONE)?;
+            begin(alloc)?;
+            e.encode_sequence_of(Tag::SEQUENCE, NONE, list.as_slice())
+        }
+        "encode_set_of" => {
+            let list: Vec<Integer> = d.decode_sequence_of(alloc, Tag::SEQUENCE, NONE)?;
+            let list = SetOf::from_vec(list);
+            begin(alloc)?;
+            e.encode_set_of(Tag::SET, NONE, &list)
+        }
+        _ => return Ok(None),
+    };
+    Ok(Some(done))
+}
+
+/// Does what the word asks for.
+fn run(alloc: Global, word: &str, d: &mut Decoder<'_>, e: &mut Encoder<'_>) -> Result<Done> {
+    if let Some(done) = plain(alloc, word, d, e)? {
+        return Ok(Some(done));
+    }
+    if let Some(done) = texts(alloc, word, d, e)? {
+        return Ok(Some(done));
+    }
+    if let Some(done) = lists(alloc, word, d, e)? {
+        return Ok(Some(done));
+    }
+    if let Some(done) = crate::writers::closures(alloc, word, d, e)? {
+        return Ok(Some(done));
+    }
+    components(alloc, word, e)
+}
+
+/// What a method appends behind a boolean, by its word.
+pub fn encoder_method(alloc: Global, word: &str, octets: &[u8]) -> Result<String> {
+    let mut decoder = Decoder::new(octets, DecoderOptions::oer());
+    let mut output = Vec::new(alloc);
+    let mut worker = vec![in alloc; 9]?;
+    let options = EncoderOptions::coer();
+    let mut encoder = Encoder::from_buffer(alloc, options, &mut output, &mut worker);
+    encoder.encode_bool(Tag::BOOL, true)?;
+    if encoder.codec() != Codec::Coer {
+        return Err(Error::msg("another mode"));
+    }
+    let Some(answer) = run(alloc, word, &mut decoder, &mut encoder)? else {
+        return Err(Error::msg("no such method"));
+    };
+    drop(encoder);
+    appended(alloc, answer, &output)
+}

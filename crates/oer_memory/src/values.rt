@@ -1,0 +1,150 @@
+//! Constructors, conversions and comparisons of the crates of ASN.1's values, of octets.
+use crate::answers::{filled, made, plain};
+use crate::marks::begin;
+use anyhow::{Error, Result};
+use asn1_core::{Codec, SetOf};
+use asn1_ints::{Integer, IntegerType};
+use asn1_strings::{
+    Any, BitString, BmpString, GeneralString, GraphicString, Ia5String, NumericString,
+    ObjectIdentifier, OctetString, PrintableString, TeletexString, VisibleString,
+    object_identifier_as_bytes, object_identifier_from_bytes,
+};
+use asn1_times::{Date, GeneralizedTime, UtcTime};
+use std::alloc::Global;
+
+/// Octet strings, bit strings and character strings of octets.
+fn strings(alloc: Global, word: &str, octets: &[u8]) -> Result<Option<String>> {
+    begin(alloc)?;
+    let line = match word {
+        "OctetString::from_slice" => made(alloc, &OctetString::from_slice(alloc, octets))?,
+        "Any::from_slice" => made(alloc, &Any::from_slice(alloc, octets))?,
+        "BitString::from_octets" => {
+            made(
+                alloc,
+                &BitString::from_octets(alloc, octets, octets.len().saturating_mul(8)),
+            )?
+        }
+        "NumericString::from_bytes" => plain(alloc, &NumericString::from_bytes(alloc, octets))?,
+        "PrintableString::from_bytes" => plain(alloc, &PrintableString::from_bytes(alloc, octets))?,
+        "VisibleString::from_bytes" => plain(alloc, &VisibleString::from_bytes(alloc, octets))?,
+        "Ia5String::from_bytes" => plain(alloc, &Ia5String::from_bytes(alloc, octets))?,
+        "GeneralString::from_bytes" => plain(alloc, &GeneralString::from_bytes(alloc, octets))?,
+        "GraphicString::from_bytes" => plain(alloc, &GraphicString::from_bytes(alloc, octets))?,
+        "TeletexString::from_bytes" => plain(alloc, &TeletexString::from_bytes(alloc, octets))?,
+        "BmpString::from_bytes" => plain(alloc, &BmpString::from_bytes(alloc, octets))?,
+        "BmpString::from_units" => made(alloc, &BmpString::from_units(alloc, &[0x41, 0x42]))?,
+        "UtcTime::from_text" => plain(alloc, &UtcTime::from_text(octets))?,
+        "GeneralizedTime::from_text" => plain(alloc, &GeneralizedTime::from_text(octets))?,
+        "Date::from_text" => plain(alloc, &Date::from_text(octets))?,
+        _ => return Ok(None),
+    };
+    Ok(Some(line))
+}
+
+/// Object identifiers, and the octets of texts.
+fn identifiers(alloc: Global, word: &str, octets: &[u8]) -> Result<Option<String>> {
+    let line = match word {
+        "object_identifier_from_bytes" => {
+            begin(alloc)?;
+            let it = object_identifier_from_bytes(alloc, octets, Codec::Coer);
+            plain(alloc, &it)?
+        }
+        "object_identifier_as_bytes" => {
+            let it = object_identifier_from_bytes(alloc, octets, Codec::Coer)?;
+            let mut out = vec![in alloc; 0xaa]?;
+            begin(alloc)?;
+            let answer = object_identifier_as_bytes(it.arcs(), Codec::Coer, &mut out);
+            crate::answers::appended(alloc, answer, &out)?
+        }
+        "ObjectIdentifier::new" => {
+            let arcs = vec![in alloc; 2, 999]?;
+            begin(alloc)?;
+            plain(alloc, &ObjectIdentifier::new(arcs))?
+        }
+        "BmpString::to_bytes" => {
+            let it = BmpString::from_units(alloc, &[0x41, 0x42])?;
+            begin(alloc)?;
+            made(alloc, &it.to_bytes(alloc))?
+        }
+        "to_text" => {
+            let it = Date::from_text(octets)?;
+            begin(alloc)?;
+            let text = it.to_text()?;
+            plain(alloc, &text.as_bytes())?
+        }
+        _ => return Ok(None),
+    };
+    Ok(Some(line))
+}
+
+/// Integers.
+fn numbers(alloc: Global, word: &str, octets: &[u8]) -> Result<Option<String>> {
+    if word == "Integer::from_signed_octets" {
+        begin(alloc)?;
+        return Ok(Some(made(alloc, &Integer::from_signed_octets(alloc, octets))?));
+    }
+    if word == "try_from_signed_bytes" {
+        begin(alloc)?;
+        let it = Integer::try_from_signed_bytes(alloc, octets, Codec::Coer);
+        return Ok(Some(plain(alloc, &it)?));
+    }
+    if word == "try_from_unsigned_bytes" {
+        begin(alloc)?;
+        let it = Integer::try_from_unsigned_bytes(alloc, octets, Codec::Coer);
+        return Ok(Some(plain(alloc, &it)?));
+    }
+    let Some(number) = Integer::from_signed_octets(alloc, octets)? else {
+        return Ok(None);
+    };
+    let other = Integer::from_i128(7);
+    let mut out = vec![in alloc; 0xaa]?;
+    begin(alloc)?;
+    let line = match word {
+        "signed_octets" => made(alloc, &number.signed_octets(alloc))?,
+        "write_signed_bytes_be" => {
+            let answer = number.write_signed_bytes_be(&mut out);
+            filled(alloc, answer, &out)?
+        }
+        "write_unsigned_bytes_be" if !number.is_negative() => {
+            let answer = number.write_unsigned_bytes_be(&mut out);
+            filled(alloc, answer, &out)?
+        }
+        "cmp" => plain(alloc, &number.cmp(&other))?,
+        "to_i128" => plain(alloc, &number.to_i128())?,
+        _ => return Ok(None),
+    };
+    Ok(Some(line))
+}
+
+/// Unordered lists of the octets.
+fn sets(alloc: Global, word: &str, octets: &[u8]) -> Result<String> {
+    let items = Vec::from_slice(alloc, octets)?;
+    let mut set = SetOf::from_vec(items);
+    begin(alloc)?;
+    match word {
+        "SetOf::to_vec" => made(alloc, &set.to_vec()),
+        "SetOf::insert" => {
+            let answer = set.insert(7);
+            let list = made(alloc, &answer)?;
+            Ok(format!(in alloc; "{}; {:?}", list, set)?)
+        }
+        _ => Err(Error::msg("no such call")),
+    }
+}
+
+/// What a call answers, by its word.
+pub fn value_call(alloc: Global, word: &str, octets: &[u8]) -> Result<String> {
+    if let Some(line) = identifiers(alloc, word, octets)? {
+        return Ok(line);
+    }
+    if word.starts_with("SetOf::") {
+        return sets(alloc, word, octets);
+    }
+    if let Some(line) = numbers(alloc, word, octets)? {
+        return Ok(line);
+    }
+    match strings(alloc, word, octets)? {
+        Some(line) => Ok(line),
+        None => Err(Error::msg("no such call")),
+    }
+}
