@@ -10,7 +10,7 @@ ghost use Rattle.sequence_types.specs.Pairs.{pair_rows, plain_integer};
 
 use asn1_core::{Class, Codec, Constraints, DecodeError, DecodeErrorKind, EncodeError, SetOf, Tag};
 use asn1_ints::Integer;
-use oer_types::{Pair, PriorityChoice, Sequence4};
+use oer_types::{Pair, PriorityChoice, Sequence, Sequence4, components};
 use rasn_oer::oer::de::DecoderOptions;
 use rasn_oer::oer::enc::EncoderOptions;
 use rasn_oer::oer::{Decoder, Encoder};
@@ -116,7 +116,7 @@ fn write_components(encoder: &mut Encoder<'_>) -> Result<(), EncodeError> {
     encoder.encode_default(&true, &false)?;
     encoder.encode_default_with_tag_and_constraints(one(), NONE, &true, &false)?;
     encoder.encode_extension_addition(one(), NONE, Some(&true))?;
-    encoder.encode_extension_addition_group(Some(&Sequence4 { a: true }))?;
+    encoder.encode_extension_addition_group(Some(&Sequence(components::Sequence4 { a: true })))?;
     encoder.encode_extension_addition_default(one(), NONE, &true, &false)
 }
 

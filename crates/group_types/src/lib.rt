@@ -1,6 +1,7 @@
-//! Sequences with addition groups, and additions of octets, by hand.
+//! Sequences with addition groups, and additions of octets.
 #![tactic(auto)]
 
+pub mod components;
 mod groups;
 mod octet_additions;
 

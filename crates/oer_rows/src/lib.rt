@@ -3,6 +3,7 @@
 #![tactic(auto)]
 
 mod additions;
+mod compared;
 mod components;
 mod lists;
 mod more_additions;
@@ -17,6 +18,7 @@ mod writing;
 pub use additions::{Additions, Extensible, MayAdd};
 #[doc(hidden)]
 pub use asn1_core::{Class, Field, FieldPresence, Tag};
+pub use compared::Compared;
 pub use components::{Components, Defaults, MayHave, Needs, NoMore};
 pub use lists::ListOf;
 pub use more_additions::{AddDefaults, Adds, MayAddGroup};
@@ -44,4 +46,18 @@ macro_rules! fields {
             name: $name,
         }),*]
     };
+}
+
+/// The nested pairs of a row's values: `pairs![a, b]` is `(a, (b, ()))`, as a pattern and as an expression.
+#[macro_export]
+macro_rules! pairs {
+    () => { () };
+    ($first:ident $(, $rest:ident)*) => { ($first, $crate::pairs![$($rest),*]) };
+}
+
+/// References to the fields of a struct as a row has them: `views![self: a, b]` is `(&self.a, (&self.b, ()))`.
+#[macro_export]
+macro_rules! views {
+    ($of:ident:) => { () };
+    ($of:ident: $first:ident $(, $rest:ident)*) => { (&$of.$first, $crate::views![$of: $($rest),*]) };
 }

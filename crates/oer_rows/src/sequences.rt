@@ -9,6 +9,7 @@ use oer_read::{Decode, Decoder};
 use oer_spec::Spelled;
 use oer_write::{Encode, Encoder};
 use std::alloc::Global;
+use std::fmt::{self, Debug};
 
 /// What a type says beside its row to be the content of a `Sequence`: its tables, and its components as its row writes
 /// them.
@@ -39,14 +40,19 @@ pub trait Tabled<const RC: usize, const EC: usize>: Rowed + Drop {
         ensures written { InSequence (Self.Row.schema.roots.rows (Self.components self.now)) (Self.Row.schema.additions.rows (Self.components self.now)) encoder.old result encoder.new }
         ensures value { OnOk result (IsOf Self.Row.schema (Self.components self.now)) };
 
-    ghost root_count: { length (Self.Row.schema.roots.fields 0) ≡ RC };
-
-    ghost addition_count: { length (Self.Row.schema.additions.fields 0) ≡ EC };
+    ghost counts: { (length (Self.Row.schema.roots.fields 0) ≡ RC) × (length (Self.Row.schema.additions.fields 0) ≡ EC) };
 }
 
 /// The SEQUENCE (X.680, clause 25) of the components of `T`, with `RC` root components and `EC` extension additions.
-#[derive(Debug, PartialEq, Eq, Drop)]
+#[derive(PartialEq, Eq, Drop)]
 pub struct Sequence<T, const RC: usize, const EC: usize>(pub T);
+
+/// Shows its components as they are.
+impl<T: Debug, const RC: usize, const EC: usize> Debug for Sequence<T, RC, EC> {
+    fn fmt<W: fmt::Write>(&self, f: &mut fmt::Formatter<W>) -> fmt::Result {
+        self.0.fmt(f)
+    }
+}
 
 impl<const RC: usize, const EC: usize, T: Tabled<RC, EC>> Rowed for Sequence<T, RC, EC> {
     type Row = T::Row;
@@ -104,7 +110,7 @@ impl<const RC: usize, const EC: usize, T: Tabled<RC, EC>> Constructed<RC, EC>
         T::addition_fields()
     }
 
-    ghost tables = { schema_tables T.Row.schema T.Row.EXTENSIBLE T.Row.Components.is_schema RC EC T.root_count T.addition_count };
+    ghost tables = { schema_tables T.Row.schema T.Row.EXTENSIBLE T.Row.Components.is_schema RC EC T.counts.0 T.counts.1 };
 }
 
 impl<const RC: usize, const EC: usize, T: Tabled<RC, EC>> Spelled for Sequence<T, RC, EC> {

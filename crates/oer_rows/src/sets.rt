@@ -8,6 +8,7 @@ use oer_read::{Decode, Decoder};
 use oer_spec::Spelled;
 use oer_write::{Encode, Encoder};
 use std::alloc::Global;
+use std::fmt::{self, Debug};
 
 /// A type whose root components stand in its row in the order of their tags (X.680, 8.6), no tag twice.
 ///
@@ -20,8 +21,15 @@ pub trait InTagOrder<const RC: usize, const EC: usize>: Tabled<RC, EC> {
 }
 
 /// The SET (X.680, clause 27) of the components of `T`, with `RC` root components and `EC` extension additions.
-#[derive(Debug, PartialEq, Eq, Drop)]
+#[derive(PartialEq, Eq, Drop)]
 pub struct Set<T, const RC: usize, const EC: usize>(pub T);
+
+/// Shows its components as they are.
+impl<T: Debug, const RC: usize, const EC: usize> Debug for Set<T, RC, EC> {
+    fn fmt<W: fmt::Write>(&self, f: &mut fmt::Formatter<W>) -> fmt::Result {
+        self.0.fmt(f)
+    }
+}
 
 impl<const RC: usize, const EC: usize, T: InTagOrder<RC, EC>> AsnType for Set<T, RC, EC> {
     ghost use Rattle.std.specs.Prelude.{refl};
@@ -69,7 +77,7 @@ impl<const RC: usize, const EC: usize, T: InTagOrder<RC, EC>> Constructed<RC, EC
         T::addition_fields()
     }
 
-    ghost tables = { set_tables T.Row.schema T.Row.EXTENSIBLE T.Row.Components.is_schema T.in_order RC EC T.root_count T.addition_count };
+    ghost tables = { set_tables T.Row.schema T.Row.EXTENSIBLE T.Row.Components.is_schema T.in_order RC EC T.counts.0 T.counts.1 };
 }
 
 impl<const RC: usize, const EC: usize, T: InTagOrder<RC, EC>> Spelled for Set<T, RC, EC> {

@@ -1,10 +1,17 @@
-//! Types of messages, written by hand: each states its tree, and keeps the laws of writing and reading.
+//! Types of messages, by rows and by hand: each keeps the laws of writing and reading.
 #![tactic(auto)]
 
 mod constrained;
 mod enums;
 mod ranges;
 mod wrappers;
+
+/// The components of each sequence that is written by its row.
+pub mod components {
+    pub use group_types::components::{
+        Group6, Omitted, Sequence3, Sequence4, Sequence6, SequenceDuplicatesExtended,
+    };
+}
 
 pub use choice_types::{BoolChoice, OnlyChoice, PriorityChoice, WideChoice};
 pub use constrained::ConstrainedOptions;
@@ -16,6 +23,7 @@ pub use group_types::{
     Group6, Omitted, Sequence3, Sequence4, Sequence6, SequenceDuplicatesExtended,
 };
 pub use long_types::{ExtendedOptional, ManyOptional};
+pub use oer_rows::Sequence;
 pub use ranges::{FiveAroundZero, FromZeroTo64Bits, GreatPositive, Small};
 pub use recursive_types::{Bush, DeepDefault, Link, LinkChoice, Nest, TestChoice, TopLevel};
 pub use sequence_types::{

@@ -20,10 +20,6 @@ pub struct SureComponents {
 
 type SureRow = Needs<Context<0>, bool, Extensible<Adds<Context<1>, bool, NoMore>>>;
 
-const SURE_FIELDS: &'static [Field<'static>] = fields![0 Required Context 0 "ok"];
-
-const SURE_ADDITIONS: &'static [Field<'static>] = fields![0 Required Context 1 "sure"];
-
 impl Rowed for SureComponents {
     type Row = SureRow;
 
@@ -38,11 +34,11 @@ impl Tabled<1, 1> for SureComponents {
     ghost use Rattle.std.specs.Prelude.{refl};
 
     const FIELDS: Fields<1> = Fields {
-        fields: SURE_FIELDS,
+        fields: fields![0 Required Context 0 "ok"],
     };
 
     const EXTENDED_FIELDS: Option<Fields<1>> = Some(Fields {
-        fields: SURE_ADDITIONS,
+        fields: fields![0 Required Context 1 "sure"],
     });
 
     fn root_fields() -> &'static [Field<'static>] {
@@ -60,9 +56,7 @@ impl Tabled<1, 1> for SureComponents {
         SureRow::write((&self.ok, (&self.sure, ())), encoder)
     }
 
-    ghost root_count = { refl };
-
-    ghost addition_count = { refl };
+    ghost counts = { (refl, refl) };
 }
 
 /// `SEQUENCE { ok BOOLEAN, ..., level INTEGER DEFAULT 3 }`
@@ -81,10 +75,6 @@ type LevelledRow = Needs<
     Extensible<AddDefaults<Context<1>, Integer, IsNumber<3>, NoMore>>,
 >;
 
-const LEVELLED_FIELDS: &'static [Field<'static>] = fields![0 Required Context 0 "ok"];
-
-const LEVELLED_ADDITIONS: &'static [Field<'static>] = fields![0 Default Context 1 "level"];
-
 impl Rowed for LevelledComponents {
     type Row = LevelledRow;
 
@@ -99,11 +89,11 @@ impl Tabled<1, 1> for LevelledComponents {
     ghost use Rattle.std.specs.Prelude.{refl};
 
     const FIELDS: Fields<1> = Fields {
-        fields: LEVELLED_FIELDS,
+        fields: fields![0 Required Context 0 "ok"],
     };
 
     const EXTENDED_FIELDS: Option<Fields<1>> = Some(Fields {
-        fields: LEVELLED_ADDITIONS,
+        fields: fields![0 Default Context 1 "level"],
     });
 
     fn root_fields() -> &'static [Field<'static>] {
@@ -121,9 +111,7 @@ impl Tabled<1, 1> for LevelledComponents {
         LevelledRow::write((&self.ok, (&self.level, ())), encoder)
     }
 
-    ghost root_count = { refl };
-
-    ghost addition_count = { refl };
+    ghost counts = { (refl, refl) };
 }
 
 /// `SEQUENCE { number INTEGER, note BOOLEAN OPTIONAL }`, which stands as a group in `Grouped`
@@ -137,9 +125,6 @@ pub struct GroupComponents {
 }
 
 type GroupRow = Needs<Context<0>, Integer, MayHave<Context<1>, bool, NoMore>>;
-
-const GROUP_FIELDS: &'static [Field<'static>] =
-    fields![0 Required Context 0 "number", 1 Optional Context 1 "note"];
 
 impl Rowed for GroupComponents {
     type Row = GroupRow;
@@ -155,7 +140,7 @@ impl Tabled<2, 0> for GroupComponents {
     ghost use Rattle.std.specs.Prelude.{refl};
 
     const FIELDS: Fields<2> = Fields {
-        fields: GROUP_FIELDS,
+        fields: fields![0 Required Context 0 "number", 1 Optional Context 1 "note"],
     };
 
     const EXTENDED_FIELDS: Option<Fields<0>> = None;
@@ -175,9 +160,7 @@ impl Tabled<2, 0> for GroupComponents {
         GroupRow::write((&self.number, (&self.note, ())), encoder)
     }
 
-    ghost root_count = { refl };
-
-    ghost addition_count = { refl };
+    ghost counts = { (refl, refl) };
 }
 
 /// `SEQUENCE { ok BOOLEAN, ..., [[ number INTEGER, note BOOLEAN OPTIONAL ]] }`
@@ -191,10 +174,6 @@ pub struct GroupedComponents {
 }
 
 type GroupedRow = Needs<Context<0>, bool, Extensible<MayAddGroup<2, 0, Group, NoMore>>>;
-
-const GROUPED_FIELDS: &'static [Field<'static>] = fields![0 Required Context 0 "ok"];
-
-const GROUPED_ADDITIONS: &'static [Field<'static>] = fields![0 Optional Universal 16 "group"];
 
 impl Rowed for GroupedComponents {
     type Row = GroupedRow;
@@ -210,11 +189,11 @@ impl Tabled<1, 1> for GroupedComponents {
     ghost use Rattle.std.specs.Prelude.{refl};
 
     const FIELDS: Fields<1> = Fields {
-        fields: GROUPED_FIELDS,
+        fields: fields![0 Required Context 0 "ok"],
     };
 
     const EXTENDED_FIELDS: Option<Fields<1>> = Some(Fields {
-        fields: GROUPED_ADDITIONS,
+        fields: fields![0 Optional Universal 16 "group"],
     });
 
     fn root_fields() -> &'static [Field<'static>] {
@@ -232,7 +211,5 @@ impl Tabled<1, 1> for GroupedComponents {
         GroupedRow::write((&self.ok, (&self.group, ())), encoder)
     }
 
-    ghost root_count = { refl };
-
-    ghost addition_count = { refl };
+    ghost counts = { (refl, refl) };
 }

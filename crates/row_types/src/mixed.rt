@@ -20,9 +20,6 @@ pub struct MixedComponents {
 
 type MixedRow = Needs<Context<0>, PriorityChoice, Needs<Context<1>, ListOf<OctetString>, NoMore>>;
 
-const MIXED_FIELDS: &'static [Field<'static>] =
-    fields![0 Required Context 0 "priority", 1 Required Context 1 "names"];
-
 impl Rowed for MixedComponents {
     type Row = MixedRow;
 
@@ -37,7 +34,7 @@ impl Tabled<2, 0> for MixedComponents {
     ghost use Rattle.std.specs.Prelude.{refl};
 
     const FIELDS: Fields<2> = Fields {
-        fields: MIXED_FIELDS,
+        fields: fields![0 Required Context 0 "priority", 1 Required Context 1 "names"],
     };
 
     const EXTENDED_FIELDS: Option<Fields<0>> = None;
@@ -57,7 +54,5 @@ impl Tabled<2, 0> for MixedComponents {
         MixedRow::write((&self.priority, (&self.names, ())), encoder)
     }
 
-    ghost root_count = { refl };
-
-    ghost addition_count = { refl };
+    ghost counts = { (refl, refl) };
 }

@@ -19,9 +19,6 @@ pub struct ReportComponents {
 
 type ReportRow = Defaults<Context<0>, bool, IsFalse, MayHave<Context<1>, Integer, NoMore>>;
 
-const REPORT_FIELDS: &'static [Field<'static>] =
-    fields![0 Default Context 0 "urgent", 1 Optional Context 1 "number"];
-
 impl Rowed for ReportComponents {
     type Row = ReportRow;
 
@@ -36,7 +33,7 @@ impl Tabled<2, 0> for ReportComponents {
     ghost use Rattle.std.specs.Prelude.{refl};
 
     const FIELDS: Fields<2> = Fields {
-        fields: REPORT_FIELDS,
+        fields: fields![0 Default Context 0 "urgent", 1 Optional Context 1 "number"],
     };
 
     const EXTENDED_FIELDS: Option<Fields<0>> = None;
@@ -56,7 +53,5 @@ impl Tabled<2, 0> for ReportComponents {
         ReportRow::write((&self.urgent, (&self.number, ())), encoder)
     }
 
-    ghost root_count = { refl };
-
-    ghost addition_count = { refl };
+    ghost counts = { (refl, refl) };
 }

@@ -4,7 +4,8 @@ use asn1_core::{DecodeError, EncodeError, Field, Fields};
 use asn1_ints::Integer;
 use oer_read::{Decoder, Encoder};
 use oer_rows::{
-    Components, Context, MayHave, Needs, NoMore, Rowed, Sequence, Tabled, Views, fields,
+    Components, Context, MayHave, Needs, NoMore, Rowed, Sequence, Tabled, Views, fields, pairs,
+    views,
 };
 use std::alloc::Global;
 
@@ -124,23 +125,13 @@ impl<'v> Views<'v> for FromK {
     }
 }
 
-const TWELVE_FIELDS: &'static [Field<'static>] = fields![
-    0 Required Context 0 "a", 1 Optional Context 1 "b", 2 Optional Context 2 "c", 3 Optional Context 3 "d",
-    4 Optional Context 4 "e", 5 Required Context 5 "f", 6 Optional Context 6 "g", 7 Optional Context 7 "h",
-    8 Optional Context 8 "i", 9 Optional Context 9 "j", 10 Optional Context 10 "k", 11 Optional Context 11 "l"
-];
-
 impl Rowed for TwelveComponents {
     type Row = FromA;
 
     ghost components = { λ v. (v.a, (v.b, (v.c, (v.d, (v.e, (v.f, (v.g, (v.h, (v.i, (v.j, (v.k, (v.l, tt)))))))))))) };
 
-    fn from_row(
-        (
-            a,
-            (b, (c, (d, (e, (f, (g, (h, (i, (j, (k, (l, ()))))))))))),
-        ): <FromA as Components>::Values,
-    ) -> TwelveComponents {
+    fn from_row(row: <FromA as Components>::Values) -> TwelveComponents {
+        let pairs![a, b, c, d, e, f, g, h, i, j, k, l] = row;
         TwelveComponents {
             a,
             b,
@@ -162,7 +153,11 @@ impl Tabled<12, 0> for TwelveComponents {
     ghost use Rattle.std.specs.Prelude.{refl};
 
     const FIELDS: Fields<12> = Fields {
-        fields: TWELVE_FIELDS,
+        fields: fields![
+    0 Required Context 0 "a", 1 Optional Context 1 "b", 2 Optional Context 2 "c", 3 Optional Context 3 "d",
+    4 Optional Context 4 "e", 5 Required Context 5 "f", 6 Optional Context 6 "g", 7 Optional Context 7 "h",
+    8 Optional Context 8 "i", 9 Optional Context 9 "j", 10 Optional Context 10 "k", 11 Optional Context 11 "l"
+],
     };
 
     const EXTENDED_FIELDS: Option<Fields<0>> = None;
@@ -179,34 +174,8 @@ impl Tabled<12, 0> for TwelveComponents {
     }
 
     fn put(&self, encoder: &mut Encoder<'_>) -> Result<(), EncodeError> {
-        FromA::write(
-            (
-                &self.a,
-                (
-                    &self.b,
-                    (
-                        &self.c,
-                        (
-                            &self.d,
-                            (
-                                &self.e,
-                                (
-                                    &self.f,
-                                    (
-                                        &self.g,
-                                        (&self.h, (&self.i, (&self.j, (&self.k, (&self.l, ()))))),
-                                    ),
-                                ),
-                            ),
-                        ),
-                    ),
-                ),
-            ),
-            encoder,
-        )
+        FromA::write(views![self: a, b, c, d, e, f, g, h, i, j, k, l], encoder)
     }
 
-    ghost root_count = { refl };
-
-    ghost addition_count = { refl };
+    ghost counts = { (refl, refl) };
 }

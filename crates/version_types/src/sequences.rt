@@ -58,9 +58,7 @@ impl Tabled<2, 0> for Addition7Components {
         Addition7Row::write((&self.e, (&self.f, ())), encoder)
     }
 
-    ghost root_count = { refl };
-
-    ghost addition_count = { refl };
+    ghost counts = { (refl, refl) };
 }
 
 /// `SEQUENCE { a BOOLEAN, ..., b BOOLEAN OPTIONAL, c BOOLEAN OPTIONAL, d INTEGER OPTIONAL, [[ e BOOLEAN OPTIONAL,
@@ -160,7 +158,5 @@ impl Tabled<1, 4> for Sequence7Components {
         )
     }
 
-    ghost root_count = { refl };
-
-    ghost addition_count = { refl };
+    ghost counts = { (refl, refl) };
 }

@@ -74,9 +74,7 @@ impl Tabled<3, 1> for MixSetComponents {
         MixSetRow::write((&self.z, (&self.y, (&self.x, (&self.n, ())))), encoder)
     }
 
-    ghost root_count = { refl };
-
-    ghost addition_count = { refl };
+    ghost counts = { (refl, refl) };
 }
 
 impl InTagOrder<3, 1> for MixSetComponents {
@@ -152,9 +150,7 @@ impl Tabled<3, 2> for MixSet2Components {
         )
     }
 
-    ghost root_count = { refl };
-
-    ghost addition_count = { refl };
+    ghost counts = { (refl, refl) };
 }
 
 impl InTagOrder<3, 2> for MixSet2Components {
