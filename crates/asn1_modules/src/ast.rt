@@ -155,8 +155,8 @@ pub enum Value<'a> {
     /// A number below zero, by its digits.
     Negative(Token<'a>),
     Reference(Reference<'a>),
-    /// `{a, b}`, or `{}`: named bits, or no elements.
-    Names(Vec<Token<'a>>),
+    /// `{a, b}`, or `{}`: its brace, and named bits, or no elements.
+    Names(Token<'a>, Vec<Token<'a>>),
     /// Another value between braces, by its first token.
     Braces(Token<'a>),
 }

@@ -8,7 +8,7 @@ use crate::types::read_whole_type;
 use crate::values::read_value;
 use std::alloc::Global;
 
-/// The modules of a file's tokens, each refused at its first token that can't be read.
+/// The modules in the tokens of files, one file behind another, each with its end. Refused at the first token that can't be read.
 pub fn read_modules<'a>(
     alloc: Global,
     tokens: &'a [Token<'a>],
@@ -20,9 +20,10 @@ pub fn read_modules<'a>(
     let mut reader = Reader::new(alloc, tokens, *end);
     for _ in 0..tokens.len() {
         if reader.peek().kind == Kind::End {
-            break;
+            let _ = reader.next();
+        } else if reader.left() != 0 {
+            all.push(read_module(&mut reader)?)?;
         }
-        all.push(read_module(&mut reader)?)?;
     }
     Ok(all)
 }

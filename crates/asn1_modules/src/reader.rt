@@ -1,10 +1,10 @@
-//! A reader over the tokens of a file.
+//! A reader over the tokens of files.
 
 use crate::lexer::{Kind, Token};
 use crate::refusal::Refusal;
 use std::alloc::Global;
 
-/// What is left of a file's tokens.
+/// What is left of the tokens of files, each with its end; a file's end is taken by `next` alone.
 #[derive(Clone, Copy)]
 pub struct Reader<'a> {
     pub alloc: Global,
@@ -98,7 +98,11 @@ impl<'a> Reader<'a> {
     pub fn skip_to_close(&mut self) -> Result<(), Refusal> {
         let mut depth = 0usize;
         for _ in 0..self.left() {
-            match self.peek().text {
+            let next = self.peek();
+            if next.kind == Kind::End {
+                break;
+            }
+            match next.text {
                 "{" | "(" | "[" | "[[" => depth = depth.saturating_add(1),
                 "}" | ")" | "]" | "]]" => {
                     if depth == 0 {

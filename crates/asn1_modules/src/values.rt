@@ -49,7 +49,7 @@ fn read_braces<'a>(reader: &mut Reader<'a>) -> Result<Value<'a>, Refusal> {
     let mut ahead = *reader;
     if let Some(names) = read_names(&mut ahead)? {
         *reader = ahead;
-        return Ok(Value::Names(names));
+        return Ok(Value::Names(first, names));
     }
     reader.skip_brackets()?;
     Ok(Value::Braces(first))
