@@ -1,0 +1,174 @@
+//! The Rust types that modules give: one for each assignment, and one for each type with parts that is written inside another.
+
+use crate::names::{component_name, push_type_name, type_name};
+use crate::rows::{Row, rows_of};
+use crate::scope::{Link, Scope};
+use asn1_modules::ast::{Body, Type};
+use asn1_modules::lexer::Token;
+use asn1_modules::refusal::Refusal;
+use std::collections::BTreeSet;
+
+/// How many lists may stand inside one another.
+const MAX_LISTS: usize = 64;
+
+/// How many types there may be.
+const MAX_DEFINITIONS: usize = 1000000;
+
+/// What a type has: a component, an alternative, an element, or what it is a name of.
+#[derive(Drop)]
+pub struct Part<'m, 'a> {
+    /// Its row, where it is a component or an alternative.
+    pub row: Option<Row<'m, 'a>>,
+    pub rust_name: String,
+    /// How many lists are around the type below.
+    pub lists: usize,
+    /// The type, without lists.
+    pub inner: Link<'m, 'a>,
+    /// The place of its definition, where it has one.
+    pub target: Option<usize>,
+}
+
+/// A Rust type.
+#[derive(Drop)]
+pub struct Definition<'m, 'a> {
+    pub rust_name: String,
+    pub link: Link<'m, 'a>,
+    pub parts: Vec<Part<'m, 'a>>,
+}
+
+/// A type that waits to be defined.
+#[derive(Drop)]
+struct Pending<'m, 'a> {
+    rust_name: String,
+    link: Link<'m, 'a>,
+}
+
+/// A type without the lists around it, and how many these are.
+fn peeled<'m, 'a>(start: &'m Type<'a>) -> (usize, &'m Type<'a>) {
+    let mut of = start;
+    let mut lists = 0usize;
+    for _ in 0..MAX_LISTS {
+        match &of.body {
+            Body::SequenceOf(element) | Body::SetOf(element) => of = &**element,
+            _ => break,
+        }
+        lists = lists.saturating_add(1);
+    }
+    (lists, of)
+}
+
+/// Whether a type needs a Rust type of its own.
+fn has_parts(of: &Type<'_>) -> bool {
+    matches!(
+        of.body,
+        Body::Sequence(_) | Body::Set(_) | Body::Choice(_) | Body::Enumerated(_, _)
+    )
+}
+
+/// A part, by the type where it is written. A type with parts inside it gets the name of the type around it and its own.
+fn make_part<'m, 'a>(
+    scope: Scope<'m, 'a>,
+    pending: &mut Vec<Pending<'m, 'a>>,
+    parent: &str,
+    row: Option<Row<'m, 'a>>,
+    link: Link<'m, 'a>,
+) -> Result<Part<'m, 'a>, Refusal> {
+    let (lists, of) = peeled(link.of);
+    let inner = Link {
+        module: link.module,
+        of,
+    };
+    let name = match row {
+        Some(row) => row.name.text,
+        None => "item",
+    };
+    let rust_name = component_name(scope.alloc, name)?;
+    let mut target = None;
+    if let Body::Reference(reference) = &of.body {
+        target = Some(scope.find_type(link.module, *reference)?.index);
+    } else if has_parts(of) && (lists != 0 || row.is_some()) {
+        let mut own = String::from_str(scope.alloc, parent)?;
+        push_type_name(&mut own, name)?;
+        target = Some(pending.len());
+        pending.push(Pending {
+            rust_name: own,
+            link: inner,
+        })?;
+    }
+    Ok(Part {
+        row,
+        rust_name,
+        lists,
+        inner,
+        target,
+    })
+}
+
+/// A definition: its parts are its components or alternatives, or the type itself.
+fn define<'m, 'a>(
+    scope: Scope<'m, 'a>,
+    pending: &mut Vec<Pending<'m, 'a>>,
+    rust_name: String,
+    link: Link<'m, 'a>,
+) -> Result<Definition<'m, 'a>, Refusal> {
+    let rows = rows_of(scope, link)?;
+    let mut parts = Vec::new(scope.alloc);
+    for row in rows.iter() {
+        parts.push(make_part(scope, pending, rust_name.as_str(), Some(*row), row.link)?)?;
+    }
+    if rows.is_empty() && !has_parts(link.of) {
+        parts.push(make_part(scope, pending, rust_name.as_str(), None, link)?)?;
+    }
+    Ok(Definition {
+        rust_name,
+        link,
+        parts,
+    })
+}
+
+/// The assignments of all modules, in the order of their text.
+fn assignments<'m, 'a>(scope: Scope<'m, 'a>) -> Result<Vec<Pending<'m, 'a>>, Refusal> {
+    let mut all = Vec::new(scope.alloc);
+    for (module, one) in scope.modules.iter().enumerate() {
+        push_assignments(scope, module, one.types.as_slice(), &mut all)?;
+    }
+    Ok(all)
+}
+
+/// The assignments of a module.
+fn push_assignments<'m, 'a>(
+    scope: Scope<'m, 'a>,
+    module: usize,
+    types: &'m [asn1_modules::ast::TypeAssignment<'a>],
+    all: &mut Vec<Pending<'m, 'a>>,
+) -> Result<(), Refusal> {
+    for one in types.iter() {
+        all.push(Pending {
+            rust_name: type_name(scope.alloc, one.name.text)?,
+            link: Link {
+                module,
+                of: &one.of,
+            },
+        })?;
+    }
+    Ok(())
+}
+
+/// All definitions: first the assignments, then the types inside them. Refused where two would have one Rust name.
+pub fn definitions<'m, 'a>(scope: Scope<'m, 'a>) -> Result<Vec<Definition<'m, 'a>>, Refusal> {
+    let mut pending = assignments(scope)?;
+    let mut names = BTreeSet::new(scope.alloc);
+    let mut all = Vec::new(scope.alloc);
+    for at in 0..MAX_DEFINITIONS {
+        let Some(next) = pending.get(at) else {
+            break;
+        };
+        let link = next.link;
+        let name = next.rust_name.clone()?;
+        if !names.insert(next.rust_name.clone()?)? {
+            return Err(scope.refused(link.of.first, "a type whose Rust name no other type has"));
+        }
+        all.push(define(scope, &mut pending, name, link)?)?;
+    }
+    Ok(all)
+}

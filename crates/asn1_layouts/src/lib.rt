@@ -1,0 +1,13 @@
+//! Resolves ASN.1 modules to what the octet encoding rules need of them: tags, needs, layouts, Rust names, and an order of use.
+#![tactic(auto)]
+
+pub mod definitions;
+pub mod layouts;
+pub mod listing;
+pub mod names;
+pub mod numbers;
+pub mod order;
+pub mod rows;
+pub mod scope;
+pub mod values;
+pub mod visible;

@@ -1,0 +1,262 @@
+//! The table of types: each in order of use, with its components, their tags, needs and layouts (X.696, clauses 9 to 29).
+
+use crate::definitions::{Definition, Part, definitions};
+use crate::layouts::{is_extensible, layout_of, lists_of, octets_text};
+use crate::numbers::enumerated_numbers;
+use crate::order::{boxes, order_of_use};
+use crate::rows::{Position, Row};
+use crate::scope::{Link, Scope};
+use crate::values::default_of;
+use asn1_core::{Class, Tag};
+use asn1_modules::ast::{Body, Module, Need, Numbered, Type};
+use asn1_modules::lexer::{Token, tokens};
+use asn1_modules::modules::read_modules;
+use asn1_modules::refusal::Refusal;
+use std::alloc::{AllocError, Global};
+
+/// The table of the modules in the files' texts. Refused at the first place that can't be read or resolved.
+pub fn list(alloc: Global, texts: &[&str]) -> Result<String, Refusal> {
+    let tokens = all_tokens(alloc, texts)?;
+    list_tokens(alloc, tokens.as_slice())
+}
+
+/// The table of the modules in the files' tokens.
+fn list_tokens(alloc: Global, tokens: &[Token<'_>]) -> Result<String, Refusal> {
+    let modules = read_modules(alloc, tokens)?;
+    list_modules(alloc, modules.as_slice())
+}
+
+/// The table of modules.
+fn list_modules(alloc: Global, modules: &[Module<'_>]) -> Result<String, Refusal> {
+    list_scope(Scope { alloc, modules })
+}
+
+/// The tokens of the files' texts, in turn.
+fn all_tokens<'a>(alloc: Global, texts: &[&'a str]) -> Result<Vec<Token<'a>>, Refusal> {
+    let mut all = Vec::new(alloc);
+    for (file, text) in texts.iter().enumerate() {
+        push_tokens(&mut all, tokens(alloc, file, *text)?)?;
+    }
+    Ok(all)
+}
+
+/// Puts a file's tokens behind the others.
+fn push_tokens<'a>(all: &mut Vec<Token<'a>>, more: Vec<Token<'a>>) -> Result<(), AllocError> {
+    for token in more {
+        all.push(token)?;
+    }
+    Ok(())
+}
+
+/// The table of modules.
+fn list_scope(scope: Scope<'_, '_>) -> Result<String, Refusal> {
+    let all = definitions(scope)?;
+    let order = order_of_use(scope.alloc, all.as_slice())?;
+    let boxed = boxes(scope.alloc, all.as_slice())?;
+    let mut out = String::new(scope.alloc);
+    for at in order.iter() {
+        if let Some(definition) = all.get(*at) {
+            push_definition(scope, all.as_slice(), definition, &mut out)?;
+            push_parts(
+                scope,
+                all.as_slice(),
+                boxed.as_slice(),
+                (*at, definition),
+                &mut out,
+            )?;
+        }
+    }
+    Ok(out)
+}
+
+/// A definition's own line, and the values of an ENUMERATED.
+fn push_definition<'m, 'a>(
+    scope: Scope<'m, 'a>,
+    all: &[Definition<'m, 'a>],
+    definition: &Definition<'m, 'a>,
+    out: &mut String,
+) -> Result<(), Refusal> {
+    let name = definition.rust_name.as_str();
+    let module = match scope.modules.get(definition.link.module) {
+        Some(module) => module.name.text,
+        None => "",
+    };
+    let mut what = String::new(scope.alloc);
+    match definition.parts.first() {
+        Some(part) if part.row.is_none() => push_type(
+            scope,
+            all,
+            part,
+            definition.link,
+            &mut what,
+        )?,
+        _ => what = layout_of(scope, definition.link)?,
+    }
+    let mark = mark_text(definition.link.of);
+    out.push_str(format!(in scope.alloc; "{name} of {module}: {what}{mark}\n")?.as_str())?;
+    push_preamble(scope, definition, out)?;
+    if let Body::Enumerated(items, mark) = &definition.link.of.body {
+        let root = mark.unwrap_or(items.len());
+        push_values(scope, definition.link.module, items.as_slice(), root, out)?;
+    }
+    Ok(())
+}
+
+/// Whether a CHOICE or an ENUMERATED has an extension mark; of a SEQUENCE and a SET the preamble's line says it.
+fn mark_text<'m, 'a>(of: &'m Type<'a>) -> &'static str {
+    match &of.body {
+        Body::Choice(_) if is_extensible(of) => ", extensible",
+        Body::Enumerated(_, Some(_)) => ", extensible",
+        _ => "",
+    }
+}
+
+/// The values of an ENUMERATED, a line each.
+fn push_values<'m, 'a>(
+    scope: Scope<'m, 'a>,
+    module: usize,
+    items: &'m [Numbered<'a>],
+    root: usize,
+    out: &mut String,
+) -> Result<(), Refusal> {
+    let numbers = enumerated_numbers(scope, module, items, root)?;
+    for (at, (name, number)) in numbers.iter().enumerate() {
+        let text = name.text;
+        let place = if at < root { "" } else { ", addition" };
+        out.push_str(format!(in scope.alloc; "    {text} = {number}{place}\n")?.as_str())?;
+    }
+    Ok(())
+}
+
+/// How many octets the preamble of a SEQUENCE or a SET has (X.696, 16.2).
+fn push_preamble<'m, 'a>(
+    scope: Scope<'m, 'a>,
+    definition: &Definition<'m, 'a>,
+    out: &mut String,
+) -> Result<(), Refusal> {
+    if !matches!(definition.link.of.body, Body::Sequence(_) | Body::Set(_)) {
+        return Ok(());
+    }
+    let mut bits = 0usize;
+    for part in definition.parts.iter() {
+        if is_asked(part) {
+            bits = bits.saturating_add(1);
+        }
+    }
+    let extension = is_extensible(definition.link.of);
+    if extension {
+        bits = bits.saturating_add(1);
+    }
+    let octets = octets_text(scope.alloc, i128::try_from(bits.div_ceil(8)).unwrap_or(0))?;
+    let first = if extension { "with" } else { "without" };
+    out.push_str(format!(in scope.alloc;
+        "    preamble: {octets}, {first} an extension bit\n"
+    )?.as_str())?;
+    Ok(())
+}
+
+/// Whether the preamble has a bit for a component.
+fn is_asked(part: &Part<'_, '_>) -> bool {
+    match &part.row {
+        Some(row) => row.position == Position::Root && !matches!(row.need, Need::Required),
+        None => false,
+    }
+}
+
+/// A definition's components or alternatives, a line each.
+fn push_parts<'m, 'a>(
+    scope: Scope<'m, 'a>,
+    all: &[Definition<'m, 'a>],
+    boxed: &[(usize, usize)],
+    definition: (usize, &Definition<'m, 'a>),
+    out: &mut String,
+) -> Result<(), Refusal> {
+    let (at, definition) = definition;
+    for (place, part) in definition.parts.iter().enumerate() {
+        if let Some(row) = part.row {
+            push_row(scope, part, row, out)?;
+            if !matches!(definition.link.of.body, Body::Choice(_)) {
+                push_need(scope, row, out)?;
+            }
+            out.push_str(": ")?;
+            if boxed.contains(&(at, place)) {
+                out.push_str("boxed ")?;
+            }
+            push_type(scope, all, part, row.link, out)?;
+            out.push('\n')?;
+        }
+    }
+    Ok(())
+}
+
+/// A component's Rust name, its tag, and whether it is an addition.
+fn push_row<'m, 'a>(
+    scope: Scope<'m, 'a>,
+    part: &Part<'m, 'a>,
+    row: Row<'m, 'a>,
+    out: &mut String,
+) -> Result<(), Refusal> {
+    let name = part.rust_name.as_str();
+    let tag = tag_text(scope.alloc, row.tag)?;
+    let place = place_text(scope.alloc, row.position)?;
+    out.push_str(format!(in scope.alloc; "    {name} {tag}{place}")?.as_str())?;
+    Ok(())
+}
+
+/// Whether a component may be left out, and what stands for it then.
+fn push_need<'m, 'a>(
+    scope: Scope<'m, 'a>,
+    row: Row<'m, 'a>,
+    out: &mut String,
+) -> Result<(), Refusal> {
+    match row.need {
+        Need::Required => out.push_str(" required")?,
+        Need::Optional => out.push_str(" optional")?,
+        Need::Default(value) => {
+            out.push_str(" default ")?;
+            out.push_str(default_of(scope, row, value)?.as_str())?;
+        }
+    }
+    Ok(())
+}
+
+/// A tag as ASN.1 writes it.
+fn tag_text(alloc: Global, tag: Option<Tag>) -> Result<String, AllocError> {
+    let Some(tag) = tag else {
+        return String::from_str(alloc, "no tag");
+    };
+    let class = match tag.class {
+        Class::Universal => "UNIVERSAL ",
+        Class::Application => "APPLICATION ",
+        Class::Context => "",
+        Class::Private => "PRIVATE ",
+    };
+    let number = tag.value;
+    format!(in alloc; "[{class}{number}]")
+}
+
+/// Whether a component is an addition.
+fn place_text(alloc: Global, position: Position) -> Result<String, AllocError> {
+    match position {
+        Position::Root => Ok(String::new(alloc)),
+        Position::Addition => String::from_str(alloc, " addition"),
+        Position::Group(number) => format!(in alloc; " group {number}"),
+    }
+}
+
+/// The lists around a type, the name of its Rust type, and its layout.
+fn push_type<'m, 'a>(
+    scope: Scope<'m, 'a>,
+    all: &[Definition<'m, 'a>],
+    part: &Part<'m, 'a>,
+    whole: Link<'m, 'a>,
+    out: &mut String,
+) -> Result<(), Refusal> {
+    out.push_str(lists_of(scope.alloc, whole.of)?.as_str())?;
+    if let Some(target) = part.target.and_then(|t| all.get(t)) {
+        out.push_str(target.rust_name.as_str())?;
+        out.push_str(", ")?;
+    }
+    out.push_str(layout_of(scope, part.inner)?.as_str())?;
+    Ok(())
+}

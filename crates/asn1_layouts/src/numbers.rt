@@ -1,0 +1,204 @@
+//! The values that names and literals stand for.
+
+use crate::scope::{Link, Scope};
+use asn1_modules::ast::{Body, Numbered, Value};
+use asn1_modules::lexer::{Kind, Token};
+use asn1_modules::refusal::Refusal;
+use std::collections::BTreeSet;
+
+/// How many names may stand for one another in a row.
+const MAX_CHAIN: usize = 64;
+
+/// The names that a type gives to numbers, and its module.
+#[derive(Clone, Copy)]
+pub struct Names<'m, 'a> {
+    pub module: usize,
+    pub items: &'m [Numbered<'a>],
+}
+
+/// A value, its module, and the names of its type.
+#[derive(Clone, Copy)]
+pub struct Spot<'m, 'a> {
+    pub module: usize,
+    pub value: &'m Value<'a>,
+    pub names: Option<Names<'m, 'a>>,
+}
+
+/// The names that the type at the end of a chain gives to numbers.
+pub fn names_of<'m, 'a>(base: Link<'m, 'a>) -> Option<Names<'m, 'a>> {
+    let module = base.module;
+    match &base.of.body {
+        Body::Integer(names) | Body::Enumerated(names, _) | Body::BitString(names) => Some(Names {
+            module,
+            items: names.as_slice(),
+        }),
+        _ => None,
+    }
+}
+
+/// The value that a type's name for a number is written with, and its module.
+fn named_value<'m, 'a>(names: Option<Names<'m, 'a>>, name: &str) -> Option<(usize, &'m Value<'a>)> {
+    let names = names?;
+    for item in names.items.iter() {
+        if item.name.text == name {
+            return Some((names.module, item.number.as_ref()?));
+        }
+    }
+    None
+}
+
+/// What a name stands for: a number of its type, or a value that is assigned; nothing where the value isn't a name.
+fn next_spot<'m, 'a>(
+    scope: Scope<'m, 'a>,
+    spot: Spot<'m, 'a>,
+) -> Result<Option<Spot<'m, 'a>>, Refusal> {
+    let Value::Reference(reference) = spot.value else {
+        return Ok(None);
+    };
+    if let Some((module, value)) = named_value(spot.names, reference.name.text) {
+        return Ok(Some(Spot {
+            module,
+            value,
+            names: None,
+        }));
+    }
+    let (module, assigned) = scope.find_value(spot.module, *reference)?;
+    let base = scope.base_of(Link {
+        module,
+        of: &assigned.of,
+    })?;
+    Ok(Some(Spot {
+        module,
+        value: &assigned.value,
+        names: names_of(base),
+    }))
+}
+
+/// The value that is no name, at the end of the names.
+pub fn settled<'m, 'a>(scope: Scope<'m, 'a>, start: Spot<'m, 'a>) -> Result<Spot<'m, 'a>, Refusal> {
+    let mut spot = start;
+    for _ in 0..MAX_CHAIN {
+        match next_spot(scope, spot)? {
+            Some(next) => spot = next,
+            None => return Ok(spot),
+        }
+    }
+    Err(scope.refused(
+        first_of(start.value),
+        "a value that isn't a name of itself, or behind 64 names",
+    ))
+}
+
+/// The first token of a value; of names between braces the first of them.
+pub fn first_of<'a>(value: &Value<'a>) -> Token<'a> {
+    match value {
+        Value::Literal(token) | Value::Negative(token) | Value::Braces(token) => *token,
+        Value::Reference(reference) => reference.name,
+        Value::Names(open, _) => *open,
+    }
+}
+
+/// The number of digits; nothing past i128.
+fn digits(text: &str, is_negative: bool) -> Option<i128> {
+    let mut number = 0i128;
+    for c in text.chars() {
+        let digit = i128::from(c.to_digit(10)?);
+        let tens = number.checked_mul(10)?;
+        number = if is_negative {
+            tens.checked_sub(digit)?
+        } else {
+            tens.checked_add(digit)?
+        };
+    }
+    Some(number)
+}
+
+/// The number that a value is.
+pub fn number_of<'m, 'a>(scope: Scope<'m, 'a>, spot: Spot<'m, 'a>) -> Result<i128, Refusal> {
+    let end = settled(scope, spot)?;
+    let number = match end.value {
+        Value::Literal(token) if token.kind == Kind::Number => digits(token.text, false),
+        Value::Negative(token) => digits(token.text, true),
+        other => return Err(scope.refused(first_of(other), "a number")),
+    };
+    match number {
+        Some(number) => Ok(number),
+        None => Err(scope.refused(
+            first_of(end.value),
+            "a number of at most 128 bits, with its sign",
+        )),
+    }
+}
+
+/// The numbers that are written in the root of an ENUMERATED.
+fn taken_numbers<'m, 'a>(
+    scope: Scope<'m, 'a>,
+    module: usize,
+    root: &'m [Numbered<'a>],
+) -> Result<Vec<i128>, Refusal> {
+    let mut taken = Vec::new(scope.alloc);
+    for item in root.iter() {
+        if let Some(number) = written_number(scope, module, item)? {
+            taken.push(number)?;
+        }
+    }
+    Ok(taken)
+}
+
+/// The numbers of an ENUMERATED's values, each with its name: where none is written, the least that the root leaves free, behind
+/// those that were given before (X.680, 20.3 to 20.6). Refused where two are the same.
+pub fn enumerated_numbers<'m, 'a>(
+    scope: Scope<'m, 'a>,
+    module: usize,
+    items: &'m [Numbered<'a>],
+    root: usize,
+) -> Result<Vec<(Token<'a>, i128)>, Refusal> {
+    let front = items.get(..root).unwrap_or(items);
+    let taken = taken_numbers(scope, module, front)?;
+    let mut seen = BTreeSet::new(scope.alloc);
+    let mut numbers = Vec::new(scope.alloc);
+    let mut next = 0i128;
+    for (at, item) in items.iter().enumerate() {
+        let written = written_number(scope, module, item)?;
+        let number = written.unwrap_or(free_number(taken.as_slice(), next));
+        if written.is_none() || at >= root {
+            next = number.saturating_add(1);
+        }
+        if !seen.insert(number)? {
+            return Err(scope.refused(item.name, "a name whose number no other name has"));
+        }
+        numbers.push((item.name, number))?;
+    }
+    Ok(numbers)
+}
+
+/// The number that is written behind a name of an ENUMERATED.
+fn written_number<'m, 'a>(
+    scope: Scope<'m, 'a>,
+    module: usize,
+    item: &'m Numbered<'a>,
+) -> Result<Option<i128>, Refusal> {
+    let Some(value) = &item.number else {
+        return Ok(None);
+    };
+    Ok(Some(number_of(
+        scope,
+        Spot {
+            module,
+            value,
+            names: None,
+        },
+    )?))
+}
+
+/// The least number from `next` on that isn't taken.
+fn free_number(taken: &[i128], next: i128) -> i128 {
+    let mut number = next;
+    for _ in 0..taken.len() {
+        if !taken.contains(&number) {
+            break;
+        }
+        number = number.saturating_add(1);
+    }
+    number
+}

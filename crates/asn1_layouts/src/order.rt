@@ -1,0 +1,148 @@
+//! An order in which each type stands behind those that it uses, and the places where a box is needed.
+
+use crate::definitions::{Definition, Part};
+use asn1_modules::ast::Body;
+use std::alloc::{AllocError, Global};
+
+/// How many names may stand for one another.
+const MAX_CHAIN: usize = 64;
+
+/// What the walk knows of a definition.
+#[derive(Clone, Copy, PartialEq, Eq)]
+enum Mark {
+    New,
+    Open,
+    Done,
+}
+
+/// The walk: what is known, what is open with the part that comes next, what is done in turn, and the parts that lead back.
+#[derive(Drop)]
+struct Walk {
+    marks: Vec<Mark>,
+    open: Vec<(usize, usize)>,
+    done: Vec<usize>,
+    back: Vec<(usize, usize)>,
+}
+
+impl Walk {
+    /// Begins a definition that is new. One that is open is led back to, from the part.
+    fn enter(&mut self, target: usize, from: (usize, usize)) -> Result<(), AllocError> {
+        match self.marks.get(target).copied() {
+            Some(Mark::New) => {
+                self.mark(target, Mark::Open);
+                self.open.push((target, 0))?;
+            }
+            Some(Mark::Open) => self.back.push(from)?,
+            _ => {}
+        }
+        Ok(())
+    }
+
+    fn mark(&mut self, at: usize, mark: Mark) {
+        if let Some(place) = self.marks.get_mut(at) {
+            *place = mark;
+        }
+    }
+}
+
+/// Past names of types, which hold nothing themselves, to the type that is named.
+fn behind_names(definitions: &[Definition<'_, '_>], start: usize) -> usize {
+    let mut at = start;
+    for _ in 0..MAX_CHAIN {
+        match definitions.get(at) {
+            Some(definition) if matches!(definition.link.of.body, Body::Reference(_)) => {
+                at = first_target(definition).unwrap_or(at);
+            }
+            _ => break,
+        }
+    }
+    at
+}
+
+fn first_target(definition: &Definition<'_, '_>) -> Option<usize> {
+    definition.parts.first().and_then(|p| p.target)
+}
+
+/// The definition that a part leads to; where boxes are sought, not through a list, and past names.
+fn target_of(
+    definitions: &[Definition<'_, '_>],
+    part: &Part<'_, '_>,
+    for_boxes: bool,
+) -> Option<usize> {
+    let target = part.target?;
+    if !for_boxes {
+        return Some(target);
+    }
+    if part.lists == 0 {
+        Some(behind_names(definitions, target))
+    } else {
+        None
+    }
+}
+
+/// Walks from one definition to all that it uses and that are new.
+fn walk_from(
+    definitions: &[Definition<'_, '_>],
+    start: usize,
+    for_boxes: bool,
+    walk: &mut Walk,
+) -> Result<(), AllocError> {
+    walk.enter(start, (start, 0))?;
+    for _ in 0..u64::MAX {
+        let Some((at, next)) = walk.open.pop() else {
+            break;
+        };
+        let Some(definition) = definitions.get(at) else {
+            continue;
+        };
+        match definition.parts.get(next) {
+            Some(part) => {
+                walk.open.push((at, next.saturating_add(1)))?;
+                if let Some(target) = target_of(definitions, part, for_boxes) {
+                    walk.enter(target, (at, next))?;
+                }
+            }
+            None => {
+                walk.mark(at, Mark::Done);
+                walk.done.push(at)?;
+            }
+        }
+    }
+    Ok(())
+}
+
+/// Walks from every definition, in turn.
+fn walked(
+    alloc: Global,
+    definitions: &[Definition<'_, '_>],
+    for_boxes: bool,
+) -> Result<Walk, AllocError> {
+    let mut walk = Walk {
+        marks: vec![in alloc; Mark::New; definitions.len()]?,
+        open: Vec::new(alloc),
+        done: Vec::new(alloc),
+        back: Vec::new(alloc),
+    };
+    for start in 0..definitions.len() {
+        if walk.marks.get(start).copied() == Some(Mark::New) {
+            walk_from(definitions, start, for_boxes, &mut walk)?;
+        }
+    }
+    Ok(walk)
+}
+
+/// The places of definitions in order of use: each behind those that it uses, but where types contain themselves.
+pub fn order_of_use(
+    alloc: Global,
+    definitions: &[Definition<'_, '_>],
+) -> Result<Vec<usize>, AllocError> {
+    Ok(walked(alloc, definitions, false)?.done)
+}
+
+/// The parts that need a box, as the places of definition and part: without them a type would contain itself other than by a list.
+pub fn boxes(
+    alloc: Global,
+    definitions: &[Definition<'_, '_>],
+) -> Result<Vec<(usize, usize)>, AllocError> {
+    Ok(walked(alloc, definitions, true)?.back)
+}

@@ -1,0 +1,367 @@
+//! The components of a SEQUENCE or a SET, and the alternatives of a CHOICE: each with its place and its tag.
+
+use crate::numbers::{Spot, number_of};
+use crate::scope::{Link, Scope};
+use asn1_core::{Class, Tag};
+use asn1_modules::ast::{Body, Member, Need, Simple, Tagging, Type, WrittenTag};
+use asn1_modules::lexer::Token;
+use asn1_modules::refusal::Refusal;
+
+/// How deep COMPONENTS OF may lead.
+const MAX_NESTING: u32 = 64;
+
+/// What marks and groups may stand in a type.
+const MARKS: &str =
+    "at most two marks, and between them groups that end and don't stand inside one another";
+
+/// Where a component stands.
+#[derive(Clone, Copy, PartialEq, Eq)]
+pub enum Position {
+    Root,
+    Addition,
+    /// In an addition group, by its number from 1.
+    Group(usize),
+}
+
+/// A component or an alternative.
+#[derive(Clone, Copy)]
+pub struct Row<'m, 'a> {
+    pub name: Token<'a>,
+    pub link: Link<'m, 'a>,
+    pub need: &'m Need<'a>,
+    pub position: Position,
+    /// None for a choice without a tag in front, and for an open type.
+    pub tag: Option<Tag>,
+}
+
+/// How many marks and groups have been passed.
+#[derive(Clone, Copy)]
+struct Walk {
+    marks: u8,
+    groups: usize,
+    in_group: bool,
+}
+
+impl Walk {
+    fn position(&self) -> Position {
+        if self.in_group {
+            Position::Group(self.groups)
+        } else if self.marks == 1 {
+            Position::Addition
+        } else {
+            Position::Root
+        }
+    }
+
+    /// Passes a mark or a bracket of a group; false where none may stand.
+    fn passes(&mut self, member: &Member<'_>) -> bool {
+        match member {
+            Member::Mark(_) if self.marks < 2 && !self.in_group => {
+                self.marks = self.marks.saturating_add(1);
+                true
+            }
+            Member::Opens(_) if self.marks == 1 && !self.in_group => {
+                self.groups = self.groups.saturating_add(1);
+                self.in_group = true;
+                true
+            }
+            Member::Closes(_) if self.in_group => {
+                self.in_group = false;
+                true
+            }
+            _ => false,
+        }
+    }
+}
+
+/// The members of a SEQUENCE, a SET or a CHOICE.
+pub fn members_of<'m, 'a>(of: &'m Type<'a>) -> Option<&'m [Member<'a>]> {
+    match &of.body {
+        Body::Sequence(members) | Body::Set(members) | Body::Choice(members) => {
+            Some(members.as_slice())
+        }
+        _ => None,
+    }
+}
+
+/// The first token of a member.
+fn first_of<'a>(member: &Member<'a>) -> Token<'a> {
+    match member {
+        Member::Mark(token) | Member::Opens(token) | Member::Closes(token) => *token,
+        Member::ComponentsOf(of) => of.first,
+        Member::Component(component) => component.name,
+    }
+}
+
+/// The components as they are written, with those that COMPONENTS OF takes over, and with the tags that are in front of their types.
+#[cycle(rows)]
+fn written_rows<'m, 'a>(
+    scope: Scope<'m, 'a>,
+    module: usize,
+    members: &'m [Member<'a>],
+    levels: u32,
+) -> Result<Vec<Row<'m, 'a>>, Refusal> {
+    let mut rows = Vec::new(scope.alloc);
+    let mut walk = Walk {
+        marks: 0,
+        groups: 0,
+        in_group: false,
+    };
+    for member in members.iter() {
+        match member {
+            Member::Component(component) => rows.push(Row {
+                name: component.name,
+                link: Link {
+                    module,
+                    of: &component.of,
+                },
+                need: &component.need,
+                position: walk.position(),
+                tag: None,
+            })?,
+            Member::ComponentsOf(of) => {
+                let taken = taken_rows(scope, Link { module, of }, levels)?;
+                push_roots(&mut rows, taken.as_slice(), walk.position())?;
+            }
+            other => {
+                if !walk.passes(other) {
+                    return Err(scope.refused(first_of(other), MARKS));
+                }
+            }
+        }
+    }
+    match members.last() {
+        Some(last) if walk.in_group => Err(scope.refused(first_of(last), MARKS)),
+        _ => Ok(rows),
+    }
+}
+
+/// Puts the root components of one list behind another (X.680, 25.5).
+fn push_roots<'m, 'a>(
+    rows: &mut Vec<Row<'m, 'a>>,
+    taken: &[Row<'m, 'a>],
+    position: Position,
+) -> Result<(), Refusal> {
+    for row in taken.iter() {
+        if row.position == Position::Root {
+            rows.push(Row { position, ..*row })?;
+        }
+    }
+    Ok(())
+}
+
+/// The components of the type behind COMPONENTS OF.
+#[cycle(rows)]
+fn taken_rows<'m, 'a>(
+    scope: Scope<'m, 'a>,
+    link: Link<'m, 'a>,
+    levels: u32,
+) -> Result<Vec<Row<'m, 'a>>, Refusal> {
+    const READS: &str = "a SEQUENCE or a SET that doesn't take over its own components";
+    let base = scope.base_of(link)?;
+    let Some(levels) = levels.checked_sub(1) else {
+        return Err(scope.refused(link.of.first, READS));
+    };
+    let Some(members) = components_of(base.of) else {
+        return Err(scope.refused(link.of.first, READS));
+    };
+    written_rows(scope, base.module, members, levels)
+}
+
+/// The members of a SEQUENCE or a SET.
+fn components_of<'m, 'a>(of: &'m Type<'a>) -> Option<&'m [Member<'a>]> {
+    match &of.body {
+        Body::Sequence(members) | Body::Set(members) => Some(members.as_slice()),
+        _ => None,
+    }
+}
+
+/// Whether a member is a component with a tag in front of its type.
+fn is_tagged(member: &Member<'_>) -> bool {
+    match member {
+        Member::Component(component) => !component.of.tags.is_empty(),
+        _ => false,
+    }
+}
+
+/// The number of a tag, which is a u32.
+fn tag_of<'m, 'a>(
+    scope: Scope<'m, 'a>,
+    module: usize,
+    written: &'m WrittenTag<'a>,
+    first: Token<'a>,
+) -> Result<Tag, Refusal> {
+    let value = &written.number;
+    let number = number_of(
+        scope,
+        Spot {
+            module,
+            value,
+            names: None,
+        },
+    )?;
+    match u32::try_from(number) {
+        Ok(value) => Ok(Tag {
+            class: written.class,
+            value,
+        }),
+        Err(_) => Err(scope.refused(first, "a tag's number from 0 to 4294967295")),
+    }
+}
+
+/// The tag that a type has by itself: the outermost that is written, or its universal one.
+fn own_tag<'m, 'a>(scope: Scope<'m, 'a>, link: Link<'m, 'a>) -> Result<Option<Tag>, Refusal> {
+    let chain = scope.chain_of(link)?;
+    for one in chain.iter() {
+        if let Some(written) = one.of.tags.first() {
+            return Ok(Some(tag_of(scope, one.module, written, one.of.first)?));
+        }
+    }
+    Ok(chain.last().and_then(|base| universal_tag(&base.of.body)))
+}
+
+/// The universal tag of a type (X.680, table 1).
+fn universal_tag(body: &Body<'_>) -> Option<Tag> {
+    match body {
+        Body::Simple(simple) => simple_tag(*simple),
+        Body::Integer(_) => Some(Tag::INTEGER),
+        Body::BitString(_) => Some(Tag::BIT_STRING),
+        Body::Enumerated(_, _) => Some(Tag::ENUMERATED),
+        Body::Sequence(_) | Body::SequenceOf(_) => Some(Tag::SEQUENCE),
+        Body::Set(_) | Body::SetOf(_) => Some(Tag::SET),
+        Body::Choice(_) | Body::Reference(_) => None,
+    }
+}
+
+/// The universal tag of a type without parts; an open type has none.
+fn simple_tag(simple: Simple) -> Option<Tag> {
+    Some(match simple {
+        Simple::Boolean => Tag::BOOL,
+        Simple::Null => Tag::NULL,
+        Simple::OctetString => Tag::OCTET_STRING,
+        Simple::ObjectIdentifier => Tag::OBJECT_IDENTIFIER,
+        Simple::Utf8String => Tag::UTF8_STRING,
+        Simple::NumericString => Tag::NUMERIC_STRING,
+        Simple::PrintableString => Tag::PRINTABLE_STRING,
+        Simple::VisibleString => Tag::VISIBLE_STRING,
+        Simple::Ia5String => Tag::IA5_STRING,
+        Simple::GeneralString => Tag::GENERAL_STRING,
+        Simple::GraphicString => Tag::GRAPHIC_STRING,
+        Simple::TeletexString => Tag::TELETEX_STRING,
+        Simple::BmpString => Tag::BMP_STRING,
+        Simple::UtcTime => Tag::UTC_TIME,
+        Simple::GeneralizedTime => Tag::GENERALIZED_TIME,
+        Simple::Date => Tag::DATE,
+        Simple::Any => return None,
+    })
+}
+
+/// The rows with tags from 0: the root components first, then the additions (X.680, 25.7 to 25.9 and 29.5).
+fn numbered_rows<'m, 'a>(
+    scope: Scope<'m, 'a>,
+    rows: &[Row<'m, 'a>],
+) -> Result<Vec<Row<'m, 'a>>, Refusal> {
+    let mut all = Vec::new(scope.alloc);
+    let mut root = 0u32;
+    let roots = rows.iter().filter(|r| r.position == Position::Root).count();
+    let mut addition = u32::try_from(roots).unwrap_or(u32::MAX);
+    for row in rows.iter() {
+        let next = if row.position == Position::Root {
+            &mut root
+        } else {
+            &mut addition
+        };
+        let tag = Some(Tag {
+            class: Class::Context,
+            value: *next,
+        });
+        *next = next.saturating_add(1);
+        all.push(Row { tag, ..*row })?;
+    }
+    Ok(all)
+}
+
+/// The rows with the tags that their types have by themselves.
+fn tagged_rows<'m, 'a>(
+    scope: Scope<'m, 'a>,
+    rows: &[Row<'m, 'a>],
+) -> Result<Vec<Row<'m, 'a>>, Refusal> {
+    let mut all = Vec::new(scope.alloc);
+    for row in rows.iter() {
+        let tag = own_tag(scope, row.link)?;
+        all.push(Row { tag, ..*row })?;
+    }
+    Ok(all)
+}
+
+/// Refuses tags that stand twice, or that lack, where octets depend on them: in a CHOICE, and among the root components of a SET.
+fn require_tags<'m, 'a>(
+    scope: Scope<'m, 'a>,
+    rows: &[Row<'m, 'a>],
+    is_choice: bool,
+) -> Result<(), Refusal> {
+    let mut seen = Vec::new(scope.alloc);
+    for row in rows.iter() {
+        if !is_choice && row.position != Position::Root {
+            continue;
+        }
+        let Some(tag) = row.tag else {
+            return Err(scope.refused(
+                row.name,
+                "a component with a tag: an untagged choice or open type isn't read here",
+            ));
+        };
+        if seen.contains(&tag) {
+            return Err(scope.refused(row.name, "a component with a tag of its own"));
+        }
+        seen.push(tag)?;
+    }
+    Ok(())
+}
+
+/// Refuses what a CHOICE can't have: alternatives that may be left out, or behind a second mark.
+fn require_alternatives<'m, 'a>(
+    scope: Scope<'m, 'a>,
+    rows: &[Row<'m, 'a>],
+    members: &[Member<'a>],
+) -> Result<(), Refusal> {
+    for row in rows.iter() {
+        if !matches!(row.need, Need::Required) {
+            return Err(scope.refused(row.name, "an alternative without OPTIONAL or DEFAULT"));
+        }
+    }
+    for member in members.iter() {
+        if matches!(member, Member::ComponentsOf(_)) {
+            return Err(scope.refused(first_of(member), "an alternative"));
+        }
+    }
+    Ok(())
+}
+
+/// The components or alternatives of a type with members; none of another.
+pub fn rows_of<'m, 'a>(
+    scope: Scope<'m, 'a>,
+    link: Link<'m, 'a>,
+) -> Result<Vec<Row<'m, 'a>>, Refusal> {
+    let Some(members) = members_of(link.of) else {
+        return Ok(Vec::new(scope.alloc));
+    };
+    let written = written_rows(scope, link.module, members, MAX_NESTING)?;
+    let is_automatic = match scope.modules.get(link.module) {
+        Some(module) => module.tagging == Tagging::Automatic,
+        None => false,
+    };
+    let rows = if is_automatic && !members.iter().any(|m| is_tagged(m)) {
+        numbered_rows(scope, written.as_slice())?
+    } else {
+        tagged_rows(scope, written.as_slice())?
+    };
+    let is_choice = matches!(link.of.body, Body::Choice(_));
+    if is_choice {
+        require_alternatives(scope, rows.as_slice(), members)?;
+    }
+    if is_choice || matches!(link.of.body, Body::Set(_)) {
+        require_tags(scope, rows.as_slice(), is_choice)?;
+    }
+    Ok(rows)
+}

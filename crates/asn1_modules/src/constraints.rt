@@ -1,0 +1,200 @@
+//! Reads constraints (X.680, clauses 49 to 51).
+
+use crate::ast::{Constraint, Element, ElementSet, Reference, Value};
+use crate::lexer::Kind;
+use crate::reader::Reader;
+use crate::refusal::Refusal;
+use crate::values::read_value;
+
+/// How deep constraints, and types, may be nested.
+pub const MAX_NESTING: u32 = 64;
+
+/// The constraints behind a type.
+pub fn read_constraints<'a>(reader: &mut Reader<'a>) -> Result<Vec<Constraint<'a>>, Refusal> {
+    let mut all = Vec::new(reader.alloc);
+    for _ in 0..reader.left() {
+        if !reader.is("(") {
+            break;
+        }
+        all.push(read_constraint(reader, MAX_NESTING)?)?;
+    }
+    Ok(all)
+}
+
+/// A constraint between parentheses. What stands behind its extension mark is read and left out.
+#[cycle(sets)]
+pub fn read_constraint<'a>(
+    reader: &mut Reader<'a>,
+    levels: u32,
+) -> Result<Constraint<'a>, Refusal> {
+    let first = reader.peek();
+    let Some(levels) = levels.checked_sub(1) else {
+        return Err(reader.refused("at most 64 nested constraints"));
+    };
+    reader.expects("(")?;
+    let set = read_set(reader, levels)?;
+    let mut is_extensible = false;
+    if reader.eats(",") {
+        reader.expects("...")?;
+        is_extensible = true;
+        if reader.eats(",") {
+            let _ = read_set(reader, levels)?;
+        }
+    }
+    reader.expects(")")?;
+    Ok(Constraint {
+        first,
+        set,
+        is_extensible,
+    })
+}
+
+/// A union of intersections.
+#[cycle(sets)]
+fn read_set<'a>(reader: &mut Reader<'a>, levels: u32) -> Result<ElementSet<'a>, Refusal> {
+    let mut unions = Vec::new(reader.alloc);
+    for _ in 0..reader.left() {
+        unions.push(read_intersection(reader, levels)?)?;
+        if !(reader.eats("|") || reader.eats("UNION")) {
+            break;
+        }
+    }
+    Ok(ElementSet { unions })
+}
+
+/// An intersection of elements. What `EXCEPT` takes away is read and left out.
+#[cycle(sets)]
+fn read_intersection<'a>(
+    reader: &mut Reader<'a>,
+    levels: u32,
+) -> Result<Vec<Element<'a>>, Refusal> {
+    let mut elements = Vec::new(reader.alloc);
+    for _ in 0..reader.left() {
+        if reader.eats("ALL") {
+            elements.push(Element::Unseen)?;
+        } else {
+            elements.push(read_element(reader, levels)?)?;
+        }
+        if reader.eats("EXCEPT") {
+            let _ = read_element(reader, levels)?;
+        }
+        if !(reader.eats("^") || reader.eats("INTERSECTION")) {
+            break;
+        }
+    }
+    Ok(elements)
+}
+
+/// An element.
+#[cycle(sets)]
+fn read_element<'a>(reader: &mut Reader<'a>, levels: u32) -> Result<Element<'a>, Refusal> {
+    let first = reader.peek();
+    let Some(levels) = levels.checked_sub(1) else {
+        return Err(reader.refused("at most 64 nested constraints"));
+    };
+    match first.text {
+        "(" => {
+            let _ = reader.next();
+            let set = read_set(reader, levels)?;
+            reader.expects(")")?;
+            Ok(Element::Set(set))
+        }
+        "SIZE" => {
+            let _ = reader.next();
+            let size = read_constraint(reader, levels)?;
+            Ok(Element::Size(Box::new(reader.alloc, size)?))
+        }
+        "FROM" => {
+            let _ = reader.next();
+            let _ = read_constraint(reader, levels)?;
+            Ok(Element::Unseen)
+        }
+        "WITH" => {
+            let _ = reader.next();
+            if reader.eats("COMPONENT") {
+                let _ = read_constraint(reader, levels)?;
+            } else {
+                read_with_components(reader)?;
+            }
+            Ok(Element::Unseen)
+        }
+        _ => read_plain(reader),
+    }
+}
+
+/// `COMPONENTS {..}`
+fn read_with_components(reader: &mut Reader<'_>) -> Result<(), Refusal> {
+    reader.expects("COMPONENTS")?;
+    if !reader.is("{") {
+        return Err(reader.refused("'{'"));
+    }
+    reader.skip_brackets()
+}
+
+/// An element without elements.
+fn read_plain<'a>(reader: &mut Reader<'a>) -> Result<Element<'a>, Refusal> {
+    match reader.peek().text {
+        "CONTAINING" | "CONSTRAINED" | "ENCODED" => {
+            reader.skip_to_close()?;
+            Ok(Element::Unseen)
+        }
+        "PATTERN" | "SETTINGS" => {
+            let _ = reader.next();
+            let _ = read_value(reader)?;
+            Ok(Element::Unseen)
+        }
+        "INCLUDES" => {
+            let _ = reader.next();
+            Ok(Element::Type(read_type_name(reader)?))
+        }
+        _ => read_range(reader),
+    }
+}
+
+/// A value, a range of values, or the name of a type whose values are meant.
+fn read_range<'a>(reader: &mut Reader<'a>) -> Result<Element<'a>, Refusal> {
+    let from = if reader.eats("MIN") {
+        None
+    } else if reader.peek().kind == Kind::Name && !is_value(reader) {
+        return Ok(Element::Type(read_type_name(reader)?));
+    } else {
+        Some(read_value(reader)?)
+    };
+    if !reader.eats("..") {
+        return match from {
+            Some(value) => Ok(Element::Single(value)),
+            None => Err(reader.refused("'..'")),
+        };
+    }
+    let to = if reader.eats("MAX") {
+        None
+    } else {
+        Some(read_value(reader)?)
+    };
+    Ok(Element::Range(from, to))
+}
+
+/// Whether a capital letter begins a value: `TRUE`, `FALSE`, `NULL`, or the name of another module's.
+fn is_value(reader: &Reader<'_>) -> bool {
+    let mut ahead = *reader;
+    let _ = ahead.next();
+    reader.is("TRUE")
+        || reader.is("FALSE")
+        || reader.is("NULL")
+        || (ahead.is(".") && ahead.second().kind == Kind::Word)
+}
+
+/// The name of a type, in another module where one is named.
+pub fn read_type_name<'a>(reader: &mut Reader<'a>) -> Result<Reference<'a>, Refusal> {
+    let first = reader.takes(Kind::Name, "a type")?;
+    if !reader.eats(".") {
+        return Ok(Reference {
+            module: None,
+            name: first,
+        });
+    }
+    Ok(Reference {
+        module: Some(first),
+        name: reader.takes(Kind::Name, "a type's name")?,
+    })
+}

@@ -1,0 +1,266 @@
+//! Cuts a module's text into tokens (X.680, clause 12).
+
+use crate::refusal::{Place, Refusal};
+use std::alloc::Global;
+
+/// What sort of token it is.
+#[derive(Clone, Copy, PartialEq, Eq)]
+pub enum Kind {
+    /// A name that begins with a capital letter: a type, a module, or a word of ASN.1's own.
+    Name,
+    /// A name that begins with a small letter: a component, a value.
+    Word,
+    /// Digits.
+    Number,
+    /// `'0101'B`, with its quotes and letter.
+    Bits,
+    /// `'0AF'H`, with its quotes and letter.
+    Hex,
+    /// `"text"`, with its quotes.
+    Text,
+    /// A sign, as `::=`, `{` or `..`.
+    Sign,
+    /// The end of the file.
+    End,
+}
+
+/// A token: its text as it stands, and where.
+#[derive(Clone, Copy)]
+pub struct Token<'a> {
+    pub kind: Kind,
+    pub text: &'a str,
+    pub place: Place,
+}
+
+/// What is left of a text, and where that begins.
+#[derive(Clone, Copy)]
+struct Cursor<'a> {
+    rest: &'a str,
+    place: Place,
+}
+
+/// Signs of more than one character; the longest first.
+static LONG_SIGNS: [&str; 5] = ["::=", "...", "..", "[[", "]]"];
+
+/// The place behind a text that begins at `place`.
+fn behind(place: Place, text: &str) -> Place {
+    let mut line = place.line;
+    let mut column = place.column;
+    for c in text.chars() {
+        if c == '\n' {
+            line = line.saturating_add(1);
+            column = 1;
+        } else {
+            column = column.saturating_add(1);
+        }
+    }
+    Place {
+        file: place.file,
+        line,
+        column,
+    }
+}
+
+impl<'a> Cursor<'a> {
+    /// Takes `count` octets; all that is left where there are fewer, or where a character would be cut.
+    fn take(&mut self, count: usize) -> &'a str {
+        let whole = self.rest;
+        let (taken, rest) = match whole.split_at_checked(count) {
+            Some((taken, rest)) => (taken, rest),
+            None => (whole, ""),
+        };
+        self.place = behind(self.place, taken);
+        self.rest = rest;
+        taken
+    }
+}
+
+/// The octets of a comment `--`, which ends with its line or with the next `--` (X.680, 12.6.3).
+fn line_comment(rest: &str) -> usize {
+    let inner = match rest.strip_prefix("--") {
+        Some(inner) => inner,
+        None => return 0,
+    };
+    let line = inner.find('\n').unwrap_or(inner.len());
+    match inner.find("--") {
+        Some(end) if end < line => end.saturating_add(4),
+        _ => line.saturating_add(2),
+    }
+}
+
+/// The octets of a comment between `/*` and `*/`, which nests (X.680, 12.6.4); nothing where it doesn't end.
+fn block_comment(rest: &str) -> Option<usize> {
+    let mut depth = 0usize;
+    let mut before = b' ';
+    for (at, octet) in rest.bytes().enumerate() {
+        let opens = before == b'/' && octet == b'*';
+        let closes = before == b'*' && octet == b'/';
+        before = octet;
+        if opens {
+            depth = depth.saturating_add(1);
+            before = b' ';
+        }
+        if closes {
+            depth = depth.saturating_sub(1);
+            before = b' ';
+            if depth == 0 {
+                return Some(at.saturating_add(1));
+            }
+        }
+    }
+    None
+}
+
+/// The octets of a name or number at the front: letters, digits and single hyphens, the last no hyphen (X.680, 12.2 and 12.3).
+fn word_length(rest: &str) -> usize {
+    let end = rest
+        .find(|c: char| !(c.is_ascii_alphanumeric() || c == '-'))
+        .unwrap_or(rest.len());
+    let run = rest.get(..end).unwrap_or("");
+    let front = match run.split_once("--") {
+        Some((front, _)) => front,
+        None => run,
+    };
+    front.trim_end_matches('-').len()
+}
+
+/// The octets of white space, or of a comment, at the front; nothing where a comment doesn't end.
+fn blank_length(rest: &str) -> Option<usize> {
+    if rest.starts_with("--") {
+        Some(line_comment(rest))
+    } else if rest.starts_with("/*") {
+        block_comment(rest)
+    } else {
+        Some(rest.len().saturating_sub(rest.trim_start().len()))
+    }
+}
+
+/// The octets of a text between quotes, in which two quotes stand for one (X.680, 12.14); nothing where it doesn't end.
+fn text_length(rest: &str) -> Option<usize> {
+    let mut quotes = 0usize;
+    let mut end = 0usize;
+    for (at, octet) in rest.bytes().enumerate() {
+        if octet == b'"' {
+            quotes = quotes.wrapping_add(1);
+            end = at;
+        } else if at == end.saturating_add(1) && quotes % 2 == 0 {
+            break;
+        }
+    }
+    if quotes % 2 == 0 {
+        Some(end.saturating_add(1))
+    } else {
+        None
+    }
+}
+
+/// The octets of `'..'B` or `'..'H` (X.680, 12.10 and 12.12); nothing where it doesn't end so.
+fn digits_length(rest: &str) -> Option<(Kind, usize)> {
+    let (_, inner) = rest.split_once('\'')?;
+    let (digits, after) = inner.split_once('\'')?;
+    let length = digits.len().saturating_add(3);
+    if after.starts_with('B') {
+        Some((Kind::Bits, length))
+    } else if after.starts_with('H') {
+        Some((Kind::Hex, length))
+    } else {
+        None
+    }
+}
+
+/// The octets of a sign at the front; nothing where none begins there.
+fn sign_length(rest: &str, first: char) -> Option<usize> {
+    for sign in LONG_SIGNS {
+        if rest.starts_with(sign) {
+            return Some(sign.len());
+        }
+    }
+    if first.is_ascii_punctuation() && first != '"' {
+        Some(1)
+    } else {
+        None
+    }
+}
+
+/// The kind and the octets of the token at the front; nothing where none begins there.
+fn token_length(rest: &str) -> Option<(Kind, usize)> {
+    let first = rest.chars().next()?;
+    match first {
+        'A'..='Z' => Some((Kind::Name, word_length(rest))),
+        'a'..='z' => Some((Kind::Word, word_length(rest))),
+        '0'..='9' => {
+            let digits = rest.find(|c: char| !c.is_ascii_digit());
+            Some((Kind::Number, digits.unwrap_or(rest.len())))
+        }
+        '"' => Some((Kind::Text, text_length(rest)?)),
+        '\'' => digits_length(rest),
+        _ => Some((Kind::Sign, sign_length(rest, first)?)),
+    }
+}
+
+impl<'a> Cursor<'a> {
+    /// Passes over white space and comments; false where a comment doesn't end.
+    fn skips_blank(&mut self) -> bool {
+        for _ in 0..self.rest.len() {
+            match blank_length(self.rest) {
+                Some(0) => return true,
+                Some(length) => {
+                    let _ = self.take(length);
+                }
+                None => return false,
+            }
+        }
+        true
+    }
+
+    /// The token at the front.
+    fn token(&mut self, alloc: Global) -> Result<Token<'a>, Refusal> {
+        let place = self.place;
+        match token_length(self.rest) {
+            Some((kind, length)) => Ok(Token {
+                kind,
+                text: self.take(length),
+                place,
+            }),
+            None => Err(Refusal::new(
+                alloc,
+                place,
+                "a character that begins no token",
+                "names, numbers, signs, and strings that end",
+            )),
+        }
+    }
+}
+
+/// The tokens of a file's text, and `End` behind them. Refused where a comment or a string doesn't end, or a character begins no token.
+pub fn tokens(alloc: Global, file: usize, text: &str) -> Result<Vec<Token<'_>>, Refusal> {
+    let mut cursor = Cursor {
+        rest: text,
+        place: Place {
+            file,
+            line: 1,
+            column: 1,
+        },
+    };
+    let mut tokens = Vec::new(alloc);
+    for _ in 0..text.len() {
+        if !cursor.skips_blank() {
+            return Err(Refusal::new(
+                alloc,
+                cursor.place,
+                "a comment that doesn't end",
+                "its '*/'",
+            ));
+        }
+        if cursor.rest.is_empty() {
+            break;
+        }
+        tokens.push(cursor.token(alloc)?)?;
+    }
+    tokens.push(Token {
+        kind: Kind::End,
+        text: "",
+        place: cursor.place,
+    })?;
+    Ok(tokens)
+}
