@@ -1,4 +1,4 @@
-//! Types of messages, written by hand: each states its tree, and keeps the laws of writing and reading.
+//! Types of messages, by hand or by their rows: each states its tree, and keeps the laws of writing and reading.
 #![tactic(auto)]
 
 mod constrained;
@@ -6,7 +6,10 @@ mod enums;
 mod ranges;
 mod wrappers;
 
-pub use choice_types::{BoolChoice, OnlyChoice, PriorityChoice, WideChoice};
+pub use choice_types::{
+    BoolAlternatives, BoolChoice, OnlyAlternatives, OnlyChoice, PriorityAlternatives,
+    PriorityChoice, WideChoice,
+};
 pub use constrained::ConstrainedOptions;
 pub use enums::{Enum3, Enum4};
 pub use extensible_types::{
@@ -16,6 +19,7 @@ pub use group_types::{
     Group6, Omitted, Sequence3, Sequence4, Sequence6, SequenceDuplicatesExtended,
 };
 pub use long_types::{ExtendedOptional, ManyOptional};
+pub use oer_choices::OneOf;
 pub use ranges::{FiveAroundZero, FromZeroTo64Bits, GreatPositive, Small};
 pub use recursive_types::{Bush, DeepDefault, Link, LinkChoice, Nest, TestChoice, TopLevel};
 pub use sequence_types::{
