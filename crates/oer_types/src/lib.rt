@@ -1,4 +1,4 @@
-//! Types of messages, by hand or by their rows: each states its tree, and keeps the laws of writing and reading.
+//! Types of messages, by hand, by their rows or by the list of their values: each states its tree, and keeps the laws of writing and reading.
 #![tactic(auto)]
 
 mod constrained;
@@ -11,7 +11,7 @@ pub use choice_types::{
     PriorityChoice, WideChoice,
 };
 pub use constrained::ConstrainedOptions;
-pub use enums::{Enum3, Enum4};
+pub use enums::{Answer, Color, Enum3, Enum4};
 pub use extensible_types::{
     AddDef, EmptyExtensible, Holder1, Holder2, Outer, Sequence1, Sequence2, Sequence5,
 };
