@@ -114,8 +114,11 @@ impl<'input> Decoder<'input> {
         ensures { AddsDefault (D.tree constraints) D.IsValue (D.Answered constraints) D.eq self.old tag default result self.new }
     {
         let before = self.mark();
-        match self.decode_extension_addition_with_tag_and_constraints::<D>(alloc, tag, constraints)
-        {
+        match self.decode_extension_addition_with_tag_and_constraints::<D>(
+            alloc,
+            tag,
+            constraints,
+        ) {
             Err(e) => Err(e),
             Ok(None) => Ok(default),
             Ok(Some(value)) => match self.refuse_default(&value, &default) {
