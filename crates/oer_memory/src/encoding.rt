@@ -5,7 +5,7 @@ use crate::marks::begin;
 use anyhow::{Error, Result};
 use asn1_core::{Codec, Constraints, EncodeError, SetOf, Tag};
 use asn1_ints::Integer;
-use oer_types::{Enum4, Sequence4};
+use oer_types::{Enum4, Sequence, components};
 use oer_write::enc::EncoderOptions;
 use rasn_oer::{Decoder, DecoderOptions, Encode, Encoder};
 use std::alloc::Global;
@@ -172,7 +172,7 @@ fn components(alloc: Global, word: &str, e: &mut Encoder<'_>) -> Result<Done> {
         }
         "encode_extension_addition" => e.encode_extension_addition(one(), NONE, Some(&true)),
         "encode_extension_addition_group" => {
-            e.encode_extension_addition_group(Some(&Sequence4 { a: true }))
+            e.encode_extension_addition_group(Some(&Sequence(components::Sequence4 { a: true })))
         }
         "encode_extension_addition_default" => {
             e.encode_extension_addition_default(one(), NONE, &true, &false)

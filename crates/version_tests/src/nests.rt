@@ -53,9 +53,7 @@ impl<T: Decode + Encode> Tabled<1, 0> for HoldingComponents<T> {
         <HoldingRow<T>>::write((&self.inner, ()), encoder)
     }
 
-    ghost root_count = { refl };
-
-    ghost addition_count = { refl };
+    ghost counts = { (refl, refl) };
 }
 
 /// `SEQUENCE { ok BOOLEAN, ..., inner T OPTIONAL }`
@@ -105,9 +103,7 @@ impl<T: Decode + Encode> Tabled<1, 1> for AddingComponents<T> {
         <AddingRow<T>>::write((&self.ok, (&self.inner, ())), encoder)
     }
 
-    ghost root_count = { refl };
-
-    ghost addition_count = { refl };
+    ghost counts = { (refl, refl) };
 }
 
 /// How a value lies in octets that hold it.
