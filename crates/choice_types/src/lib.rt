@@ -1,13 +1,8 @@
-//! Choices: by the rows of their alternatives, and one by hand.
+//! Choices, by hand.
 #![tactic(auto)]
 
-mod by_row;
+mod alternatives;
 mod choices;
-#[cfg(test)]
-mod tests;
 
-pub use by_row::{
-    BoolAlternatives, BoolChoice, OnlyAlternatives, OnlyChoice, PriorityAlternatives,
-    PriorityChoice,
-};
-pub use choices::WideChoice;
+pub use alternatives::put_alternative;
+pub use choices::{BoolChoice, OnlyChoice, PriorityChoice, WideChoice};

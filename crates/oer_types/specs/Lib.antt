@@ -1,2 +1,3 @@
+pub mod Enums
 pub mod Wrappers
 pub mod Constrained

@@ -1,0 +1,23 @@
+use Rattle.std.proofs.Common.{refl}
+use Rattle.choice_types.specs.declared.choices.PriorityChoice.TheVariants.{Normal, High, Medium}
+use Rattle.choice_types.proofs.Choosing.{context_is, priority_holds}
+use Rattle.oer_read.proofs.Alternatives.{alternative_read, alternative_stops}
+use Rattle.choice_types.proofs.choices.PriorityChoiceDecodeChoice.from_tag.Goals as goal
+
+pub returns-in_err-decode-in-Context-eq0-clause-law : goal.returns-in_err-decode-in-Context-eq0-clause-law
+returns-in_err-decode-in-Context-eq0-clause-law c = alternative_stops _ _ _ _ _ (priority_holds _ Normal (λ n. context_is _ 0 c.in-Context-eq0.is-0 c.in-Context-eq0.is-1) (λ n. refl)) _ _ _ _ _ c.in_err-decode-in-Context-eq0.ensures.law c.from_residual.ensures.1 (λ y k. k)
+
+pub returns-in_ok-decode-in-Context-eq0-clause-law : goal.returns-in_ok-decode-in-Context-eq0-clause-law
+returns-in_ok-decode-in-Context-eq0-clause-law c = alternative_read _ _ _ _ _ (priority_holds _ Normal (λ n. context_is _ 0 c.in-Context-eq0.is-0 c.in-Context-eq0.is-1) (λ n. refl)) _ _ _ c.in_ok-decode-in-Context-eq0.ensures.law
+
+pub returns-in_err-decode-in-Context-eq1-clause-law : goal.returns-in_err-decode-in-Context-eq1-clause-law
+returns-in_err-decode-in-Context-eq1-clause-law c = alternative_stops _ _ _ _ _ (priority_holds _ High (λ n. context_is _ 1 c.in-Context-eq1.is-0 c.in-Context-eq1.is-1) (λ n. refl)) _ _ _ _ _ c.in_err-decode-in-Context-eq1.ensures.law c.from_residual-in_err-decode-in-Context-eq1.ensures.1 (λ y k. k)
+
+pub returns-in_ok-decode-in-Context-eq1-clause-law : goal.returns-in_ok-decode-in-Context-eq1-clause-law
+returns-in_ok-decode-in-Context-eq1-clause-law c = alternative_read _ _ _ _ _ (priority_holds _ High (λ n. context_is _ 1 c.in-Context-eq1.is-0 c.in-Context-eq1.is-1) (λ n. refl)) _ _ _ c.in_ok-decode-in-Context-eq1.ensures.law
+
+pub returns-in_err-decode-in-Context-eq2-clause-law : goal.returns-in_err-decode-in-Context-eq2-clause-law
+returns-in_err-decode-in-Context-eq2-clause-law c = alternative_stops _ _ _ _ _ (priority_holds _ Medium (λ n. context_is _ 2 c.in-Context-eq2.is-0 c.in-Context-eq2.is-1) (λ n. refl)) _ _ _ _ _ c.in_err-decode-in-Context-eq2.ensures.law c.from_residual-in_err-decode-in-Context-eq2.ensures.1 (λ y k. k)
+
+pub returns-in_ok-decode-in-Context-eq2-clause-law : goal.returns-in_ok-decode-in-Context-eq2-clause-law
+returns-in_ok-decode-in-Context-eq2-clause-law c = alternative_read _ _ _ _ _ (priority_holds _ Medium (λ n. context_is _ 2 c.in-Context-eq2.is-0 c.in-Context-eq2.is-1) (λ n. refl)) _ _ _ c.in_ok-decode-in-Context-eq2.ensures.law
