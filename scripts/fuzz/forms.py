@@ -45,6 +45,8 @@ TYPES = {
     "extopt": Seq([("i", None)] + [("i", OPT), ("o", OPT)] * 3, ["i", "o"] * 2),
     "manyopt": Seq([("i", None)] + [("i", OPT), ("o", OPT)] * 3 + [("i", OPT)] * 6),
     "foo": Seq([("i", OPT)] * 3), "mixset": Seq([("i", b"\x01\x00"), ("i", OPT), A], ["b"]),
+    "MixedSet": Seq([("i", b"\x01\x00"), ("i", OPT), A], ["b"]), "mixset2": Seq([("i", b"\x01\x00"), ("i", OPT), A], ["b", "o"]),
+    "seq7": Seq([A], ["b", "b", "i", "group7"]), "group7": Seq([("b", OPT), ("i", b"\x01\x00")]), "bag3": List("seq7"),
     "Bush": Seq([("i", None), ("bushes", None)]), "bushes": List("Bush"),
 }  # fmt: skip
 
