@@ -79,7 +79,7 @@ ROWS = [
     Row("date", "08" + hexed("20240229"), "Date { value: 2024-02-29 }"),
     Row("date", "08" + hexed("20230229"), "InvalidTime"),
     # a set with an addition
-    Row("mixset", "e0 01 03 01 05 ff 02 07 80 01 00", f"MixedSet {{ x: true, y: Some({number(5)}), z: {number(3)}, n: Some(false) }}"),
+    Row("mixset", "e0 01 03 01 05 ff 02 07 80 01 00", f"MixSetComponents {{ x: true, y: Some({number(5)}), z: {number(3)}, n: Some(false) }}"),
     # what those don't reach
     Row("bool", "ff", "true"),
     Row("octets", "03 61 62 63", octets("abc")),
