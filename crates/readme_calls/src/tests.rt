@@ -11,12 +11,12 @@ use std::test::Fail;
 fn a_pair_is_written_and_read(rt: HostRuntime) -> Result<(), Fail> {
     let alloc = rt.alloc();
     let octets = written(alloc)?;
-    assert!(rt; octets.as_slice() == &[1, 1, 1, 2]);
+    assert!(rt; octets.as_slice() == [1, 1, 1, 2].as_slice());
     let mut message = Vec::from_array(alloc, [0xAA])?;
     let (pair, rest) = first_pair(alloc, &[1, 1, 1, 2, 9])?;
-    assert!(rt; rest == &[9]);
+    assert!(rt; rest == [9].as_slice());
     appended(alloc, &pair, &mut message)?;
-    assert!(rt; message.as_slice() == &[0xAA, 1, 1, 1, 2]);
+    assert!(rt; message.as_slice() == [0xAA, 1, 1, 1, 2].as_slice());
     assert!(rt; pair_or_more(alloc, &[1, 1, 1, 2])? == Ok(pair));
     assert!(rt; pair_or_more(alloc, &[1, 1, 1])? == Err(1));
     Ok(())
@@ -26,7 +26,7 @@ fn a_pair_is_written_and_read(rt: HostRuntime) -> Result<(), Fail> {
 fn lenient_octets_become_canonical(rt: HostRuntime) -> Result<(), Fail> {
     let alloc = rt.alloc();
     let (octets, rest) = canonical(alloc, &[0x80, 0x01, 0x00])?;
-    assert!(rt; octets.as_slice() == &[0x00] && rest.is_empty());
+    assert!(rt; octets.as_slice() == [0x00].as_slice() && rest.is_empty());
     Ok(())
 }
 
