@@ -10,7 +10,9 @@ ghost use Rattle.sequence_types.specs.Pairs.{pair_rows, plain_integer};
 
 use asn1_core::{Class, Codec, Constraints, DecodeError, DecodeErrorKind, EncodeError, SetOf, Tag};
 use asn1_ints::Integer;
-use oer_types::{Pair, PriorityChoice, Sequence, Sequence4, components};
+use oer_types::{
+    OneOf, Pair, PriorityAlternatives, PriorityChoice, Sequence, Sequence4, components,
+};
 use rasn_oer::oer::de::DecoderOptions;
 use rasn_oer::oer::enc::EncoderOptions;
 use rasn_oer::oer::{Decoder, Encoder};
@@ -288,7 +290,7 @@ fn scopes_are_read_by_their_methods(rt: HostRuntime) -> Result<(), Fail> {
     );
     let set: SetOf<bool> = d.decode_set_of(alloc, Tag::SET, NONE)?;
     assert_eq!(rt; set.len(), 2);
-    let high = PriorityChoice::High(integer(333));
+    let high: PriorityChoice = OneOf(PriorityAlternatives::High(integer(333)));
     let choice: PriorityChoice = d.decode_choice(alloc, NONE)?;
     assert!(rt; choice == high);
     assert!(rt; read_choice(alloc, &mut d)? == high);

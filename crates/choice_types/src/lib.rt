@@ -1,8 +1,13 @@
-//! Choices, by hand.
+//! Choices: by the rows of their alternatives, and one by hand.
 #![tactic(auto)]
 
-mod alternatives;
+mod by_row;
 mod choices;
+#[cfg(test)]
+mod tests;
 
-pub use alternatives::put_alternative;
-pub use choices::{BoolChoice, OnlyChoice, PriorityChoice, WideChoice};
+pub use by_row::{
+    BoolAlternatives, BoolChoice, OnlyAlternatives, OnlyChoice, PriorityAlternatives,
+    PriorityChoice,
+};
+pub use choices::WideChoice;

@@ -1,3 +1,2 @@
-pub mod Enums
 pub mod Wrappers
 pub mod Constrained

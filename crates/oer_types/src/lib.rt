@@ -1,4 +1,4 @@
-//! Types of messages, by rows and by hand: each keeps the laws of writing and reading.
+//! Types of messages, by rows, by lists of values and by hand: each states its tree, and keeps the laws of writing and reading.
 #![tactic(auto)]
 
 mod constrained;
@@ -13,9 +13,12 @@ pub mod components {
     };
 }
 
-pub use choice_types::{BoolChoice, OnlyChoice, PriorityChoice, WideChoice};
+pub use choice_types::{
+    BoolAlternatives, BoolChoice, OnlyAlternatives, OnlyChoice, PriorityAlternatives,
+    PriorityChoice, WideChoice,
+};
 pub use constrained::ConstrainedOptions;
-pub use enums::{Enum3, Enum4};
+pub use enums::{Answer, Color, Enum3, Enum4};
 pub use extensible_types::{
     AddDef, EmptyExtensible, Holder1, Holder2, Outer, Sequence1, Sequence2, Sequence5,
 };
@@ -23,6 +26,7 @@ pub use group_types::{
     Group6, Omitted, Sequence3, Sequence4, Sequence6, SequenceDuplicatesExtended,
 };
 pub use long_types::{ExtendedOptional, ManyOptional};
+pub use oer_choices::OneOf;
 pub use oer_rows::Sequence;
 pub use ranges::{FiveAroundZero, FromZeroTo64Bits, GreatPositive, Small};
 pub use recursive_types::{Bush, DeepDefault, Link, LinkChoice, Nest, TestChoice, TopLevel};

@@ -17,7 +17,7 @@ use asn1_core::{
     Field, FieldPresence, Fields, Tag,
 };
 use asn1_ints::Integer;
-use choice_types::put_alternative;
+use oer_choices::put_alternative;
 use oer_read::{Decode, Decoder};
 use oer_spec::Spelled;
 use oer_write::{Encode, Encoder};

@@ -16,7 +16,7 @@ use asn1_core::{
     AsnType, Bounded, Choice, Class, Constraints, Constructed, DecodeError, DecodeErrorKind,
     EncodeError, Field, FieldPresence, Fields, Tag,
 };
-use choice_types::put_alternative;
+use oer_choices::put_alternative;
 use oer_read::{Decode, Decoder};
 use oer_spec::Spelled;
 use oer_write::{Encode, Encoder};

@@ -7,7 +7,8 @@ use crate::{
 };
 use asn1_ints::Integer;
 use asn1_strings::OctetString;
-use choice_types::PriorityChoice;
+use choice_types::PriorityAlternatives;
+use oer_choices::OneOf;
 use oer_read::{Decode, Decoder, DecoderOptions, Encode, Encoder};
 use oer_rows::{ListOf, Sequence};
 use oer_write::enc::EncoderOptions;
@@ -87,7 +88,7 @@ fn values_are_written_and_read(rt: HostRuntime) -> Result<(), Fail> {
         c: Some(false),
     };
     let mixed: Mixed = Sequence(MixedComponents {
-        priority: PriorityChoice::Normal(Integer::from_i128(7)),
+        priority: OneOf(PriorityAlternatives::Normal(Integer::from_i128(7))),
         names: ListOf(Vec::from_array(alloc, [OctetString::from_slice(alloc, &[0xAA, 0xBB])?])?),
     });
     let [sure, levelled, grouped] = additions(alloc)?;

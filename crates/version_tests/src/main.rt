@@ -5,15 +5,17 @@
 //! - `newer MODE NEW/OLD HEX`: canonical octets of the older type, by `as_newer` and then by `as_older`.
 //!
 //! Each row is answered in the same way in a box, in a sequence, twice in a list and in an unordered list, and as an addition.
+//! `NEW/OLD` is two versions of a type, `seq2/seq1`, or these in two versions of a choice, `choice2/choice1:seq2/seq1`.
 #![tactic(auto)]
 
+mod choices;
 mod nests;
 mod pairs;
 mod turning;
 
 use anyhow::{Error, Result};
 use asn1_core::Codec;
-use pairs::with_pair;
+use choices::with_versions;
 use std::alloc::Global;
 use std::io::{BufRead, BufReader};
 use turning::{From, Turning};
@@ -30,7 +32,7 @@ fn answer(alloc: Global, row: &str) -> Result<String> {
         "coer" => Codec::Coer,
         _ => return Err(Error::msg("no such mode")),
     };
-    let pair = words.next().unwrap_or("");
+    let versions = words.next().unwrap_or("");
     let octets = hex::decode(alloc, words.next().unwrap_or(""))?;
     let turning = Turning {
         alloc,
@@ -38,7 +40,7 @@ fn answer(alloc: Global, row: &str) -> Result<String> {
         from,
         octets: octets.as_slice(),
     };
-    match with_pair(pair, turning) {
+    match with_versions(versions, turning) {
         Some(answer) => answer,
         None => Err(Error::msg("no such versions")),
     }

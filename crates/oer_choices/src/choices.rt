@@ -1,0 +1,180 @@
+//! Choices of the alternatives of a type: every impl of a codec's traits is the library's.
+
+use crate::alternatives::Alternatives;
+use asn1_core::{AsnType, Choice, Constraints, DecodeError, EncodeError, Tag};
+use oer_read::{Decode, DecodeChoice, Decoder};
+use oer_spec::Spelled;
+use oer_write::{Encode, Encoder};
+use std::alloc::Global;
+use std::fmt;
+use std::fmt::{Debug, Formatter};
+
+/// A type whose alternatives stand in a row: what it says to be the content of a `OneOf`.
+pub trait Alternating: Drop {
+    ghost use Rattle.std.specs.Prelude.{◌≡◌, ◌++◌, [], true, is_some, OnOk, IfErr};
+    ghost use Rattle.std.specs.Option.{option_map_or};
+    ghost use Rattle.oer_choices.specs.Choosing.{are_apart};
+    ghost use Rattle.oer_spec.specs.Tree.{Choice};
+    ghost use Rattle.oer_write.specs.Written.{Encodes, Refused};
+
+    /// The row.
+    type Row: Alternatives;
+
+    ghost alternative: { Self → Self.Row.Values };
+
+    /// The tags of the root alternatives, in the order of the row.
+    const VARIANTS: &'static [Tag];
+
+    /// The tags of the extension additions, where the row is extensible.
+    const EXTENDED_VARIANTS: Option<&'static [Tag]>;
+
+    /// `VARIANTS`: the row's own.
+    fn root_tags() -> &'static [Tag]
+        ensures { result.now ≡ Self.Row.choices.roots };
+
+    /// `EXTENDED_VARIANTS`: the row's own.
+    fn addition_tags() -> Option<&'static [Tag]>
+        ensures is { is_some result ≡ Self.Row.choices.is_extensible }
+        ensures tags { option_map_or (λ t. t.now) result [] ≡ Self.Row.choices.additions };
+
+    /// The value of that alternative.
+    fn from_alternative(value: <Self::Row as Alternatives>::Values) -> Self
+        ensures { alternative result ≡ value };
+
+    /// Writes the alternative of the choice `E` that is there, by `AlternativeViews::write` of the row: `Ok` only for an
+    /// admitted value.
+    ///
+    /// Refused by what the value is refused by, or for want of memory.
+    fn put<E: Choice>(
+        &self,
+        encoder: &mut Encoder<'_>,
+        constraints: Constraints,
+    ) -> Result<(), EncodeError>
+        ensures done { OnOk result (Encodes (Choice E.root_tags E.addition_tags (Self.Row.choices.tag_of (Self.alternative self.now)) (Self.Row.choices.child (Self.alternative self.now))) encoder.old encoder.new) }
+        ensures value { OnOk result (Self.Row.choices.IsValue (Self.alternative self.now)) }
+        ensures refused { IfErr result (λ x. Refused (Choice E.root_tags E.addition_tags (Self.Row.choices.tag_of (Self.alternative self.now)) (Self.Row.choices.child (Self.alternative self.now))) x encoder.old encoder.new) };
+
+    /// No tag stands twice, and each number is one of u32.
+    ghost apart: { are_apart (Self.Row.choices.roots ++ Self.Row.choices.additions) ≡ true };
+}
+
+/// The CHOICE (X.680, clause 29) of the alternatives of `T`.
+#[derive(PartialEq, Eq, Drop)]
+pub struct OneOf<T>(pub T);
+
+/// As the alternative's.
+impl<T: Debug> Debug for OneOf<T> {
+    fn fmt<W: fmt::Write>(&self, f: &mut Formatter<W>) -> fmt::Result {
+        Debug::fmt(&self.0, f)
+    }
+}
+
+impl<T: Alternating> AsnType for OneOf<T> {
+    ghost use Rattle.std.specs.Prelude.{refl};
+    ghost use Rattle.asn1_core.specs.declared.tag.TheConstants.Tag.{EOC};
+    ghost use Rattle.asn1_core.specs.declared.constraints.TheConstants.Constraints.{NONE};
+
+    ghost TAG = { EOC };
+
+    const TAG: Tag = Tag::EOC;
+
+    ghost CONSTRAINTS = { NONE };
+
+    const CONSTRAINTS: Constraints = Constraints::NONE;
+
+    ghost consistent = { refl };
+
+    const IS_CHOICE: bool = true;
+}
+
+impl<T: Alternating> Choice for OneOf<T> {
+    ghost use Rattle.std.specs.Prelude.{◌++◌};
+    ghost use Rattle.oer_choices.specs.Choosing.{distinct_tags};
+
+    ghost root_tags = { T.Row.choices.roots };
+
+    ghost addition_tags = { T.Row.choices.additions };
+
+    ghost is_extensible = { T.Row.choices.is_extensible };
+
+    const VARIANTS: &'static [Tag] = T::VARIANTS;
+
+    const EXTENDED_VARIANTS: Option<&'static [Tag]> = T::EXTENDED_VARIANTS;
+
+    fn root_tags() -> &'static [Tag] {
+        T::root_tags()
+    }
+
+    fn addition_tags() -> Option<&'static [Tag]> {
+        T::addition_tags()
+    }
+
+    ghost distinct = { distinct_tags (T.Row.choices.roots ++ T.Row.choices.additions) T.apart };
+}
+
+impl<T: Alternating> Spelled for OneOf<T> {
+    ghost use Rattle.oer_choices.specs.Choosing.{tree_of, IsOneOf, choices_is, choices_alike};
+
+    ghost tree = { λ c v. tree_of T.Row.choices (T.alternative v.0) };
+
+    ghost IsValue = { λ v. IsOneOf T.Row.choices (T.alternative v.0) };
+
+    ghost is_tree = { λ c k v i. choices_is T.Row.choices T.Row.Alternatives.are_choices (T.alternative v.0) i };
+
+    ghost alike = { λ c k v w i j. choices_alike T.Row.choices T.Row.Alternatives.are_choices (T.alternative v.0) (T.alternative w.0) i j };
+}
+
+impl<T: Alternating> Encode for OneOf<T> {
+    fn encode_with_tag_and_constraints(
+        &self,
+        encoder: &mut Encoder<'_>,
+        _tag: Tag,
+        constraints: Constraints,
+    ) -> Result<(), EncodeError> {
+        self.0.put::<OneOf<T>>(encoder, constraints)
+    }
+}
+
+impl<T: Alternating> DecodeChoice for OneOf<T> {
+    ghost use Rattle.std.specs.Prelude.{⊤, refl};
+    ghost use Rattle.oer_choices.specs.Choosing.{choices_small};
+
+    ghost tag_of = { λ v. T.Row.choices.tag_of (T.alternative v.0) };
+
+    ghost child = { λ v. T.Row.choices.child (T.alternative v.0) };
+
+    ghost AnsweredFor = { λ g s r t. ⊤ };
+
+    ghost is_choice = { λ c v. refl };
+
+    ghost small = { λ v i. choices_small T.Row.choices T.Row.Alternatives.are_choices (T.alternative v.0) i };
+
+    fn from_tag(
+        alloc: Global,
+        decoder: &mut Decoder<'_>,
+        tag: Tag,
+    ) -> Result<OneOf<T>, DecodeError> {
+        match T::Row::read::<OneOf<T>>(alloc, decoder, tag) {
+            Ok(value) => Ok(OneOf(T::from_alternative(value))),
+            Err(e) => Err(e),
+        }
+    }
+}
+
+impl<T: Alternating> Decode for OneOf<T> {
+    ghost use Rattle.std.specs.Prelude.{◌≡◌, ⊤};
+    ghost use Rattle.oer_choices.specs.Choosing.{IsOneOf};
+    ghost use Rattle.oer_read.specs.Choices.{ChoiceAnswers};
+    ghost use Rattle.oer_read.specs.Law.{Promised};
+
+    ghost Answered = { λ c s r t. ChoiceAnswers (λ g s r t. Promised (λ v. T.Row.choices.child (T.alternative v.0)) (λ v. IsOneOf T.Row.choices (T.alternative v.0) × (T.Row.choices.tag_of (T.alternative v.0) ≡ g)) (λ s r t. ⊤) s r t) T.Row.choices.roots T.Row.choices.additions T.Row.choices.is_extensible s r t };
+
+    fn decode_with_tag_and_constraints(
+        alloc: Global,
+        decoder: &mut Decoder<'_>,
+        _tag: Tag,
+        constraints: Constraints,
+    ) -> Result<OneOf<T>, DecodeError> {
+        decoder.decode_choice::<OneOf<T>>(alloc, constraints)
+    }
+}

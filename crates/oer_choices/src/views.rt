@@ -1,0 +1,112 @@
+//! Alternatives, written from references.
+ghost use Rattle.std.specs.Prelude.{OnOk, IfErr};
+ghost use Rattle.oer_spec.specs.Tree.{Choice};
+ghost use Rattle.oer_write.specs.Choices.{WritesAlternative};
+ghost use Rattle.oer_write.specs.Written.{Encodes, Refused};
+
+use crate::alternatives::{Alternatives, Either, Offers};
+use asn1_core::{Choice, Constraints, EncodeError, Tag};
+use oer_read::Decode;
+use oer_rows::{Extensible, NoMore, Place};
+use oer_write::{Encode, Encoder};
+
+/// Writes the alternative of the choice `E` with that tag, which holds the value (X.696, 20): `Ok` only for an admitted
+/// value.
+///
+/// Refused by what the value is refused by, or for want of memory.
+pub fn put_alternative<E: Choice, T: Encode>(
+    encoder: &mut Encoder<'_>,
+    constraints: Constraints,
+    tag: Tag,
+    value: &T,
+) -> Result<(), EncodeError>
+    ensures done { OnOk result (Encodes (Choice E.root_tags E.addition_tags tag (T.tree T.CONSTRAINTS value.now)) encoder.old encoder.new) }
+    ensures value { OnOk result (T.IsValue value.now) }
+    ensures refused { IfErr result (λ x. Refused (Choice E.root_tags E.addition_tags tag (T.tree T.CONSTRAINTS value.now)) x encoder.old encoder.new) }
+{
+    encoder.encode_choice::<E, _>(
+        constraints,
+        tag,
+        |encoder: &mut Encoder<'_>| -> Result<Tag, EncodeError>
+            ensures written { WritesAlternative (T.tree T.CONSTRAINTS value.entry.now) tag encoder.old result encoder.new }
+            ensures value { OnOk result (T.IsValue value.entry.now) }
+        {
+            value.encode(encoder)?;
+            Ok(tag)
+        },
+    )
+}
+
+/// A row whose alternatives are written from references to what they hold.
+pub trait AlternativeViews<'v>: Alternatives {
+    /// A reference to a value: in the place of that value. The end of a row is none.
+    type View: Drop;
+
+    /// Whether the value that is referred to is such a one; of the end of a row nothing is asked.
+    ghost SeesOne: { Self.View → (Self.Values → Type 0) → Type 0 };
+
+    /// Writes the alternative of the choice `E` that is there: `Ok` only for an admitted value. At the end of a row nothing
+    /// is written.
+    ///
+    /// Refused by what the value is refused by, or for want of memory.
+    fn write<E: Choice>(
+        view: Self::View,
+        encoder: &mut Encoder<'_>,
+        constraints: Constraints,
+    ) -> Result<(), EncodeError>
+        ensures done { SeesOne view (λ v. OnOk result (Encodes (Choice E.root_tags E.addition_tags (Self.choices.tag_of v) (Self.choices.child v)) encoder.old encoder.new)) }
+        ensures value { SeesOne view (λ v. OnOk result (Self.choices.IsValue v)) }
+        ensures refused { SeesOne view (λ v. IfErr result (λ x. Refused (Choice E.root_tags E.addition_tags (Self.choices.tag_of v) (Self.choices.child v)) x encoder.old encoder.new)) };
+}
+
+impl<'v> AlternativeViews<'v> for NoMore {
+    type View = ();
+
+    ghost use Rattle.std.specs.Prelude.{⊤};
+
+    ghost SeesOne = { λ v P. ⊤ };
+
+    fn write<E: Choice>(
+        _view: (),
+        _encoder: &mut Encoder<'_>,
+        _constraints: Constraints,
+    ) -> Result<(), EncodeError> {
+        Ok(())
+    }
+}
+
+impl<'v, G: Place, B: Decode + Encode + 'v, R: AlternativeViews<'v>> AlternativeViews<'v>
+    for Offers<G, B, R> {
+    type View = Either<&'v B, R::View>;
+
+    ghost use Rattle.oer_choices.specs.declared.alternatives.Either.TheVariants.{First, Rest};
+
+    ghost SeesOne = { elim [ First b ↦ λ P. P (First b.now) | Rest r ↦ λ P. R.SeesOne r (λ v. P (Rest v)) ] };
+
+    fn write<E: Choice>(
+        view: Either<&'v B, R::View>,
+        encoder: &mut Encoder<'_>,
+        constraints: Constraints,
+    ) -> Result<(), EncodeError> {
+        match view {
+            Either::First(value) => {
+                put_alternative::<E, B>(encoder, constraints, G::tag(), value)
+            }
+            Either::Rest(rest) => R::write::<E>(rest, encoder, constraints),
+        }
+    }
+}
+
+impl<'v, R: AlternativeViews<'v>> AlternativeViews<'v> for Extensible<R> {
+    type View = R::View;
+
+    ghost SeesOne = { λ v P. R.SeesOne v P };
+
+    fn write<E: Choice>(
+        view: R::View,
+        encoder: &mut Encoder<'_>,
+        constraints: Constraints,
+    ) -> Result<(), EncodeError> {
+        R::write::<E>(view, encoder, constraints)
+    }
+}

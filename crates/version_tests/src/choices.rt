@@ -1,0 +1,151 @@
+//! Choices that hold a value of another type, in two versions, of which the newer has a further alternative.
+
+use crate::pairs::{OnPair, with_pair};
+use asn1_core::{Choice, Constraints, EncodeError, Tag};
+use oer_choices::{
+    Alternating, AlternativeViews, Alternatives, Context, Extensible, NoMore, Offers, OneOf,
+    from_row, tags, to_row,
+};
+use oer_write::{Encode, Encoder};
+use rasn_oer::Decode;
+
+/// `CHOICE { inner [0] T, ... }`
+pub type Choice1<T> = OneOf<Choice1Alternatives<T>>;
+
+/// The alternative of a `Choice1`.
+#[derive(Debug, PartialEq, Eq, Drop)]
+pub enum Choice1Alternatives<T> {
+    Inner(T),
+}
+
+/// `CHOICE { inner [0] T, ..., added [1] T }`: a newer version of `Choice1`
+pub type Choice2<T> = OneOf<Choice2Alternatives<T>>;
+
+/// The alternatives of a `Choice2`.
+#[derive(Debug, PartialEq, Eq, Drop)]
+pub enum Choice2Alternatives<T> {
+    Inner(T),
+    Added(T),
+}
+
+type Choice1Row<T> = Offers<Context<0>, T, Extensible<NoMore>>;
+
+type Choice2Row<T> = Offers<Context<0>, T, Extensible<Offers<Context<1>, T, NoMore>>>;
+
+const INNER: &'static [Tag] = tags![Context 0];
+
+const NONE_ADDED: &'static [Tag] = &[];
+
+const ADDED: &'static [Tag] = tags![Context 1];
+
+impl<T: Decode + Encode> Alternating for Choice1Alternatives<T> {
+    ghost use Rattle.std.specs.Prelude.{refl};
+    ghost use Rattle.oer_choices.specs.declared.alternatives.Either.TheVariants.{First};
+    ghost use Rattle.version_tests.specs.declared.choices.Choice1Alternatives.TheVariants.{Inner};
+
+    type Row = Choice1Row<T>;
+
+    ghost alternative = { elim [ Inner v ↦ First v ] };
+
+    const VARIANTS: &'static [Tag] = INNER;
+
+    const EXTENDED_VARIANTS: Option<&'static [Tag]> = Some(NONE_ADDED);
+
+    fn root_tags() -> &'static [Tag] {
+        INNER
+    }
+
+    fn addition_tags() -> Option<&'static [Tag]> {
+        Some(NONE_ADDED)
+    }
+
+    fn from_alternative(value: <Choice1Row<T> as Alternatives>::Values) -> Choice1Alternatives<T> {
+        from_row!(value => Choice1Alternatives: Inner)
+    }
+
+    fn put<E: Choice>(
+        &self,
+        encoder: &mut Encoder<'_>,
+        constraints: Constraints,
+    ) -> Result<(), EncodeError> {
+        let view = to_row!(self => Choice1Alternatives: Inner);
+        <Choice1Row<T>>::write::<E>(view, encoder, constraints)
+    }
+
+    ghost apart = { refl };
+}
+
+impl<T: Decode + Encode> Alternating for Choice2Alternatives<T> {
+    ghost use Rattle.std.specs.Prelude.{refl};
+    ghost use Rattle.oer_choices.specs.declared.alternatives.Either.TheVariants.{First, Rest};
+    ghost use Rattle.version_tests.specs.declared.choices.Choice2Alternatives.TheVariants.{Inner, Added};
+
+    type Row = Choice2Row<T>;
+
+    ghost alternative = { elim [ Inner v ↦ First v | Added v ↦ Rest (First v) ] };
+
+    const VARIANTS: &'static [Tag] = INNER;
+
+    const EXTENDED_VARIANTS: Option<&'static [Tag]> = Some(ADDED);
+
+    fn root_tags() -> &'static [Tag] {
+        INNER
+    }
+
+    fn addition_tags() -> Option<&'static [Tag]> {
+        Some(ADDED)
+    }
+
+    fn from_alternative(value: <Choice2Row<T> as Alternatives>::Values) -> Choice2Alternatives<T> {
+        from_row!(value => Choice2Alternatives: Inner, Added)
+    }
+
+    fn put<E: Choice>(
+        &self,
+        encoder: &mut Encoder<'_>,
+        constraints: Constraints,
+    ) -> Result<(), EncodeError> {
+        let view = to_row!(self => Choice2Alternatives: Inner, Added);
+        <Choice2Row<T>>::write::<E>(view, encoder, constraints)
+    }
+
+    ghost apart = { refl };
+}
+
+/// The work on two versions, within one version of a choice.
+#[derive(Drop)]
+struct InOne<W>(W);
+
+impl<W: OnPair> OnPair for InOne<W> {
+    type Output = W::Output;
+
+    fn on<New: Decode + Encode + Eq, Old: Decode + Encode + Eq>(self) -> W::Output {
+        // by a box, whose size is known
+        self.0.on::<Choice2<Box<New>>, Choice2<Box<Old>>>()
+    }
+}
+
+/// The work on two versions, within two versions of a choice.
+#[derive(Drop)]
+struct InTwo<W>(W);
+
+impl<W: OnPair> OnPair for InTwo<W> {
+    type Output = W::Output;
+
+    fn on<New: Decode + Encode + Eq, Old: Decode + Encode + Eq>(self) -> W::Output {
+        self.0.on::<Choice2<Box<New>>, Choice1<Box<Old>>>()
+    }
+}
+
+/// Does it with the versions that the words name, within those of a choice that stand in front of them: `seq2/seq1`,
+/// `choice2/choice1:seq2/seq1`. None where they name none.
+pub fn with_versions<W: OnPair + Drop>(words: &str, work: W) -> Option<W::Output> {
+    match words.split_once(':') {
+        None => with_pair(words, work),
+        Some((choices, pair)) => match choices {
+            "choice2/choice2" => with_pair(pair, InOne(work)),
+            "choice2/choice1" => with_pair(pair, InTwo(work)),
+            _ => None,
+        },
+    }
+}
