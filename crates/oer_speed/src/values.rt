@@ -5,7 +5,7 @@ use anyhow::Result;
 use asn1_core::SetOf;
 use asn1_ints::Integer;
 use asn1_strings::OctetString;
-use oer_types::{ExtendedOptional, Foo, Link, LinkChoice, Nest, Sequence2};
+use oer_types::{ExtendedOptional, Foo, Link, LinkChoice, Nest, Sequence, Sequence2, components};
 use std::alloc::Global;
 use std::rt::Clock;
 
@@ -97,11 +97,11 @@ pub(crate) fn measure_word<R: Clock + AllocGlobal>(
             measure(rt, alloc, plan, &octets)
         }
         "seq2" => {
-            let sequence = Sequence2 {
+            let sequence: Sequence2 = Sequence(components::Sequence2 {
                 a: true,
                 b: Some(true),
                 c: Some(false),
-            };
+            });
             measure(rt, alloc, plan, &sequence)
         }
         "extopt" => measure(rt, alloc, plan, &extended(alloc)?),
