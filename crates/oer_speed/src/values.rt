@@ -63,7 +63,7 @@ fn some(number: i128) -> Option<Integer> {
 
 /// A sequence of a number, four optional components and two additions that are there.
 fn extended(alloc: Global) -> Result<ExtendedOptional> {
-    Ok(ExtendedOptional {
+    Ok(Sequence(components::ExtendedOptional {
         value: Integer::from_i128(0),
         integer1: some(1),
         octet1: None,
@@ -75,7 +75,7 @@ fn extended(alloc: Global) -> Result<ExtendedOptional> {
         octet4: None,
         integer5: some(8),
         octet5: None,
-    })
+    }))
 }
 
 /// Measures the value of that word; nothing where it is no value's.

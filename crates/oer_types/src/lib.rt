@@ -14,6 +14,7 @@ pub mod components {
     pub use group_types::components::{
         Group6, Omitted, Sequence3, Sequence4, Sequence6, SequenceDuplicatesExtended,
     };
+    pub use long_types::components::{ExtendedOptional, ManyOptional};
 }
 
 pub use choice_types::{BoolChoice, OnlyChoice, PriorityChoice, WideChoice};
