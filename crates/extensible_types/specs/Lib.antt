@@ -1,2 +1,0 @@
-pub mod Extensible
-pub mod ExtensionDefaults

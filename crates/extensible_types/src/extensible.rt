@@ -1,126 +1,37 @@
 //! Extensible sequences: what a newer version added stands behind an extension bitmap, each addition as an open type.
-ghost use Rattle.oer_spec.specs.Tree.{NoRows};
-ghost use Rattle.extensible_types.specs.Extensible.{first_parts, sequence1_roots, sequence2_roots, sequence2_additions, sequence2_more, sequence5_roots, sequence5_additions, sequence5_more, outer_roots, outer_additions, outer_more};
-ghost use Rattle.sequence_types.specs.Pairs.{none_of};
-ghost use Rattle.oer_write.specs.Rows.{InSequence};
-ghost use Rattle.oer_read.specs.Parts.{NoParts, ReadsParts};
 
-use asn1_core::{
-    AsnType, Class, Constraints, Constructed, DecodeError, EncodeError, Field, FieldPresence,
-    Fields, Tag,
+use crate::components;
+use asn1_core::{DecodeError, EncodeError, Field, Fields};
+use oer_read::{Decoder, Encoder};
+use oer_rows::{
+    AdditionViews, Additions, Components, Context, Extensible, MayAdd, Needs, NoMore, Rowed,
+    Sequence, Tabled, Views, fields,
 };
-use oer_read::{Decode, Decoder};
-use oer_spec::Spelled;
-use oer_write::{Encode, Encoder};
 use std::alloc::Global;
 
 /// `SEQUENCE { a BOOLEAN, ... }`
-#[derive(Debug, PartialEq, Eq, Drop)]
-pub struct Sequence1 {
-    pub a: bool,
+pub type Sequence1 = Sequence<components::Sequence1, 1, 0>;
+
+type Sequence1Row = Needs<Context<0>, bool, Extensible<NoMore>>;
+
+impl Rowed for components::Sequence1 {
+    type Row = Sequence1Row;
+
+    ghost components = { λ v. (v.a, tt) };
+
+    fn from_row((a, ()): <Sequence1Row as Components>::Values) -> components::Sequence1 {
+        components::Sequence1 { a }
+    }
 }
 
-/// `SEQUENCE { a BOOLEAN, ..., b BOOLEAN OPTIONAL, c BOOLEAN OPTIONAL }`
-#[derive(Debug, PartialEq, Eq, Drop)]
-pub struct Sequence2 {
-    pub a: bool,
-    pub b: Option<bool>,
-    pub c: Option<bool>,
-}
+impl Tabled<1, 0> for components::Sequence1 {
+    ghost use Rattle.std.specs.Prelude.{refl};
 
-/// `SEQUENCE { a BOOLEAN, ..., b BOOLEAN OPTIONAL }`
-#[derive(Debug, PartialEq, Eq, Drop)]
-pub struct Sequence5 {
-    pub a: bool,
-    pub b: Option<bool>,
-}
+    const FIELDS: Fields<1> = Fields {
+        fields: fields![0 Required Context 0 "a"],
+    };
 
-/// `SEQUENCE { a BOOLEAN, ..., b Sequence2 OPTIONAL }`
-#[derive(Debug, PartialEq, Eq, Drop)]
-pub struct Outer {
-    pub a: bool,
-    pub b: Option<Sequence2>,
-}
-
-/// `SEQUENCE { ... }`
-#[derive(Debug, PartialEq, Eq, Drop)]
-pub struct EmptyExtensible;
-
-/// One required component `a`, of context tag 0.
-pub const A_FIELDS: &'static [Field<'static>] = &[Field {
-    index: 0,
-    tag: Tag {
-        class: Class::Context,
-        value: 0,
-    },
-    presence: FieldPresence::Required,
-    name: "a",
-}];
-
-const B_FIELDS: &'static [Field<'static>] = &[Field {
-    index: 0,
-    tag: Tag {
-        class: Class::Context,
-        value: 1,
-    },
-    presence: FieldPresence::Optional,
-    name: "b",
-}];
-
-const B_AND_C_FIELDS: &'static [Field<'static>] = &[
-    Field {
-        index: 0,
-        tag: Tag {
-            class: Class::Context,
-            value: 1,
-        },
-        presence: FieldPresence::Optional,
-        name: "b",
-    },
-    Field {
-        index: 1,
-        tag: Tag {
-            class: Class::Context,
-            value: 2,
-        },
-        presence: FieldPresence::Optional,
-        name: "c",
-    },
-];
-
-impl AsnType for Sequence1 {
-    ghost use Rattle.std.specs.Prelude.{false, refl};
-    ghost use Rattle.asn1_core.specs.declared.tag.TheConstants.Tag.{SEQUENCE};
-    ghost use Rattle.asn1_core.specs.declared.constraints.TheConstants.Constraints.{NONE};
-
-    ghost TAG = { SEQUENCE };
-
-    const TAG: Tag = Tag::SEQUENCE;
-
-    ghost CONSTRAINTS = { NONE };
-
-    const CONSTRAINTS: Constraints = Constraints::NONE;
-
-    ghost consistent = { refl };
-}
-
-impl Constructed<1, 0> for Sequence1 {
-    ghost use Rattle.std.specs.Prelude.{false, true, refl, []};
-    ghost use Rattle.extensible_types.specs.Extensible.{a_rows};
-
-    ghost is_set = { false };
-
-    ghost root_rows = { a_rows };
-
-    ghost addition_rows = { [] };
-
-    ghost IS_EXTENSIBLE = { true };
-
-    const IS_EXTENSIBLE: bool = true;
-
-    const FIELDS: Fields<1> = Fields { fields: A_FIELDS };
-
-    const EXTENDED_FIELDS: Option<Fields<0>> = Some(Fields { fields: &[] });
+    const EXTENDED_FIELDS: Option<Fields<0>> = Some(Fields { fields: fields![] });
 
     fn root_fields() -> &'static [Field<'static>] {
         Self::FIELDS.fields
@@ -133,77 +44,41 @@ impl Constructed<1, 0> for Sequence1 {
         }
     }
 
-    ghost tables = { record { root_count = refl; addition_count = refl; root_indexes = (refl, tt); addition_indexes = tt; only = λ e. absurd (cc e); distinct = λ e. absurd (cc e) } };
+    fn put(&self, encoder: &mut Encoder<'_>) -> Result<(), EncodeError> {
+        Sequence1Row::write((&self.a, ()), encoder)
+    }
+
+    ghost counts = { (refl, refl) };
 }
 
-impl Spelled for Sequence1 {
-    ghost use Rattle.oer_spec.specs.Spelled.{IsAny};
-    ghost use Rattle.extensible_types.specs.Extensible.{sequence1_tree, sequence1_is, sequences1_alike};
+/// `SEQUENCE { a BOOLEAN, ..., b BOOLEAN OPTIONAL, c BOOLEAN OPTIONAL }`
+pub type Sequence2 = Sequence<components::Sequence2, 1, 2>;
 
-    ghost tree = { λ c v. sequence1_tree v };
+type Sequence2Row = Needs<
+    Context<0>,
+    bool,
+    Extensible<MayAdd<Context<1>, bool, MayAdd<Context<2>, bool, NoMore>>>,
+>;
 
-    ghost IsValue = { IsAny };
+impl Rowed for components::Sequence2 {
+    type Row = Sequence2Row;
 
-    ghost is_tree = { λ c k v i. sequence1_is v };
+    ghost components = { λ v. (v.a, (v.b, (v.c, tt))) };
 
-    ghost alike = { λ c k v w i j. sequences1_alike v w };
-}
-
-impl Encode for Sequence1 {
-    #[tactic(auto, unfolding(crate::specs::Extensible::sequence1_tree))]
-    fn encode_with_tag_and_constraints(
-        &self,
-        encoder: &mut Encoder<'_>,
-        tag: Tag,
-        _constraints: Constraints,
-    ) -> Result<(), EncodeError> {
-        encoder.encode_sequence::<1, 0, Sequence1, _>(
-            tag,
-            |encoder: &mut Encoder<'_>| -> Result<(), EncodeError>
-                ensures { InSequence (sequence1_roots self.entry.now) (none_of self.entry.now) encoder.old result encoder.new }
-            {
-                self.a
-                    .encode_with_tag(encoder, Tag::new(Class::Context, 0))?;
-                Ok(())
-            },
-        )
+    fn from_row((a, (b, (c, ()))): <Sequence2Row as Components>::Values) -> components::Sequence2 {
+        components::Sequence2 { a, b, c }
     }
 }
 
-impl AsnType for Sequence2 {
-    ghost use Rattle.std.specs.Prelude.{false, refl};
-    ghost use Rattle.asn1_core.specs.declared.tag.TheConstants.Tag.{SEQUENCE};
-    ghost use Rattle.asn1_core.specs.declared.constraints.TheConstants.Constraints.{NONE};
+impl Tabled<1, 2> for components::Sequence2 {
+    ghost use Rattle.std.specs.Prelude.{refl};
 
-    ghost TAG = { SEQUENCE };
-
-    const TAG: Tag = Tag::SEQUENCE;
-
-    ghost CONSTRAINTS = { NONE };
-
-    const CONSTRAINTS: Constraints = Constraints::NONE;
-
-    ghost consistent = { refl };
-}
-
-impl Constructed<1, 2> for Sequence2 {
-    ghost use Rattle.std.specs.Prelude.{false, true, refl};
-    ghost use Rattle.extensible_types.specs.Extensible.{a_rows, b_and_c_rows};
-
-    ghost is_set = { false };
-
-    ghost root_rows = { a_rows };
-
-    ghost addition_rows = { b_and_c_rows };
-
-    ghost IS_EXTENSIBLE = { true };
-
-    const IS_EXTENSIBLE: bool = true;
-
-    const FIELDS: Fields<1> = Fields { fields: A_FIELDS };
+    const FIELDS: Fields<1> = Fields {
+        fields: fields![0 Required Context 0 "a"],
+    };
 
     const EXTENDED_FIELDS: Option<Fields<2>> = Some(Fields {
-        fields: B_AND_C_FIELDS,
+        fields: fields![0 Optional Context 1 "b", 1 Optional Context 2 "c"],
     });
 
     fn root_fields() -> &'static [Field<'static>] {
@@ -217,86 +92,38 @@ impl Constructed<1, 2> for Sequence2 {
         }
     }
 
-    ghost tables = { record { root_count = refl; addition_count = refl; root_indexes = (refl, tt); addition_indexes = (refl, (refl, tt)); only = λ e. absurd (cc e); distinct = λ e. absurd (cc e) } };
+    fn put(&self, encoder: &mut Encoder<'_>) -> Result<(), EncodeError> {
+        Sequence2Row::write((&self.a, (&self.b, (&self.c, ()))), encoder)
+    }
+
+    ghost counts = { (refl, refl) };
 }
 
-impl Spelled for Sequence2 {
-    ghost use Rattle.oer_spec.specs.Spelled.{IsAny};
-    ghost use Rattle.extensible_types.specs.Extensible.{sequence2_tree, sequence2_is, sequences2_alike};
+/// `SEQUENCE { a BOOLEAN, ..., b BOOLEAN OPTIONAL }`
+pub type Sequence5 = Sequence<components::Sequence5, 1, 1>;
 
-    ghost tree = { λ c v. sequence2_tree v };
+type Sequence5Row = Needs<Context<0>, bool, Extensible<MayAdd<Context<1>, bool, NoMore>>>;
 
-    ghost IsValue = { IsAny };
+impl Rowed for components::Sequence5 {
+    type Row = Sequence5Row;
 
-    ghost is_tree = { λ c k v i. sequence2_is v };
+    ghost components = { λ v. (v.a, (v.b, tt)) };
 
-    ghost alike = { λ c k v w i j. sequences2_alike v w };
-}
-
-impl Encode for Sequence2 {
-    #[tactic(auto, unfolding(crate::specs::Extensible::sequence2_tree))]
-    fn encode_with_tag_and_constraints(
-        &self,
-        encoder: &mut Encoder<'_>,
-        tag: Tag,
-        _constraints: Constraints,
-    ) -> Result<(), EncodeError> {
-        encoder.encode_sequence::<1, 2, Sequence2, _>(
-            tag,
-            |encoder: &mut Encoder<'_>| -> Result<(), EncodeError>
-                ensures { InSequence (sequence2_roots self.entry.now) (sequence2_additions self.entry.now) encoder.old result encoder.new }
-            {
-                self.a
-                    .encode_with_tag(encoder, Tag::new(Class::Context, 0))?;
-                encoder.encode_extension_addition(
-                    Tag::new(Class::Context, 1),
-                    bool::CONSTRAINTS,
-                    self.b.as_ref(),
-                )?;
-                encoder.encode_extension_addition(
-                    Tag::new(Class::Context, 2),
-                    bool::CONSTRAINTS,
-                    self.c.as_ref(),
-                )?;
-                Ok(())
-            },
-        )
+    fn from_row((a, (b, ())): <Sequence5Row as Components>::Values) -> components::Sequence5 {
+        components::Sequence5 { a, b }
     }
 }
 
-impl AsnType for Sequence5 {
-    ghost use Rattle.std.specs.Prelude.{false, refl};
-    ghost use Rattle.asn1_core.specs.declared.tag.TheConstants.Tag.{SEQUENCE};
-    ghost use Rattle.asn1_core.specs.declared.constraints.TheConstants.Constraints.{NONE};
+impl Tabled<1, 1> for components::Sequence5 {
+    ghost use Rattle.std.specs.Prelude.{refl};
 
-    ghost TAG = { SEQUENCE };
+    const FIELDS: Fields<1> = Fields {
+        fields: fields![0 Required Context 0 "a"],
+    };
 
-    const TAG: Tag = Tag::SEQUENCE;
-
-    ghost CONSTRAINTS = { NONE };
-
-    const CONSTRAINTS: Constraints = Constraints::NONE;
-
-    ghost consistent = { refl };
-}
-
-impl Constructed<1, 1> for Sequence5 {
-    ghost use Rattle.std.specs.Prelude.{false, true, refl};
-    ghost use Rattle.extensible_types.specs.Extensible.{a_rows, b_rows};
-
-    ghost is_set = { false };
-
-    ghost root_rows = { a_rows };
-
-    ghost addition_rows = { b_rows };
-
-    ghost IS_EXTENSIBLE = { true };
-
-    const IS_EXTENSIBLE: bool = true;
-
-    const FIELDS: Fields<1> = Fields { fields: A_FIELDS };
-
-    const EXTENDED_FIELDS: Option<Fields<1>> = Some(Fields { fields: B_FIELDS });
+    const EXTENDED_FIELDS: Option<Fields<1>> = Some(Fields {
+        fields: fields![0 Optional Context 1 "b"],
+    });
 
     fn root_fields() -> &'static [Field<'static>] {
         Self::FIELDS.fields
@@ -309,81 +136,68 @@ impl Constructed<1, 1> for Sequence5 {
         }
     }
 
-    ghost tables = { record { root_count = refl; addition_count = refl; root_indexes = (refl, tt); addition_indexes = (refl, tt); only = λ e. absurd (cc e); distinct = λ e. absurd (cc e) } };
+    fn put(&self, encoder: &mut Encoder<'_>) -> Result<(), EncodeError> {
+        Sequence5Row::write((&self.a, (&self.b, ())), encoder)
+    }
+
+    ghost counts = { (refl, refl) };
 }
 
-impl Spelled for Sequence5 {
-    ghost use Rattle.oer_spec.specs.Spelled.{IsAny};
-    ghost use Rattle.extensible_types.specs.Extensible.{sequence5_tree, sequence5_is, sequences5_alike};
+/// `SEQUENCE { a BOOLEAN, ..., b Sequence2 OPTIONAL }`
+pub type Outer = Sequence<components::Outer, 1, 1>;
 
-    ghost tree = { λ c v. sequence5_tree v };
+type OuterRow = Needs<Context<0>, bool, Extensible<OuterAdditions>>;
 
-    ghost IsValue = { IsAny };
+/// The additions of an `Outer`.
+pub struct OuterAdditions;
 
-    ghost is_tree = { λ c k v i. sequence5_is v };
+type OuterAdditionsRow = MayAdd<Context<1>, Sequence2, NoMore>;
 
-    ghost alike = { λ c k v w i j. sequences5_alike v w };
-}
+impl Additions for OuterAdditions {
+    type More = <OuterAdditionsRow as Additions>::More;
 
-impl Encode for Sequence5 {
-    #[tactic(auto, unfolding(crate::specs::Extensible::sequence5_tree))]
-    fn encode_with_tag_and_constraints(
-        &self,
-        encoder: &mut Encoder<'_>,
-        tag: Tag,
-        _constraints: Constraints,
-    ) -> Result<(), EncodeError> {
-        encoder.encode_sequence::<1, 1, Sequence5, _>(
-            tag,
-            |encoder: &mut Encoder<'_>| -> Result<(), EncodeError>
-                ensures { InSequence (sequence5_roots self.entry.now) (sequence5_additions self.entry.now) encoder.old result encoder.new }
-            {
-                self.a
-                    .encode_with_tag(encoder, Tag::new(Class::Context, 0))?;
-                encoder.encode_extension_addition(
-                    Tag::new(Class::Context, 1),
-                    bool::CONSTRAINTS,
-                    self.b.as_ref(),
-                )?;
-                Ok(())
-            },
-        )
+    ghost table = { ⟦<OuterAdditionsRow as Additions>⟧.table };
+
+    ghost is_table = { ⟦<OuterAdditionsRow as Additions>⟧.is_table };
+
+    fn read_additions(alloc: Global, decoder: &mut Decoder<'_>) -> Result<Self::More, DecodeError> {
+        OuterAdditionsRow::read_additions(alloc, decoder)
     }
 }
 
-impl AsnType for Outer {
-    ghost use Rattle.std.specs.Prelude.{false, refl};
-    ghost use Rattle.asn1_core.specs.declared.tag.TheConstants.Tag.{SEQUENCE};
-    ghost use Rattle.asn1_core.specs.declared.constraints.TheConstants.Constraints.{NONE};
+impl<'v> AdditionViews<'v> for OuterAdditions {
+    type MoreView = <OuterAdditionsRow as AdditionViews<'v>>::MoreView;
 
-    ghost TAG = { SEQUENCE };
+    ghost seen = { ⟦<OuterAdditionsRow as AdditionViews<'v>>⟧.seen };
 
-    const TAG: Tag = Tag::SEQUENCE;
-
-    ghost CONSTRAINTS = { NONE };
-
-    const CONSTRAINTS: Constraints = Constraints::NONE;
-
-    ghost consistent = { refl };
+    fn write_additions(
+        view: <OuterAdditionsRow as AdditionViews<'v>>::MoreView,
+        encoder: &mut Encoder<'_>,
+    ) -> Result<(), EncodeError> {
+        OuterAdditionsRow::write_additions(view, encoder)
+    }
 }
 
-impl Constructed<1, 1> for Outer {
-    ghost use Rattle.std.specs.Prelude.{false, true, refl};
-    ghost use Rattle.extensible_types.specs.Extensible.{a_rows, b_rows};
+impl Rowed for components::Outer {
+    type Row = OuterRow;
 
-    ghost is_set = { false };
+    ghost components = { λ v. (v.a, (v.b, tt)) };
 
-    ghost root_rows = { a_rows };
+    fn from_row((a, (b, ())): <OuterRow as Components>::Values) -> components::Outer {
+        components::Outer { a, b }
+    }
+}
 
-    ghost addition_rows = { b_rows };
+impl Tabled<1, 1> for components::Outer {
+    ghost use Rattle.std.specs.Prelude.{refl};
 
-    ghost IS_EXTENSIBLE = { true };
+    const FIELDS: Fields<1> = Fields {
+        fields: fields![0 Required Context 0 "a"],
+    };
 
-    const IS_EXTENSIBLE: bool = true;
-
-    const FIELDS: Fields<1> = Fields { fields: A_FIELDS };
-
-    const EXTENDED_FIELDS: Option<Fields<1>> = Some(Fields { fields: B_FIELDS });
+    const EXTENDED_FIELDS: Option<Fields<1>> = Some(Fields {
+        fields: fields![0 Optional Context 1 "b"],
+    });
 
     fn root_fields() -> &'static [Field<'static>] {
         Self::FIELDS.fields
@@ -396,80 +210,34 @@ impl Constructed<1, 1> for Outer {
         }
     }
 
-    ghost tables = { record { root_count = refl; addition_count = refl; root_indexes = (refl, tt); addition_indexes = (refl, tt); only = λ e. absurd (cc e); distinct = λ e. absurd (cc e) } };
+    fn put(&self, encoder: &mut Encoder<'_>) -> Result<(), EncodeError> {
+        OuterRow::write((&self.a, (&self.b, ())), encoder)
+    }
+
+    ghost counts = { (refl, refl) };
 }
 
-impl Spelled for Outer {
-    ghost use Rattle.oer_spec.specs.Spelled.{IsAny};
-    ghost use Rattle.extensible_types.specs.Extensible.{outer_tree, outer_is, outers_alike};
+/// `SEQUENCE { ... }`
+pub type EmptyExtensible = Sequence<components::EmptyExtensible, 0, 0>;
 
-    ghost tree = { λ c v. outer_tree v };
+type EmptyExtensibleRow = Extensible<NoMore>;
 
-    ghost IsValue = { IsAny };
+impl Rowed for components::EmptyExtensible {
+    type Row = EmptyExtensibleRow;
 
-    ghost is_tree = { λ c k v i. outer_is v };
+    ghost components = { λ v. tt };
 
-    ghost alike = { λ c k v w i j. outers_alike v w };
-}
-
-impl Encode for Outer {
-    #[tactic(auto, unfolding(crate::specs::Extensible::outer_tree))]
-    fn encode_with_tag_and_constraints(
-        &self,
-        encoder: &mut Encoder<'_>,
-        tag: Tag,
-        _constraints: Constraints,
-    ) -> Result<(), EncodeError> {
-        encoder.encode_sequence::<1, 1, Outer, _>(
-            tag,
-            |encoder: &mut Encoder<'_>| -> Result<(), EncodeError>
-                ensures { InSequence (outer_roots self.entry.now) (outer_additions self.entry.now) encoder.old result encoder.new }
-            {
-                self.a
-                    .encode_with_tag(encoder, Tag::new(Class::Context, 0))?;
-                encoder.encode_extension_addition(
-                    Tag::new(Class::Context, 1),
-                    Sequence2::CONSTRAINTS,
-                    self.b.as_ref(),
-                )?;
-                Ok(())
-            },
-        )
+    fn from_row((): <EmptyExtensibleRow as Components>::Values) -> components::EmptyExtensible {
+        components::EmptyExtensible
     }
 }
 
-impl AsnType for EmptyExtensible {
-    ghost use Rattle.std.specs.Prelude.{false, refl};
-    ghost use Rattle.asn1_core.specs.declared.tag.TheConstants.Tag.{SEQUENCE};
-    ghost use Rattle.asn1_core.specs.declared.constraints.TheConstants.Constraints.{NONE};
+impl Tabled<0, 0> for components::EmptyExtensible {
+    ghost use Rattle.std.specs.Prelude.{refl};
 
-    ghost TAG = { SEQUENCE };
+    const FIELDS: Fields<0> = Fields { fields: fields![] };
 
-    const TAG: Tag = Tag::SEQUENCE;
-
-    ghost CONSTRAINTS = { NONE };
-
-    const CONSTRAINTS: Constraints = Constraints::NONE;
-
-    ghost consistent = { refl };
-}
-
-impl Constructed<0, 0> for EmptyExtensible {
-    ghost use Rattle.std.specs.Prelude.{false, true, refl, []};
-
-    ghost is_set = { false };
-
-    ghost root_rows = { [] };
-
-    ghost addition_rows = { [] };
-
-    ghost IS_EXTENSIBLE = { true };
-
-    const IS_EXTENSIBLE: bool = true;
-
-    const FIELDS: Fields<0> = Fields { fields: &[] };
-
-    const EXTENDED_FIELDS: Option<Fields<0>> = Some(Fields { fields: &[] });
+    const EXTENDED_FIELDS: Option<Fields<0>> = Some(Fields { fields: fields![] });
 
     fn root_fields() -> &'static [Field<'static>] {
         Self::FIELDS.fields
@@ -482,172 +250,9 @@ impl Constructed<0, 0> for EmptyExtensible {
         }
     }
 
-    ghost tables = { record { root_count = refl; addition_count = refl; root_indexes = tt; addition_indexes = tt; only = λ e. absurd (cc e); distinct = λ e. absurd (cc e) } };
-}
-
-impl Spelled for EmptyExtensible {
-    ghost use Rattle.oer_spec.specs.Spelled.{IsAny};
-    ghost use Rattle.extensible_types.specs.Extensible.{empty_extensible_tree, empty_extensible_is, empty_extensibles_alike};
-
-    ghost tree = { λ c v. empty_extensible_tree v };
-
-    ghost IsValue = { IsAny };
-
-    ghost is_tree = { λ c k v i. empty_extensible_is v };
-
-    ghost alike = { λ c k v w i j. empty_extensibles_alike v w };
-}
-
-impl Encode for EmptyExtensible {
-    #[tactic(auto, unfolding(crate::specs::Extensible::empty_extensible_tree))]
-    fn encode_with_tag_and_constraints(
-        &self,
-        encoder: &mut Encoder<'_>,
-        tag: Tag,
-        _constraints: Constraints,
-    ) -> Result<(), EncodeError> {
-        encoder.encode_sequence::<0, 0, EmptyExtensible, _>(
-            tag,
-            |encoder: &mut Encoder<'_>| -> Result<(), EncodeError>
-                ensures { InSequence (NoRows) NoRows encoder.old result encoder.new }
-            { Ok(()) },
-        )
+    fn put(&self, encoder: &mut Encoder<'_>) -> Result<(), EncodeError> {
+        EmptyExtensibleRow::write((), encoder)
     }
-}
 
-#[tactic(auto, using(oer_read::proofs::Reading::reading))]
-impl Decode for Sequence1 {
-    ghost use Rattle.std.specs.Prelude.{⊤};
-
-    ghost Answered = { λ c s r t. ⊤ };
-
-    fn decode_with_tag_and_constraints(
-        alloc: Global,
-        decoder: &mut Decoder<'_>,
-        tag: Tag,
-        _constraints: Constraints,
-    ) -> Result<Sequence1, DecodeError> {
-        decoder.decode_sequence::<1, 0, Sequence1, _>(
-            tag,
-            |decoder: &mut Decoder<'_>| -> Result<Sequence1, DecodeError>
-                ensures { ReadsParts first_parts NoParts sequence1_roots none_of decoder.old result decoder.new }
-            {
-                let a = bool::decode_with_tag(alloc, decoder, Tag::new(Class::Context, 0))?;
-                Ok(Sequence1 { a })
-            },
-        )
-    }
-}
-
-#[tactic(auto, using(oer_read::proofs::Reading::reading))]
-impl Decode for Sequence2 {
-    ghost use Rattle.std.specs.Prelude.{⊤};
-
-    ghost Answered = { λ c s r t. ⊤ };
-
-    fn decode_with_tag_and_constraints(
-        alloc: Global,
-        decoder: &mut Decoder<'_>,
-        tag: Tag,
-        _constraints: Constraints,
-    ) -> Result<Sequence2, DecodeError> {
-        decoder.decode_sequence::<1, 2, Sequence2, _>(
-            tag,
-            |decoder: &mut Decoder<'_>| -> Result<Sequence2, DecodeError>
-                ensures { ReadsParts first_parts sequence2_more sequence2_roots sequence2_additions decoder.old result decoder.new }
-            {
-                let a = bool::decode_with_tag(alloc, decoder, Tag::new(Class::Context, 0))?;
-                let b = decoder.decode_extension_addition_with_tag_and_constraints::<bool>(
-                    alloc,
-                    Tag::new(Class::Context, 1),
-                    bool::CONSTRAINTS,
-                )?;
-                let c = decoder.decode_extension_addition_with_tag_and_constraints::<bool>(
-                    alloc,
-                    Tag::new(Class::Context, 2),
-                    bool::CONSTRAINTS,
-                )?;
-                Ok(Sequence2 { a, b, c })
-            },
-        )
-    }
-}
-
-#[tactic(auto, using(oer_read::proofs::Reading::reading))]
-impl Decode for Sequence5 {
-    ghost use Rattle.std.specs.Prelude.{⊤};
-
-    ghost Answered = { λ c s r t. ⊤ };
-
-    fn decode_with_tag_and_constraints(
-        alloc: Global,
-        decoder: &mut Decoder<'_>,
-        tag: Tag,
-        _constraints: Constraints,
-    ) -> Result<Sequence5, DecodeError> {
-        decoder.decode_sequence::<1, 1, Sequence5, _>(
-            tag,
-            |decoder: &mut Decoder<'_>| -> Result<Sequence5, DecodeError>
-                ensures { ReadsParts first_parts sequence5_more sequence5_roots sequence5_additions decoder.old result decoder.new }
-            {
-                let a = bool::decode_with_tag(alloc, decoder, Tag::new(Class::Context, 0))?;
-                let b = decoder.decode_extension_addition_with_tag_and_constraints::<bool>(
-                    alloc,
-                    Tag::new(Class::Context, 1),
-                    bool::CONSTRAINTS,
-                )?;
-                Ok(Sequence5 { a, b })
-            },
-        )
-    }
-}
-
-#[tactic(auto, using(oer_read::proofs::Reading::reading))]
-impl Decode for Outer {
-    ghost use Rattle.std.specs.Prelude.{⊤};
-
-    ghost Answered = { λ c s r t. ⊤ };
-
-    fn decode_with_tag_and_constraints(
-        alloc: Global,
-        decoder: &mut Decoder<'_>,
-        tag: Tag,
-        _constraints: Constraints,
-    ) -> Result<Outer, DecodeError> {
-        decoder.decode_sequence::<1, 1, Outer, _>(
-            tag,
-            |decoder: &mut Decoder<'_>| -> Result<Outer, DecodeError>
-                ensures { ReadsParts first_parts outer_more outer_roots outer_additions decoder.old result decoder.new }
-            {
-                let a = bool::decode_with_tag(alloc, decoder, Tag::new(Class::Context, 0))?;
-                let b = decoder.decode_extension_addition_with_tag_and_constraints::<Sequence2>(
-                    alloc,
-                    Tag::new(Class::Context, 1),
-                    Sequence2::CONSTRAINTS,
-                )?;
-                Ok(Outer { a, b })
-            },
-        )
-    }
-}
-
-#[tactic(auto, using(oer_read::proofs::Reading::reading))]
-impl Decode for EmptyExtensible {
-    ghost use Rattle.std.specs.Prelude.{⊤};
-
-    ghost Answered = { λ c s r t. ⊤ };
-
-    fn decode_with_tag_and_constraints(
-        _alloc: Global,
-        decoder: &mut Decoder<'_>,
-        tag: Tag,
-        _constraints: Constraints,
-    ) -> Result<EmptyExtensible, DecodeError> {
-        decoder.decode_sequence::<0, 0, EmptyExtensible, _>(
-            tag,
-            |_decoder: &mut Decoder<'_>| -> Result<EmptyExtensible, DecodeError>
-                ensures { ReadsParts NoParts NoParts none_of none_of _decoder.old result _decoder.new }
-            { Ok(EmptyExtensible) },
-        )
-    }
+    ghost counts = { (refl, refl) };
 }

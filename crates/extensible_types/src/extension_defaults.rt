@@ -1,96 +1,43 @@
 //! Additions with a default, and extensible sequences that are defaults.
-ghost use Rattle.oer_spec.specs.Tree.{NoRows};
-ghost use Rattle.extensible_types.specs.Extensible.{first_parts};
-ghost use Rattle.extensible_types.specs.ExtensionDefaults.{add_def_roots, add_def_additions, add_def_more, holder1_rows, holder1_parts, holder2_rows, holder2_parts};
-ghost use Rattle.sequence_types.specs.Pairs.{none_of};
-ghost use Rattle.oer_write.specs.Rows.{InSequence};
-ghost use Rattle.oer_read.specs.Parts.{NoParts, ReadsParts};
 
-use crate::extensible::{A_FIELDS, Sequence1, Sequence5};
-use asn1_core::{
-    AsnType, Class, Constraints, Constructed, DecodeError, EncodeError, Field, FieldPresence,
-    Fields, Tag,
-};
+use crate::components;
+use crate::extensible::{Sequence1, Sequence5};
+use asn1_core::{EncodeError, Field, Fields};
 use asn1_ints::Integer;
-use oer_read::{Decode, Decoder};
-use oer_spec::Spelled;
-use oer_write::{Encode, Encoder};
-use std::alloc::Global;
+use oer_read::Encoder;
+use oer_rows::{
+    AddDefaults, Compared, Components, Context, Defaults, Extensible, IsNumber, Needs, NoMore,
+    Rowed, Sequence, Standard, Tabled, Views, fields,
+};
 
 /// `SEQUENCE { a BOOLEAN, ..., b INTEGER DEFAULT 7 }`
-#[derive(Debug, PartialEq, Eq, Drop)]
-pub struct AddDef {
-    pub a: bool,
-    pub b: Integer,
+pub type AddDef = Sequence<components::AddDef, 1, 1>;
+
+type AddDefRow = Needs<
+    Context<0>,
+    bool,
+    Extensible<AddDefaults<Context<1>, Integer, IsNumber<7>, NoMore>>,
+>;
+
+impl Rowed for components::AddDef {
+    type Row = AddDefRow;
+
+    ghost components = { λ v. (v.a, (v.b, tt)) };
+
+    fn from_row((a, (b, ())): <AddDefRow as Components>::Values) -> components::AddDef {
+        components::AddDef { a, b }
+    }
 }
 
-/// `SEQUENCE { a Sequence1 DEFAULT { a TRUE } }`
-#[derive(Debug, PartialEq, Eq, Drop)]
-pub struct Holder1 {
-    pub a: Sequence1,
-}
+impl Tabled<1, 1> for components::AddDef {
+    ghost use Rattle.std.specs.Prelude.{refl};
 
-/// `SEQUENCE { a Sequence5 DEFAULT { a TRUE } }`: `Holder1` of a newer version
-#[derive(Debug, PartialEq, Eq, Drop)]
-pub struct Holder2 {
-    pub a: Sequence5,
-}
-
-const DEFAULT_B_FIELDS: &'static [Field<'static>] = &[Field {
-    index: 0,
-    tag: Tag {
-        class: Class::Context,
-        value: 1,
-    },
-    presence: FieldPresence::Default,
-    name: "b",
-}];
-
-const DEFAULT_A_FIELDS: &'static [Field<'static>] = &[Field {
-    index: 0,
-    tag: Tag {
-        class: Class::Context,
-        value: 0,
-    },
-    presence: FieldPresence::Default,
-    name: "a",
-}];
-
-impl AsnType for AddDef {
-    ghost use Rattle.std.specs.Prelude.{false, refl};
-    ghost use Rattle.asn1_core.specs.declared.tag.TheConstants.Tag.{SEQUENCE};
-    ghost use Rattle.asn1_core.specs.declared.constraints.TheConstants.Constraints.{NONE};
-
-    ghost TAG = { SEQUENCE };
-
-    const TAG: Tag = Tag::SEQUENCE;
-
-    ghost CONSTRAINTS = { NONE };
-
-    const CONSTRAINTS: Constraints = Constraints::NONE;
-
-    ghost consistent = { refl };
-}
-
-impl Constructed<1, 1> for AddDef {
-    ghost use Rattle.std.specs.Prelude.{false, true, refl};
-    ghost use Rattle.extensible_types.specs.Extensible.{a_rows};
-    ghost use Rattle.extensible_types.specs.ExtensionDefaults.{default_b_rows};
-
-    ghost is_set = { false };
-
-    ghost root_rows = { a_rows };
-
-    ghost addition_rows = { default_b_rows };
-
-    ghost IS_EXTENSIBLE = { true };
-
-    const IS_EXTENSIBLE: bool = true;
-
-    const FIELDS: Fields<1> = Fields { fields: A_FIELDS };
+    const FIELDS: Fields<1> = Fields {
+        fields: fields![0 Required Context 0 "a"],
+    };
 
     const EXTENDED_FIELDS: Option<Fields<1>> = Some(Fields {
-        fields: DEFAULT_B_FIELDS,
+        fields: fields![0 Default Context 1 "b"],
     });
 
     fn root_fields() -> &'static [Field<'static>] {
@@ -104,111 +51,56 @@ impl Constructed<1, 1> for AddDef {
         }
     }
 
-    ghost tables = { record { root_count = refl; addition_count = refl; root_indexes = (refl, tt); addition_indexes = (refl, tt); only = λ e. absurd (cc e); distinct = λ e. absurd (cc e) } };
+    fn put(&self, encoder: &mut Encoder<'_>) -> Result<(), EncodeError> {
+        AddDefRow::write((&self.a, (&self.b, ())), encoder)
+    }
+
+    ghost counts = { (refl, refl) };
 }
 
-impl Spelled for AddDef {
-    ghost use Rattle.oer_spec.specs.Spelled.{IsAny};
-    ghost use Rattle.extensible_types.specs.ExtensionDefaults.{add_def_tree, add_def_is, add_defs_alike};
+/// `SEQUENCE { a Sequence1 DEFAULT { a TRUE } }`
+pub type Holder1 = Sequence<components::Holder1, 1, 0>;
 
-    ghost tree = { λ c v. add_def_tree v };
+type Holder1Row = Defaults<Context<0>, Sequence1, IsTrueSequence1, NoMore>;
 
-    ghost IsValue = { IsAny };
+/// The default `{ a TRUE }` of a `Sequence1`.
+pub struct IsTrueSequence1;
 
-    ghost is_tree = { λ c k v i. add_def_is v };
+impl Standard<Sequence1> for IsTrueSequence1 {
+    ghost use Rattle.std.specs.Prelude.{true};
 
-    ghost alike = { λ c k v w i j. add_defs_alike v w };
+    ghost value = { record { 0 = record { a = true } } };
+
+    fn value() -> Sequence1 {
+        Sequence(components::Sequence1 { a: true })
+    }
+
+    ghost admitted = { ((tt, tt), tt) };
 }
 
-impl Encode for AddDef {
-    #[tactic(auto, unfolding(crate::specs::ExtensionDefaults::add_def_tree))]
-    fn encode_with_tag_and_constraints(
-        &self,
-        encoder: &mut Encoder<'_>,
-        tag: Tag,
-        _constraints: Constraints,
-    ) -> Result<(), EncodeError> {
-        encoder.encode_sequence::<1, 1, AddDef, _>(
-            tag,
-            |encoder: &mut Encoder<'_>| -> Result<(), EncodeError>
-                ensures { InSequence (add_def_roots self.entry.now) (add_def_additions self.entry.now) encoder.old result encoder.new }
-            {
-                self.a
-                    .encode_with_tag(encoder, Tag::new(Class::Context, 0))?;
-                encoder.encode_extension_addition_default(
-                    Tag::new(Class::Context, 1),
-                    Integer::CONSTRAINTS,
-                    &self.b,
-                    &Integer::from_i128(7),
-                )?;
-                Ok(())
-            },
-        )
+/// Equal where `a` is.
+impl Compared<1, 0> for components::Sequence1 {
+    ghost use Rattle.oer_spec.specs.Spelled.{booleans_same};
+    ghost use Rattle.oer_rows.specs.Compared.{needed_same, roots_same};
+
+    ghost decides = { λ v w i j. roots_same _ _ _ _ (needed_same _ _ _ _ (booleans_same v.a w.a)) };
+}
+
+impl Rowed for components::Holder1 {
+    type Row = Holder1Row;
+
+    ghost components = { λ v. (v.a, tt) };
+
+    fn from_row((a, ()): <Holder1Row as Components>::Values) -> components::Holder1 {
+        components::Holder1 { a }
     }
 }
 
-#[tactic(auto, using(oer_read::proofs::Reading::reading))]
-impl Decode for AddDef {
-    ghost use Rattle.std.specs.Prelude.{⊤};
-
-    ghost Answered = { λ c s r t. ⊤ };
-
-    fn decode_with_tag_and_constraints(
-        alloc: Global,
-        decoder: &mut Decoder<'_>,
-        tag: Tag,
-        _constraints: Constraints,
-    ) -> Result<AddDef, DecodeError> {
-        decoder.decode_sequence::<1, 1, AddDef, _>(
-            tag,
-            |decoder: &mut Decoder<'_>| -> Result<AddDef, DecodeError>
-                ensures { ReadsParts first_parts add_def_more add_def_roots add_def_additions decoder.old result decoder.new }
-            {
-                let a = bool::decode_with_tag(alloc, decoder, Tag::new(Class::Context, 0))?;
-                let b = decoder.decode_extension_addition_default::<Integer>(
-                    alloc,
-                    Tag::new(Class::Context, 1),
-                    Integer::CONSTRAINTS,
-                    Integer::from_i128(7),
-                )?;
-                Ok(AddDef { a, b })
-            },
-        )
-    }
-}
-
-impl AsnType for Holder1 {
-    ghost use Rattle.std.specs.Prelude.{false, refl};
-    ghost use Rattle.asn1_core.specs.declared.tag.TheConstants.Tag.{SEQUENCE};
-    ghost use Rattle.asn1_core.specs.declared.constraints.TheConstants.Constraints.{NONE};
-
-    ghost TAG = { SEQUENCE };
-
-    const TAG: Tag = Tag::SEQUENCE;
-
-    ghost CONSTRAINTS = { NONE };
-
-    const CONSTRAINTS: Constraints = Constraints::NONE;
-
-    ghost consistent = { refl };
-}
-
-impl Constructed<1, 0> for Holder1 {
-    ghost use Rattle.std.specs.Prelude.{false, refl, []};
-    ghost use Rattle.extensible_types.specs.ExtensionDefaults.{default_a_rows};
-
-    ghost is_set = { false };
-
-    ghost root_rows = { default_a_rows };
-
-    ghost addition_rows = { [] };
-
-    ghost IS_EXTENSIBLE = { false };
-
-    const IS_EXTENSIBLE: bool = false;
+impl Tabled<1, 0> for components::Holder1 {
+    ghost use Rattle.std.specs.Prelude.{refl};
 
     const FIELDS: Fields<1> = Fields {
-        fields: DEFAULT_A_FIELDS,
+        fields: fields![0 Default Context 0 "a"],
     };
 
     const EXTENDED_FIELDS: Option<Fields<0>> = None;
@@ -224,107 +116,57 @@ impl Constructed<1, 0> for Holder1 {
         }
     }
 
-    ghost tables = { record { root_count = refl; addition_count = refl; root_indexes = (refl, tt); addition_indexes = tt; only = λ e. refl; distinct = λ e. absurd (cc e) } };
+    fn put(&self, encoder: &mut Encoder<'_>) -> Result<(), EncodeError> {
+        Holder1Row::write((&self.a, ()), encoder)
+    }
+
+    ghost counts = { (refl, refl) };
 }
 
-impl Spelled for Holder1 {
-    ghost use Rattle.oer_spec.specs.Spelled.{IsAny};
-    ghost use Rattle.extensible_types.specs.ExtensionDefaults.{holder1_tree, holder1_is, holders1_alike};
+/// `SEQUENCE { a Sequence5 DEFAULT { a TRUE } }`: `Holder1` of a newer version
+pub type Holder2 = Sequence<components::Holder2, 1, 0>;
 
-    ghost tree = { λ c v. holder1_tree v };
+type Holder2Row = Defaults<Context<0>, Sequence5, IsTrueSequence5, NoMore>;
 
-    ghost IsValue = { IsAny };
+/// The default `{ a TRUE }` of a `Sequence5`.
+pub struct IsTrueSequence5;
 
-    ghost is_tree = { λ c k v i. holder1_is v };
+impl Standard<Sequence5> for IsTrueSequence5 {
+    ghost use Rattle.std.specs.Prelude.{None, true};
 
-    ghost alike = { λ c k v w i j. holders1_alike v w };
+    ghost value = { record { 0 = record { a = true; b = None } } };
+
+    fn value() -> Sequence5 {
+        Sequence(components::Sequence5 { a: true, b: None })
+    }
+
+    ghost admitted = { ((tt, tt), (tt, tt)) };
 }
 
-impl Encode for Holder1 {
-    #[tactic(auto, unfolding(crate::specs::ExtensionDefaults::holder1_tree))]
-    fn encode_with_tag_and_constraints(
-        &self,
-        encoder: &mut Encoder<'_>,
-        tag: Tag,
-        _constraints: Constraints,
-    ) -> Result<(), EncodeError> {
-        encoder.encode_sequence::<1, 0, Holder1, _>(
-            tag,
-            |encoder: &mut Encoder<'_>| -> Result<(), EncodeError>
-                ensures { InSequence (holder1_rows self.entry.now) (none_of self.entry.now) encoder.old result encoder.new }
-            {
-                encoder.encode_default_with_tag_and_constraints(
-                    Tag::new(Class::Context, 0),
-                    Sequence1::CONSTRAINTS,
-                    &self.a,
-                    &Sequence1 { a: true },
-                )?;
-                Ok(())
-            },
-        )
+/// Equal where `a` and `b` are.
+impl Compared<1, 1> for components::Sequence5 {
+    ghost use Rattle.oer_spec.specs.Spelled.{IsAny, boolean, booleans_same};
+    ghost use Rattle.std.specs.Bool.{beq};
+    ghost use Rattle.oer_rows.specs.Compared.{needed_same, optional_same, tables_same};
+
+    ghost decides = { λ v w i j. tables_same _ _ _ _ _ _ _ (needed_same _ _ _ _ (booleans_same v.a w.a)) (optional_same boolean IsAny beq (λ a b k l. booleans_same a b) _ _ _ i.1.0 j.1.0) };
+}
+
+impl Rowed for components::Holder2 {
+    type Row = Holder2Row;
+
+    ghost components = { λ v. (v.a, tt) };
+
+    fn from_row((a, ()): <Holder2Row as Components>::Values) -> components::Holder2 {
+        components::Holder2 { a }
     }
 }
 
-#[tactic(auto, using(oer_read::proofs::Reading::reading))]
-impl Decode for Holder1 {
-    ghost use Rattle.std.specs.Prelude.{⊤};
-
-    ghost Answered = { λ c s r t. ⊤ };
-
-    fn decode_with_tag_and_constraints(
-        alloc: Global,
-        decoder: &mut Decoder<'_>,
-        tag: Tag,
-        _constraints: Constraints,
-    ) -> Result<Holder1, DecodeError> {
-        decoder.decode_sequence::<1, 0, Holder1, _>(
-            tag,
-            |decoder: &mut Decoder<'_>| -> Result<Holder1, DecodeError>
-                ensures { ReadsParts holder1_parts NoParts holder1_rows none_of decoder.old result decoder.new }
-            {
-                let a = decoder.decode_default_with_tag::<Sequence1>(
-                    alloc,
-                    Tag::new(Class::Context, 0),
-                    Sequence1 { a: true },
-                )?;
-                Ok(Holder1 { a })
-            },
-        )
-    }
-}
-
-impl AsnType for Holder2 {
-    ghost use Rattle.std.specs.Prelude.{false, refl};
-    ghost use Rattle.asn1_core.specs.declared.tag.TheConstants.Tag.{SEQUENCE};
-    ghost use Rattle.asn1_core.specs.declared.constraints.TheConstants.Constraints.{NONE};
-
-    ghost TAG = { SEQUENCE };
-
-    const TAG: Tag = Tag::SEQUENCE;
-
-    ghost CONSTRAINTS = { NONE };
-
-    const CONSTRAINTS: Constraints = Constraints::NONE;
-
-    ghost consistent = { refl };
-}
-
-impl Constructed<1, 0> for Holder2 {
-    ghost use Rattle.std.specs.Prelude.{false, refl, []};
-    ghost use Rattle.extensible_types.specs.ExtensionDefaults.{default_a_rows};
-
-    ghost is_set = { false };
-
-    ghost root_rows = { default_a_rows };
-
-    ghost addition_rows = { [] };
-
-    ghost IS_EXTENSIBLE = { false };
-
-    const IS_EXTENSIBLE: bool = false;
+impl Tabled<1, 0> for components::Holder2 {
+    ghost use Rattle.std.specs.Prelude.{refl};
 
     const FIELDS: Fields<1> = Fields {
-        fields: DEFAULT_A_FIELDS,
+        fields: fields![0 Default Context 0 "a"],
     };
 
     const EXTENDED_FIELDS: Option<Fields<0>> = None;
@@ -340,71 +182,9 @@ impl Constructed<1, 0> for Holder2 {
         }
     }
 
-    ghost tables = { record { root_count = refl; addition_count = refl; root_indexes = (refl, tt); addition_indexes = tt; only = λ e. refl; distinct = λ e. absurd (cc e) } };
-}
-
-impl Spelled for Holder2 {
-    ghost use Rattle.oer_spec.specs.Spelled.{IsAny};
-    ghost use Rattle.extensible_types.specs.ExtensionDefaults.{holder2_tree, holder2_is, holders2_alike};
-
-    ghost tree = { λ c v. holder2_tree v };
-
-    ghost IsValue = { IsAny };
-
-    ghost is_tree = { λ c k v i. holder2_is v };
-
-    ghost alike = { λ c k v w i j. holders2_alike v w };
-}
-
-impl Encode for Holder2 {
-    #[tactic(auto, unfolding(crate::specs::ExtensionDefaults::holder2_tree))]
-    fn encode_with_tag_and_constraints(
-        &self,
-        encoder: &mut Encoder<'_>,
-        tag: Tag,
-        _constraints: Constraints,
-    ) -> Result<(), EncodeError> {
-        encoder.encode_sequence::<1, 0, Holder2, _>(
-            tag,
-            |encoder: &mut Encoder<'_>| -> Result<(), EncodeError>
-                ensures { InSequence (holder2_rows self.entry.now) (none_of self.entry.now) encoder.old result encoder.new }
-            {
-                encoder.encode_default_with_tag_and_constraints(
-                    Tag::new(Class::Context, 0),
-                    Sequence5::CONSTRAINTS,
-                    &self.a,
-                    &Sequence5 { a: true, b: None },
-                )?;
-                Ok(())
-            },
-        )
+    fn put(&self, encoder: &mut Encoder<'_>) -> Result<(), EncodeError> {
+        Holder2Row::write((&self.a, ()), encoder)
     }
-}
 
-#[tactic(auto, using(oer_read::proofs::Reading::reading))]
-impl Decode for Holder2 {
-    ghost use Rattle.std.specs.Prelude.{⊤};
-
-    ghost Answered = { λ c s r t. ⊤ };
-
-    fn decode_with_tag_and_constraints(
-        alloc: Global,
-        decoder: &mut Decoder<'_>,
-        tag: Tag,
-        _constraints: Constraints,
-    ) -> Result<Holder2, DecodeError> {
-        decoder.decode_sequence::<1, 0, Holder2, _>(
-            tag,
-            |decoder: &mut Decoder<'_>| -> Result<Holder2, DecodeError>
-                ensures { ReadsParts holder2_parts NoParts holder2_rows none_of decoder.old result decoder.new }
-            {
-                let a = decoder.decode_default_with_tag::<Sequence5>(
-                    alloc,
-                    Tag::new(Class::Context, 0),
-                    Sequence5 { a: true, b: None },
-                )?;
-                Ok(Holder2 { a })
-            },
-        )
-    }
+    ghost counts = { (refl, refl) };
 }

@@ -1,4 +1,0 @@
-pub mod Extended
-pub mod Front
-pub mod Halves
-pub mod Many

@@ -1,191 +1,152 @@
-//! An extensible sequence of many optional components and additions, written and read in several calls.
-ghost use Rattle.std.specs.Prelude.{◌≡◌};
-ghost use Rattle.oer_spec.specs.Tree.{NoRows};
-ghost use Rattle.long_types.specs.Extended.{extended_first, extended_roots, extended_additions, extended_parts, added_rows, added_parts};
-ghost use Rattle.long_types.specs.Front.{seen};
-ghost use Rattle.sequence_types.specs.Pairs.{none_of};
-ghost use Rattle.oer_write.specs.Rows.{InSequence};
-ghost use Rattle.oer_read.specs.Parts.{NoParts, ReadsParts};
+//! An extensible sequence of many optional components and additions: its row is cut, at names, into parts of five.
 
-use crate::front::{BeginsWithFront, FrontView, look_at, put_front, read_front};
-use asn1_core::{
-    AsnType, Class, Constraints, Constructed, DecodeError, EncodeError, Field, FieldPresence,
-    Fields, Tag,
-};
+use crate::components;
+use asn1_core::{DecodeError, EncodeError, Field, Fields};
 use asn1_ints::Integer;
 use asn1_strings::OctetString;
-use oer_read::{Decode, Decoder};
-use oer_spec::Spelled;
-use oer_write::{Encode, Encoder};
+use oer_read::{Decoder, Encoder};
+use oer_rows::{
+    AdditionViews, Additions, Components, Context, Extensible, MayAdd, MayHave, Needs, NoMore,
+    Rowed, Sequence, Tabled, Views, fields, pairs, views,
+};
 use std::alloc::Global;
 
 /// `SEQUENCE { value INTEGER, integer1 INTEGER OPTIONAL, octet1 OCTET STRING OPTIONAL, integer2, octet2, integer3, octet3
 /// (likewise), ..., integer4 INTEGER OPTIONAL, octet4 OCTET STRING OPTIONAL, integer5, octet5 (likewise) }`
-#[derive(Debug, PartialEq, Eq, Drop)]
-pub struct ExtendedOptional {
-    pub value: Integer,
-    pub integer1: Option<Integer>,
-    pub octet1: Option<OctetString>,
-    pub integer2: Option<Integer>,
-    pub octet2: Option<OctetString>,
-    pub integer3: Option<Integer>,
-    pub octet3: Option<OctetString>,
-    pub integer4: Option<Integer>,
-    pub octet4: Option<OctetString>,
-    pub integer5: Option<Integer>,
-    pub octet5: Option<OctetString>,
+pub type ExtendedOptional = Sequence<components::ExtendedOptional, 7, 4>;
+
+type ExtendedRow = Needs<
+    Context<0>,
+    Integer,
+    MayHave<
+        Context<1>,
+        Integer,
+        MayHave<
+            Context<2>,
+            OctetString,
+            MayHave<Context<3>, Integer, MayHave<Context<4>, OctetString, FromInteger3>>,
+        >,
+    >,
+>;
+
+/// The components from `integer3` on.
+pub struct FromInteger3;
+
+type FromInteger3Row = MayHave<
+    Context<5>,
+    Integer,
+    MayHave<Context<6>, OctetString, Extensible<FromInteger4>>,
+>;
+
+impl Components for FromInteger3 {
+    ghost use Rattle.std.specs.Prelude.{true};
+
+    type Values = <FromInteger3Row as Components>::Values;
+
+    ghost EXTENSIBLE = { true };
+
+    const EXTENSIBLE: bool = true;
+
+    ghost schema = { ⟦<FromInteger3Row as Components>⟧.schema };
+
+    ghost is_schema = { ⟦<FromInteger3Row as Components>⟧.is_schema };
+
+    fn read(alloc: Global, decoder: &mut Decoder<'_>) -> Result<Self::Values, DecodeError> {
+        FromInteger3Row::read(alloc, decoder)
+    }
 }
 
-/// The additions, as they were read.
-#[derive(Drop)]
-struct ReadAdditions {
-    integer4: Option<Integer>,
-    octet4: Option<OctetString>,
-    integer5: Option<Integer>,
-    octet5: Option<OctetString>,
+impl<'v> Views<'v> for FromInteger3 {
+    type View = <FromInteger3Row as Views<'v>>::View;
+
+    ghost seen = { ⟦<FromInteger3Row as Views<'v>>⟧.seen };
+
+    fn write(
+        view: <FromInteger3Row as Views<'v>>::View,
+        encoder: &mut Encoder<'_>,
+    ) -> Result<(), EncodeError> {
+        FromInteger3Row::write(view, encoder)
+    }
 }
 
-const FRONT_FIELDS: &'static [Field<'static>] = &[
-    Field {
-        index: 0,
-        tag: Tag {
-            class: Class::Context,
-            value: 0,
-        },
-        presence: FieldPresence::Required,
-        name: "value",
-    },
-    Field {
-        index: 1,
-        tag: Tag {
-            class: Class::Context,
-            value: 1,
-        },
-        presence: FieldPresence::Optional,
-        name: "integer1",
-    },
-    Field {
-        index: 2,
-        tag: Tag {
-            class: Class::Context,
-            value: 2,
-        },
-        presence: FieldPresence::Optional,
-        name: "octet1",
-    },
-    Field {
-        index: 3,
-        tag: Tag {
-            class: Class::Context,
-            value: 3,
-        },
-        presence: FieldPresence::Optional,
-        name: "integer2",
-    },
-    Field {
-        index: 4,
-        tag: Tag {
-            class: Class::Context,
-            value: 4,
-        },
-        presence: FieldPresence::Optional,
-        name: "octet2",
-    },
-    Field {
-        index: 5,
-        tag: Tag {
-            class: Class::Context,
-            value: 5,
-        },
-        presence: FieldPresence::Optional,
-        name: "integer3",
-    },
-    Field {
-        index: 6,
-        tag: Tag {
-            class: Class::Context,
-            value: 6,
-        },
-        presence: FieldPresence::Optional,
-        name: "octet3",
-    },
-];
+/// The additions, from `integer4` on.
+pub struct FromInteger4;
 
-const ADDED_FIELDS: &'static [Field<'static>] = &[
-    Field {
-        index: 0,
-        tag: Tag {
-            class: Class::Context,
-            value: 7,
-        },
-        presence: FieldPresence::Optional,
-        name: "integer4",
-    },
-    Field {
-        index: 1,
-        tag: Tag {
-            class: Class::Context,
-            value: 8,
-        },
-        presence: FieldPresence::Optional,
-        name: "octet4",
-    },
-    Field {
-        index: 2,
-        tag: Tag {
-            class: Class::Context,
-            value: 9,
-        },
-        presence: FieldPresence::Optional,
-        name: "integer5",
-    },
-    Field {
-        index: 3,
-        tag: Tag {
-            class: Class::Context,
-            value: 10,
-        },
-        presence: FieldPresence::Optional,
-        name: "octet5",
-    },
-];
+type FromInteger4Row = MayAdd<
+    Context<7>,
+    Integer,
+    MayAdd<
+        Context<8>,
+        OctetString,
+        MayAdd<Context<9>, Integer, MayAdd<Context<10>, OctetString, NoMore>>,
+    >,
+>;
 
-impl AsnType for ExtendedOptional {
-    ghost use Rattle.std.specs.Prelude.{false, refl};
-    ghost use Rattle.asn1_core.specs.declared.tag.TheConstants.Tag.{SEQUENCE};
-    ghost use Rattle.asn1_core.specs.declared.constraints.TheConstants.Constraints.{NONE};
+impl Additions for FromInteger4 {
+    type More = <FromInteger4Row as Additions>::More;
 
-    ghost TAG = { SEQUENCE };
+    ghost table = { ⟦<FromInteger4Row as Additions>⟧.table };
 
-    const TAG: Tag = Tag::SEQUENCE;
+    ghost is_table = { ⟦<FromInteger4Row as Additions>⟧.is_table };
 
-    ghost CONSTRAINTS = { NONE };
-
-    const CONSTRAINTS: Constraints = Constraints::NONE;
-
-    ghost consistent = { refl };
+    fn read_additions(alloc: Global, decoder: &mut Decoder<'_>) -> Result<Self::More, DecodeError> {
+        FromInteger4Row::read_additions(alloc, decoder)
+    }
 }
 
-impl Constructed<7, 4> for ExtendedOptional {
-    ghost use Rattle.std.specs.Prelude.{false, true, refl};
-    ghost use Rattle.long_types.specs.Extended.{extended_table, added_table};
+impl<'v> AdditionViews<'v> for FromInteger4 {
+    type MoreView = <FromInteger4Row as AdditionViews<'v>>::MoreView;
 
-    ghost is_set = { false };
+    ghost seen = { ⟦<FromInteger4Row as AdditionViews<'v>>⟧.seen };
 
-    ghost root_rows = { extended_table };
+    fn write_additions(
+        view: <FromInteger4Row as AdditionViews<'v>>::MoreView,
+        encoder: &mut Encoder<'_>,
+    ) -> Result<(), EncodeError> {
+        FromInteger4Row::write_additions(view, encoder)
+    }
+}
 
-    ghost addition_rows = { added_table };
+impl Rowed for components::ExtendedOptional {
+    type Row = ExtendedRow;
 
-    ghost IS_EXTENSIBLE = { true };
+    ghost components = { λ v. (v.value, (v.integer1, (v.octet1, (v.integer2, (v.octet2, (v.integer3, (v.octet3, (v.integer4, (v.octet4, (v.integer5, (v.octet5, tt))))))))))) };
 
-    const IS_EXTENSIBLE: bool = true;
+    fn from_row(row: <ExtendedRow as Components>::Values) -> components::ExtendedOptional {
+        let pairs![
+            value, integer1, octet1, integer2, octet2, integer3, octet3, integer4, octet4,
+            integer5, octet5
+        ] = row;
+        components::ExtendedOptional {
+            value,
+            integer1,
+            octet1,
+            integer2,
+            octet2,
+            integer3,
+            octet3,
+            integer4,
+            octet4,
+            integer5,
+            octet5,
+        }
+    }
+}
+
+impl Tabled<7, 4> for components::ExtendedOptional {
+    ghost use Rattle.std.specs.Prelude.{refl};
 
     const FIELDS: Fields<7> = Fields {
-        fields: FRONT_FIELDS,
+        fields: fields![
+    0 Required Context 0 "value", 1 Optional Context 1 "integer1", 2 Optional Context 2 "octet1", 3 Optional Context 3 "integer2",
+    4 Optional Context 4 "octet2", 5 Optional Context 5 "integer3", 6 Optional Context 6 "octet3"
+],
     };
 
     const EXTENDED_FIELDS: Option<Fields<4>> = Some(Fields {
-        fields: ADDED_FIELDS,
+        fields: fields![
+    0 Optional Context 7 "integer4", 1 Optional Context 8 "octet4", 2 Optional Context 9 "integer5", 3 Optional Context 10 "octet5"
+],
     });
 
     fn root_fields() -> &'static [Field<'static>] {
@@ -199,164 +160,12 @@ impl Constructed<7, 4> for ExtendedOptional {
         }
     }
 
-    ghost tables = { record { root_count = refl; addition_count = refl; root_indexes = (refl, (refl, (refl, (refl, (refl, (refl, (refl, tt))))))); addition_indexes = (refl, (refl, (refl, (refl, tt)))); only = λ e. absurd (cc e); distinct = λ e. absurd (cc e) } };
-}
-
-impl Spelled for ExtendedOptional {
-    ghost use Rattle.long_types.specs.Extended.{IsExtended, extended_tree, extended_is, extended_alike};
-
-    ghost tree = { λ c v. extended_tree v };
-
-    ghost IsValue = { IsExtended };
-
-    ghost is_tree = { λ c k v i. extended_is v i };
-
-    ghost alike = { λ c k v w i j. extended_alike v w i j };
-}
-
-impl BeginsWithFront for ExtendedOptional {
-    ghost use Rattle.oer_read.specs.Parts.{NoParts};
-    ghost use Rattle.long_types.specs.Extended.{added_parts};
-
-    ghost others = { NoParts };
-
-    ghost additions = { added_parts };
-}
-
-impl ExtendedOptional {
-    /// The components that are written first.
-    fn first(&self) -> FrontView<'_>
-        ensures { seen result ≡ extended_first self.now }
-    {
-        FrontView {
-            value: &self.value,
-            integer1: &self.integer1,
-            octet1: &self.octet1,
-            integer2: &self.integer2,
-            octet2: &self.octet2,
-            integer3: &self.integer3,
-            octet3: &self.octet3,
-        }
-    }
-}
-
-/// Writes the additions.
-fn put_additions(extended: &ExtendedOptional, encoder: &mut Encoder<'_>) -> Result<(), EncodeError>
-    ensures { InSequence NoRows (extended_additions extended.now) encoder.old result encoder.new }
-{
-    encoder.encode_extension_addition(
-        Tag::new(Class::Context, 7),
-        Integer::CONSTRAINTS,
-        extended.integer4.as_ref(),
-    )?;
-    encoder.encode_extension_addition(
-        Tag::new(Class::Context, 8),
-        OctetString::CONSTRAINTS,
-        extended.octet4.as_ref(),
-    )?;
-    encoder.encode_extension_addition(
-        Tag::new(Class::Context, 9),
-        Integer::CONSTRAINTS,
-        extended.integer5.as_ref(),
-    )?;
-    encoder.encode_extension_addition(
-        Tag::new(Class::Context, 10),
-        OctetString::CONSTRAINTS,
-        extended.octet5.as_ref(),
-    )?;
-    Ok(())
-}
-
-impl Encode for ExtendedOptional {
-    #[tactic(auto, unfolding(crate::specs::Extended::extended_tree))]
-    fn encode_with_tag_and_constraints(
-        &self,
-        encoder: &mut Encoder<'_>,
-        tag: Tag,
-        _constraints: Constraints,
-    ) -> Result<(), EncodeError> {
-        look_at(&self.octet1);
-        look_at(&self.octet2);
-        look_at(&self.octet3);
-        look_at(&self.octet4);
-        look_at(&self.octet5);
-        encoder.encode_sequence::<7, 4, ExtendedOptional, _>(
-            tag,
-            |encoder: &mut Encoder<'_>| -> Result<(), EncodeError>
-                ensures { InSequence (extended_roots self.entry.now) (extended_additions self.entry.now) encoder.old result encoder.new }
-            {
-                put_front(self.first(), encoder)?;
-                put_additions(self, encoder)
-            },
+    fn put(&self, encoder: &mut Encoder<'_>) -> Result<(), EncodeError> {
+        ExtendedRow::write(
+            views![self: value, integer1, octet1, integer2, octet2, integer3, octet3, integer4, octet4, integer5, octet5],
+            encoder,
         )
     }
-}
 
-/// Reads the additions.
-fn read_additions(alloc: Global, decoder: &mut Decoder<'_>) -> Result<ReadAdditions, DecodeError>
-    ensures { ReadsParts NoParts added_parts none_of added_rows decoder.old result decoder.new }
-{
-    let integer4 = decoder.decode_extension_addition_with_tag_and_constraints::<Integer>(
-        alloc,
-        Tag::new(Class::Context, 7),
-        Integer::CONSTRAINTS,
-    )?;
-    let octet4 = decoder.decode_extension_addition_with_tag_and_constraints::<OctetString>(
-        alloc,
-        Tag::new(Class::Context, 8),
-        OctetString::CONSTRAINTS,
-    )?;
-    let integer5 = decoder.decode_extension_addition_with_tag_and_constraints::<Integer>(
-        alloc,
-        Tag::new(Class::Context, 9),
-        Integer::CONSTRAINTS,
-    )?;
-    let octet5 = decoder.decode_extension_addition_with_tag_and_constraints::<OctetString>(
-        alloc,
-        Tag::new(Class::Context, 10),
-        OctetString::CONSTRAINTS,
-    )?;
-    Ok(ReadAdditions {
-        integer4,
-        octet4,
-        integer5,
-        octet5,
-    })
-}
-
-#[tactic(auto, using(oer_read::proofs::Reading::reading))]
-impl Decode for ExtendedOptional {
-    ghost use Rattle.std.specs.Prelude.{⊤};
-
-    ghost Answered = { λ c s r t. ⊤ };
-
-    fn decode_with_tag_and_constraints(
-        alloc: Global,
-        decoder: &mut Decoder<'_>,
-        tag: Tag,
-        _constraints: Constraints,
-    ) -> Result<ExtendedOptional, DecodeError> {
-        decoder.decode_sequence::<7, 4, ExtendedOptional, _>(
-            tag,
-            |decoder: &mut Decoder<'_>| -> Result<ExtendedOptional, DecodeError>
-                ensures { ReadsParts extended_parts added_parts extended_roots extended_additions decoder.old result decoder.new }
-            {
-                let first = read_front::<ExtendedOptional>(alloc, decoder)?;
-                let added = read_additions(alloc, decoder)?;
-                Ok(ExtendedOptional {
-                    value: first.value,
-                    integer1: first.integer1,
-                    octet1: first.octet1,
-                    integer2: first.integer2,
-                    octet2: first.octet2,
-                    integer3: first.integer3,
-                    octet3: first.octet3,
-                    integer4: added.integer4,
-                    octet4: added.octet4,
-                    integer5: added.integer5,
-                    octet5: added.octet5,
-                })
-            },
-        )
-    }
+    ghost counts = { (refl, refl) };
 }

@@ -1,8 +1,8 @@
-//! Sequences of many components, written and read in several calls.
+//! Sequences of many components, by their rows.
 #![tactic(auto)]
 
+pub mod components;
 mod extended;
-mod front;
 mod many;
 
 pub use extended::ExtendedOptional;

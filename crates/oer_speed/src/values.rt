@@ -5,7 +5,7 @@ use anyhow::Result;
 use asn1_core::SetOf;
 use asn1_ints::Integer;
 use asn1_strings::OctetString;
-use oer_types::{ExtendedOptional, Foo, Link, LinkChoice, Nest, Sequence2};
+use oer_types::{ExtendedOptional, Foo, Link, LinkChoice, Nest, Sequence, Sequence2, components};
 use std::alloc::Global;
 use std::rt::Clock;
 
@@ -63,7 +63,7 @@ fn some(number: i128) -> Option<Integer> {
 
 /// A sequence of a number, four optional components and two additions that are there.
 fn extended(alloc: Global) -> Result<ExtendedOptional> {
-    Ok(ExtendedOptional {
+    Ok(Sequence(components::ExtendedOptional {
         value: Integer::from_i128(0),
         integer1: some(1),
         octet1: None,
@@ -75,7 +75,7 @@ fn extended(alloc: Global) -> Result<ExtendedOptional> {
         octet4: None,
         integer5: some(8),
         octet5: None,
-    })
+    }))
 }
 
 /// Measures the value of that word; nothing where it is no value's.
@@ -97,11 +97,11 @@ pub(crate) fn measure_word<R: Clock + AllocGlobal>(
             measure(rt, alloc, plan, &octets)
         }
         "seq2" => {
-            let sequence = Sequence2 {
+            let sequence: Sequence2 = Sequence(components::Sequence2 {
                 a: true,
                 b: Some(true),
                 c: Some(false),
-            };
+            });
             measure(rt, alloc, plan, &sequence)
         }
         "extopt" => measure(rt, alloc, plan, &extended(alloc)?),

@@ -8,9 +8,13 @@ mod wrappers;
 
 /// The components of each sequence that is written by its row.
 pub mod components {
+    pub use extensible_types::components::{
+        AddDef, EmptyExtensible, Holder1, Holder2, Outer, Sequence1, Sequence2, Sequence5,
+    };
     pub use group_types::components::{
         Group6, Omitted, Sequence3, Sequence4, Sequence6, SequenceDuplicatesExtended,
     };
+    pub use long_types::components::{ExtendedOptional, ManyOptional};
 }
 
 pub use choice_types::{

@@ -28,8 +28,7 @@ use Rattle.oer_read.proofs.SetFound.{found_push, found_behind, AreApart, AllOut,
 use Rattle.oer_read.proofs.SetLaw.{Agrees, Came, set_law}
 use Rattle.oer_read.proofs.SetOrder.{all_by_tag}
 use Rattle.sequence_types.specs.Defaults.{integer_slot, integer_unless, unless_differs}
-use Rattle.extensible_types.specs.Extensible.{flag_made}
-use Rattle.set_types.specs.Mixed.{mixed_table, mixed_row, mixed_additions, mixed_tree, mixed_index, mixed_field_tree, IsMixedAt, mixed_eq, mixed_default, mixed_slot, MixedReads, MixedMade, MixedAnswer, mixed_put, MixedSoFar, MixedIs}
+use Rattle.set_types.specs.Mixed.{mixed_table, mixed_row, mixed_additions, mixed_tree, mixed_index, mixed_field_tree, IsMixedAt, mixed_eq, mixed_default, mixed_slot, MixedReads, MixedMade, MixedAnswer, mixed_put, MixedSoFar, MixedIs, flag_made}
 use Rattle.sequence_types.specs.Pairs.{plain_integer, IsWhole}
 use Rattle.set_types.specs.Sets.{application}
 use Rattle.sequence_types.specs.Tags.{context}

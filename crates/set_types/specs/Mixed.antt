@@ -7,19 +7,20 @@ use Rattle.asn1_core.specs.declared.constraints.TheConstants.Constraints.{NONE}
 use Rattle.asn1_core.specs.declared.error.DecodeError.{DecodeError}
 use Rattle.asn1_core.specs.declared.fields.FieldPresence.TheVariants as presence
 use Rattle.asn1_core.specs.declared.tag.Tag.{Tag}
-use Rattle.oer_spec.specs.Encoding.{IsTree}
+use Rattle.oer_spec.specs.Encoding.{IsTree, AreSlot}
 use Rattle.oer_spec.specs.Reading.{bool_at}
-use Rattle.oer_spec.specs.Same.{Alike}
+use Rattle.oer_spec.specs.Same.{Alike, AlikeSlot}
 use Rattle.oer_spec.specs.Spelled.{IsAny, boolean, boolean_is, booleans_alike, integer_is}
 use Rattle.oer_spec.specs.Tree.{Tree, Rows, NoRows, Required, Optional, Default, Struct, Slot, Present}
 use Rattle.oer_read.specs.Answers.{LeafAnswers}
 use Rattle.oer_read.specs.Components.{slot_of}
 use Rattle.oer_read.specs.Law.{Decodes}
+use Rattle.oer_read.specs.Parts.{Admits, OnPresent}
 use Rattle.oer_read.specs.SetRows.{found, ReadsDefault, AsksAddition}
 use Rattle.oer_read.specs.State.{State}
 use Rattle.sequence_types.specs.Defaults.{integer_slot, integer_unless, option_is, options_alike, unless_is, unless_differs, unless_alike}
-use Rattle.extensible_types.specs.Extensible.{flag_is, flags_alike}
 use Rattle.sequence_types.specs.Pairs.{plain_integer}
+use Rattle.sequence_types.specs.Slots.{IfThere, slot_is, slots_alike, slot_made}
 use Rattle.set_types.specs.Sets.{application}
 use Rattle.sequence_types.specs.Tags.{context}
 use Rattle.set_types.specs.declared.mixed.MixedSet.{MixedSet}
@@ -38,6 +39,20 @@ mixed_roots v = Required (context 2) (boolean v.x) (Optional (context 1) (intege
 
 abbrev pub mixed_additions : MixedSet → Rows
 mixed_additions v = Optional (context 0) (slot_of boolean v.n) NoRows
+
+-- the slot of the addition
+any_there : (o : Option Bool) → IfThere IsAny o
+any_there None = tt
+any_there (Some b) = tt
+
+flag_is : (o : Option Bool) → AreSlot (slot_of boolean o)
+flag_is o = slot_is boolean IsAny (λ b i. boolean_is b) o (any_there o)
+
+flags_alike : (o p : Option Bool) → AlikeSlot (slot_of boolean o) (slot_of boolean p)
+flags_alike o p = slots_alike boolean IsAny (λ a b i j. booleans_alike a b) o p (any_there o) (any_there p)
+
+pub flag_made : (o : Option Bool) → OnPresent (Admits boolean IsAny) (slot_of boolean o)
+flag_made o = slot_made boolean IsAny o (any_there o)
 
 unfoldable pub mixed_tree : MixedSet → Tree
 mixed_tree v = Struct true true (mixed_roots v) (mixed_additions v)
