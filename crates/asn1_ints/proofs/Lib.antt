@@ -4,3 +4,4 @@ pub mod Appending
 pub mod Order
 pub mod Compare
 pub mod Kept
+pub mod ShortNumbers

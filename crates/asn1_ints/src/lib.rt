@@ -7,6 +7,7 @@ mod integer_type;
 mod number;
 mod octets;
 mod primitive;
+mod short;
 
 pub use constrained::{ConstrainedInteger, IntegerRange};
 pub use integer::Integer;

@@ -5,6 +5,7 @@ ghost use Rattle.asn1_ints.specs.Numbers.{if_in_i128, if_below};
 ghost use Rattle.asn1_ints.specs.Octets.{in_complement, if_in_u128, Appends};
 ghost use Rattle.asn1_ints.specs.Reading.{value_or_refusal};
 
+use crate::short::{short_signed, short_unsigned};
 use asn1_core::{Codec, DecodeError, DecodeErrorKind};
 use std::alloc::AllocError;
 
@@ -43,6 +44,9 @@ fn signed_with_octet(n: i128, octet: u8) -> Option<i128>
 pub fn i128_of(octets: &[u8]) -> Option<i128>
     ensures { result ≡ if_in_i128 (signed octets.now) }
 {
+    if octets.len() <= 8 {
+        return Some(short_signed(octets));
+    }
     let negative = has_sign(octets);
     let mut n = start_of(negative);
     for octet in octets {
@@ -65,6 +69,9 @@ fn unsigned_with_octet(n: u128, octet: u8) -> Option<u128>
 pub fn u128_of(octets: &[u8]) -> Option<u128>
     ensures { result ≡ if_in_u128 (unsigned octets.now) }
 {
+    if octets.len() <= 8 {
+        return Some(short_unsigned(octets) as u128);
+    }
     let mut n = 0;
     for octet in octets {
         n = unsigned_with_octet(n, *octet)?;

@@ -40,6 +40,18 @@ impl<'input> OpenScope<'input> {
             bitmap: None,
         }
     }
+
+    /// No scope is open any more.
+    pub(crate) fn close(&mut self)
+        ensures { frame_of self.new ≡ closed }
+    {
+        self.is_set = false;
+        self.roots = &[];
+        self.extensible = false;
+        self.extended = false;
+        self.additions = &[];
+        self.bitmap = None;
+    }
 }
 
 /// What the calls that ask components move on, to go back to where a value that was read is refused.

@@ -1,6 +1,6 @@
-//! Lists: a closure reads each element on a decoder of its own.
+//! Lists: a closure reads each element on a decoder that the list lends.
 
-ghost use Rattle.std.specs.Prelude.{◌≡◌, ℕ, ◌+◌, ◌<◌, ◌≤◌, length, List, true, IfOk, IfErr, OnErr, OnOk, Ok, Err};
+ghost use Rattle.std.specs.Prelude.{◌≡◌, ℕ, ◌+◌, ◌<◌, ◌≤◌, ◌++◌, ◌∷◌, [], length, List, true, IfOk, IfErr, OnErr, OnOk, Ok, Err};
 ghost use Rattle.asn1_core.specs.Octets.{Octets, AreOctets};
 ghost use Rattle.oer_spec.specs.Reading.{Gives};
 ghost use Rattle.oer_spec.specs.Spelled.{EachValue, list_of};
@@ -14,10 +14,44 @@ use crate::decoder::{Decoder, OpenScope};
 use crate::scopes::one_level_less;
 use asn1_core::{Constraints, DecodeError, DecodeErrorKind, Tag};
 use oer_leaf_read::{BitSlice, read_quantity};
-use std::alloc::Global;
+use std::alloc::{AllocError, Global};
 
 /// The number of elements of one list that may take no octets.
 const MOST_EMPTY: usize = 65536;
+
+/// The most elements that a list makes room for before it has them.
+const MOST_AT_ONCE: usize = 1024;
+
+/// How many elements a list makes room for at its first one, which left so many of the octets that were there: as many as
+/// those would hold, were each as long as the first, but no more than are stated, nor than 1,024.
+fn room_for(quantity: usize, there: usize, left: usize) -> usize
+    ensures stated { result ≤ quantity }
+    ensures octets { result ≤ there }
+    ensures few { result ≤ 1024 }
+{
+    let taken = there.saturating_sub(left);
+    if taken == 0 {
+        return 0;
+    }
+    (there / taken).min(quantity).min(MOST_AT_ONCE)
+}
+
+/// Keeps an element, which left so many of the octets that were there. At the first one room is made for others.
+pub(crate) fn keep<D: Drop>(
+    items: &mut Vec<D>,
+    item: D,
+    quantity: usize,
+    there: usize,
+    left: usize,
+) -> Result<(), AllocError>
+    ensures { OnOk result (items.new.items ≡ items.old.items ++ item ∷ []) }
+{
+    if items.is_empty() {
+        items.reserve_exact(room_for(quantity, there, left))?;
+    }
+    items.push(item)?;
+    Ok(())
+}
 
 impl<'input> Decoder<'input> {
     /// How many elements a list has, and what is left.
@@ -33,7 +67,7 @@ impl<'input> Decoder<'input> {
         Ok((quantity, rest))
     }
 
-    /// A decoder for an element, within one level less.
+    /// A decoder for the elements, within one level less.
     pub(crate) fn element(&self, rest: &'input [u8]) -> Decoder<'input>
         requires { 0 < self.now.levels }
         ensures { result ≡ lent_element self.now rest.entry.now }
@@ -46,6 +80,16 @@ impl<'input> Decoder<'input> {
         }
     }
 
+    /// Is what a list lends again, whose decoder is handed in: what is left stays, and no scope is open.
+    fn lend_again(&mut self, list: &Decoder<'input>)
+        requires { 0 < list.now.levels }
+        ensures { self.new ≡ lent_element list.now self.old.input }
+    {
+        self.codec = list.codec;
+        self.levels = list.levels - 1;
+        self.scope.close();
+    }
+
     /// A refusal of memory.
     pub(crate) fn want_of_memory(&self) -> DecodeError
         ensures { WantsMemory self.now result }
@@ -53,23 +97,22 @@ impl<'input> Decoder<'input> {
         self.refusal(DecodeErrorKind::OutOfMemory)
     }
 
-    /// Reads one element.
-    fn read_element<D, F>(
-        &self,
-        rest: &'input [u8],
-        f: &F,
-    ) -> Result<(D, &'input [u8]), DecodeError>
+    /// Reads one element on the decoder that the list lends, and makes that ready to be lent again.
+    fn read_element<D, F>(&self, lent: &mut Decoder<'input>, f: &F) -> Result<D, DecodeError>
     where
         F: Fn(&mut Decoder<'_>) -> Result<D, DecodeError>,
         requires level { 0 < self.now.levels }
-        requires callable { FnTakesAtMut F.Fn f.now (lent_element self.now rest.now) }
-        ensures ok { IfOk result (λ p. (after : _) × FnReturnsAtMut F.Fn f.now (lent_element self.now rest.entry.now) (Ok p.0) after × (p.1.now ≡ after.input)) }
-        ensures err { IfErr result (λ e. (after : _) × FnReturnsAtMut F.Fn f.now (lent_element self.now rest.entry.now) (Err e) after) }
+        requires lent { lent.old ≡ lent_element self.now lent.old.input }
+        requires callable { FnTakesAtMut F.Fn f.now (lent_element self.now lent.old.input) }
+        ensures ok { IfOk result (λ v. (after : _) × FnReturnsAtMut F.Fn f.now (lent_element self.now lent.old.input) (Ok v) after × (lent.new ≡ lent_element self.now after.input)) }
+        ensures err { IfErr result (λ e. (after : _) × FnReturnsAtMut F.Fn f.now (lent_element self.now lent.old.input) (Err e) after) }
     {
-        let mut inner: Decoder<'input> = self.element(rest);
-        match f(&mut inner) {
+        match f(lent) {
             Err(e) => Err(e),
-            Ok(item) => Ok((item, inner.remaining())),
+            Ok(item) => {
+                lent.lend_again(self);
+                Ok(item)
+            }
         }
     }
 
@@ -110,22 +153,26 @@ impl<'input> Decoder<'input> {
         ensures err { IfErr result (λ e. ElementsStopped (FnReturnsAtMut F.Fn f) self.now quantity start.entry.now e) }
     {
         let mut items = Vec::new(alloc);
-        let mut rest: &'input [u8] = start;
+        let mut lent: Decoder<'input> = self.element(start);
         let mut empties = 0;
         for i in 0..quantity {
-            let (item, left) = self.read_element(rest, &f)?;
-            empties = self.count_empty(empties, rest, left)?;
-            match items.push(item) {
-                Ok(()) => rest = left,
+            let before = lent.remaining();
+            let item = self.read_element(&mut lent, &f)?;
+            let left = lent.remaining();
+            empties = self.count_empty(empties, before, left)?;
+            match keep(&mut items, item, quantity, before.len(), left.len()) {
+                Ok(()) => {}
                 Err(_) => return Err(self.want_of_memory()),
             }
         }
-        Ok((items, rest))
+        Ok((items, lent.remaining()))
     }
 
-    /// Reads a SEQUENCE OF (X.696, 17) whose elements are read by `f`, each on a decoder of its own within one level less.
+    /// Reads a SEQUENCE OF (X.696, 17) whose elements are read by `f`, each on a decoder of what is left, within one level less.
     ///
-    /// Nothing is reserved by the stated quantity: the list grows element by element.
+    /// Nothing is reserved by the stated quantity alone: at the first element room is made for as many as the octets that
+    /// are there would hold, were each as long as the first, at most the quantity and at most 1,024; then the list grows as
+    /// elements come.
     ///
     /// Refused, the first that applies: no level is left, as `ExceedsMaxParseDepth`, before anything is read; the quantity
     /// as `read_quantity` refuses it; in turn for each element, what `f` refuses, and the 65,537th element without octets

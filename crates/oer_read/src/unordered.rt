@@ -11,6 +11,7 @@ ghost use Rattle.oer_read.specs.Unordered.{SoFar, NextRead, NextRefused, Element
 
 use crate::decode::Decode;
 use crate::decoder::Decoder;
+use crate::lists::keep;
 use asn1_core::{Codec, Constraints, DecodeError, DecodeErrorKind, SetOf, Tag};
 use std::alloc::Global;
 
@@ -45,31 +46,33 @@ impl<'input> Decoder<'input> {
 }
 
 impl<'input> Decoder<'input> {
-    /// Reads the next element, behind `empties` elements without octets and one of the octets `last`: the element, its
-    /// octets, what is left, and how many elements without octets there are now.
+    /// Reads the next element on the decoder that the list lends, behind `empties` elements without octets and one of the
+    /// octets `last`: the element, its octets, and how many elements without octets there are now.
     fn next_element<D: Decode>(
         &self,
         alloc: Global,
-        rest: &'input [u8],
+        lent: &mut Decoder<'input>,
         last: &[u8],
         empties: usize,
-    ) -> Result<(D, &'input [u8], &'input [u8], usize), DecodeError>
+    ) -> Result<(D, &'input [u8], usize), DecodeError>
         requires level { 0 < self.now.levels }
         requires few { empties ≤ 65536 }
-        ensures ok { IfOk result (λ p. NextRead (Promised (D.tree D.CONSTRAINTS) D.IsValue (D.Answered D.CONSTRAINTS)) self.now empties last.now rest.entry.now p.0 p.1.now p.2.now p.3) }
-        ensures err { IfErr result (λ e. NextRefused (Promised (D.tree D.CONSTRAINTS) D.IsValue (D.Answered D.CONSTRAINTS)) self.now empties last.now rest.entry.now e) }
+        requires lent { lent.old ≡ lent_element self.now lent.old.input }
+        ensures ok { IfOk result (λ p. NextRead (Promised (D.tree D.CONSTRAINTS) D.IsValue (D.Answered D.CONSTRAINTS)) self.now empties last.now lent.old.input p.0 p.1.now lent.new.input p.2) }
+        ensures lent { OnOk result (lent.new ≡ lent_element self.now lent.new.input) }
+        ensures err { IfErr result (λ e. NextRefused (Promised (D.tree D.CONSTRAINTS) D.IsValue (D.Answered D.CONSTRAINTS)) self.now empties last.now lent.old.input e) }
     {
-        let mut inner: Decoder<'input> = self.element(rest);
-        match D::decode(alloc, &mut inner) {
+        let rest: &'input [u8] = lent.remaining();
+        match D::decode(alloc, lent) {
             Err(e) => Err(e),
             Ok(item) => {
-                let left: &'input [u8] = inner.remaining();
+                let left: &'input [u8] = lent.remaining();
                 let octets: &'input [u8] = front_of(rest, left);
                 match self.count_empty(empties, rest, left) {
                     Err(e) => Err(e),
                     Ok(count) => match self.require_order(last, octets) {
                         Err(e) => Err(e),
-                        Ok(()) => Ok((item, octets, left, count)),
+                        Ok(()) => Ok((item, octets, count)),
                     },
                 }
             }
@@ -88,28 +91,31 @@ impl<'input> Decoder<'input> {
         ensures err { IfErr result (λ e. ElementsStopped (Promised (D.tree D.CONSTRAINTS) D.IsValue (D.Answered D.CONSTRAINTS)) self.now quantity start.entry.now e) }
     {
         let mut items = Vec::new(alloc);
-        let mut rest: &'input [u8] = start;
+        let mut lent: Decoder<'input> = self.element(start);
         let mut last: &'input [u8] = &[];
         let mut empties = 0;
         for i in 0..quantity {
-            match self.next_element::<D>(alloc, rest, last, empties) {
+            let there = lent.remaining().len();
+            match self.next_element::<D>(alloc, &mut lent, last, empties) {
                 Err(e) => return Err(e),
-                Ok((item, octets, left, count)) => match items.push(item) {
-                    Err(_) => return Err(self.want_of_memory()),
-                    Ok(()) => {
-                        rest = left;
-                        last = octets;
-                        empties = count;
+                Ok((item, octets, count)) => {
+                    let left = lent.remaining().len();
+                    match keep(&mut items, item, quantity, there, left) {
+                        Err(_) => return Err(self.want_of_memory()),
+                        Ok(()) => {
+                            last = octets;
+                            empties = count;
+                        }
                     }
-                },
+                }
             }
         }
-        Ok((items, rest))
+        Ok((items, lent.remaining()))
     }
 
     /// Reads a SET OF (X.696, 19): a quantity, and the elements in turn. In canonical mode their octets ascend.
     ///
-    /// Nothing is reserved by the stated quantity: the list grows element by element.
+    /// Room is made as `decode_sequence_of_with` makes it.
     ///
     /// Refused, the first that applies: no level is left, as `ExceedsMaxParseDepth`, before anything is read; the quantity
     /// as `read_quantity` refuses it; in turn for each element, what its type refuses, the 65,537th element without octets

@@ -7,16 +7,16 @@ use Rattle.oer_read.proofs.decoder.Decoder.read_unordered.Goals as goal
 
 pub returns-in-Err-clause-err : goal.returns-in-Err-clause-err
 returns-in-Err-clause-err g c =
-    let (os, count, so_far, n, last) = c.loop-i.invariant in
+    let (os, count, so_far, n, last, lends) = c.loop-i.invariant in
     let few : length c.loop-i.items.items < c.args.quantity = omega (arith, count) in
-    AtNext c.loop-i.items.items os c.loop-i.rest.now few so_far (rw (n, last) at c.in-Err.ensures.err)
+    AtNext c.loop-i.items.items os c.loop-i.lent.input few so_far (rw (n, last) at c.in-Err.ensures.err)
 
 pub loop-i-preserved : goal.loop-i-preserved
 loop-i-preserved g c =
-    let (os, count, so_far, n, last) = c.loop-i.invariant in
+    let (os, count, so_far, n, last, lends) = c.loop-i.invariant in
     let k = rw (n, last) at c.in-Ok.ensures.ok in
-    let items = c.in-Ok-push.ensures.items in
-    let p = push (Promised (g.D.Spelled.tree g.D.AsnType.CONSTRAINTS) g.D.Spelled.IsValue (g.D.Decode.Answered g.D.AsnType.CONSTRAINTS)) c.args.self.now c.args.start.now c.loop-i.items.items os c.loop-i.rest.now c.in-Ok.item c.in-Ok.octets.now c.in-Ok.left.now c.in-Ok.count so_far k in
+    let items = c.in-Ok-keep.ensures in
+    let p = push (Promised (g.D.Spelled.tree g.D.AsnType.CONSTRAINTS) g.D.Spelled.IsValue (g.D.Decode.Answered g.D.AsnType.CONSTRAINTS)) c.args.self.now c.args.start.now c.loop-i.items.items os c.loop-i.lent.input c.in-Ok.item c.in-Ok.octets.now c.next_element.new.lent.input c.in-Ok.count so_far k in
     let e = empties_push os c.in-Ok.octets.now in
     let m = k.counted in (
       os ++ c.in-Ok.octets.now ∷ [],
@@ -24,4 +24,5 @@ loop-i-preserved g c =
       rw items p,
       m ∙ sym e,
       sym (last_push os c.in-Ok.octets.now),
+      c.in-Ok.ensures.lent,
     )

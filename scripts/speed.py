@@ -1,0 +1,72 @@
+#!/usr/bin/env python3
+"""Prints the table of docs/PERFORMANCE.md anew: the time that writing and reading a value take, and their requests for memory.
+
+usage: speed.py [CRATES [RUNS [WORD..]]]
+
+CRATES is the folder with crates/oer_speed, whose binary lies in out/ once `rt run` or `rt ci` built it. A figure is the least of
+RUNS runs (15 if unset) of about SECONDS of user time each, less that of a run that only makes the value. Requests are those of
+one run more, counted by the library of scripts/memory/refuse.c. Run it on a machine that does nothing else.
+"""
+import os
+import pathlib
+import re
+import subprocess
+import sys
+import tempfile
+
+HERE = pathlib.Path(__file__).resolve().parent
+sys.path.insert(0, str(HERE / "memory"))
+import run  # noqa: E402  the library that counts
+
+SECONDS = 0.5
+ROWS = [("ints", 1000), ("ints", 10000), ("ints", 100000), ("octets", 1048576), ("nest", 32), ("nest", 64), ("nest", 127)]
+ROWS += [("link", 16), ("link", 32), ("link", 64), ("seq2", 1), ("extopt", 1), ("foo", 1)]
+ROWS += [("intset", 1000), ("intset", 10000), ("intset", 100000), ("mixed", 1000), ("mixed", 10000), ("mixed", 100000)]
+
+
+def spent(words):
+    """The user time of a run, in seconds."""
+    child = subprocess.Popen(words, stdout=subprocess.DEVNULL)
+    _, status, used = os.wait4(child.pid, 0)
+    if status:
+        sys.exit(f"{words}: status {status}")
+    return used.ru_utime
+
+
+def requests(preload, words):
+    """How many requests for memory a run makes."""
+    env = {"LD_PRELOAD": preload, "REFUSE_FROM": "start", "LANG": "C.UTF-8"}
+    done = subprocess.run(words, env=env, capture_output=True, text=True, check=True)
+    return int(re.search(r"requests (\d+)", done.stderr)[1])
+
+
+def measured(program, preload, word, count, way, runs):
+    """The octets of the value, the microseconds of one run, and its requests."""
+    words = [program, word, str(count), way]
+    line = subprocess.run([*words, "100"], capture_output=True, text=True, check=True).stdout
+    octets, nanoseconds = map(int, re.findall(r"\d+", line)[-2:])
+    times = max(1, int(SECONDS * 1e9 / max(1, nanoseconds)))
+    least = min(spent([*words, str(times)]) - spent([*words, "0"]) for _ in range(runs))
+    return octets, least / times * 1e6, requests(preload, [*words, "2"]) - requests(preload, [*words, "1"])
+
+
+def main():
+    top = pathlib.Path(sys.argv[1]) if len(sys.argv) > 1 else HERE.parent / "crates"
+    runs = int(sys.argv[2]) if len(sys.argv) > 2 else 15
+    program = str(top / "oer_speed/out/oer_speed")
+    print("| value | octets | write, µs | MB/s | requests | read, µs | MB/s | requests |\n|---|---|---|---|---|---|---|---|")
+    with tempfile.TemporaryDirectory() as folder:
+        preload = run.library(folder)
+        for word, count in ROWS:
+            if sys.argv[3:] and word not in sys.argv[3:]:
+                continue
+            cells = []
+            for way in ("encode", "decode"):
+                octets, micros, asked = measured(program, preload, word, count, way, runs)
+                cells += [f"{micros:,.3g}" if micros < 1000 else f"{micros:,.0f}", f"{octets / micros:,.0f}", str(asked)]
+            name = f"`{word}` {count:,}" if count > 1 else f"`{word}`"
+            print(f"| {name} | {octets:,} | " + " | ".join(cells) + " |", flush=True)
+
+
+if __name__ == "__main__":
+    main()
