@@ -1,3 +1,4 @@
 pub mod Packing
 pub mod WriteTags
+pub mod WriteNumbers
 pub mod WriteEnumerated

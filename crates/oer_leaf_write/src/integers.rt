@@ -1,5 +1,6 @@
-ghost use Rattle.std.specs.Prelude.{◌≡◌, ◌≤◌, pos, false, int_lt};
+ghost use Rattle.std.specs.Prelude.{◌≡◌, ◌<◌, ◌≤◌, ◌-◌, ◌*◌, ◌^◌, pos, negsuc, true, false, None, int_le, int_lt};
 ghost use Rattle.asn1_core.specs.Bounds.{value_bounds};
+ghost use Rattle.asn1_core.specs.Numbers.{in_isize, signed_octets};
 ghost use Rattle.oer_spec.specs.Leaves.{counted_octets, fixed_octets};
 ghost use Rattle.oer_spec.specs.Lengths.{behind_length};
 ghost use Rattle.oer_spec.specs.Tree.{Int};
@@ -7,7 +8,7 @@ ghost use Rattle.oer_spec.specs.Writing.{Appends, AppendsLeaf};
 
 use crate::lengths::write_length;
 use asn1_core::{Constraints, EncodeErrorKind};
-use asn1_ints::IntegerType;
+use asn1_ints::{IntegerType, shortest_signed};
 use oer_spec::leaf::{IntegerWidth, is_in_range, width_of};
 
 /// Appends the lowest octets of a number in two's complement.
@@ -62,11 +63,77 @@ fn write_counted<I: IntegerType>(
     write_shortest(signed, value, out)
 }
 
+/// Appends a length and the shortest octets in two's complement of a number that so many octets hold.
+#[inline]
+fn write_held(n: i128, octets: usize, out: &mut Vec<u8>) -> Result<(), EncodeErrorKind>
+    requires some { 0 < octets }
+    requires few { octets ≤ 8 }
+    requires small { in_isize n ≡ true }
+    requires least { int_le (negsuc (128 * 256 ^ (octets - 1) - 1)) n ≡ true }
+    requires greatest { int_lt n (pos (128 * 256 ^ (octets - 1))) ≡ true }
+    ensures { Appends result (behind_length (signed_octets n)) out.old.items out.new.items }
+{
+    let all = n.to_be_bytes();
+    let (_, held) = all.split_at(16 - octets);
+    let shortest = shortest_signed(held);
+    out.push(shortest.len() as u8)?;
+    out.extend_from_slice(shortest)?;
+    Ok(())
+}
+
+/// Appends a length and the shortest octets of a number in two's complement, which are sought among 1, 2, 4 or 8.
+fn write_signed(n: i128, out: &mut Vec<u8>) -> Result<(), EncodeErrorKind>
+    requires { in_isize n ≡ true }
+    ensures { Appends result (behind_length (signed_octets n)) out.old.items out.new.items }
+{
+    if n >= -(1 << 7) && n < 1 << 7 {
+        return write_held(n, 1, out);
+    }
+    if n >= -(1 << 15) && n < 1 << 15 {
+        return write_held(n, 2, out);
+    }
+    if n >= -(1 << 31) && n < 1 << 31 {
+        return write_held(n, 4, out);
+    }
+    write_held(n, 8, out)
+}
+
+/// Appends an integer without a constraint: a length, and the shortest octets in two's complement.
+fn write_free<I: IntegerType>(value: &I, out: &mut Vec<u8>) -> Result<(), EncodeErrorKind>
+    ensures { Appends result (behind_length (signed_octets (I.number value.now))) out.old.items out.new.items }
+{
+    match value.to_i128() {
+        Some(n) if n >= -(1 << 63) && n < 1 << 63 => write_signed(n, out),
+        _ => write_counted(true, value, out),
+    }
+}
+
+/// Appends an integer by its constraint.
+fn write_bounded<I: IntegerType>(
+    constraints: &Constraints,
+    value: &I,
+    out: &mut Vec<u8>,
+) -> Result<(), EncodeErrorKind>
+    ensures { AppendsLeaf result (Int (value_bounds constraints.now) (I.number value.now)) out.old.items out.new.items }
+{
+    if !is_in_range(constraints, value) {
+        return Err(EncodeErrorKind::ValueConstraintNotSatisfied);
+    }
+    match width_of(constraints) {
+        IntegerWidth::Fixed { octets, .. } => match value.to_i128() {
+            Some(n) => write_fixed(n, octets, out),
+            None => Err(EncodeErrorKind::ValueConstraintNotSatisfied),
+        },
+        IntegerWidth::Counted { signed } => write_counted(signed, value, out),
+    }
+}
+
 /// Appends an integer (X.696, 10), laid out by the constraints as `read_integer` says: the number in a fixed count of
 /// octets, or a length and its shortest octets.
 ///
 /// Refused, beside want of memory: under a constraint that isn't extensible, a number outside it or outside i128, as
 /// `ValueConstraintNotSatisfied`.
+#[inline]
 pub fn write_integer<I: IntegerType>(
     constraints: Constraints,
     value: &I,
@@ -74,14 +141,8 @@ pub fn write_integer<I: IntegerType>(
 ) -> Result<(), EncodeErrorKind>
     ensures { AppendsLeaf result (Int (value_bounds constraints) (I.number value.now)) out.old.items out.new.items }
 {
-    if !is_in_range(&constraints, value) {
-        return Err(EncodeErrorKind::ValueConstraintNotSatisfied);
+    if constraints.value.is_none() {
+        return write_free(value, out);
     }
-    match width_of(&constraints) {
-        IntegerWidth::Fixed { octets, .. } => match value.to_i128() {
-            Some(n) => write_fixed(n, octets, out),
-            None => Err(EncodeErrorKind::ValueConstraintNotSatisfied),
-        },
-        IntegerWidth::Counted { signed } => write_counted(signed, value, out),
-    }
+    write_bounded(&constraints, value, out)
 }

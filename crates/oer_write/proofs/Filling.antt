@@ -1,16 +1,20 @@
 -- Octets kept free are filled with what was written behind.
-use Rattle.std.proofs.Common.{◌≡◌, ℕ, ◌+◌, ◌-◌, ◌^◌, ◌<◌, ◌≤◌, List, ◌++◌, length, take, drop, refl, ap, ap₂, sym, ◌∙◌, arith, append_assoc, length-append, length-drop, Ok, Err, Result}
+use Rattle.std.proofs.Common.{◌≡◌, ℕ, ◌+◌, ◌-◌, ◌%◌, ◌^◌, ◌<◌, ◌≤◌, List, [], ◌∷◌, ◌++◌, set, length, take, drop, refl, ap, ap₂, sym, ◌∙◌, arith, append_assoc, length-append, length-drop, Ok, Err, Result}
 use Rattle.std.specs.Prelude.{MatchResult}
 use lib.Seq.{paste}
 use Rattle.std.proofs.Math.Seq.{take-append-add}
-use Rattle.std.proofs.lemmas.List.Edits.{paste_all}
-use Rattle.std.proofs.lemmas.List.{take-append-le, take-append-drop, length-take-le, take_at, drop_at, drop-drop, take-take, drop-take}
+use Rattle.std.proofs.lemmas.List.Edits.{paste_all, take-paste}
+use Rattle.std.proofs.lemmas.Bool.{cond-true, lt-ltb}
+use Rattle.std.proofs.lemmas.List.{take-set, drop-set, take-append-le, take-append-drop, length-take-le, take_at, drop_at, drop-drop, take-take, drop-take}
+use Rattle.std.specs.Prelude.{Bool}
+use Rattle.asn1_core.specs.Numbers.{low_octets}
 use Rattle.asn1_core.specs.Octets.{Octets, pack, usize_max}
 use Rattle.asn1_core.specs.declared.error.EncodeErrorKind.{EncodeErrorKind}
 use Rattle.asn1_core.specs.declared.error.EncodeErrorKind.TheVariants.{OutOfMemory}
 use Rattle.oer_spec.specs.Lengths.{length_octets, behind_length}
 use Rattle.oer_spec.specs.Places.{extension_bit}
 use Rattle.oer_spec.specs.Writing.{Appends, BeginsWith}
+use Rattle.oer_write.specs.Bits.{ArePacked}
 use Rattle.oer_write.specs.Scopes.{any_true, extension_of, sequence_octets}
 use Rattle.oer_write.specs.Written.{Frame}
 
@@ -85,26 +89,72 @@ copied start end all one two h k e f =
     ap (λ (m : ℕ). drop (start + count) (take m all)) within ∙ drop-take (start + count) (end - (start + count)) all in
     f ∙ cut ∙ ap (λ (o : Octets). (take start all ++ drop end all) ++ o) (sym rest) ∙ append_assoc (take start all) (drop end all) _
 
+-- what lies between is moved up by the octets that are more, and the rear, kept aside, is put in front of it
+pub widened : (start size end : ℕ) (all header one two three : Octets) → start + size ≤ end → end ≤ length all → size ≤ length all - end → header ≡ drop end all
+    → one ≡ paste all (start + (length all - end)) (drop (start + size) all) (end - (start + size))
+    → two ≡ take (end + (length all - end) - size) one
+    → three ≡ take start two ++ (header ++ drop (start + length header) two)
+    → three ≡ take start all ++ (drop end all ++ drop (start + size) (take end all))
+widened start size end all header one two three h k l e f g i =
+    let count : ℕ = length all - end in
+    let c : ℕ = end - (start + size) in
+    let n : end + count - size ≡ (start + count) + c = omega (arith, h, k, l) in
+    let room : start + count ≤ length all = omega (arith, h, k) in
+    let many : c ≤ length (drop (start + size) all) = omega (arith, length-drop (start + size) all, h, k) in
+    let wide : length header ≡ count = ap length e ∙ length-drop end all in
+    let taken : length (take (start + count) all) ≡ start + count = length-take-le (start + count) all room in
+    let cut : two ≡ take (start + count) all ++ take c (drop (start + size) all) =
+    g ∙ ap₂ (λ (m : ℕ) (o : Octets). take m o) n f ∙ take-paste all (start + count) (drop (start + size) all) c room many in
+    let till : (start + size) + c ≡ end = omega (arith, h) in
+    let content : take c (drop (start + size) all) ≡ drop (start + size) (take end all) = sym (drop-take (start + size) c all) ∙ ap (λ (m : ℕ). drop (start + size) (take m all)) till in
+    let front : take start two ≡ take start all = ap (take start) cut ∙ take-append-le start (take (start + count) all) _ (omega (arith, taken)) ∙ take-take start (start + count) all (omega arith) in
+    let rear : drop (start + length header) two ≡ drop (start + size) (take end all) =
+    ap₂ (λ (m : ℕ) (o : Octets). drop (start + m) o) wide cut ∙ drop_at (take (start + count) all) _ (start + count) taken ∙ content in
+    i ∙ ap₂ (λ (x y : Octets). x ++ (header ++ y)) front rear ∙ ap (λ (x : Octets). take start all ++ (x ++ drop (start + size) (take end all))) e
+
 -- a length written behind an open type is put in front of it
 pub open_closed : (start : ℕ) (all mid new : Octets) → start + 1 ≤ length all → mid ≡ all ++ length_octets (length all - start - 1) → new ≡ take start mid ++ (drop (length all) mid ++ drop (start + 1) (take (length all) mid)) → new ≡ take start all ++ behind_length (drop (start + 1) all)
 open_closed start all mid new h e f =
     let n : length (drop (start + 1) all) ≡ length all - start - 1 = omega (arith, length-drop (start + 1) all) in
     f ∙ ap (λ (o : Octets). take start o ++ (drop (length all) o ++ drop (start + 1) (take (length all) o))) e ∙ filled start 1 all _ h ∙ ap (λ (m : ℕ). take start all ++ (length_octets m ++ drop (start + 1) all)) (sym n)
 
--- a preamble written behind the components is put in front of them, and the additions follow
-pub sequence_closed : {T : Type 0} (r : Result T EncodeErrorKind) (start size : ℕ) (f : Frame) (all mid filled_out new : Octets) → start + size ≤ length all
-    → mid ≡ all ++ pack (extension_bit f.extensible (any_true f.bitmap) ++ f.presence)
-    → filled_out ≡ take start mid ++ (drop (length all) mid ++ drop (start + size) (take (length all) mid))
-    → Appends r (extension_of f.bitmap f.opens) filled_out new
+-- one octet is put over another
+pub set_parts : (start x : ℕ) (all : Octets) → start < length all → set all start x ≡ take start all ++ (x ∷ drop (start + 1) all)
+set_parts start x all h = sym (take-append-drop start (set all start x)) ∙ ap₂ (λ (y z : Octets). y ++ z) (take-set all start x) (drop-set all start x h)
+
+-- a length below 128 in the octet that is free
+pub open_short_closed : (start size : ℕ) (all new : Octets) → start + 1 ≤ length all → size ≡ length all - start - 1 → size < 128 → new ≡ set all start size → new ≡ take start all ++ behind_length (drop (start + 1) all)
+open_short_closed start size all new h n few e =
+    let same : size ≡ length (drop (start + 1) all) = omega (arith, n, length-drop (start + 1) all) in
+    let length_is : length_octets size ≡ size ∷ [] = cond-true _ (size ∷ []) _ (lt-ltb size 128 few) in
+    e ∙ set_parts start size all (omega (arith, h)) ∙ ap (λ (o : Octets). take start all ++ (o ++ drop (start + 1) all)) (sym length_is) ∙ ap (λ (m : ℕ). take start all ++ (length_octets m ++ drop (start + 1) all)) same
+
+-- a single octet of a preamble
+pub put_one : (start octets number : ℕ) (all new : Octets) → octets ≡ 1 → start + octets ≤ length all → new ≡ set all start (number % 256) → new ≡ take start all ++ (low_octets octets number ++ drop (start + octets) all)
+put_one start octets number all new e h f =
+    f ∙ set_parts start (number % 256) all (omega (arith, e, h)) ∙ ap (λ (k : ℕ). take start all ++ (low_octets k number ++ drop (start + k) all)) (sym e)
+
+-- a preamble of as many octets as are free
+pub preamble_filled : (start size octets number : ℕ) (bits : List Bool) (all new : Octets) → ArePacked octets number bits → octets ≡ size → new ≡ take start all ++ (low_octets octets number ++ drop (start + octets) all) → new ≡ take start all ++ (pack bits ++ drop (start + size) all)
+preamble_filled start size octets number bits all new p e f = f ∙ ap₂ (λ (x : Octets) (n : ℕ). take start all ++ (x ++ drop (start + n) all)) p.same e
+
+-- a preamble written behind the components is put in front of them
+pub preamble_moved : (start size : ℕ) (all header mid new : Octets) → start + size ≤ length all → mid ≡ all ++ header
+    → new ≡ take start mid ++ (drop (length all) mid ++ drop (start + size) (take (length all) mid))
+    → new ≡ take start all ++ (header ++ drop (start + size) all)
+preamble_moved start size all header mid new h e g = g ∙ ap (λ (o : Octets). take start o ++ (drop (length all) o ++ drop (start + size) (take (length all) o))) e ∙ filled start size all header h
+
+-- the additions follow
+pub sequence_closed : {T : Type 0} (r : Result T EncodeErrorKind) (start size : ℕ) (f : Frame) (all placed new : Octets)
+    → placed ≡ take start all ++ (pack (extension_bit f.extensible (any_true f.bitmap) ++ f.presence) ++ drop (start + size) all)
+    → Appends r (extension_of f.bitmap f.opens) placed new
     → MatchResult r (λ _. new ≡ take start all ++ sequence_octets f (drop (start + size) all)) (λ e. (e ≡ OutOfMemory) × BeginsWith (take start all) new)
-sequence_closed (Ok u) start size f all mid out new h e g a =
+sequence_closed (Ok u) start size f all placed new e a =
     let header : List ℕ = pack (extension_bit f.extensible (any_true f.bitmap) ++ f.presence) in
-    let placed : out ≡ take start all ++ (header ++ drop (start + size) all) = g ∙ ap (λ (o : Octets). take start o ++ (drop (length all) o ++ drop (start + size) (take (length all) o))) e ∙ filled start size all header h in
-    a ∙ ap (λ (o : Octets). o ++ extension_of f.bitmap f.opens) placed ∙ append_assoc (take start all) _ _ ∙ ap (λ (o : Octets). take start all ++ o) (append_assoc header _ _)
-sequence_closed (Err k) start size f all mid out new h e g a =
+    a ∙ ap (λ (o : Octets). o ++ extension_of f.bitmap f.opens) e ∙ append_assoc (take start all) _ _ ∙ ap (λ (o : Octets). take start all ++ o) (append_assoc header _ _)
+sequence_closed (Err k) start size f all placed new e a =
     let header : List ℕ = pack (extension_bit f.extensible (any_true f.bitmap) ++ f.presence) in
-    let placed : out ≡ take start all ++ (header ++ drop (start + size) all) = g ∙ ap (λ (o : Octets). take start o ++ (drop (length all) o ++ drop (start + size) (take (length all) o))) e ∙ filled start size all header h in
-    (a.0, ((header ++ drop (start + size) all) ++ a.1.0, a.1.1 ∙ ap (λ (o : Octets). o ++ a.1.0) placed ∙ append_assoc (take start all) _ _))
+    (a.0, ((header ++ drop (start + size) all) ++ a.1.0, a.1.1 ∙ ap (λ (o : Octets). o ++ a.1.0) e ∙ append_assoc (take start all) _ _))
 
 -- what stands behind octets that are free
 pub behind_free : (old free more : Octets) (start size : ℕ) → start ≡ length old → length free ≡ size → (take start ((old ++ free) ++ more) ≡ old) × (drop (start + size) ((old ++ free) ++ more) ≡ more)

@@ -12,6 +12,7 @@ pub mod Gathering
 pub mod AnyOrder
 pub mod Joined
 pub mod ByClosure
+pub mod Words
 pub mod Filling
 pub mod Cutting
 pub mod Places

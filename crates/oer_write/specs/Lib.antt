@@ -1,4 +1,5 @@
 pub mod Written
+pub mod Bits
 pub mod Seen
 pub mod Kept
 pub mod Rows

@@ -5,7 +5,7 @@ use Rattle.oer_write.specs.declared.scope.Scope.{Scope}
 use Rattle.oer_write.specs.declared.encoder.Encoder.TheInside.{Inside}
 
 abbrev pub frame_of : Scope → Frame
-frame_of s = record { is_open = s.is_open; is_set = s.is_set; extensible = s.extensible; start = s.start; presence = s.presence.items; components = s.components; bitmap = s.bitmap.items; opens = s.opens.items }
+frame_of s = record { is_open = s.is_open; is_set = s.is_set; extensible = s.extensible; start = s.start; presence = s.presence; components = s.components; bitmap = s.bitmap; opens = s.opens.items }
 
 -- an encoder that is lent for an element or an alternative has something around it
 abbrev pub seen : Inside → Written

@@ -28,6 +28,7 @@ pub trait Encode: Spelled {
         ensures refused { IfErr result (λ x. Refused (Self.tree constraints self.now) x encoder.old encoder.new) };
 
     /// Writes the value under the type's own constraints.
+    #[inline]
     final fn encode(&self, encoder: &mut Encoder<'_>) -> Result<(), EncodeError>
         ensures done { OnOk result (Encodes (Self.tree Self.CONSTRAINTS self.now) encoder.old encoder.new) }
         ensures value { OnOk result (Self.IsValue self.now) }
@@ -37,6 +38,7 @@ pub trait Encode: Spelled {
     }
 
     /// Writes the value with another tag, under the type's own constraints.
+    #[inline]
     final fn encode_with_tag(&self, encoder: &mut Encoder<'_>, tag: Tag) -> Result<(), EncodeError>
         ensures done { OnOk result (Encodes (Self.tree Self.CONSTRAINTS self.now) encoder.old encoder.new) }
         ensures value { OnOk result (Self.IsValue self.now) }
@@ -46,6 +48,7 @@ pub trait Encode: Spelled {
     }
 
     /// Writes the value under constraints that stand in place of the type's own.
+    #[inline]
     final fn encode_with_constraints(
         &self,
         encoder: &mut Encoder<'_>,
@@ -68,6 +71,7 @@ pub trait Encode: Spelled {
 }
 
 impl Encode for bool {
+    #[inline]
     fn encode_with_tag_and_constraints(
         &self,
         encoder: &mut Encoder<'_>,
@@ -79,6 +83,7 @@ impl Encode for bool {
 }
 
 impl Encode for () {
+    #[inline]
     fn encode_with_tag_and_constraints(
         &self,
         encoder: &mut Encoder<'_>,
@@ -91,6 +96,7 @@ impl Encode for () {
 
 /// A box is written as its content.
 impl<T: Encode> Encode for Box<T> {
+    #[inline]
     fn encode_with_tag_and_constraints(
         &self,
         encoder: &mut Encoder<'_>,
@@ -102,6 +108,7 @@ impl<T: Encode> Encode for Box<T> {
 }
 
 impl<T: Encode> Encode for Vec<T> {
+    #[inline]
     fn encode_with_tag_and_constraints(
         &self,
         encoder: &mut Encoder<'_>,
@@ -113,6 +120,7 @@ impl<T: Encode> Encode for Vec<T> {
 }
 
 impl Encode for BitString {
+    #[inline]
     fn encode_with_tag_and_constraints(
         &self,
         encoder: &mut Encoder<'_>,
@@ -124,6 +132,7 @@ impl Encode for BitString {
 }
 
 impl Encode for OctetString {
+    #[inline]
     fn encode_with_tag_and_constraints(
         &self,
         encoder: &mut Encoder<'_>,
@@ -135,6 +144,7 @@ impl Encode for OctetString {
 }
 
 impl Encode for Any {
+    #[inline]
     fn encode_with_tag_and_constraints(
         &self,
         encoder: &mut Encoder<'_>,

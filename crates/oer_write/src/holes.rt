@@ -5,6 +5,7 @@ ghost use Rattle.asn1_core.specs.declared.error.EncodeErrorKind.TheVariants.{Out
 ghost use Rattle.oer_spec.specs.Lengths.{behind_length};
 ghost use Rattle.oer_spec.specs.Writing.{BeginsWith};
 
+use crate::bits::put_within;
 use asn1_core::{EncodeErrorKind, Field};
 use oer_leaf_write::write_length;
 
@@ -42,6 +43,10 @@ pub(crate) fn keep_free(size: usize, out: &mut Vec<u8>) -> Result<(), EncodeErro
     ensures refused { IfErr result (λ k. (k ≡ OutOfMemory) × (out.new.items ≡ out.old.items)) }
 {
     out.reserve(ROOM)?;
+    if size == 1 {
+        out.push(0)?;
+        return Ok(());
+    }
     let free = [0u8; MOST_FREE];
     out.extend_from_slice(&free[..size])?;
     Ok(())
@@ -87,6 +92,33 @@ fn move_back(start: usize, size: usize, end: usize, out: &mut Vec<u8>)
     exchange(start, content, out);
 }
 
+/// Up to 16 octets, kept aside.
+fn kept_aside(octets: &[u8]) -> [u8; MOST_FREE]
+    requires { length octets.now ≤ 16 }
+    ensures { take (length octets.now) result ≡ octets.now }
+{
+    let mut kept = [0u8; MOST_FREE];
+    kept[..octets.len()].copy_from_slice(octets);
+    kept
+}
+
+/// Puts the octets from `end` on, at most 16, where fewer, `size` octets are free from `start` on: what lies between is
+/// moved once.
+#[tactic(auto, using(crate::proofs::Filling::widened))]
+fn widen(start: usize, size: usize, end: usize, out: &mut Vec<u8>)
+    requires free { start + size ≤ end }
+    requires within { end ≤ vec_len out.old }
+    requires more { size ≤ vec_len out.old - end }
+    requires few { vec_len out.old - end ≤ 16 }
+    ensures { out.new.items ≡ take start out.old.items ++ (drop end out.old.items ++ drop (start + size) (take end out.old.items)) }
+{
+    let count = out.len() - end;
+    let kept = kept_aside(out.as_slice().split_at(end).1);
+    out.copy_within(start + size..end, start + count);
+    out.truncate(end + count - size);
+    put_within(start, &kept[..count], out.as_mut_slice());
+}
+
 /// Puts the octets from `end` on where `size` octets are free from `start` on.
 ///
 /// Where they are `size` octets nothing else is moved.
@@ -97,14 +129,16 @@ pub(crate) fn fill(start: usize, size: usize, end: usize, out: &mut Vec<u8>)
 {
     if out.len() - end == size {
         copy_back(start, end, out);
+    } else if size < out.len() - end && out.len() - end <= MOST_FREE {
+        widen(start, size, end, out);
     } else {
         move_back(start, size, end, out);
     }
 }
 
-/// Writes the length of an open type, for which one octet is free at `start` (X.696, 8.6 and 30).
+/// Writes the length of an open type of 128 octets or more, for which one octet is free at `start`, and moves the content.
 #[tactic(auto, using(crate::proofs::Filling::begins_taken, crate::proofs::Filling::open_closed))]
-pub(crate) fn close_open(start: usize, out: &mut Vec<u8>) -> Result<(), EncodeErrorKind>
+fn move_open(start: usize, out: &mut Vec<u8>) -> Result<(), EncodeErrorKind>
     requires { start + 1 ≤ vec_len out.old }
     ensures done { OnOk result (out.new.items ≡ take start out.old.items ++ behind_length (drop (start + 1) out.old.items)) }
     ensures refused { IfErr result (λ k. (k ≡ OutOfMemory) × BeginsWith (take start out.old.items) out.new.items) }
@@ -113,4 +147,19 @@ pub(crate) fn close_open(start: usize, out: &mut Vec<u8>) -> Result<(), EncodeEr
     write_length(end - start - 1, out)?;
     fill(start, 1, end, out);
     Ok(())
+}
+
+/// Writes the length of an open type, for which one octet is free at `start` (X.696, 8.6 and 30).
+#[tactic(auto, using(crate::proofs::Filling::open_short_closed))]
+pub(crate) fn close_open(start: usize, out: &mut Vec<u8>) -> Result<(), EncodeErrorKind>
+    requires { start + 1 ≤ vec_len out.old }
+    ensures done { OnOk result (out.new.items ≡ take start out.old.items ++ behind_length (drop (start + 1) out.old.items)) }
+    ensures refused { IfErr result (λ k. (k ≡ OutOfMemory) × BeginsWith (take start out.old.items) out.new.items) }
+{
+    let size = out.len() - start - 1;
+    if size < 128 {
+        out[start] = size as u8;
+        return Ok(());
+    }
+    move_open(start, out)
 }

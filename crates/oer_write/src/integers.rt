@@ -5,6 +5,7 @@ use asn1_core::{Constraints, EncodeError, Tag};
 use asn1_ints::{ConstrainedInteger, Integer, IntegerRange};
 
 impl Encode for i8 {
+    #[inline]
     fn encode_with_tag_and_constraints(
         &self,
         encoder: &mut Encoder<'_>,
@@ -16,6 +17,7 @@ impl Encode for i8 {
 }
 
 impl Encode for i16 {
+    #[inline]
     fn encode_with_tag_and_constraints(
         &self,
         encoder: &mut Encoder<'_>,
@@ -27,6 +29,7 @@ impl Encode for i16 {
 }
 
 impl Encode for i32 {
+    #[inline]
     fn encode_with_tag_and_constraints(
         &self,
         encoder: &mut Encoder<'_>,
@@ -38,6 +41,7 @@ impl Encode for i32 {
 }
 
 impl Encode for i64 {
+    #[inline]
     fn encode_with_tag_and_constraints(
         &self,
         encoder: &mut Encoder<'_>,
@@ -49,6 +53,7 @@ impl Encode for i64 {
 }
 
 impl Encode for i128 {
+    #[inline]
     fn encode_with_tag_and_constraints(
         &self,
         encoder: &mut Encoder<'_>,
@@ -60,6 +65,7 @@ impl Encode for i128 {
 }
 
 impl Encode for isize {
+    #[inline]
     fn encode_with_tag_and_constraints(
         &self,
         encoder: &mut Encoder<'_>,
@@ -71,6 +77,7 @@ impl Encode for isize {
 }
 
 impl Encode for u8 {
+    #[inline]
     fn encode_with_tag_and_constraints(
         &self,
         encoder: &mut Encoder<'_>,
@@ -82,6 +89,7 @@ impl Encode for u8 {
 }
 
 impl Encode for u16 {
+    #[inline]
     fn encode_with_tag_and_constraints(
         &self,
         encoder: &mut Encoder<'_>,
@@ -93,6 +101,7 @@ impl Encode for u16 {
 }
 
 impl Encode for u32 {
+    #[inline]
     fn encode_with_tag_and_constraints(
         &self,
         encoder: &mut Encoder<'_>,
@@ -104,6 +113,7 @@ impl Encode for u32 {
 }
 
 impl Encode for u64 {
+    #[inline]
     fn encode_with_tag_and_constraints(
         &self,
         encoder: &mut Encoder<'_>,
@@ -115,6 +125,7 @@ impl Encode for u64 {
 }
 
 impl Encode for u128 {
+    #[inline]
     fn encode_with_tag_and_constraints(
         &self,
         encoder: &mut Encoder<'_>,
@@ -126,6 +137,7 @@ impl Encode for u128 {
 }
 
 impl Encode for usize {
+    #[inline]
     fn encode_with_tag_and_constraints(
         &self,
         encoder: &mut Encoder<'_>,
@@ -137,6 +149,7 @@ impl Encode for usize {
 }
 
 impl Encode for Integer {
+    #[inline]
     fn encode_with_tag_and_constraints(
         &self,
         encoder: &mut Encoder<'_>,
@@ -148,6 +161,7 @@ impl Encode for Integer {
 }
 
 impl<R: IntegerRange> Encode for ConstrainedInteger<R> {
+    #[inline]
     fn encode_with_tag_and_constraints(
         &self,
         encoder: &mut Encoder<'_>,

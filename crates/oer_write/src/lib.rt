@@ -2,6 +2,7 @@
 #![tactic(auto)]
 
 mod additions;
+mod bits;
 mod choices;
 mod component;
 mod component_with;

@@ -18,6 +18,9 @@ use oer_leaf_write::write_quantity;
 /// At most so many elements of one list may take no octets (the project's own choice).
 pub(crate) const MAX_EMPTY_ELEMENTS: u32 = 65536;
 
+/// Room that a list asks for at once is at most so many octets.
+const MOST_ROOM: usize = 65536;
+
 /// Lends an encoder and an element to a closure.
 fn lend_at<E, F: Fn(&mut Encoder<'_>, &E) -> Result<(), EncodeError>>(
     encoder: &mut Encoder<'_>,
@@ -130,11 +133,12 @@ impl<'buffer> Encoder<'buffer> {
         self.put_all(value, f)
     }
 
-    /// Writes a quantity.
+    /// Writes a quantity, and makes room for an octet of each element.
     fn put_quantity(&mut self, count: usize) -> Result<(), EncodeErrorKind>
         ensures done { OnOk result (self.new ≡ append (quantity_octets count) self.old) }
         ensures refused { IfErr result (λ k. (k ≡ OutOfMemory) × Keeps self.old self.new) }
     {
+        self.output.reserve(count.min(MOST_ROOM))?;
         write_quantity(count, &mut *self.output)?;
         Ok(())
     }

@@ -1,6 +1,7 @@
 //! What is recorded in an open scope, and how it is written as the scope closes.
 ghost use Rattle.std.specs.Prelude.{◌≡◌, ◌+◌, ◌≤◌, ◌++◌, take, drop, vec_len, OnOk, IfErr};
 ghost use Rattle.asn1_core.specs.Octets.{pack};
+ghost use Rattle.oer_spec.specs.Lengths.{counted_bits};
 ghost use Rattle.oer_spec.specs.Places.{extension_bit};
 ghost use Rattle.asn1_core.specs.declared.error.EncodeErrorKind.TheVariants.{OutOfMemory};
 ghost use Rattle.oer_spec.specs.Writing.{Appends, BeginsWith};
@@ -8,17 +9,12 @@ ghost use Rattle.oer_write.specs.Scopes.{any_true, extension_of, sequence_octets
 ghost use Rattle.oer_write.specs.Seen.{frame_of};
 ghost use Rattle.oer_write.specs.Written.{fresh, closed};
 
+use crate::bits::{Bits, Spelled, append_packed, put_packed};
 use crate::component::Components;
 use crate::holes::fill;
 use asn1_core::EncodeErrorKind;
 use oer_leaf_write::{write_bitmap, write_preamble};
-use smallvec::SmallVec;
 use std::alloc::Global;
-
-/// Bits of which the first 24 take no memory of their own.
-///
-/// They lie within the scope, so more of them would make each level of nesting take more of the stack.
-pub(crate) type Bits = SmallVec<bool, 24>;
 
 /// What was recorded in a scope so far.
 #[derive(Drop)]
@@ -85,10 +81,51 @@ impl Scope {
         ensures done { OnOk result (out.new.items ≡ take start out.old.items ++ sequence_octets (frame_of self.now) (drop (start + size) out.old.items)) }
         ensures refused { IfErr result (λ k. (k ≡ OutOfMemory) × BeginsWith (take start out.old.items) out.new.items) }
     {
+        self.fill_preamble(alloc, start, size, out)?;
+        self.write_extension(alloc, out)?;
+        Ok(())
+    }
+
+    /// Puts the preamble of a sequence where `size` octets are free at `start`.
+    ///
+    /// Where it has as many octets nothing else is moved.
+    #[tactic(auto, using(crate::proofs::Filling::begins_taken, crate::proofs::Filling::preamble_filled))]
+    fn fill_preamble(
+        &self,
+        alloc: Global,
+        start: usize,
+        size: usize,
+        out: &mut Vec<u8>,
+    ) -> Result<(), EncodeErrorKind>
+        requires { start + size ≤ vec_len out.old }
+        ensures done { OnOk result (out.new.items ≡ take start out.old.items ++ (pack (extension_bit self.now.extensible (any_true self.now.bitmap) ++ self.now.presence) ++ drop (start + size) out.old.items)) }
+        ensures refused { IfErr result (λ k. (k ≡ OutOfMemory) × BeginsWith (take start out.old.items) out.new.items) }
+    {
+        match self.presence.packed(self.extensible, self.bitmap.any()) {
+            Some(packed) if packed.octets == size => {
+                put_packed(packed, start, out);
+                Ok(())
+            }
+            _ => self.move_preamble(alloc, start, size, out),
+        }
+    }
+
+    /// The same, for a preamble of any number of octets: it is written behind all, and the rest is moved.
+    #[tactic(auto, using(crate::proofs::Filling::begins_taken, crate::proofs::Filling::preamble_moved))]
+    fn move_preamble(
+        &self,
+        alloc: Global,
+        start: usize,
+        size: usize,
+        out: &mut Vec<u8>,
+    ) -> Result<(), EncodeErrorKind>
+        requires { start + size ≤ vec_len out.old }
+        ensures done { OnOk result (out.new.items ≡ take start out.old.items ++ (pack (extension_bit self.now.extensible (any_true self.now.bitmap) ++ self.now.presence) ++ drop (start + size) out.old.items)) }
+        ensures refused { IfErr result (λ k. (k ≡ OutOfMemory) × BeginsWith (take start out.old.items) out.new.items) }
+    {
         let end = out.len();
-        self.write_preamble(alloc, self.presence.as_slice(), out)?;
+        self.write_preamble(alloc, &self.presence, out)?;
         fill(start, size, end, out);
-        self.write_extension(out)?;
         Ok(())
     }
 
@@ -96,41 +133,56 @@ impl Scope {
     pub(crate) fn write_preamble(
         &self,
         alloc: Global,
-        presence: &[bool],
+        presence: &Bits,
         out: &mut Vec<u8>,
     ) -> Result<(), EncodeErrorKind>
-        ensures { Appends result (pack (extension_bit self.now.extensible (any_true self.now.bitmap.items) ++ presence.now)) out.old.items out.new.items }
+        ensures { Appends result (pack (extension_bit self.now.extensible (any_true self.now.bitmap) ++ presence.now)) out.old.items out.new.items }
     {
-        if !self.extensible {
-            return write_preamble(presence, out);
+        match presence.packed(self.extensible, self.bitmap.any()) {
+            Some(packed) => append_packed(packed, out),
+            None => self.spell_preamble(alloc, presence, out),
         }
-        let mut bits = Bits::new(alloc);
-        bits.push(any(self.bitmap.as_slice()))?;
-        bits.extend_from_slice(presence)?;
+    }
+
+    /// The same bit by bit, for any number of bits.
+    fn spell_preamble(
+        &self,
+        alloc: Global,
+        presence: &Bits,
+        out: &mut Vec<u8>,
+    ) -> Result<(), EncodeErrorKind>
+        ensures { Appends result (pack (extension_bit self.now.extensible (any_true self.now.bitmap) ++ presence.now)) out.old.items out.new.items }
+    {
+        let mut bits = Spelled::new(alloc);
+        if self.extensible {
+            bits.push(self.bitmap.any())?;
+        }
+        presence.spell_to(&mut bits)?;
         write_preamble(bits.as_slice(), out)
     }
 
     /// Writes the bitmap and the open types, where some addition is present (X.696, 16.4 and 16.5).
-    pub(crate) fn write_extension(&self, out: &mut Vec<u8>) -> Result<(), EncodeErrorKind>
-        ensures { Appends result (extension_of self.now.bitmap.items self.now.opens.items) out.old.items out.new.items }
+    pub(crate) fn write_extension(
+        &self,
+        alloc: Global,
+        out: &mut Vec<u8>,
+    ) -> Result<(), EncodeErrorKind>
+        ensures { Appends result (extension_of self.now.bitmap self.now.opens.items) out.old.items out.new.items }
     {
-        if !any(self.bitmap.as_slice()) {
+        if !self.bitmap.any() {
             return Ok(());
         }
-        write_bitmap(self.bitmap.as_slice(), out)?;
+        self.write_bitmap(alloc, out)?;
         out.extend_from_slice(&self.opens)?;
         Ok(())
     }
-}
 
-/// Whether some bit is set.
-fn any(bits: &[bool]) -> bool
-    ensures { result ≡ any_true bits.now }
-{
-    for bit in bits {
-        if *bit {
-            return true;
-        }
+    /// Writes the bitmap of the additions.
+    fn write_bitmap(&self, alloc: Global, out: &mut Vec<u8>) -> Result<(), EncodeErrorKind>
+        ensures { Appends result (counted_bits self.now.bitmap) out.old.items out.new.items }
+    {
+        let mut bits = Spelled::new(alloc);
+        self.bitmap.spell_to(&mut bits)?;
+        write_bitmap(bits.as_slice(), out)
     }
-    false
 }

@@ -11,9 +11,10 @@ ghost use Rattle.oer_write.specs.Scopes.{Promise, IsOrderly, IsSameInAnyOrder, R
 ghost use Rattle.oer_write.specs.Seen.{frame_of};
 ghost use Rattle.oer_write.specs.Written.{Frame, Encodes, Refused, WantsMemory};
 
+use crate::bits::Bits;
 use crate::component::{Component, Components, body_of};
 use crate::encoder::Encoder;
-use crate::scope::{Bits, Scope};
+use crate::scope::Scope;
 use crate::scopes::run;
 use asn1_core::{Constructed, EncodeError, EncodeErrorKind, Tag};
 use std::alloc::Global;
@@ -29,7 +30,7 @@ fn arrange(components: &mut Vec<Component>) -> Result<(), EncodeErrorKind>
 
 /// Appends the presence bits of components.
 fn put_presence(components: &[Component], bits: &mut Bits) -> Result<(), EncodeErrorKind>
-    ensures done { OnOk result (bits.new.items ≡ bits.old.items ++ presence (map (item []) components.now)) }
+    ensures done { OnOk result (bits.new ≡ bits.old ++ presence (map (item []) components.now)) }
     ensures refused { IfErr result (λ k. k ≡ OutOfMemory) }
 {
     for component in components {
@@ -72,9 +73,9 @@ impl Scope {
         arrange(&mut places)?;
         let mut presence = Bits::new(alloc);
         put_presence(&places, &mut presence)?;
-        self.write_preamble(alloc, presence.as_slice(), out)?;
+        self.write_preamble(alloc, &presence, out)?;
         put_bodies(&places, &octets, out)?;
-        self.write_extension(out)
+        self.write_extension(alloc, out)
     }
 }
 

@@ -10,8 +10,8 @@ use Rattle.oer_write.proofs.scope.Scope.write_set.Goals as goal
 pub returns : goal.returns
 returns c =
     let own : (frame_of c.args.self.now).components ≡ map (item c.places.inside.octets.items) c.places.inside.places.items = sym (c.places.view_is ∙ c.replace.ensures.value) in
-    let bits : c.put_presence.new.bits.items ≡ presence (map (item []) c.arrange.new.components.items) = search rules in
-    let front : c.write_preamble.new.out.items ≡ c.args.out.now.items ++ pack (extension_bit c.args.self.now.extensible (any_true c.args.self.now.bitmap.items) ++ c.put_presence.new.bits.items) = search rules in
+    let bits : c.put_presence.new.bits ≡ presence (map (item []) c.arrange.new.components.items) = search rules in
+    let front : c.write_preamble.new.out.items ≡ c.args.out.now.items ++ pack (extension_bit c.args.self.now.extensible (any_true c.args.self.now.bitmap) ++ c.put_presence.new.bits) = search rules in
     let rear : c.put_bodies.new.out.items ≡ c.write_preamble.new.out.items ++ bodies (map (item c.places.inside.octets.items) c.arrange.new.components.items) = search rules in
-    set_written c.write_extension.result (frame_of c.args.self.now) c.places.inside.places.items c.arrange.new.components.items c.places.inside.octets.items c.put_presence.new.bits.items c.args.out.now.items c.write_preamble.new.out.items c.put_bodies.new.out.items c.write_extension.new.out.items
+    set_written c.write_extension.result (frame_of c.args.self.now) c.places.inside.places.items c.arrange.new.components.items c.places.inside.octets.items c.put_presence.new.bits c.args.out.now.items c.write_preamble.new.out.items c.put_bodies.new.out.items c.write_extension.new.out.items
     own (c.in_ok-arrange.ensures.done c.places.inside.octets.items) bits front rear c.write_extension.ensures
