@@ -1,7 +1,8 @@
 """Types of the project by what their octets look like (X.696), to spell a value in another, lenient form and to find bitmaps.
 
-A type is a letter for a leaf or the word of a type below: `b` a boolean, `i` an integer behind a length, `s` a bit string behind a
-length, `o` octets behind a length, `f` one octet, `n` nothing.
+A type is a letter for a leaf or the word of a type below: `b` a boolean, `i` an integer behind a length, `u` one that isn't negative,
+`e` an enumerated value, `s` a bit string behind a length, `t` one of 14 bits without, `o` octets behind a length, `f` one octet, `h`
+three octets, `n` nothing. Types without a lenient form aren't here: integers of fixed width, texts and octets of fixed size.
 """
 
 
@@ -11,6 +12,13 @@ class Seq:
 
     def __init__(self, root, additions=None):
         self.root, self.additions = root, additions
+
+
+class Behind:
+    """So many octets, and a type behind them."""
+
+    def __init__(self, count, of):
+        self.count, self.of = count, of
 
 
 class List:
@@ -26,6 +34,7 @@ class Choice:
 
 
 OPT = "opt"
+SIZES = {"b": 1, "f": 1, "h": 3, "n": 0, "t": 2}
 A = ("b", None)
 TYPES = {
     "bool": "b", "int": "i", "bits": "s", "octets": "o", "utf8": "o", "oid": "o", "utctime": "o", "gentime": "o", "date": "o", "any": "o",
@@ -47,6 +56,13 @@ TYPES = {
     "foo": Seq([("i", OPT)] * 3), "mixset": Seq([("i", b"\x01\x00"), ("i", OPT), A], ["b"]),
     "MixedSet": Seq([("i", b"\x01\x00"), ("i", OPT), A], ["b"]), "mixset2": Seq([("i", b"\x01\x00"), ("i", OPT), A], ["b", "o"]),
     "seq7": Seq([A], ["b", "b", "i", "group7"]), "group7": Seq([("b", OPT), ("i", b"\x01\x00")]), "bag3": List("seq7"),
+    "posbig": "u", "0..i128max": "u", "Positive": "u", "ext1..8": "i", "i16inext1..8": "i", "u128": "i", "Negative<Integer>": "i",
+    "enum4": "e", "Enum3": "e", "bits14": "t", "bits3..6": "s", "octets3..6": "o", "Boxed": "b", "null": "n", "nulls": List("n"),
+    "bmp": "o", "ia5": "o", "numeric": "o", "printable": "o", "visible": "o", "general": "o", "graphic": "o", "teletex": "o",
+    "ConstrainedOptions": Seq([("h", OPT)]),
+    # the default takes more levels than there are where it is spelled out
+    "deepdef": Seq([("nest", OPT)]),
+    "tag130": Choice({0xBF: Behind(2, "b")}), "tagmax": Choice({0x80: "i", 0x81: "i", 0xBF: Behind(5, "i")}),
     "Bush": Seq([("i", None), ("bushes", None)]), "bushes": List("Bush"),
 }  # fmt: skip
 
@@ -97,31 +113,51 @@ class Writer:
             return self.list(of)
         if isinstance(of, Choice):
             return self.choice(of)
+        if isinstance(of, Behind):
+            return self.take(of.count) + self.form(of.of)
         return self.leaf(of)
 
     def leaf(self, of):
-        if of in ("b", "f", "n"):
-            octets = self.take(len(of.strip("n")))
+        if of in SIZES:
+            octets = self.take(SIZES[of])
+            if of == "t" and self.chance():
+                return octets[:-1] + bytes([octets[-1] | self.rng.randrange(4)])
             return bytes([self.rng.randrange(1, 256)]) if of == "b" and octets == b"\xff" and self.chance() else octets
+        if of == "e":
+            return self.enumerated()
         content = self.content()
-        if of == "i" and self.chance():
-            content = (b"\xff" if content[0] & 128 else b"\0") * self.rng.randrange(1, 4) + content
+        if of in "iu" and self.chance():
+            content = self.sign(of, content) * self.rng.randrange(1, 4) + content
         if of == "s" and self.chance():
             unused = content[0]
             content = content[:-1] + bytes([content[-1] | self.rng.randrange(1 << unused)]) if unused else content
             content = b"" if content == b"\0" else content
         return self.padded(len(content)) + content
 
+    def sign(self, of, content):
+        """The octet that may stand before a number without changing it."""
+        return b"\xff" if of == "i" and content[0] & 128 else b"\0"
+
+    def enumerated(self):
+        first = self.take(1)
+        content = first if first[0] < 128 else self.take(first[0] & 127)
+        if first[0] < 128 and not self.chance():
+            return first
+        if self.chance():
+            content = self.sign("i", content) * self.rng.randrange(1, 4) + content
+        return bytes([128 + len(content)]) + content
+
     def list(self, of):
         count = int.from_bytes(self.content(), "big")
         quantity = count.to_bytes(max(1, (count.bit_length() + 7) // 8), "big")
         if self.chance():
             quantity = bytes(self.rng.randrange(1, 3)) + quantity
-        return self.padded(len(quantity)) + quantity + b"".join(self.form(of.of) for _ in range(count))
+        elements = b"" if of.of == "n" else b"".join(self.form(of.of) for _ in range(count))
+        return self.padded(len(quantity)) + quantity + elements
 
     def choice(self, of):
         tag = self.take(1)
-        shown = bytes([tag[0] | 63, tag[0] & 63]) if tag[0] & 63 and self.chance() else tag
+        shown = bytes([tag[0] | 63, tag[0] & 63]) if 0 < tag[0] & 63 < 63 and self.chance() else tag
         if tag[0] in of.root:
             return shown + self.form(of.root[tag[0]])
         return shown + self.open(of.additions[tag[0]])

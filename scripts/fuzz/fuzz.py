@@ -29,14 +29,14 @@ BATCH = 5000
 
 
 def seeds():
-    """Canonical octets by type, as the rows of the program have them."""
+    """Canonical octets by type, as the rows of the program have them; where fronts are of other octets, those of their value."""
+    rows = [row for row in map(ROW.fullmatch, ROWS.read_text().splitlines()) if row]
+    written = {(row[1], row[2]): row[3] or row[4] for row in rows if row[3] or row[4]}
     found = {}
-    for line in ROWS.read_text().splitlines():
-        row = ROW.fullmatch(line)
-        if row:
-            octets = next(it for it in (row[3], row[4], row[2]) if it is not None)
-            if len(octets) < 600:
-                found.setdefault(row[1], set()).add(bytes.fromhex(octets))
+    for row in rows:
+        octets = next((it for it in (row[3], row[4]) if it is not None), written.get((row[1], row[2]), row[2]))
+        if len(octets) < 600:
+            found.setdefault(row[1], set()).add(bytes.fromhex(octets))
     return {word: sorted(octets) for word, octets in sorted(found.items())}
 
 
