@@ -5,6 +5,7 @@
 mod additions;
 mod compared;
 mod components;
+mod limited;
 mod lists;
 mod more_additions;
 mod places;
@@ -20,6 +21,7 @@ pub use additions::{Additions, Extensible, MayAdd};
 pub use asn1_core::{Class, Field, FieldPresence, Tag};
 pub use compared::Compared;
 pub use components::{Components, Defaults, MayHave, Needs, NoMore};
+pub use limited::{Limited, Limits};
 pub use lists::ListOf;
 pub use more_additions::{AddDefaults, Adds, MayAddGroup};
 pub use places::{
@@ -60,4 +62,13 @@ macro_rules! pairs {
 macro_rules! views {
     ($of:ident:) => { () };
     ($of:ident: $first:ident $(, $rest:ident)*) => { (&$of.$first, $crate::views![$of: $($rest),*]) };
+}
+
+/// The struct of a row's values: `built![T from row: a, b]` is `T { a, b }`, each field by its name.
+#[macro_export]
+macro_rules! built {
+    ($made:ident from $row:ident: $($name:ident),*) => {{
+        let $crate::pairs![$($name),*] = $row;
+        $made { $($name),* }
+    }};
 }
