@@ -77,10 +77,8 @@ impl Walk {
 /// The members of a SEQUENCE, a SET or a CHOICE.
 pub fn members_of<'m, 'a>(of: &'m Type<'a>) -> Option<&'m [Member<'a>]> {
     match &of.body {
-        Body::Sequence(members) | Body::Set(members) | Body::Choice(members) => {
-            Some(members.as_slice())
-        }
-        _ => None,
+        Body::Choice(alternatives) => Some(alternatives.as_slice()),
+        _ => components_of(of),
     }
 }
 
