@@ -4,7 +4,7 @@ use crate::{
     appended, as_first_version, as_second_version, canonical, few_levels, first_pair, name_of,
     pair_or_more, received, written,
 };
-use oer_types::{Sequence1, Sequence2};
+use oer_types::{Sequence, Sequence1, Sequence2, components};
 use std::test::Fail;
 
 #[test]
@@ -33,20 +33,21 @@ fn lenient_octets_become_canonical(rt: HostRuntime) -> Result<(), Fail> {
 #[test]
 fn versions_read_each_other(rt: HostRuntime) -> Result<(), Fail> {
     let alloc = rt.alloc();
-    let newer = Sequence2 {
+    let newer: Sequence2 = Sequence(components::Sequence2 {
         a: true,
         b: Some(false),
         c: None,
-    };
-    assert!(rt; as_first_version(alloc, &newer)? == Sequence1 { a: true });
-    let as_newer = Sequence2 {
+    });
+    let older: Sequence1 = Sequence(components::Sequence1 { a: true });
+    assert!(rt; as_first_version(alloc, &newer)? == older);
+    let as_newer: Sequence2 = Sequence(components::Sequence2 {
         a: true,
         b: None,
         c: None,
-    };
-    assert!(rt; as_second_version(alloc, &Sequence1 { a: true })? == as_newer);
+    });
+    assert!(rt; as_second_version(alloc, &older)? == as_newer);
     let came = [0x80, 0xFF, 0x02, 0x06, 0x80, 0x01, 0x00];
-    assert!(rt; received(alloc, &came)? == Sequence1 { a: true });
+    assert!(rt; received(alloc, &came)? == older);
     Ok(())
 }
 
