@@ -1,6 +1,8 @@
 #!/usr/bin/env python3
-"""Says which functions of README.md differ from those of crates/readme_calls, which the gate proves and runs."""
+"""Says where README.md differs from crates/readme_calls, and docs/OWN_TYPE.md from crates/my_types and crates/my_closures, which the gate
+proves and runs."""
 import pathlib
+import re
 import sys
 
 top = pathlib.Path(__file__).resolve().parent.parent
@@ -23,4 +25,13 @@ for it in said:
 for it in code:
     if it not in said:
         print("crates/readme_calls has what README.md has not:\n" + it)
-sys.exit(said != code)
+
+own = (top / "docs/OWN_TYPE.md").read_text()
+shown = dict(re.findall(r"`(crates/my_\S+)`\n\n```(?:rust)?\n(.*?)```", own, re.S))
+crates = [top / "crates/my_types", top / "crates/my_closures"]
+files = [it for crate in crates for part in ("src", "specs", "proofs") for it in (crate / part).rglob("*.*t")]
+there = {str(it.relative_to(top)): it.read_text() for it in files if it.name != "tests.rt"}
+for name in sorted(there.keys() | shown.keys()):
+    if there.get(name) != shown.get(name):
+        print(f"docs/OWN_TYPE.md has another {name}, or none")
+sys.exit(said != code or there != shown)

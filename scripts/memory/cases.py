@@ -47,13 +47,21 @@ def hexed(words):
 
 
 GREAT = 256**127 - 1
+# that number, and as an open type
+G = "81 80 00" + " ff" * 127
+OPEN_G = "81 82" + G
+GROUP7 = "Addition7Components {{ e: {}, f: {} }}"
+EXTENDED = (
+    "ExtendedOptional {{ value: {}, integer1: None, octet1: None, integer2: None, octet2: None, integer3: None, octet3: None, "
+    "integer4: Some({}), octet4: Some({}), integer5: None, octet5: None }}"
+)
 SEQ2 = "Sequence2 {{ a: {}, b: {}, c: {} }}"
 MOST = "[" + ", ".join(["()"] * 65536) + "]"
 
 ROWS = [
     # integers
     Row("int", "02 ff 01", number(-255)),
-    Row("int", "81 80 00" + " ff" * 127, number(GREAT)),
+    Row("int", G, number(GREAT)),
     # both versions of a sequence with additions, and one within another
     Row("seq2", "80 ff 02 06 c0 01 ff 01 ff", SEQ2.format("true", "Some(true)", "Some(true)")),
     Row("seq1", "80 ff 02 06 c0 01 ff 01 ff", "Sequence1 { a: true }", canonical="00 ff"),
@@ -108,6 +116,47 @@ ROWS = [
     Row("defint", "80 01 05", f"DefaultInteger {{ a: {number(5)} }}"),
     Row("defopt", "c0 01 01 01 03", f"DefaultAndOptional {{ a: {number(1)}, b: Some({number(3)}) }}"),
     Row("Pair", "01 01 01 02", f"Pair {{ a: {number(1)}, b: {number(2)} }}"),
+    # types by the row of their components
+    Row("seq3", "80 ff 02 07 80 01 ff", "Sequence3 { a: true, b: Some(Sequence4 { a: true }) }"),
+    Row("seq7", "80 ff 02 04 b0 01 ff 02 01 ff 03 40 01 05",
+        f"Sequence7Components {{ a: true, b: Some(true), c: None, d: Some({number(-1)}), group: Some({GROUP7.format('None', number(5))}) }}"),
+    Row("seq7", f"80 ff 02 04 30 {OPEN_G} 81 83 40 {G}",
+        f"Sequence7Components {{ a: true, b: None, c: None, d: Some({number(GREAT)}), group: Some({GROUP7.format('None', number(GREAT))}) }}"),
+    Row("bag3", "01 02 80 00 02 04 20 02 01 01 80 00 02 04 80 01 ff", "SetOf { items: [%s, %s] }" % (
+        f"Sequence7Components {{ a: false, b: None, c: None, d: Some({number(1)}), group: None }}",
+        "Sequence7Components { a: false, b: Some(true), c: None, d: None, group: None }")),
+    Row("mixset", f"60 {G} {G} ff", f"MixSetComponents {{ x: true, y: Some({number(GREAT)}), z: {number(GREAT)}, n: None }}"),
+    Row("mixset2", "e0 01 03 01 05 ff 02 06 c0 01 00 02 01 61",
+        f"MixSet2Components {{ x: true, y: Some({number(5)}), z: {number(3)}, n: Some(false), m: Some({octets('a')}) }}"),
+    Row("mixset2", f"e0 {G} {G} ff 02 06 40 02 01 61",
+        f"MixSet2Components {{ x: true, y: Some({number(GREAT)}), z: {number(GREAT)}, n: None, m: Some({octets('a')}) }}"),
+    # components that take memory, of each kind of scope
+    Row("MixedSet", f"60 {G} {G} ff", f"MixedSet {{ x: true, y: Some({number(GREAT)}), z: {number(GREAT)}, n: None }}"),
+    Row("foo", f"e0 {G} 01 06 01 05", f"Foo {{ a: Some({number(5)}), b: Some({number(6)}), c: Some({number(GREAT)}) }}"),
+    Row("defopt", f"c0 {G} {G}", f"DefaultAndOptional {{ a: {number(GREAT)}, b: Some({number(GREAT)}) }}"),
+    Row("AddDef", f"80 ff 02 07 80 {OPEN_G}", f"AddDef {{ a: true, b: {number(GREAT)} }}"),
+    Row("extopt", f"80 01 00 02 04 c0 {OPEN_G} 03 02 61 62", EXTENDED.format(number(0), number(GREAT), octets("ab"))),
+    Row("dup", "c0 01 01 03 61 62 63 02 07 80 04 03 64 65 66",
+        f"SequenceDuplicatesExtended {{ it: {number(1)}, is: Some({octets('abc')}), late: None, today: {octets('def')} }}"),
+    Row("choice", f"80 {G}", f"Normal({number(GREAT)})"),
+    Row("choice", f"82 {OPEN_G}", f"Medium({number(GREAT)})"),
+    Row("tagmax", "bf 8f ff ff ff 7f 02 01 4d", f"Medium({number(333)})"),
+    Row("Bush", f"{G} 01 01 01 ff 01 00", f"Bush {{ a: {number(GREAT)}, b: [Bush {{ a: {number(-1)}, b: [] }}] }}"),
+    Row("Link", f"80 {G} 81 80 01 02 80 ff", f"Link {{ a: Some({number(GREAT)}), b: B(Link {{ a: Some({number(2)}), b: A(true) }}) }}"),
+    Row("ints", f"01 02 {G} {G}", f"[{number(GREAT)}, {number(GREAT)}]"),
+    Row("intset", f"01 02 {G} {G}", f"SetOf {{ items: [{number(GREAT)}, {number(GREAT)}] }}"),
+    # the other strings, and wrappers
+    Row("numeric", "02 31 32", text([49, 50])),
+    Row("printable", "02 41 42", text([65, 66])),
+    Row("visible", "02 41 42", text([65, 66])),
+    Row("general", "02 41 42", text([65, 66])),
+    Row("graphic", "02 41 42", text([65, 66])),
+    Row("teletex", "02 41 42", text([65, 66])),
+    Row("HashedId3", "61 62 63", f"HashedId3({octets('abc')})"),
+    Row("Positive", "01 ff", f"Positive({number(255)})"),
+    Row("Negative<Integer>", "01 ff", f"Negative({number(-1)})"),
+    Row("u128", "02 00 ff", "255"),
+    Row("null", "", "()"),
 ]
 
 
@@ -133,7 +182,7 @@ def writing(row, mode):
     for call in WRITES:
         yield Case((mode, call, row.word, row.octets), row.canonical)
     yield Case((mode, "encode_buf", row.word, row.octets), f"written; aabb{row.canonical}", "refused: OutOfMemory; aabb")
-    yield Case((mode, "==", row.word, row.octets), "true")
+    yield Case((mode, "==", row.word, row.octets), "true", takes_none=True)
 
 
 def reading(row, mode):
@@ -179,7 +228,12 @@ RUST = ("i8", "i16", "i32", "i64", "i128", "isize", "u8", "u16", "u32", "u64", "
 
 def methods():
     """Methods of a decoder that no type's word names: method, octets, answer, whether it makes no request."""
+    great = G.replace(" ", "")
+    open_great = OPEN_G.replace(" ", "")
     rows = [
+        ("new", "0102", "[255, 1, 2]", True),
+        ("levels", "0102", "128", True),
+        ("unknown_tag", "0102", "refused: InvalidTagVariantOnChoice", True),
         ("remaining", "0102", "[1, 2]", True),
         ("decode_bool", "ff", "true", True),
         ("decode_null", "", "()", True),
@@ -191,10 +245,12 @@ def methods():
         ("decode_any", "03616263", octets("abc"), False),
         ("decode_bit_string", "0302ff40", "BitString { octets: [255, 64], bits: 14 }", False),
         ("decode_integer::<Integer>", "0107", number(7), False),
-        ("decode_integer::<Integer>", "818000" + "ff" * 127, number(GREAT), False),
+        ("decode_integer::<Integer>", great, number(GREAT), False),
         ("decode_integer::<GreatPositive>", "0107", "ConstrainedInteger { number: %s, range: PhantomData<_> }" % number(7), False),
         ("decode_object_identifier", "032a9979", "ObjectIdentifier { arcs: [1, 2, 3321] }", False),
         ("decode_choice", "8002014d", f"Normal({number(333)})", False),
+        ("decode_choice", "80" + great, f"Normal({number(GREAT)})", False),
+        ("decode_choice", "82" + open_great, f"Medium({number(GREAT)})", False),
         ("decode_utf8_string", "024142", '"AB"', False),
         ("decode_bmp_string", "0400410042", text([0, 65, 0, 66]), False),
         ("decode_numeric_string", "023132", text([49, 50]), False),
@@ -203,29 +259,36 @@ def methods():
     rows += [(f"decode_integer::<{kind}>", "017f", "127", True) for kind in RUST]
     for mode in ("oer", "coer"):
         for call, o, answer, takes_none in rows:
-            rest = o if call == "remaining" else ""
+            rest = o if call in ("new", "levels", "unknown_tag", "remaining") else ""
             yield on_decoder(mode, call, "-", o, answer, rest, takes_none)
+        yield on_decoder(mode, "codec", "-", "0102", mode.capitalize(), "0102", True)
     yield on_decoder("oer", "refuse_default", "-", "01", "()", "01", True)
     yield on_decoder("coer", "refuse_default", "-", "01", "refused: NotValidCanonicalEncoding", "01", True)
 
 
 def asking():
     """Methods that ask a component, in a sequence of that component alone, and lists by their methods."""
-    great = "818000" + "ff" * 127
-    ways = ("", "_with_constraints", "_with_tag_and_constraints")
+    great = G.replace(" ", "")
+    ways = ("", "_with_tag", "_with_constraints", "_with_tag_and_constraints")
+    elements = f"[{number(1)}, {number(GREAT)}]"
     for mode in ("oer", "coer"):
         for way in (*ways, "_with_explicit_prefix"):
             yield on_decoder(mode, "decode_optional" + way, "-", "80" + great, f"OneOptional {{ n: Some({number(GREAT)}) }}", "")
-        for way in (*ways, "_with_tag"):
+        for way in ways:
             yield on_decoder(mode, "decode_default" + way, "-", "80" + great, f"OneDefault {{ n: {number(GREAT)} }}", "")
-        yield on_decoder(mode, "decode_extension_addition_with_explicit_tag_and_constraints", "-",
-                         "8002078081" + "82" + great, f"OneAddition {{ n: Some({number(GREAT)}) }}", "")  # fmt: skip
-        yield on_decoder(mode, "decode_sequence_of", "int", "010201010102", f"[{number(1)}, {number(2)}]", "")
-        yield on_decoder(mode, "decode_set_of", "int", "010201010102", f"SetOf {{ items: [{number(1)}, {number(2)}] }}", "")
+        for way in ("with_tag", "with_explicit_tag"):
+            yield on_decoder(mode, f"decode_extension_addition_{way}_and_constraints", "-", "800207808182" + great,
+                             f"OneAddition {{ n: Some({number(GREAT)}) }}", "")  # fmt: skip
+        yield on_decoder(mode, "decode_sequence_of", "int", "01020101" + great, elements, "")
+        yield on_decoder(mode, "decode_set_of", "int", "01020101" + great, f"SetOf {{ items: {elements} }}", "")
 
 
 def encoder():
-    """Methods of an encoder, which has the octet of a boolean before and after a refusal: method, what is read, what is appended."""
+    """Methods of an encoder whose buffer is full with one octet, which it has after a refusal too: method, what is read, what is
+    appended."""
+    yield Case(("encoder", "from_buffer", "-", ""), "Coer", takes_none=True)
+    yield Case(("encoder", "codec", "-", ""), "Coer", takes_none=True)
+    yield Case(("encoder", "output", "-", ""), "[255]", takes_none=True)
     same = {
         "bool": "ff", "null": "", "enumerated": "82fc18", "bit_string": "0302ff40", "octet_string": "03616263", "any": "03616263",
         "object_identifier": "032a9979", "utc_time": "0d" + hexed("191009130005Z"), "generalized_time": "0f" + hexed("20000101000000Z"),
@@ -254,7 +317,8 @@ def encoder():
         "encode_extension_addition_default",
     )]  # fmt: skip
     for call, read, appended in rows:
-        yield Case(("encoder", call, "-", read), f"written; ff{appended}", "refused: OutOfMemory; ff", is_whole=False)
+        takes_none = call in ("encode_null", "encode_none", "encode_none_with_tag")
+        yield Case(("encoder", call, "-", read), f"written; ff{appended}", "refused: OutOfMemory; ff", False, takes_none)
 
 
 def values():
@@ -273,12 +337,15 @@ def values():
         yield answered(f"{kind}String::from_bytes", "4142", f"Ok({TEXT})")
     yield answered("NumericString::from_bytes", "3132", f"Ok({text([49, 50])})")
     yield answered("NumericString::from_bytes", "3141", "Err(PermittedAlphabet)")
+    yield made("GeneralString::from_text", "4142", TEXT)
     yield made("BmpString::from_units", "", text([0, 65, 0, 66]))
     yield made("BmpString::to_bytes", "", "[0, 65, 0, 66]")
     yield answered("UtcTime::from_text", hexed("191009130005Z"), "Ok(UtcTime { value: 2019-10-09T13:00:05 })", True)
     yield answered("GeneralizedTime::from_text", hexed("20000101000000Z"), "Ok(GeneralizedTime { value: 2000-01-01T00:00:00 })", True)
     yield answered("Date::from_text", hexed("20240229"), "Ok(Date { value: 2024-02-29 })", True)
-    yield made("to_text", hexed("20240229"), str(list(b"20240229")), True)
+    yield made("UtcTime::to_text", hexed("191009130005Z"), str(list(b"191009130005Z")), True)
+    yield made("GeneralizedTime::to_text", hexed("20000101000000.5Z"), str(list(b"20000101000000.5Z")), True)
+    yield made("Date::to_text", hexed("20240229"), str(list(b"20240229")), True)
     refused = "Err(DecodeError { kind: OutOfMemory, codec: Coer })"
     yield Case(("value", "object_identifier_from_bytes", "-", "2a9979"), "Ok(ObjectIdentifier { arcs: [1, 2, 3321] })", refused)
     yield Case(("value", "object_identifier_as_bytes", "-", "2a9979"), "written; aa2a9979", "refused: OutOfMemory; aa", False)
@@ -293,9 +360,40 @@ def values():
     yield Case(("value", "write_unsigned_bytes_be", "-", great), "written; aa" + "ff" * 127, "refused: OutOfMemory; aa", False)
     yield made("cmp", great, "Greater", True)
     yield made("to_i128", great, "None", True)
+    ranged = "ConstrainedInteger { number: %s, range: PhantomData<_> }"
+    yield made("ConstrainedInteger::new", "", ranged % number(7), True)
+    yield made("ConstrainedInteger::try_new", "", "None", True)
+    for call in ("try_from_signed_bytes", "try_from_unsigned_bytes"):
+        yield made(f"ConstrainedInteger::{call}", "05", f"Ok({ranged % number(5)})", True)
+        yield Case(("value", f"ConstrainedInteger::{call}", "-", great), f"Ok({ranged % number(GREAT)})", refused)
+    yield made("i64::try_from_signed_bytes", "ff01", "Ok(-255)", True)
+    yield made("u128::try_from_unsigned_bytes", "ff01", "Ok(65281)", True)
+    for call, o in (
+        ("i64::write_signed_bytes_be", "ff01"), ("u128::write_unsigned_bytes_be", "ff"),
+        ("ConstrainedInteger::write_signed_bytes_be", "fc"), ("ConstrainedInteger::write_unsigned_bytes_be", "ff"),
+    ):  # fmt: skip
+        yield Case(("value", call, "-", ""), "written; aa" + o, "refused: OutOfMemory; aa", False)
+    yield made("SetOf::from_vec", "0102", "SetOf { items: [1, 2] }", True)
+    yield made("SetOf::len", "0102", "2", True)
+    yield made("SetOf::==", "0102", "true", True)
     yield made("SetOf::to_vec", "0102", "[1, 2]")
     insert = "SetOf { items: [1, 2%s] }"
     yield Case(("value", "SetOf::insert", "-", "0102"), "(); " + insert % ", 7", "refused: OutOfMemory; " + insert % "")
+
+
+# what no case calls by its own word: a row that goes through it, with a request for memory in it
+THROUGH = {
+    "decode_sequence": ("defopt", f"c0 {G} {G}"),
+    "decode_set": ("MixedSet", f"60 {G} {G} ff"),
+    "decode_choice_with": ("Link", f"80 {G} 81 80 01 02 80 ff"),
+    "decode_sequence_of_with": ("Bush", f"{G} 01 01 01 ff 01 00"),
+    "decode_extension_addition_group": ("seq7", f"80 ff 02 04 30 {OPEN_G} 81 83 40 {G}"),
+    "decode_extension_addition_default": ("AddDef", f"80 ff 02 07 80 {OPEN_G}"),
+}
+# calls of tables, rules and options, which have no allocator
+WITHOUT = {"is_among", "is_oer", "is_coer", "oer", "coer", "with_depth"}
+# helpers of asn1_ints in a module of its own, which the writers of its integers call
+INNER = {"write_i128", "write_u128", "write_with_sign", "write_signed_u128"}
 
 
 def all_cases():

@@ -43,12 +43,12 @@ def inputs(n):
     yield "bits", length(n) + b"\0\1", EXCEEDS if n - 1 > MOST else LACKS
     yield "int", length(n) + b"\1", LACKS
     yield "posbig", length(n) + b"\1", LACKS
-    for word, element in (("ints", b"\1\5"), ("intset", b"\1\5"), ("nest", b"\1\0"), ("bag1", b"\0\xff"), ("bag2", b"\0\xff")):
+    for word, element in (("ints", b"\1\5"), ("intset", b"\1\5"), ("nest", b"\1\0"), ("bag1", b"\0\xff"), ("bag2", b"\0\xff"), ("bag3", b"\0\xff")):
         yield word, quantity(n), LACKS
         yield word, quantity(n) + element * 9, LACKS
     yield "nulls", quantity(n), MANY
     # a bitmap, additions known and unknown, an alternative, and an addition in one
-    for word in ("seq1", "seq2", "seq3", "seq6", "outer"):
+    for word in ("seq1", "seq2", "seq3", "seq6", "seq7", "outer", "mixset", "mixset2"):
         yield word, b"\x80\xff" + length(n) + b"\0", LACKS
         yield word, b"\x80\xff\2\7\x80" + length(n) + b"\xff", LACKS
         yield word, b"\x80\xff\3\0\0\1" + length(n) + b"\xff", LACKS

@@ -88,6 +88,43 @@ def tool(preload, program, words, answer):
     return fault(words, MOST, "no end", "")
 
 
+def name_of(case):
+    """The call of a case without its type."""
+    return case.words[1].split("::<")[0]
+
+
+def public(top, *crates):
+    """The public functions of crates: name, arguments and answer."""
+    files = [file for crate in crates for file in sorted((top / crate / "src").glob("*.rt"))]
+    function = re.compile(r"^ *pub (?:const )?fn (\w+)(?:<.*)?(?:\(([^)]*)\)\s*->\s*([^\n{]*))?", re.M)
+    return [row for file in files for row in function.findall(file.read_text())]
+
+
+def calls(top):
+    """The public functions of the codec's crates, and those of the values' crates that take memory, by name."""
+    codec = {name for name, _, _ in public(top, "oer_write", "oer_read", "rasn_oer")}
+    values = public(top, "asn1_core", "asn1_ints", "asn1_strings", "asn1_times")
+    return codec | {name for name, words, answer in values if "Global" in words or "AllocError" in answer} - cases.INNER
+
+
+def through(counted, call):
+    """How many requests a decoder makes for the row that goes through a call, in a case of its own."""
+    word, octets = cases.THROUGH[call]
+    words = ("coer", "Decode::decode", word, "ff" + octets.replace(" ", ""))
+    return next((n for case, n in counted if case.words == words), 0)
+
+
+def untried(top, counted):
+    """Public calls without a case, and those of which no request was refused though they may make one."""
+    most = {call: through(counted, call) for call in cases.THROUGH}
+    for case, n in counted:
+        most[name_of(case)] = max(n, most.get(name_of(case), 0))
+    without = {name_of(case) for case, _ in counted if case.takes_none}
+    named = {name.split("::")[-1] for name in most}
+    faults = [f"{name}: no case calls it" for name in sorted(calls(top) - named - cases.WITHOUT)]
+    return faults + [f"{name}: no request was refused" for name, n in sorted(most.items()) if n == 0 and name not in without]
+
+
 def table(counts):
     """The counts by row and call: one number where both modes and all calls of a column make as many requests."""
     columns = [
@@ -100,8 +137,7 @@ def table(counts):
         for _, calls in columns:
             found = [n for words, n in counts if words[1] in calls and words[2] == row.word and words[3] in (row.octets, "ff" + row.octets)]
             cells.append(" to ".join(map(str, sorted({min(found), max(found)}))) if found else "")
-        shown = row.octets if len(row.octets) < 50 else row.octets[:12] + ".."
-        print(f"| `{row.word}` {shown} | " + " | ".join(cells) + " |")
+        print(f"| `{row.word}` {short(row.octets)} | " + " | ".join(cells) + " |")
     print("\n| of | requests | calls |\n|---|---|---|")
     told, groups = {call for _, calls in columns for call in calls}, {}
     for words, n in counts:
@@ -110,13 +146,19 @@ def table(counts):
             continue
         of = {"encoder": "`Encoder`", "value": "values"}.get(mode, "the modules" if call.startswith("as_") else "`Decoder`")
         octets = octets[2:] if of == "`Decoder`" else octets
-        shown = octets if len(octets) < 50 else octets[:12] + ".."
-        name = f"`{call}` {shown}".strip()
+        name = f"`{call}` {short(octets)}".strip()
         known = groups.setdefault((of, n), [])
         if name not in known:
             known.append(name)
     for (of, n), names in sorted(groups.items()):
         print(f"| {of} | {n} | {', '.join(names)} |")
+    print("\n| goes through | row |\n|---|---|")
+    for call, (word, octets) in cases.THROUGH.items():
+        print(f"| `{call}` | `{word}` {short(octets.replace(' ', ''))} |")
+
+
+def short(octets):
+    return octets if len(octets) < 50 else octets[:12] + ".."
 
 
 def main():
@@ -129,9 +171,11 @@ def main():
         made = list(pool.map(lambda case: count(preload, memory, case), known))
         told = list(pool.map(lambda it: tool(preload, oertool, *it), TOOL))
     faults = [it for it in made + told if isinstance(it, str)]
+    counted = [(case, n) for case, n in zip(known, made) if isinstance(n, int)]
+    faults += untried(HERE.parent.parent / "crates", counted)
     print("\n".join(faults[:40]), end="\n" if faults else "")
     if "--table" in sys.argv:
-        table([(case.words, n) for case, n in zip(known, made) if isinstance(n, int)])
+        table([(case.words, n) for case, n in counted])
     runs = sum(n + 1 for n in made + told if isinstance(n, int))
     print(f"memory refused: {len(known)} calls and {len(TOOL)} runs of oertool, {runs} runs: {len(faults)} faults")
     return 1 if faults else 0

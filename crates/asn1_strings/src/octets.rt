@@ -2,7 +2,7 @@ ghost use Rattle.std.specs.Prelude.{◌≡◌, ◌==◌, length, IfOk};
 ghost use Rattle.asn1_core.specs.Octets.{AreOctets};
 
 use asn1_core::{AsnType, Constraints, Tag};
-use bytes::Bytes;
+use bytes::BytesMut;
 use std::alloc::{AllocError, Global};
 use std::marker::{Model, PhantomData};
 
@@ -41,10 +41,12 @@ impl OctetType for AnyType {
 }
 
 /// Octets: a value of OCTET STRING, or the content of an open type.
-#[derive_where(Debug, PartialEq, Eq)]
+///
+/// The octets have one owner: so they take one request for memory, where `Bytes` takes another to count its owners.
+#[derive_where(Debug)]
 #[derive(Drop)]
 pub struct OctetContent<K: OctetType> {
-    octets: Bytes,
+    octets: BytesMut,
     kind: PhantomData<K>,
 }
 
@@ -59,9 +61,27 @@ impl<K: OctetType> Model for OctetContent<K> {
 
     ghost Value = { List ℕ };
 
-    ghost view = { λ s. s.octets };
+    ghost view = { λ s. s.octets.items };
+}
 
-    ghost inverse = { λ v. record { octets = v; kind = record {} } };
+impl<K: OctetType> PartialEq for OctetContent<K> {
+    ghost use Rattle.std.specs.Prelude.{nat_eq};
+    ghost use Rattle.std.specs.Cmp.Lexicographic.{pointwise, nat_list_eq_equiv};
+    ghost use Rattle.std.specs.Cmp.{partial_equiv_from_equiv};
+
+    ghost eq = { pointwise nat_eq };
+
+    ghost laws = { partial_equiv_from_equiv nat_list_eq_equiv };
+
+    fn eq(&self, other: &OctetContent<K>) -> bool {
+        self.octets == other.octets
+    }
+}
+
+impl<K: OctetType> Eq for OctetContent<K> {
+    ghost use Rattle.std.specs.Cmp.Lexicographic.{nat_list_eq_equiv};
+
+    ghost laws = { nat_list_eq_equiv };
 }
 
 impl<K: OctetType> AsnType for OctetContent<K> {
@@ -85,7 +105,7 @@ impl<K: OctetType> OctetContent<K> {
         ensures { IfOk result (λ s. s ≡ octets.now) }
     {
         Ok(OctetContent {
-            octets: Bytes::copy_from_slice(alloc, octets)?,
+            octets: BytesMut::copy_from_slice(alloc, octets)?,
             kind: PhantomData,
         })
     }

@@ -4,7 +4,7 @@ ghost use Rattle.oer_read.specs.Law.{IsRear};
 
 use asn1_core::{AsnType, Class, DecodeError, DecodeErrorKind, Tag};
 use asn1_ints::Integer;
-use oer_types::{AllOptional, MixedSet, Pair, Sequence1};
+use oer_types::{AllOptional, MixedSet, Pair, Sequence, Sequence1, components};
 use rasn_oer::{Decode, Decoder, DecoderOptions};
 use std::alloc::Global;
 use std::process::Abort;
@@ -32,7 +32,7 @@ fn asking_first(
             ensures { OnOk result (IsRear inner.old.input inner.new.input) }
         {
             let a = ask(alloc, inner, number)?;
-            Ok(AllOptional { a, b: None })
+            Ok(Sequence(components::AllOptional { a, b: None }))
         },
     )
 }

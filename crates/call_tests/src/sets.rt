@@ -1,10 +1,10 @@
 //! Sets and unordered lists: the order of handing in doesn't show in the octets.
 ghost use Rattle.std.specs.Prelude.{pos, true, false, OnOk};
-ghost use Rattle.sequence_types.specs.Defaults.{integer_unless};
-ghost use Rattle.sequence_types.specs.Pairs.{plain_integer};
+ghost use Rattle.oer_rows.specs.Integers.{integer_unless};
+ghost use Rattle.oer_rows.specs.Integers.{plain_integer};
 ghost use Rattle.oer_spec.specs.Spelled.{boolean};
 ghost use Rattle.oer_spec.specs.Tree.{NoRows, Required, Optional, Default, Present, Struct};
-ghost use Rattle.sequence_types.specs.Tags.{context};
+ghost use Rattle.oer_rows.specs.Schema.{context};
 ghost use Rattle.set_types.specs.Sets.{application};
 ghost use Rattle.oer_write.specs.Rows.{InSet};
 ghost use Rattle.oer_write.specs.Written.{Encodes};

@@ -4,8 +4,8 @@ use Rattle.asn1_core.specs.declared.tag.Class.TheVariants.{Context}
 use Rattle.asn1_core.specs.declared.tag.Tag.{Tag}
 use Rattle.oer_spec.specs.Spelled.{IsAny}
 use Rattle.choice_types.specs.Choices.{wide_tag, wide_number, wide_child}
-use Rattle.sequence_types.specs.Pairs.{plain_integer, IsWhole}
-use Rattle.sequence_types.specs.Tags.{context}
+use Rattle.oer_rows.specs.Integers.{plain_integer, IsWhole}
+use Rattle.oer_rows.specs.Schema.{context}
 use Rattle.choice_types.specs.declared.choices.WideChoice.{WideChoice}
 use Rattle.oer_read.proofs.Alternatives.{Holds}
 

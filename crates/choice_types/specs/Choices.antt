@@ -7,7 +7,7 @@ use Rattle.oer_spec.specs.Encoding.{IsTree}
 use Rattle.oer_spec.specs.Same.{Alike}
 use Rattle.oer_spec.specs.Spelled.{integer, integer_is, integers_alike}
 use Rattle.oer_spec.specs.Tree.{Tree, Choice}
-use Rattle.sequence_types.specs.Tags.{context}
+use Rattle.oer_rows.specs.Schema.{context}
 use Rattle.choice_types.specs.declared.choices.WideChoice.{WideChoice}
 use Rattle.choice_types.specs.declared.choices.WideChoice.TheVariants as wide
 

@@ -1,12 +1,6 @@
 //! Choices by the rows of their alternatives.
 
-use asn1_core::{Choice, Constraints, EncodeError, Tag};
-use asn1_ints::Integer;
-use oer_choices::{
-    Alternating, AlternativeViews, Alternatives, Context, Extensible, NoMore, Offers, OneOf,
-    from_row, tags, to_row,
-};
-use oer_write::Encoder;
+use rasn_oer::prelude::*;
 
 /// `CHOICE { normal INTEGER, high INTEGER, ..., medium INTEGER }`
 pub type PriorityChoice = OneOf<PriorityAlternatives>;
@@ -90,7 +84,7 @@ impl Alternating for PriorityAlternatives {
         constraints: Constraints,
     ) -> Result<(), EncodeError> {
         let view = to_row!(self => PriorityAlternatives: Normal, High, Medium);
-        PriorityRow::write::<E>(view, encoder, constraints)
+        PriorityRow::write_alternative::<E>(view, encoder, constraints)
     }
 
     ghost apart = { refl };
@@ -127,7 +121,7 @@ impl Alternating for OnlyAlternatives {
         constraints: Constraints,
     ) -> Result<(), EncodeError> {
         let view = to_row!(self => OnlyAlternatives: Only);
-        OnlyRow::write::<E>(view, encoder, constraints)
+        OnlyRow::write_alternative::<E>(view, encoder, constraints)
     }
 
     ghost apart = { refl };
@@ -164,7 +158,7 @@ impl Alternating for BoolAlternatives {
         constraints: Constraints,
     ) -> Result<(), EncodeError> {
         let view = to_row!(self => BoolAlternatives: A, C, B);
-        BoolRow::write::<E>(view, encoder, constraints)
+        BoolRow::write_alternative::<E>(view, encoder, constraints)
     }
 
     ghost apart = { refl };

@@ -3,11 +3,8 @@ use crate::{
     BoolAlternatives, BoolChoice, OnlyAlternatives, OnlyChoice, PriorityAlternatives,
     PriorityChoice,
 };
-use asn1_core::DecodeErrorKind;
-use asn1_ints::Integer;
-use oer_choices::OneOf;
-use oer_read::{Decode, Decoder, DecoderOptions, Encode, Encoder};
 use oer_write::enc::EncoderOptions;
+use rasn_oer::prelude::*;
 use std::alloc::Global;
 use std::test::Fail;
 

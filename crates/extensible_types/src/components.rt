@@ -1,7 +1,7 @@
 //! The components of each type.
 
 use crate::extensible;
-use asn1_ints::Integer;
+use rasn_oer::prelude::*;
 
 /// The components of a `Sequence1` of this crate.
 #[derive(Debug, PartialEq, Eq, Drop)]

@@ -1,12 +1,7 @@
 //! Extensible sequences: what a newer version added stands behind an extension bitmap, each addition as an open type.
 
 use crate::components;
-use asn1_core::{DecodeError, EncodeError, Field, Fields};
-use oer_read::{Decoder, Encoder};
-use oer_rows::{
-    AdditionViews, Additions, Components, Context, Extensible, MayAdd, Needs, NoMore, Rowed,
-    Sequence, Tabled, Views, fields,
-};
+use rasn_oer::prelude::*;
 use std::alloc::Global;
 
 /// `SEQUENCE { a BOOLEAN, ... }`

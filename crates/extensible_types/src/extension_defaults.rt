@@ -2,13 +2,7 @@
 
 use crate::components;
 use crate::extensible::{Sequence1, Sequence5};
-use asn1_core::{EncodeError, Field, Fields};
-use asn1_ints::Integer;
-use oer_read::Encoder;
-use oer_rows::{
-    AddDefaults, Compared, Components, Context, Defaults, Extensible, IsNumber, Needs, NoMore,
-    Rowed, Sequence, Standard, Tabled, Views, fields,
-};
+use rasn_oer::prelude::*;
 
 /// `SEQUENCE { a BOOLEAN, ..., b INTEGER DEFAULT 7 }`
 pub type AddDef = Sequence<components::AddDef, 1, 1>;

@@ -1,8 +1,7 @@
 //! The components of each type.
 
 use crate::groups;
-use asn1_ints::Integer;
-use asn1_strings::OctetString;
+use rasn_oer::prelude::*;
 
 /// The components of a `Sequence4` of this crate.
 #[derive(Debug, PartialEq, Eq, Drop)]

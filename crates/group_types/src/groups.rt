@@ -1,12 +1,7 @@
 //! Sequences with addition groups.
 
 use crate::components;
-use asn1_core::{EncodeError, Field, Fields};
-use oer_read::Encoder;
-use oer_rows::{
-    Components, Context, Extensible, MayAddGroup, MayHave, Needs, NoMore, Rowed, Sequence, Tabled,
-    Universal, Views, fields,
-};
+use rasn_oer::prelude::*;
 
 /// `SEQUENCE { a BOOLEAN }`, which stands as a group in `Sequence3`
 pub type Sequence4 = Sequence<components::Sequence4, 1, 0>;

@@ -1,14 +1,7 @@
 //! Extensible sequences with octet strings, optional ones and a required addition.
 
 use crate::components;
-use asn1_core::{EncodeError, Field, Fields};
-use asn1_ints::Integer;
-use asn1_strings::OctetString;
-use oer_read::Encoder;
-use oer_rows::{
-    Adds, Components, Context, Extensible, MayAdd, MayHave, Needs, NoMore, Rowed, Sequence, Tabled,
-    Universal, Views, fields,
-};
+use rasn_oer::prelude::*;
 
 /// `SEQUENCE { a OCTET STRING OPTIONAL, ..., omitted NULL OPTIONAL }`
 pub type Omitted = Sequence<components::Omitted, 1, 1>;

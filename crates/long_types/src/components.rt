@@ -1,7 +1,6 @@
 //! The components of each type.
 
-use asn1_ints::Integer;
-use asn1_strings::OctetString;
+use rasn_oer::prelude::*;
 
 /// The components of a `ManyOptional` of this crate.
 #[derive(Debug, PartialEq, Eq, Drop)]

@@ -1,14 +1,7 @@
 //! An extensible sequence of many optional components and additions: its row is cut, at names, into parts of five.
 
 use crate::components;
-use asn1_core::{DecodeError, EncodeError, Field, Fields};
-use asn1_ints::Integer;
-use asn1_strings::OctetString;
-use oer_read::{Decoder, Encoder};
-use oer_rows::{
-    AdditionViews, Additions, Components, Context, Extensible, MayAdd, MayHave, Needs, NoMore,
-    Rowed, Sequence, Tabled, Views, fields, pairs, views,
-};
+use rasn_oer::prelude::*;
 use std::alloc::Global;
 
 /// `SEQUENCE { value INTEGER, integer1 INTEGER OPTIONAL, octet1 OCTET STRING OPTIONAL, integer2, octet2, integer3, octet3

@@ -1,14 +1,7 @@
 //! A sequence of many optional components: its row is cut, at names, into parts of five.
 
 use crate::components;
-use asn1_core::{DecodeError, EncodeError, Field, Fields};
-use asn1_ints::Integer;
-use asn1_strings::OctetString;
-use oer_read::{Decoder, Encoder};
-use oer_rows::{
-    Components, Context, MayHave, Needs, NoMore, Rowed, Sequence, Tabled, Views, fields, pairs,
-    views,
-};
+use rasn_oer::prelude::*;
 use std::alloc::Global;
 
 /// `SEQUENCE` of an INTEGER and twelve optional components: integers, and three octet strings.

@@ -49,7 +49,7 @@ pub trait AlternativeViews<'v>: Alternatives {
     /// is written.
     ///
     /// Refused by what the value is refused by, or for want of memory.
-    fn write<E: Choice>(
+    fn write_alternative<E: Choice>(
         view: Self::View,
         encoder: &mut Encoder<'_>,
         constraints: Constraints,
@@ -66,7 +66,7 @@ impl<'v> AlternativeViews<'v> for NoMore {
 
     ghost SeesOne = { λ v P. ⊤ };
 
-    fn write<E: Choice>(
+    fn write_alternative<E: Choice>(
         _view: (),
         _encoder: &mut Encoder<'_>,
         _constraints: Constraints,
@@ -83,7 +83,7 @@ impl<'v, G: Place, B: Decode + Encode + 'v, R: AlternativeViews<'v>> Alternative
 
     ghost SeesOne = { elim [ First b ↦ λ P. P (First b.now) | Rest r ↦ λ P. R.SeesOne r (λ v. P (Rest v)) ] };
 
-    fn write<E: Choice>(
+    fn write_alternative<E: Choice>(
         view: Either<&'v B, R::View>,
         encoder: &mut Encoder<'_>,
         constraints: Constraints,
@@ -92,7 +92,7 @@ impl<'v, G: Place, B: Decode + Encode + 'v, R: AlternativeViews<'v>> Alternative
             Either::First(value) => {
                 put_alternative::<E, B>(encoder, constraints, G::tag(), value)
             }
-            Either::Rest(rest) => R::write::<E>(rest, encoder, constraints),
+            Either::Rest(rest) => R::write_alternative::<E>(rest, encoder, constraints),
         }
     }
 }
@@ -102,11 +102,11 @@ impl<'v, R: AlternativeViews<'v>> AlternativeViews<'v> for Extensible<R> {
 
     ghost SeesOne = { λ v P. R.SeesOne v P };
 
-    fn write<E: Choice>(
+    fn write_alternative<E: Choice>(
         view: R::View,
         encoder: &mut Encoder<'_>,
         constraints: Constraints,
     ) -> Result<(), EncodeError> {
-        R::write::<E>(view, encoder, constraints)
+        R::write_alternative::<E>(view, encoder, constraints)
     }
 }

@@ -1,9 +1,9 @@
 //! Methods of `Decoder` by their words, on a decoder in the middle of an input: behind a boolean.
 use crate::answers::left;
-use crate::entry::{Call, options_of};
+use crate::entry::{Call, one, options_of};
 use crate::marks::begin;
 use anyhow::{Error, Result};
-use asn1_core::{Constraints, Tag};
+use asn1_core::{Constraints, DecodeError, Tag};
 use asn1_ints::Integer;
 use oer_types::{Enum4, GreatPositive, PriorityChoice};
 use rasn_oer::{Decode, Decoder};
@@ -123,6 +123,33 @@ fn without_memory(call: Call<'_>, d: &mut Decoder<'_>) -> Result<Option<String>>
         }
         "refuse_default" => {
             let it = d.refuse_default(&7, &7);
+            left(alloc, d, &it)?
+        }
+        _ => return own_calls(call, d),
+    };
+    Ok(Some(line))
+}
+
+/// Those of the decoder itself.
+fn own_calls(call: Call<'_>, d: &mut Decoder<'_>) -> Result<Option<String>> {
+    let alloc = call.alloc;
+    let line = match call.word {
+        "new" => {
+            let it = Ok(Decoder::new(call.octets, options_of(call.codec)).remaining());
+            left(alloc, d, &it)?
+        }
+        "codec" => {
+            let it = Ok(d.codec());
+            left(alloc, d, &it)?
+        }
+        "levels" => {
+            let it = Ok(d.levels());
+            left(alloc, d, &it)?
+        }
+        "unknown_tag" => {
+            let it: std::result::Result<(), DecodeError> = Err(d.unknown_tag::<PriorityChoice>(
+                one(),
+            ));
             left(alloc, d, &it)?
         }
         _ => return times(call, d),

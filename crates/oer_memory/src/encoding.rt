@@ -1,9 +1,9 @@
-//! Methods of `Encoder` by their words, behind a boolean: the value is what the octets are read as.
-use crate::answers::appended;
+//! Methods of `Encoder` by their words, behind an octet that fills the buffer: the value is what the octets are read as.
+use crate::answers::{appended, plain as shown};
 use crate::entry::one;
 use crate::marks::begin;
 use anyhow::{Error, Result};
-use asn1_core::{Codec, Constraints, EncodeError, SetOf, Tag};
+use asn1_core::{Constraints, EncodeError, SetOf, Tag};
 use asn1_ints::Integer;
 use oer_types::{Enum4, Sequence, components};
 use oer_write::enc::EncoderOptions;
@@ -225,17 +225,33 @@ fn run(alloc: Global, word: &str, d: &mut Decoder<'_>, e: &mut Encoder<'_>) -> R
     components(alloc, word, e)
 }
 
-/// What a method appends behind a boolean, by its word.
+/// What the calls of the encoder itself answer; nothing where the word is none of them.
+fn own_calls(alloc: Global, word: &str) -> Result<Option<String>> {
+    if !["from_buffer", "codec", "output"].contains(&word) {
+        return Ok(None);
+    }
+    let mut output = Vec::from_slice(alloc, &[0xff])?;
+    let mut worker = vec![in alloc; 9]?;
+    begin(alloc)?;
+    let options = EncoderOptions::coer();
+    let mut encoder = Encoder::from_buffer(alloc, options, &mut output, &mut worker);
+    let line = match word {
+        "output" => shown(alloc, &encoder.output().as_slice())?,
+        _ => shown(alloc, &encoder.codec())?,
+    };
+    Ok(Some(line))
+}
+
+/// What a method appends behind an octet that fills the buffer, by its word.
 pub fn encoder_method(alloc: Global, word: &str, octets: &[u8]) -> Result<String> {
+    if let Some(line) = own_calls(alloc, word)? {
+        return Ok(line);
+    }
     let mut decoder = Decoder::new(octets, DecoderOptions::oer());
-    let mut output = Vec::new(alloc);
+    let mut output = Vec::from_slice(alloc, &[0xff])?;
     let mut worker = vec![in alloc; 9]?;
     let options = EncoderOptions::coer();
     let mut encoder = Encoder::from_buffer(alloc, options, &mut output, &mut worker);
-    encoder.encode_bool(Tag::BOOL, true)?;
-    if encoder.codec() != Codec::Coer {
-        return Err(Error::msg("another mode"));
-    }
     let Some(answer) = run(alloc, word, &mut decoder, &mut encoder)? else {
         return Err(Error::msg("no such method"));
     };

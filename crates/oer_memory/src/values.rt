@@ -10,7 +10,8 @@ use asn1_strings::{
     object_identifier_as_bytes, object_identifier_from_bytes,
 };
 use asn1_times::{Date, GeneralizedTime, UtcTime};
-use std::alloc::Global;
+use oer_types::{GreatPositive, Small};
+use std::alloc::{AllocError, Global};
 
 /// Octet strings, bit strings and character strings of octets.
 fn strings(alloc: Global, word: &str, octets: &[u8]) -> Result<Option<String>> {
@@ -51,7 +52,7 @@ fn identifiers(alloc: Global, word: &str, octets: &[u8]) -> Result<Option<String
         }
         "object_identifier_as_bytes" => {
             let it = object_identifier_from_bytes(alloc, octets, Codec::Coer)?;
-            let mut out = vec![in alloc; 0xaa]?;
+            let mut out = Vec::from_slice(alloc, &[0xaa])?;
             begin(alloc)?;
             let answer = object_identifier_as_bytes(it.arcs(), Codec::Coer, &mut out);
             crate::answers::appended(alloc, answer, &out)?
@@ -61,16 +62,120 @@ fn identifiers(alloc: Global, word: &str, octets: &[u8]) -> Result<Option<String
             begin(alloc)?;
             plain(alloc, &ObjectIdentifier::new(arcs))?
         }
+        "GeneralString::from_text" if GeneralString::is_text(octets) => {
+            begin(alloc)?;
+            made(alloc, &GeneralString::from_text(alloc, octets))?
+        }
         "BmpString::to_bytes" => {
             let it = BmpString::from_units(alloc, &[0x41, 0x42])?;
             begin(alloc)?;
             made(alloc, &it.to_bytes(alloc))?
         }
-        "to_text" => {
+        _ => return times(alloc, word, octets),
+    };
+    Ok(Some(line))
+}
+
+/// The texts of times.
+fn times(alloc: Global, word: &str, octets: &[u8]) -> Result<Option<String>> {
+    let line = match word {
+        "UtcTime::to_text" => {
+            let it = UtcTime::from_text(octets)?;
+            begin(alloc)?;
+            let text = it.to_text()?;
+            plain(alloc, &text.as_bytes())?
+        }
+        "GeneralizedTime::to_text" => {
+            let it = GeneralizedTime::from_text(octets)?;
+            begin(alloc)?;
+            let text = it.to_text()?;
+            plain(alloc, &text.as_bytes())?
+        }
+        "Date::to_text" => {
             let it = Date::from_text(octets)?;
             begin(alloc)?;
             let text = it.to_text()?;
             plain(alloc, &text.as_bytes())?
+        }
+        _ => return Ok(None),
+    };
+    Ok(Some(line))
+}
+
+/// Numbers of Rust's types, and of a range.
+fn plain_numbers(alloc: Global, word: &str, octets: &[u8]) -> Result<Option<String>> {
+    let mut out = Vec::from_slice(alloc, &[0xaa])?;
+    let line = match word {
+        "i64::write_signed_bytes_be" => {
+            begin(alloc)?;
+            let answer = (-255i64).write_signed_bytes_be(&mut out);
+            filled(alloc, answer, &out)?
+        }
+        "u128::write_unsigned_bytes_be" => {
+            begin(alloc)?;
+            let answer = 255u128.write_unsigned_bytes_be(&mut out);
+            filled(alloc, answer, &out)?
+        }
+        "i64::try_from_signed_bytes" => {
+            begin(alloc)?;
+            plain(
+                alloc,
+                &i64::try_from_signed_bytes(alloc, octets, Codec::Coer),
+            )?
+        }
+        "u128::try_from_unsigned_bytes" => {
+            begin(alloc)?;
+            plain(
+                alloc,
+                &u128::try_from_unsigned_bytes(alloc, octets, Codec::Coer),
+            )?
+        }
+        "ConstrainedInteger::new" => {
+            begin(alloc)?;
+            plain(alloc, &Small::new(7))?
+        }
+        "ConstrainedInteger::try_new" => {
+            begin(alloc)?;
+            plain(alloc, &Small::try_new(7))?
+        }
+        _ => return ranged_numbers(alloc, word, octets),
+    };
+    Ok(Some(line))
+}
+
+/// Numbers of a range that may be as long as memory.
+fn ranged_numbers(alloc: Global, word: &str, octets: &[u8]) -> Result<Option<String>> {
+    let mut out = Vec::from_slice(alloc, &[0xaa])?;
+    let line = match word {
+        "ConstrainedInteger::try_from_signed_bytes" => {
+            begin(alloc)?;
+            plain(
+                alloc,
+                &Small::try_from_signed_bytes(alloc, octets, Codec::Coer),
+            )?
+        }
+        "ConstrainedInteger::try_from_unsigned_bytes" => {
+            begin(alloc)?;
+            plain(
+                alloc,
+                &Small::try_from_unsigned_bytes(alloc, octets, Codec::Coer),
+            )?
+        }
+        "ConstrainedInteger::write_signed_bytes_be" => {
+            let number = Small::new(-4);
+            begin(alloc)?;
+            let answer = number.write_signed_bytes_be(&mut out);
+            filled(alloc, answer, &out)?
+        }
+        "ConstrainedInteger::write_unsigned_bytes_be" => {
+            let number = GreatPositive::new(255);
+            begin(alloc)?;
+            let answer = if number.is_negative() {
+                Err(AllocError)
+            } else {
+                number.write_unsigned_bytes_be(&mut out)
+            };
+            filled(alloc, answer, &out)?
         }
         _ => return Ok(None),
     };
@@ -97,7 +202,7 @@ fn numbers(alloc: Global, word: &str, octets: &[u8]) -> Result<Option<String>> {
         return Ok(None);
     };
     let other = Integer::from_i128(7);
-    let mut out = vec![in alloc; 0xaa]?;
+    let mut out = Vec::from_slice(alloc, &[0xaa])?;
     begin(alloc)?;
     let line = match word {
         "signed_octets" => made(alloc, &number.signed_octets(alloc))?,
@@ -116,13 +221,20 @@ fn numbers(alloc: Global, word: &str, octets: &[u8]) -> Result<Option<String>> {
     Ok(Some(line))
 }
 
-/// Unordered lists of the octets.
+/// Unordered lists of the octets, which stand in a list without room.
 fn sets(alloc: Global, word: &str, octets: &[u8]) -> Result<String> {
     let items = Vec::from_slice(alloc, octets)?;
+    let other = SetOf::from_vec(Vec::from_slice(alloc, octets)?);
+    if word == "SetOf::from_vec" {
+        begin(alloc)?;
+        return plain(alloc, &SetOf::from_vec(items));
+    }
     let mut set = SetOf::from_vec(items);
     begin(alloc)?;
     match word {
         "SetOf::to_vec" => made(alloc, &set.to_vec()),
+        "SetOf::len" => plain(alloc, &set.len()),
+        "SetOf::==" => plain(alloc, &(set == other)),
         "SetOf::insert" => {
             let answer = set.insert(7);
             let list = made(alloc, &answer)?;
@@ -139,6 +251,9 @@ pub fn value_call(alloc: Global, word: &str, octets: &[u8]) -> Result<String> {
     }
     if word.starts_with("SetOf::") {
         return sets(alloc, word, octets);
+    }
+    if let Some(line) = plain_numbers(alloc, word, octets)? {
+        return Ok(line);
     }
     if let Some(line) = numbers(alloc, word, octets)? {
         return Ok(line);

@@ -5,9 +5,10 @@ ghost use Rattle.oer_spec.specs.Tree.{NoRows, Required, Optional, Default, Prese
 ghost use Rattle.oer_write.specs.Choices.{WritesAlternative};
 ghost use Rattle.oer_write.specs.Rows.{InSequence, InSet};
 ghost use Rattle.oer_write.specs.Written.{WritesTree};
-ghost use Rattle.sequence_types.specs.Defaults.{integer_unless};
-ghost use Rattle.sequence_types.specs.Pairs.{pair_rows, plain_integer};
-ghost use Rattle.sequence_types.specs.Tags.{context};
+ghost use Rattle.oer_rows.specs.Integers.{integer_unless};
+ghost use Rattle.oer_rows.specs.Integers.{plain_integer};
+ghost use Rattle.sequence_types.specs.Pairs.{pair_rows};
+ghost use Rattle.oer_rows.specs.Schema.{context};
 ghost use Rattle.set_types.specs.Sets.{application};
 
 use crate::encoding::Done;

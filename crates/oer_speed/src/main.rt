@@ -1,12 +1,15 @@
-//! `oer_speed WHAT COUNT encode|decode TIMES` makes a value once, writes or reads it again and again, and prints how many
-//! octets it has and how many nanoseconds one run takes. It is run by hand: docs/PERFORMANCE.md has its figures.
+//! `oer_speed WHAT COUNT encode|decode|lenient TIMES` makes a value once, writes it canonically or reads it canonically or
+//! leniently again and again, and prints how many octets it has and how many nanoseconds one run takes. It is run by hand:
+//! docs/PERFORMANCE.md has its figures.
 #![tactic(auto)]
 
+mod leaves;
+mod nested;
 mod values;
 
 use anyhow::Result;
 use oer_write::Encode;
-use rasn_oer::{Decode, coer};
+use rasn_oer::{Decode, coer, oer};
 use std::alloc::Global;
 use std::env;
 use std::process::ExitCode;
@@ -14,14 +17,26 @@ use std::rt::{Clock, Env, Runtime};
 use std::time::Instant;
 use values::measure_word;
 
-const USAGE: &str =
-    "usage: oer_speed ints|intset|mixed|nest|link|octets|seq2|extopt|foo COUNT encode|decode TIMES";
+const USAGE: &str = "usage: oer_speed WHAT COUNT encode|decode|lenient TIMES
+WHAT: ints, intset, mixed, nest, link, seq2, seqs, extopt, foo, linked, added,
+  octets, text, bits, great, times or colors";
+
+/// What is done with the value.
+#[derive(Clone, Copy)]
+enum Way {
+    /// It is written in canonical octets.
+    Encode,
+    /// These are read canonically.
+    Decode,
+    /// These are read leniently.
+    Lenient,
+}
 
 /// How large the value is, what is done with it, and how often.
 #[derive(Drop)]
 struct Plan {
     count: u32,
-    is_encoding: bool,
+    way: Way,
     times: u32,
 }
 
@@ -32,8 +47,19 @@ struct Figures {
     nanoseconds: u128,
 }
 
-fn decode_once<T: Decode>(alloc: Global, octets: &[u8]) -> Result<()> {
-    let _value: T = coer::decode(alloc, octets)?;
+/// Writes the value, or reads its octets.
+fn once<T: Encode + Decode>(alloc: Global, way: Way, value: &T, octets: &[u8]) -> Result<()> {
+    match way {
+        Way::Encode => {
+            let _octets = coer::encode(alloc, value)?;
+        }
+        Way::Decode => {
+            let _value: T = coer::decode(alloc, octets)?;
+        }
+        Way::Lenient => {
+            let _value: T = oer::decode(alloc, octets)?;
+        }
+    }
     Ok(())
 }
 
@@ -47,11 +73,7 @@ fn measure<C: Clock, T: Encode + Decode>(
     let octets = coer::encode(alloc, value)?;
     let start = Instant::now(clock)?;
     for _ in 0..plan.times {
-        if plan.is_encoding {
-            let _octets = coer::encode(alloc, value)?;
-        } else {
-            decode_once::<T>(alloc, octets.as_slice())?;
-        }
+        once(alloc, plan.way, value, octets.as_slice())?;
     }
     let spent = start.elapsed(clock)?.as_nanos();
     let times = u128::from(plan.times);
@@ -66,14 +88,15 @@ fn plan_of(words: &[String]) -> Option<(&str, Plan)> {
     let [what, count, way, times] = words else {
         return None;
     };
-    let is_encoding = match way.as_str() {
-        "encode" => true,
-        "decode" => false,
+    let way = match way.as_str() {
+        "encode" => Way::Encode,
+        "decode" => Way::Decode,
+        "lenient" => Way::Lenient,
         _ => return None,
     };
     let plan = Plan {
         count: count.parse().ok()?,
-        is_encoding,
+        way,
         times: times.parse().ok()?,
     };
     Some((what.as_str(), plan))

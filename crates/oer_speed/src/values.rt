@@ -1,11 +1,13 @@
 //! The values that are measured.
 
+use crate::leaves::{bits, colors, great, octets, sequence, sequences, text, times};
+use crate::nested::{added, linked};
 use crate::{Figures, Plan, measure};
 use anyhow::Result;
 use asn1_core::SetOf;
 use asn1_ints::Integer;
 use asn1_strings::OctetString;
-use oer_types::{ExtendedOptional, Foo, Link, LinkChoice, Nest, Sequence, Sequence2, components};
+use oer_types::{ExtendedOptional, Foo, Nest, Sequence, components};
 use std::alloc::Global;
 use std::rt::Clock;
 
@@ -41,21 +43,6 @@ fn nest(alloc: Global, count: u32) -> Result<Nest> {
     Ok(nest)
 }
 
-/// A boolean in sequences that end in a choice, `count` of these within one another.
-fn link(alloc: Global, count: u32) -> Result<Link> {
-    let mut link = Link {
-        a: None,
-        b: LinkChoice::A(true),
-    };
-    for _ in 1..count {
-        link = Link {
-            a: None,
-            b: LinkChoice::B(Box::new(alloc, link)?),
-        };
-    }
-    Ok(link)
-}
-
 /// A number, where it is there.
 fn some(number: i128) -> Option<Integer> {
     Some(Integer::from_i128(number))
@@ -78,41 +65,105 @@ fn extended(alloc: Global) -> Result<ExtendedOptional> {
     }))
 }
 
+/// A set of three optional integers, of which two are there.
+fn foo() -> Foo {
+    Foo {
+        a: some(1),
+        b: some(2),
+        c: None,
+    }
+}
+
+/// Measures the sequence or the set of that word; nothing where it is no such value's.
+fn measure_sequence<C: Clock>(
+    clock: &C,
+    alloc: Global,
+    what: &str,
+    plan: &Plan,
+) -> Result<Option<Figures>> {
+    let count = plan.count;
+    match what {
+        "link" => measure(clock, alloc, plan, &linked(alloc, None, count)?),
+        "seq2" => measure(clock, alloc, plan, &sequence()),
+        "seqs" => measure(clock, alloc, plan, &sequences(alloc, count)?),
+        "extopt" => measure(clock, alloc, plan, &extended(alloc)?),
+        "foo" => measure(clock, alloc, plan, &foo()),
+        _ => Ok(None),
+    }
+}
+
+/// Measures an integer within ten sequences, or octets as an addition; nothing where the word is none of these.
+fn measure_nested<C: Clock>(
+    clock: &C,
+    alloc: Global,
+    what: &str,
+    plan: &Plan,
+) -> Result<Option<Figures>> {
+    let count = plan.count;
+    match what {
+        "linked" => {
+            let number = Some(great(alloc, count)?);
+            measure(clock, alloc, plan, &linked(alloc, number, 10)?)
+        }
+        "added" => measure(clock, alloc, plan, &added(octets(alloc, count)?)),
+        _ => Ok(None),
+    }
+}
+
+/// Measures the leaf, or the list of leaves, of that word; nothing where it is no such value's.
+fn measure_leaf<C: Clock>(
+    clock: &C,
+    alloc: Global,
+    what: &str,
+    plan: &Plan,
+) -> Result<Option<Figures>> {
+    let count = plan.count;
+    match what {
+        "octets" => measure(clock, alloc, plan, &octets(alloc, count)?),
+        "text" => measure(clock, alloc, plan, &text(alloc, count)?),
+        "bits" => measure(clock, alloc, plan, &bits(alloc, count)?),
+        "great" => measure(clock, alloc, plan, &great(alloc, count)?),
+        "times" => measure(clock, alloc, plan, &times(alloc, count)?),
+        "colors" => measure(clock, alloc, plan, &colors(alloc, count)?),
+        _ => Ok(None),
+    }
+}
+
+/// Measures the list of that word; nothing where it is no list's.
+fn measure_list<C: Clock>(
+    clock: &C,
+    alloc: Global,
+    what: &str,
+    plan: &Plan,
+) -> Result<Option<Figures>> {
+    let count = plan.count;
+    match what {
+        "ints" => measure(clock, alloc, plan, &integers(alloc, count)?),
+        "intset" => measure(
+            clock,
+            alloc,
+            plan,
+            &SetOf::from_vec(integers(alloc, count)?),
+        ),
+        "mixed" => measure(clock, alloc, plan, &SetOf::from_vec(mixed(alloc, count)?)),
+        "nest" => measure(clock, alloc, plan, &nest(alloc, count)?),
+        _ => Ok(None),
+    }
+}
+
 /// Measures the value of that word; nothing where it is no value's.
 pub(crate) fn measure_word<R: Clock + AllocGlobal>(
     rt: &R,
     what: &str,
     plan: &Plan,
 ) -> Result<Option<Figures>> {
-    let (alloc, count) = (rt.alloc(), plan.count);
+    let alloc = rt.alloc();
     match what {
-        "ints" => measure(rt, alloc, plan, &integers(alloc, count)?),
-        "intset" => measure(rt, alloc, plan, &SetOf::from_vec(integers(alloc, count)?)),
-        "mixed" => measure(rt, alloc, plan, &SetOf::from_vec(mixed(alloc, count)?)),
-        "nest" => measure(rt, alloc, plan, &nest(alloc, count)?),
-        "link" => measure(rt, alloc, plan, &link(alloc, count)?),
-        "octets" => {
-            let octets = vec![in alloc; 0x5au8; count as usize]?;
-            let octets = OctetString::from_slice(alloc, octets.as_slice())?;
-            measure(rt, alloc, plan, &octets)
+        "ints" | "intset" | "mixed" | "nest" => measure_list(rt, alloc, what, plan),
+        "linked" | "added" => measure_nested(rt, alloc, what, plan),
+        "octets" | "text" | "bits" | "great" | "times" | "colors" => {
+            measure_leaf(rt, alloc, what, plan)
         }
-        "seq2" => {
-            let sequence: Sequence2 = Sequence(components::Sequence2 {
-                a: true,
-                b: Some(true),
-                c: Some(false),
-            });
-            measure(rt, alloc, plan, &sequence)
-        }
-        "extopt" => measure(rt, alloc, plan, &extended(alloc)?),
-        "foo" => {
-            let foo = Foo {
-                a: Some(Integer::from_i128(1)),
-                b: Some(Integer::from_i128(2)),
-                c: None,
-            };
-            measure(rt, alloc, plan, &foo)
-        }
-        _ => Ok(None),
+        _ => measure_sequence(rt, alloc, what, plan),
     }
 }

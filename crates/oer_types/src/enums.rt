@@ -1,6 +1,6 @@
 //! Enumerated types, by the lists of their values.
 
-use oer_choices::{Enumeration, Numbered};
+use rasn_oer::prelude::*;
 
 /// `ENUMERATED { red(5), blue(6), green(7) }`
 pub type Enum3 = Enumeration<Color>;

@@ -15,6 +15,15 @@ pub mod components {
         Group6, Omitted, Sequence3, Sequence4, Sequence6, SequenceDuplicatesExtended,
     };
     pub use long_types::components::{ExtendedOptional, ManyOptional};
+    pub use sequence_types::components::{
+        AllDefault, AllOptional, DefaultAndOptional, DefaultInteger, Empty, Nested,
+    };
+
+    /// The components of a `ConstrainedOptions`.
+    #[derive(Debug, PartialEq, Eq, Drop)]
+    pub struct ConstrainedOptions {
+        pub a: Option<crate::wrappers::HashedId3>,
+    }
 }
 
 pub use choice_types::{
@@ -30,9 +39,8 @@ pub use group_types::{
     Group6, Omitted, Sequence3, Sequence4, Sequence6, SequenceDuplicatesExtended,
 };
 pub use long_types::{ExtendedOptional, ManyOptional};
-pub use oer_choices::OneOf;
-pub use oer_rows::Sequence;
 pub use ranges::{FiveAroundZero, FromZeroTo64Bits, GreatPositive, Small};
+pub use rasn_oer::prelude::{OneOf, Sequence};
 pub use recursive_types::{Bush, DeepDefault, Link, LinkChoice, Nest, TestChoice, TopLevel};
 pub use sequence_types::{
     AllDefault, AllOptional, DefaultAndOptional, DefaultInteger, Empty, Nested, Pair,

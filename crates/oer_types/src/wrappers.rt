@@ -220,13 +220,11 @@ impl Spelled for HashedId3 {
 
 impl EqualAsSpelled for HashedId3 {
     ghost use Rattle.asn1_core.specs.Bounds.{narrowed};
-    ghost use Rattle.std.specs.Prelude.{nat_eq};
-    ghost use Rattle.std.specs.Cmp.Lexicographic.{pointwise};
     ghost use Rattle.asn1_core.specs.Texts.{AnyOctets};
-    ghost use Rattle.oer_spec.specs.Spelled.{beside_nothing, texts_same};
+    ghost use Rattle.oer_spec.specs.Spelled.{texts_same};
     ghost use Rattle.oer_types.specs.Wrappers.{of_three};
 
-    ghost eq_is_same = { λ c k v w i j. beside_nothing (pointwise nat_eq v.0 w.0) (texts_same AnyOctets (narrowed of_three c) v.0 w.0) };
+    ghost eq_is_same = { λ c k v w i j. texts_same AnyOctets (narrowed of_three c) v.0 w.0 };
 }
 
 impl Encode for HashedId3 {

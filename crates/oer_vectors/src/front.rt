@@ -1,8 +1,9 @@
-//! Proper fronts of octets, which lack octets.
+//! Proper fronts of octets, which lack octets: at least one, and at most those that are missing of the whole.
 use anyhow::{Error, Result};
 use asn1_core::{Codec, Constraints, DecodeError, DecodeErrorKind};
 use oer_words::constrained::UnderConstraints;
 use oer_write::Encode;
+use rasn_oer::oer::CodecError;
 use rasn_oer::{Decode, Decoder, DecoderOptions, coer, oer};
 use std::alloc::Global;
 use std::fmt::Debug;
@@ -12,6 +13,16 @@ use std::fmt::Debug;
 pub struct Front<'a> {
     pub alloc: Global,
     pub behind: &'a [u8],
+    /// How many octets of the whole are missing.
+    pub missing: usize,
+}
+
+/// The options of a mode.
+fn options_of(codec: Codec) -> DecoderOptions {
+    match codec {
+        Codec::Oer => DecoderOptions::oer(),
+        Codec::Coer => DecoderOptions::coer(),
+    }
 }
 
 /// How many octets are lacking, where that is why it is refused in this mode.
@@ -35,11 +46,7 @@ impl<'a> Front<'a> {
         if !constraints.is_consistent() {
             return Err(Error::msg("constraints without a value"));
         }
-        let options = match codec {
-            Codec::Oer => DecoderOptions::oer(),
-            Codec::Coer => DecoderOptions::coer(),
-        };
-        let mut decoder = Decoder::new(self.behind, options);
+        let mut decoder = Decoder::new(self.behind, options_of(codec));
         let _boolean = bool::decode(self.alloc, &mut decoder)?;
         let left = decoder.remaining();
         let answer = T::decode_with_constraints(self.alloc, &mut decoder, constraints);
@@ -50,7 +57,7 @@ impl<'a> Front<'a> {
     }
 
     /// How many octets a module's call lacks.
-    fn by_call<T: Decode>(
+    fn by_call<T: Decode + Encode>(
         self,
         constraints: Constraints,
         codec: Codec,
@@ -63,22 +70,49 @@ impl<'a> Front<'a> {
             Codec::Oer => oer::decode_with_constraints::<T>(self.alloc, constraints, front),
             Codec::Coer => coer::decode_with_constraints::<T>(self.alloc, constraints, front),
         };
-        if constraints != T::CONSTRAINTS {
-            return Ok(needed(&answer, codec));
-        }
-        let with_rest = match codec {
-            Codec::Oer => oer::decode_with_remainder::<T>(self.alloc, front),
-            Codec::Coer => coer::decode_with_remainder::<T>(self.alloc, front),
-        };
-        let alone = match codec {
-            Codec::Oer => oer::decode::<T>(self.alloc, front),
-            Codec::Coer => coer::decode::<T>(self.alloc, front),
-        };
         let lacking = needed(&answer, codec);
-        if needed(&with_rest, codec) == lacking && needed(&alone, codec) == lacking {
-            Ok(lacking)
-        } else {
-            Err(Error::msg("the module's calls answer otherwise"))
+        if constraints == T::CONSTRAINTS && !self.all_lack::<T>(codec, front, lacking) {
+            return Err(Error::msg("the module's calls answer otherwise"));
+        }
+        Ok(lacking)
+    }
+
+    /// Whether the module's other calls lack as many.
+    fn all_lack<T: Decode + Encode>(
+        self,
+        codec: Codec,
+        front: &[u8],
+        lacking: Option<usize>,
+    ) -> bool {
+        let options = options_of(codec);
+        let (alone, with_rest, with_options) = match codec {
+            Codec::Oer => (
+                needed(&oer::decode::<T>(self.alloc, front), codec),
+                needed(&oer::decode_with_remainder::<T>(self.alloc, front), codec),
+                needed(
+                    &oer::decode_with_options::<T>(self.alloc, options, front),
+                    codec,
+                ),
+            ),
+            Codec::Coer => (
+                needed(&coer::decode::<T>(self.alloc, front), codec),
+                needed(&coer::decode_with_remainder::<T>(self.alloc, front), codec),
+                needed(
+                    &coer::decode_with_options::<T>(self.alloc, options, front),
+                    codec,
+                ),
+            ),
+        };
+        let others = [alone, with_rest, with_options];
+        others == [lacking; 3]
+            && (codec == Codec::Coer || self.canonicalise_lacks::<T>(front) == lacking)
+    }
+
+    /// How many octets `canonicalise` lacks.
+    fn canonicalise_lacks<T: Decode + Encode>(self, front: &[u8]) -> Option<usize> {
+        match oer::canonicalise::<T>(self.alloc, front) {
+            Err(CodecError::Decode(e)) => needed::<()>(&Err(e), Codec::Oer),
+            _ => None,
         }
     }
 }
@@ -89,9 +123,14 @@ impl<'a> UnderConstraints for Front<'a> {
     fn under<T: Decode + Encode + Debug + PartialEq>(self, constraints: Constraints) -> Result<()> {
         let front = self.behind.get(1..).unwrap_or(&[]);
         for codec in [Codec::Oer, Codec::Coer] {
-            let lacking = self.by_call::<T>(constraints, codec, front)?;
-            if lacking.is_none() || lacking != self.by_decoder::<T>(constraints, codec)? {
+            let Some(lacking) = self.by_call::<T>(constraints, codec, front)? else {
                 return Err(Error::msg("a front is read, or refused otherwise"));
+            };
+            if self.by_decoder::<T>(constraints, codec)? != Some(lacking) {
+                return Err(Error::msg("a decoder refuses a front otherwise"));
+            }
+            if lacking == 0 || lacking > self.missing {
+                return Err(Error::msg("a front lacks none, or more than is missing"));
             }
         }
         Ok(())

@@ -7,7 +7,7 @@
 //! - `value MODE WORD HEX`: what is left, and the value that is read.
 //! - `depth N MODE WORD HEX`: the same as `read` within N levels; `none` where so many can't be chosen.
 //! - `fronts WORD HEX`: how many proper fronts of the octets are refused for want of octets, in both modes: by the modules' calls and
-//!   by a decoder behind a boolean, which lack as many octets and leave the whole front.
+//!   by a decoder behind a boolean, which lack as many octets, at most those that are missing, and leave the whole front.
 //!
 //! MODE is `oer` or `coer`; WORD is one of the program's, or one of a type under constraints (not for `run`).
 #![tactic(auto)]
@@ -91,6 +91,7 @@ fn fronts(alloc: Global, word: &str, text: &str) -> Result<String> {
         let front = Front {
             alloc,
             behind: whole.as_slice(),
+            missing: octets.len() - length,
         };
         match with_word(word, front) {
             Some(answer) => answer?,

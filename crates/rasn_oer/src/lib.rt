@@ -5,9 +5,15 @@
 mod codec_error;
 pub mod coer;
 mod entry;
+mod macros;
 pub mod oer;
+pub mod prelude;
 mod recode;
 
+#[doc(hidden)]
+pub use asn1_base::{Class, Field, FieldPresence, Tag};
+#[doc(hidden)]
+pub use oer_choices::Either;
 pub use oer_read::{Decode, DecodeChoice, Decoder, DecoderOptions, de};
 pub use oer_spec::{Spelled, laws};
 pub use oer_write::{Encode, Encoder, enc};

@@ -1,10 +1,9 @@
 //! One function for each call of `coer` and `oer`.
 
-use asn1_base::{Constraints, DecodeError, DecodeErrorKind, EncodeError};
-use asn1_ints::Integer;
 use oer_types::{DefaultInteger, Nest, Pair, Sequence1, Sequence2};
 use rasn_oer::oer::CodecError;
-use rasn_oer::{DecoderOptions, coer, oer};
+use rasn_oer::prelude::*;
+use rasn_oer::{coer, oer};
 use std::alloc::Global;
 
 /// A value's octets, to be signed: 01 01 01 02.
@@ -31,10 +30,13 @@ pub fn canonical(alloc: Global, came: &[u8]) -> Result<(Vec<u8>, &[u8]), CodecEr
     oer::canonicalise::<DefaultInteger>(alloc, came)
 }
 
-/// A list of lists from a stranger, at most eight deep, and the octets behind it.
-pub fn few_levels(alloc: Global, came: &[u8]) -> Result<(Nest, &[u8]), DecodeError> {
-    let options = DecoderOptions::coer().with_depth(8);
-    oer::decode_with_options(alloc, options.unwrap_or(DecoderOptions::coer()), came)
+/// A list of lists from a stranger, no deeper than the options say, and the octets behind it.
+pub fn few_levels(
+    alloc: Global,
+    options: DecoderOptions,
+    came: &[u8],
+) -> Result<(Nest, &[u8]), DecodeError> {
+    oer::decode_with_options(alloc, options, came)
 }
 
 /// What the first version reads of the second one's octets: `a`; `b` and `c` are skipped.

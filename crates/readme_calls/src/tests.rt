@@ -4,7 +4,8 @@ use crate::{
     appended, as_first_version, as_second_version, canonical, few_levels, first_pair, name_of,
     pair_or_more, received, written,
 };
-use oer_types::{Sequence, Sequence1, Sequence2, components};
+use oer_types::{Sequence1, Sequence2, components};
+use rasn_oer::prelude::*;
 use std::test::Fail;
 
 #[test]
@@ -59,11 +60,12 @@ fn refusals_have_names(rt: HostRuntime) -> Result<(), Fail> {
         Err(refusal) => assert!(rt; name_of(&refusal) == "a true of another sender"),
     }
     let nine = [1, 1, 1, 1, 1, 1, 1, 1, 1, 1, 1, 1, 1, 1, 1, 1, 1, 0];
-    match few_levels(alloc, &nine) {
+    let options = DecoderOptions::coer().with_depth(8).ok_or("eight levels")?;
+    match few_levels(alloc, options, &nine) {
         Ok(_) => assert!(rt; false, "nine levels were read"),
         Err(refusal) => assert!(rt; name_of(&refusal) == "ExceedsMaxParseDepth"),
     }
-    let (_, rest) = few_levels(alloc, &[1, 1, 1, 0])?;
+    let (_, rest) = few_levels(alloc, options, &[1, 1, 1, 0])?;
     assert!(rt; rest.is_empty());
     Ok(())
 }

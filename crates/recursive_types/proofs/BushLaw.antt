@@ -22,8 +22,8 @@ use Rattle.oer_read.proofs.ListLaw.{list_law}
 use Rattle.oer_read.proofs.SetFound.{found_push, AreApart, SlotIs, found_agrees, required_found, NoneAdded, no_additions, none_out}
 use Rattle.oer_read.proofs.SetLaw.{Agrees, Came, set_law}
 use Rattle.oer_read.proofs.SetOrder.{all_by_tag}
-use Rattle.sequence_types.specs.Pairs.{plain_integer, IsWhole}
-use Rattle.sequence_types.specs.Tags.{universal}
+use Rattle.oer_rows.specs.Integers.{plain_integer, IsWhole}
+use Rattle.oer_rows.specs.Schema.{universal}
 use Rattle.recursive_types.specs.Bushes.{bush_table, bush_tree, bushes_tree, bush_holds, bush_is, AreAny, are_any, bush_index, bush_field_tree, IsBushAt, bush_slot, bush_put, BushSoFar, BushIs, BushAnswer}
 use Rattle.recursive_types.specs.declared.bushes.Bush.{Bush}
 use Rattle.recursive_types.specs.declared.bushes.Bush.TheOpen.{Bush-F}

@@ -11,7 +11,7 @@ use Rattle.recursive_types.specs.Nests.{nest_tree}
 use Rattle.recursive_types.specs.SameNests.{nest_eq}
 use Rattle.recursive_types.specs.declared.deep_defaults.DeepDefault.{DeepDefault}
 use Rattle.recursive_types.specs.declared.nests.Nest.{Nest}
-use Rattle.sequence_types.specs.Tags.{context}
+use Rattle.oer_rows.specs.Schema.{context}
 
 pub slot_compared : (v d : Nest) → nest_tree d ≡ deep_lists → deep_slot v ≡ present_unless (nest_eq v d) (nest_tree v)
 slot_compared v d e = nest_compared 127 v d e

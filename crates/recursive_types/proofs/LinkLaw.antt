@@ -4,7 +4,7 @@ use Rattle.asn1_core.specs.declared.tag.Tag.{Tag}
 use Rattle.oer_spec.specs.Spelled.{IsAny, boolean}
 use Rattle.choice_types.proofs.Choosing.{other}
 use Rattle.recursive_types.specs.Links.{link_choice_tree, link_tree, link_tag, link_child, link_chosen, link_small, link_choice_is, link_roots}
-use Rattle.sequence_types.specs.Tags.{context}
+use Rattle.oer_rows.specs.Schema.{context}
 use Rattle.recursive_types.specs.declared.links.Link.{Link}
 use Rattle.recursive_types.specs.declared.links.LinkChoice.{LinkChoice, A, B'}
 use Rattle.recursive_types.specs.declared.links.LinkChoice.TheViews.{B, roll-Link}

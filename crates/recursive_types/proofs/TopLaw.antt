@@ -12,7 +12,7 @@ use Rattle.oer_spec.specs.Leaves.{BadValue}
 use Rattle.oer_spec.specs.Mode.{Mode}
 use Rattle.oer_spec.specs.Spelled.{IsAny, boolean, null, integer}
 use Rattle.choice_types.proofs.Choosing.{other}
-use Rattle.sequence_types.specs.Tags.{context}
+use Rattle.oer_rows.specs.Schema.{context}
 use Rattle.recursive_types.specs.TopLevels.{small_number, test_tree, top_tree, test_tag, test_child, test_chosen, test_small, test_is, test_roots}
 use Rattle.recursive_types.specs.declared.top_levels.TestChoice.{TestChoice, Number1, Number2, Number3'}
 use Rattle.recursive_types.specs.declared.top_levels.TestChoice.TheViews.{Number3, roll-TopLevel}

@@ -12,8 +12,8 @@ use Rattle.oer_spec.specs.Same.{Alike, AlikeTrees, EachTree}
 use Rattle.oer_spec.specs.Spelled.{EachValue, IsAny, trees_of, list_of, integer_is, integers_alike}
 use Rattle.oer_spec.specs.Tree.{Tree, Struct, Rows, NoRows, Required, Trees, More, ListOf, Slot, Present}
 use Rattle.oer_read.specs.SetRows.{found}
-use Rattle.sequence_types.specs.Pairs.{plain_integer}
-use Rattle.sequence_types.specs.Tags.{universal}
+use Rattle.oer_rows.specs.Integers.{plain_integer}
+use Rattle.oer_rows.specs.Schema.{universal}
 use Rattle.recursive_types.specs.declared.bushes.Bush.{Bush}
 use Rattle.recursive_types.specs.declared.bushes.Bush.TheOpen.{Bush-F}
 use Rattle.recursive_types.specs.declared.bushes.Bush.TheViews.{out-Bush, roll-Bush}

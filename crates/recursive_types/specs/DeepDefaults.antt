@@ -13,7 +13,7 @@ use Rattle.oer_read.specs.Parts.{Parts, NoParts, DefaultPart, Admits, OnPresent,
 use Rattle.recursive_types.specs.NestedLists.{nested_lists, is_nested, nested_decided, equal_to_nested, nested_is, nested_alike, nest_like_nested, nested_like_nest}
 use Rattle.recursive_types.specs.Nests.{nest_tree, nest_is, nests_alike}
 use Rattle.recursive_types.specs.SameNests.{nest_eq, nests_same}
-use Rattle.sequence_types.specs.Tags.{context}
+use Rattle.oer_rows.specs.Schema.{context}
 use Rattle.recursive_types.specs.declared.deep_defaults.DeepDefault.{DeepDefault}
 use Rattle.recursive_types.specs.declared.nests.Nest.{Nest}
 

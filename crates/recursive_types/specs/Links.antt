@@ -9,8 +9,8 @@ use Rattle.oer_spec.specs.Encoding.{IsTree, AreSlot}
 use Rattle.oer_spec.specs.Same.{Alike, AlikeSlot}
 use Rattle.oer_spec.specs.Spelled.{IsAny, boolean, boolean_is, booleans_alike, integer_is, integers_alike}
 use Rattle.oer_spec.specs.Tree.{Tree, Choice, Struct, Rows, NoRows, Required, Optional}
-use Rattle.sequence_types.specs.Pairs.{plain_integer, IsWhole}
-use Rattle.sequence_types.specs.Tags.{context}
+use Rattle.oer_rows.specs.Integers.{plain_integer, IsWhole}
+use Rattle.oer_rows.specs.Schema.{context}
 use Rattle.recursive_types.specs.declared.links.Link.{Link}
 use Rattle.recursive_types.specs.declared.links.LinkChoice.{LinkChoice, A, B'}
 use Rattle.oer_read.specs.Components.{slot_of}

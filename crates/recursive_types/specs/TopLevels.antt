@@ -8,7 +8,7 @@ use Rattle.oer_spec.specs.Encoding.{IsTree}
 use Rattle.oer_spec.specs.Same.{Alike}
 use Rattle.oer_spec.specs.Spelled.{IsAny, boolean, boolean_is, booleans_alike, null, null_is, nulls_alike, integer, integer_is, integers_alike}
 use Rattle.oer_spec.specs.Tree.{Tree, Choice, Struct, Rows, NoRows, Required}
-use Rattle.sequence_types.specs.Tags.{context}
+use Rattle.oer_rows.specs.Schema.{context}
 use Rattle.recursive_types.specs.declared.top_levels.TopLevel.{TopLevel}
 use Rattle.recursive_types.specs.declared.top_levels.TestChoice.{TestChoice, Number1, Number2, Number3'}
 use Rattle.oer_read.specs.Parts.{Parts, NoParts, NeededPart, Admits, AreOf}

@@ -4,7 +4,7 @@ ghost use Rattle.oer_spec.specs.Spelled.{IsAny};
 ghost use Rattle.oer_spec.specs.Tree.{NoRows};
 ghost use Rattle.recursive_types.specs.Bushes.{bush_tree, bushes_tree, list_tree, bush_rows, AreAny, bush_field_tree, IsBushAt, bush_put, BushSoFar, BushIs, BushAnswer};
 ghost use Rattle.recursive_types.specs.declared.bushes.Bush.{size-Bush};
-ghost use Rattle.sequence_types.specs.Tags.{universal};
+ghost use Rattle.oer_rows.specs.Schema.{universal};
 ghost use Rattle.oer_write.specs.Rows.{InSet, SetDone, RowsRefused, required};
 ghost use Rattle.oer_write.specs.Written.{WritesTree, Encodes, Refused};
 ghost use Rattle.oer_read.specs.Law.{Decodes};

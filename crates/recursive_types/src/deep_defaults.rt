@@ -3,7 +3,7 @@ ghost use Rattle.std.specs.Prelude.{◌≡◌, IfOk};
 ghost use Rattle.oer_spec.specs.Tree.{NoRows};
 ghost use Rattle.recursive_types.specs.DeepDefaults.{deep_lists, deep_default_rows, deep_default_parts};
 ghost use Rattle.recursive_types.specs.Nests.{nest_tree};
-ghost use Rattle.sequence_types.specs.Pairs.{none_of};
+ghost use Rattle.oer_rows.specs.Integers.{none_of};
 ghost use Rattle.oer_write.specs.Rows.{InSequence};
 ghost use Rattle.oer_read.specs.Parts.{NoParts, ReadsParts};
 

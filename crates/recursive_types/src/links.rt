@@ -3,8 +3,8 @@ ghost use Rattle.std.specs.Prelude.{◌<◌, OnOk, IfErr};
 ghost use Rattle.oer_spec.specs.Spelled.{IsAny};
 ghost use Rattle.oer_spec.specs.Tree.{NoRows};
 ghost use Rattle.recursive_types.specs.Links.{link_tree, link_rows, link_choice_tree, link_parts, link_child, link_tag};
-ghost use Rattle.sequence_types.specs.Pairs.{none_of};
-ghost use Rattle.sequence_types.specs.Tags.{context};
+ghost use Rattle.oer_rows.specs.Integers.{none_of};
+ghost use Rattle.oer_rows.specs.Schema.{context};
 ghost use Rattle.oer_write.specs.Choices.{WritesAlternative};
 ghost use Rattle.oer_write.specs.Rows.{InSequence};
 ghost use Rattle.oer_write.specs.Written.{Encodes, Refused};
@@ -19,9 +19,9 @@ use asn1_core::{
 use asn1_ints::Integer;
 use oer_choices::put_alternative;
 use oer_read::{Decode, Decoder};
+use oer_rows::put_optional;
 use oer_spec::Spelled;
 use oer_write::{Encode, Encoder};
-use sequence_types::put_option;
 use std::alloc::Global;
 
 /// `SEQUENCE { a INTEGER OPTIONAL, b LinkChoice }`
@@ -201,12 +201,7 @@ fn encode_link(value: &Link, encoder: &mut Encoder<'_>) -> Result<(), EncodeErro
         |encoder: &mut Encoder<'_>| -> Result<(), EncodeError>
             ensures { InSequence (link_rows value.entry.now) NoRows encoder.old result encoder.new }
         {
-            put_option(
-                encoder,
-                Tag::new(Class::Context, 0),
-                Integer::CONSTRAINTS,
-                &value.a,
-            )?;
+            put_optional(encoder, Tag::new(Class::Context, 0), &value.a)?;
             encode_link_choice(&value.b, encoder)?;
             Ok(())
         },

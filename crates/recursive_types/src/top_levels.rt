@@ -2,8 +2,8 @@
 ghost use Rattle.std.specs.Prelude.{◌≡◌, ◌<◌, OnOk, IfErr};
 ghost use Rattle.oer_spec.specs.Spelled.{IsAny};
 ghost use Rattle.oer_spec.specs.Tree.{NoRows};
-ghost use Rattle.sequence_types.specs.Pairs.{none_of};
-ghost use Rattle.sequence_types.specs.Tags.{context};
+ghost use Rattle.oer_rows.specs.Integers.{none_of};
+ghost use Rattle.oer_rows.specs.Schema.{context};
 ghost use Rattle.recursive_types.specs.TopLevels.{top_tree, top_rows, top_parts, test_tree, test_child, test_tag, small_number};
 ghost use Rattle.oer_write.specs.Choices.{WritesAlternative};
 ghost use Rattle.oer_write.specs.Rows.{InSequence};
@@ -105,7 +105,7 @@ impl AsnType for TopLevel {
 
 impl Constructed<2, 0> for TopLevel {
     ghost use Rattle.std.specs.Prelude.{false, refl, []};
-    ghost use Rattle.sequence_types.specs.Pairs.{two_rows};
+    ghost use Rattle.oer_rows.specs.Integers.{two_rows};
 
     ghost is_set = { false };
 

@@ -1,12 +1,6 @@
 //! Extensible sequences, one for each sort of addition.
 
-use asn1_core::{EncodeError, Field, Fields};
-use asn1_ints::Integer;
-use oer_read::Encoder;
-use oer_rows::{
-    AddDefaults, Adds, Components, Context, Extensible, IsNumber, MayAddGroup, MayHave, Needs,
-    NoMore, Rowed, Sequence, Tabled, Universal, Views, fields,
-};
+use rasn_oer::prelude::*;
 
 /// `SEQUENCE { ok BOOLEAN, ..., sure BOOLEAN }`
 pub type Sure = Sequence<SureComponents, 1, 1>;

@@ -3,7 +3,6 @@
 
 mod additions;
 mod mixed;
-mod reports;
 mod sequences;
 #[cfg(test)]
 mod tests;
@@ -14,6 +13,5 @@ pub use additions::{
     SureComponents,
 };
 pub use mixed::{Mixed, MixedComponents};
-pub use reports::{Report, ReportComponents};
 pub use sequences::Sequence2;
 pub use twelves::{Twelve, TwelveComponents};

@@ -1,12 +1,7 @@
 //! A sequence of a choice, and of a list.
 
-use asn1_core::{EncodeError, Field, Fields};
-use asn1_strings::OctetString;
 use choice_types::PriorityChoice;
-use oer_read::Encoder;
-use oer_rows::{
-    Components, Context, ListOf, Needs, NoMore, Rowed, Sequence, Tabled, Views, fields,
-};
+use rasn_oer::prelude::*;
 
 /// `SEQUENCE { priority PriorityChoice, names SEQUENCE OF OCTET STRING }`
 pub type Mixed = Sequence<MixedComponents, 2, 0>;

@@ -1,13 +1,6 @@
 //! An extensible sequence, with every impl its own: what a type has to write that is not a `Sequence` of the library.
 
-use asn1_core::{AsnType, Constraints, Constructed, DecodeError, EncodeError, Field, Fields, Tag};
-use oer_read::{Decode, Decoder};
-use oer_rows::{
-    Components, Context, Extensible, MayAdd, Needs, NoMore, Rowed, Schemed, Views, Writes,
-    decode_row, encode_rows, fields,
-};
-use oer_spec::Spelled;
-use oer_write::{Encode, Encoder};
+use rasn_oer::prelude::*;
 use std::alloc::Global;
 
 /// `SEQUENCE { a BOOLEAN, ..., b BOOLEAN OPTIONAL, c BOOLEAN OPTIONAL }`

@@ -2,16 +2,11 @@
 
 use crate::{
     GroupComponents, Grouped, GroupedComponents, Levelled, LevelledComponents, Mixed,
-    MixedComponents, Report, ReportComponents, Sequence2, Sure, SureComponents, Twelve,
-    TwelveComponents,
+    MixedComponents, Sequence2, Sure, SureComponents, Twelve, TwelveComponents,
 };
-use asn1_ints::Integer;
-use asn1_strings::OctetString;
 use choice_types::PriorityAlternatives;
-use oer_choices::OneOf;
-use oer_read::{Decode, Decoder, DecoderOptions, Encode, Encoder};
-use oer_rows::{ListOf, Sequence};
 use oer_write::enc::EncoderOptions;
+use rasn_oer::prelude::*;
 use std::alloc::Global;
 use std::test::Fail;
 
@@ -78,10 +73,6 @@ fn additions(alloc: Global) -> Result<[bool; 3], Fail> {
 #[test]
 fn values_are_written_and_read(rt: HostRuntime) -> Result<(), Fail> {
     let alloc = rt.alloc();
-    let report: Report = Sequence(ReportComponents {
-        urgent: true,
-        number: Some(Integer::from_i128(5)),
-    });
     let sequence2 = Sequence2 {
         a: true,
         b: None,
@@ -96,7 +87,6 @@ fn values_are_written_and_read(rt: HostRuntime) -> Result<(), Fail> {
         ("Sure", sure),
         ("Levelled", levelled),
         ("Grouped", grouped),
-        ("Report", agrees(alloc, &report, &[0xC0, 0xFF, 0x01, 0x05])?),
         (
             "Sequence2",
             agrees(

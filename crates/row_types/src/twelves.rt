@@ -1,12 +1,6 @@
 //! A sequence of twelve components: its row is cut, at names, into parts of five.
 
-use asn1_core::{DecodeError, EncodeError, Field, Fields};
-use asn1_ints::Integer;
-use oer_read::{Decoder, Encoder};
-use oer_rows::{
-    Components, Context, MayHave, Needs, NoMore, Rowed, Sequence, Tabled, Views, fields, pairs,
-    views,
-};
+use rasn_oer::prelude::*;
 use std::alloc::Global;
 
 /// `SEQUENCE { a INTEGER, b BOOLEAN OPTIONAL, c INTEGER OPTIONAL, d BOOLEAN OPTIONAL, e INTEGER OPTIONAL, f BOOLEAN,

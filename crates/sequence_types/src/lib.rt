@@ -1,10 +1,9 @@
-//! Sequences of root components, by hand: required, optional and with defaults.
+//! Sequences of root components: required, optional and with defaults, by their rows, and one by closures.
 #![tactic(auto)]
 
-mod defaults;
-mod options;
+mod by_row;
+pub mod components;
 mod pairs;
 
-pub use defaults::{AllDefault, AllOptional, DefaultAndOptional, DefaultInteger};
-pub use options::put_option;
-pub use pairs::{Empty, Nested, Pair};
+pub use by_row::{AllDefault, AllOptional, DefaultAndOptional, DefaultInteger, Empty, Nested};
+pub use pairs::Pair;

@@ -1,6 +1,7 @@
-//! Sequences of required components.
+//! A sequence of two required components, by closures.
 ghost use Rattle.oer_spec.specs.Tree.{NoRows};
-ghost use Rattle.sequence_types.specs.Pairs.{pair_rows, nested_rows, pair_parts, nested_parts, none_of};
+ghost use Rattle.oer_rows.specs.Integers.{none_of};
+ghost use Rattle.sequence_types.specs.Pairs.{pair_rows, pair_parts};
 ghost use Rattle.oer_write.specs.Rows.{InSequence};
 ghost use Rattle.oer_read.specs.Parts.{NoParts, ReadsParts};
 
@@ -20,17 +21,6 @@ pub struct Pair {
     pub a: Integer,
     pub b: Integer,
 }
-
-/// `SEQUENCE { a BOOLEAN, b Pair }`
-#[derive(Debug, PartialEq, Eq, Drop)]
-pub struct Nested {
-    pub a: bool,
-    pub b: Pair,
-}
-
-/// `SEQUENCE { }`
-#[derive(Debug, PartialEq, Eq, Drop)]
-pub struct Empty;
 
 const PAIR_FIELDS: &'static [Field<'static>] = &[
     Field {
@@ -71,7 +61,7 @@ impl AsnType for Pair {
 
 impl Constructed<2, 0> for Pair {
     ghost use Rattle.std.specs.Prelude.{false, refl, []};
-    ghost use Rattle.sequence_types.specs.Pairs.{two_rows};
+    ghost use Rattle.oer_rows.specs.Integers.{two_rows};
 
     ghost is_set = { false };
 
@@ -139,171 +129,6 @@ impl Encode for Pair {
     }
 }
 
-impl AsnType for Nested {
-    ghost use Rattle.std.specs.Prelude.{false, refl};
-    ghost use Rattle.asn1_core.specs.declared.tag.TheConstants.Tag.{SEQUENCE};
-    ghost use Rattle.asn1_core.specs.declared.constraints.TheConstants.Constraints.{NONE};
-
-    ghost TAG = { SEQUENCE };
-
-    const TAG: Tag = Tag::SEQUENCE;
-
-    ghost CONSTRAINTS = { NONE };
-
-    const CONSTRAINTS: Constraints = Constraints::NONE;
-
-    ghost consistent = { refl };
-}
-
-impl Constructed<2, 0> for Nested {
-    ghost use Rattle.std.specs.Prelude.{false, refl, []};
-    ghost use Rattle.sequence_types.specs.Pairs.{two_rows};
-
-    ghost is_set = { false };
-
-    ghost root_rows = { two_rows };
-
-    ghost addition_rows = { [] };
-
-    ghost IS_EXTENSIBLE = { false };
-
-    const IS_EXTENSIBLE: bool = false;
-
-    const FIELDS: Fields<2> = Fields {
-        fields: PAIR_FIELDS,
-    };
-
-    const EXTENDED_FIELDS: Option<Fields<0>> = None;
-
-    fn root_fields() -> &'static [Field<'static>] {
-        Self::FIELDS.fields
-    }
-
-    fn addition_fields() -> &'static [Field<'static>] {
-        match Self::EXTENDED_FIELDS {
-            Some(table) => table.fields,
-            None => &[],
-        }
-    }
-
-    ghost tables = { record { root_count = refl; addition_count = refl; root_indexes = (refl, (refl, tt)); addition_indexes = tt; only = λ e. refl; distinct = λ e. absurd (cc e) } };
-}
-
-impl Spelled for Nested {
-    ghost use Rattle.oer_spec.specs.Spelled.{IsAny};
-    ghost use Rattle.sequence_types.specs.Pairs.{nested_tree, nested_is, nested_alike};
-
-    ghost tree = { λ c v. nested_tree v };
-
-    ghost IsValue = { IsAny };
-
-    ghost is_tree = { λ c k v i. nested_is v };
-
-    ghost alike = { λ c k v w i j. nested_alike v w };
-}
-
-impl Encode for Nested {
-    #[tactic(auto, unfolding(crate::specs::Pairs::nested_tree))]
-    fn encode_with_tag_and_constraints(
-        &self,
-        encoder: &mut Encoder<'_>,
-        tag: Tag,
-        _constraints: Constraints,
-    ) -> Result<(), EncodeError> {
-        encoder.encode_sequence::<2, 0, Nested, _>(
-            tag,
-            |encoder: &mut Encoder<'_>| -> Result<(), EncodeError>
-                ensures { InSequence (nested_rows self.entry.now) NoRows encoder.old result encoder.new }
-            {
-                self.a
-                    .encode_with_tag(encoder, Tag::new(Class::Context, 0))?;
-                self.b
-                    .encode_with_tag(encoder, Tag::new(Class::Context, 1))?;
-                Ok(())
-            },
-        )
-    }
-}
-
-impl AsnType for Empty {
-    ghost use Rattle.std.specs.Prelude.{false, refl};
-    ghost use Rattle.asn1_core.specs.declared.tag.TheConstants.Tag.{SEQUENCE};
-    ghost use Rattle.asn1_core.specs.declared.constraints.TheConstants.Constraints.{NONE};
-
-    ghost TAG = { SEQUENCE };
-
-    const TAG: Tag = Tag::SEQUENCE;
-
-    ghost CONSTRAINTS = { NONE };
-
-    const CONSTRAINTS: Constraints = Constraints::NONE;
-
-    ghost consistent = { refl };
-}
-
-impl Constructed<0, 0> for Empty {
-    ghost use Rattle.std.specs.Prelude.{false, refl, [], ◌∷◌};
-    ghost use Rattle.asn1_core.specs.declared.fields.FieldPresence.TheVariants.{Required};
-    ghost use Rattle.sequence_types.specs.Tags.{context};
-
-    ghost is_set = { false };
-
-    ghost root_rows = { [] };
-
-    ghost addition_rows = { [] };
-
-    ghost IS_EXTENSIBLE = { false };
-
-    const IS_EXTENSIBLE: bool = false;
-
-    const FIELDS: Fields<0> = Fields { fields: &[] };
-
-    const EXTENDED_FIELDS: Option<Fields<0>> = None;
-
-    fn root_fields() -> &'static [Field<'static>] {
-        Self::FIELDS.fields
-    }
-
-    fn addition_fields() -> &'static [Field<'static>] {
-        match Self::EXTENDED_FIELDS {
-            Some(table) => table.fields,
-            None => &[],
-        }
-    }
-
-    ghost tables = { record { root_count = refl; addition_count = refl; root_indexes = tt; addition_indexes = tt; only = λ e. refl; distinct = λ e. absurd (cc e) } };
-}
-
-impl Spelled for Empty {
-    ghost use Rattle.oer_spec.specs.Spelled.{IsAny};
-    ghost use Rattle.sequence_types.specs.Pairs.{empty_tree, empty_is, empties_alike};
-
-    ghost tree = { λ c v. empty_tree v };
-
-    ghost IsValue = { IsAny };
-
-    ghost is_tree = { λ c k v i. empty_is v };
-
-    ghost alike = { λ c k v w i j. empties_alike v w };
-}
-
-impl Encode for Empty {
-    #[tactic(auto, unfolding(crate::specs::Pairs::empty_tree))]
-    fn encode_with_tag_and_constraints(
-        &self,
-        encoder: &mut Encoder<'_>,
-        tag: Tag,
-        _constraints: Constraints,
-    ) -> Result<(), EncodeError> {
-        encoder.encode_sequence::<0, 0, Empty, _>(
-            tag,
-            |encoder: &mut Encoder<'_>| -> Result<(), EncodeError>
-                ensures { InSequence (NoRows) NoRows encoder.old result encoder.new }
-            { Ok(()) },
-        )
-    }
-}
-
 #[tactic(auto, using(oer_read::proofs::Reading::reading))]
 impl Decode for Pair {
     ghost use Rattle.std.specs.Prelude.{⊤};
@@ -325,52 +150,6 @@ impl Decode for Pair {
                 let b = Integer::decode_with_tag(alloc, decoder, Tag::new(Class::Context, 1))?;
                 Ok(Pair { a, b })
             },
-        )
-    }
-}
-
-#[tactic(auto, using(oer_read::proofs::Reading::reading))]
-impl Decode for Nested {
-    ghost use Rattle.std.specs.Prelude.{⊤};
-
-    ghost Answered = { λ c s r t. ⊤ };
-
-    fn decode_with_tag_and_constraints(
-        alloc: Global,
-        decoder: &mut Decoder<'_>,
-        tag: Tag,
-        _constraints: Constraints,
-    ) -> Result<Nested, DecodeError> {
-        decoder.decode_sequence::<2, 0, Nested, _>(
-            tag,
-            |decoder: &mut Decoder<'_>| -> Result<Nested, DecodeError>
-                ensures { ReadsParts nested_parts NoParts nested_rows none_of decoder.old result decoder.new }
-            {
-                let a = bool::decode_with_tag(alloc, decoder, Tag::new(Class::Context, 0))?;
-                let b = Pair::decode_with_tag(alloc, decoder, Tag::new(Class::Context, 1))?;
-                Ok(Nested { a, b })
-            },
-        )
-    }
-}
-
-#[tactic(auto, using(oer_read::proofs::Reading::reading))]
-impl Decode for Empty {
-    ghost use Rattle.std.specs.Prelude.{⊤};
-
-    ghost Answered = { λ c s r t. ⊤ };
-
-    fn decode_with_tag_and_constraints(
-        _alloc: Global,
-        decoder: &mut Decoder<'_>,
-        tag: Tag,
-        _constraints: Constraints,
-    ) -> Result<Empty, DecodeError> {
-        decoder.decode_sequence::<0, 0, Empty, _>(
-            tag,
-            |_decoder: &mut Decoder<'_>| -> Result<Empty, DecodeError>
-                ensures { ReadsParts NoParts NoParts none_of none_of _decoder.old result _decoder.new }
-            { Ok(Empty) },
         )
     }
 }

@@ -27,11 +27,11 @@ use Rattle.oer_read.proofs.SetAdditions.{OneAdded, one_addition, asks_rear}
 use Rattle.oer_read.proofs.SetFound.{found_push, found_behind, AreApart, AllOut, SlotIs, found_agrees, required_found}
 use Rattle.oer_read.proofs.SetLaw.{Agrees, Came, set_law}
 use Rattle.oer_read.proofs.SetOrder.{all_by_tag}
-use Rattle.sequence_types.specs.Defaults.{integer_slot, integer_unless, unless_differs}
+use Rattle.oer_rows.specs.Integers.{integer_slot, integer_unless, unless_differs}
 use Rattle.set_types.specs.Mixed.{mixed_table, mixed_row, mixed_additions, mixed_tree, mixed_index, mixed_field_tree, IsMixedAt, mixed_eq, mixed_default, mixed_slot, MixedReads, MixedMade, MixedAnswer, mixed_put, MixedSoFar, MixedIs, flag_made}
-use Rattle.sequence_types.specs.Pairs.{plain_integer, IsWhole}
+use Rattle.oer_rows.specs.Integers.{plain_integer, IsWhole}
 use Rattle.set_types.specs.Sets.{application}
-use Rattle.sequence_types.specs.Tags.{context}
+use Rattle.oer_rows.specs.Schema.{context}
 use Rattle.set_types.specs.declared.mixed.MixedSet.{MixedSet}
 use Rattle.set_types.specs.declared.mixed.MixedParts.{MixedParts}
 use Rattle.set_types.specs.declared.mixed.MixedField.{MixedField}

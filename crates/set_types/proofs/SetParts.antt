@@ -5,7 +5,7 @@ use Rattle.std.specs.List.{AllByRecursion}
 use Rattle.asn1_core.specs.Rows.{Row}
 use Rattle.asn1_core.specs.Tags.{by_tag}
 use Rattle.oer_spec.specs.Tree.{Rows, NoRows, Slot, Present}
-use Rattle.sequence_types.specs.Pairs.{plain_integer, IsWhole}
+use Rattle.oer_rows.specs.Integers.{plain_integer, IsWhole}
 use Rattle.set_types.specs.Sets.{application, foo_table, foo_tree, FooAnswer, foo_index, foo_number, foo_field_tree, foo_field_at, IsFooAt, foo_slot, foo_put, FooMade}
 use Rattle.set_types.specs.declared.sets.Foo.{Foo}
 use Rattle.set_types.specs.declared.sets.FooField.{FooField}
@@ -24,7 +24,7 @@ use Rattle.oer_read.specs.State.{State}
 use Rattle.asn1_core.specs.declared.codec.Codec.{Codec}
 use Rattle.asn1_core.specs.declared.error.DecodeError.{DecodeError}
 use Rattle.oer_spec.specs.Spelled.{IsAny}
-use Rattle.sequence_types.specs.Tags.{context}
+use Rattle.oer_rows.specs.Schema.{context}
 use Rattle.std.specs.Result.{IfOk, IfErr, OnErr}
 
 -- ---- `Foo`

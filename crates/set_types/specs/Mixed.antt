@@ -18,11 +18,11 @@ use Rattle.oer_read.specs.Law.{Decodes}
 use Rattle.oer_read.specs.Parts.{Admits, OnPresent}
 use Rattle.oer_read.specs.SetRows.{found, ReadsDefault, AsksAddition}
 use Rattle.oer_read.specs.State.{State}
-use Rattle.sequence_types.specs.Defaults.{integer_slot, integer_unless, option_is, options_alike, unless_is, unless_differs, unless_alike}
-use Rattle.sequence_types.specs.Pairs.{plain_integer}
-use Rattle.sequence_types.specs.Slots.{IfThere, slot_is, slots_alike, slot_made}
+use Rattle.oer_rows.specs.Integers.{integer_slot, integer_unless, option_is, options_alike, unless_is, unless_differs, unless_alike}
+use Rattle.oer_rows.specs.Integers.{plain_integer}
+use Rattle.oer_rows.specs.Slots.{IfThere, slot_is, slots_alike, slot_made}
 use Rattle.set_types.specs.Sets.{application}
-use Rattle.sequence_types.specs.Tags.{context}
+use Rattle.oer_rows.specs.Schema.{context}
 use Rattle.set_types.specs.declared.mixed.MixedSet.{MixedSet}
 use Rattle.set_types.specs.declared.mixed.MixedParts.{MixedParts}
 use Rattle.set_types.specs.declared.mixed.MixedField.{MixedField}

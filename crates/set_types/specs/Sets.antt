@@ -11,9 +11,9 @@ use Rattle.oer_spec.specs.Same.{Alike}
 use Rattle.oer_spec.specs.Tree.{Tree, Rows, NoRows, Optional, Struct, Slot}
 use Rattle.oer_read.specs.Components.{slot_of}
 use Rattle.oer_read.specs.SetRows.{found}
-use Rattle.sequence_types.specs.Pairs.{plain_integer}
-use Rattle.sequence_types.specs.Defaults.{option_is, options_alike}
-use Rattle.sequence_types.specs.Tags.{context}
+use Rattle.oer_rows.specs.Integers.{plain_integer}
+use Rattle.oer_rows.specs.Integers.{option_is, options_alike}
+use Rattle.oer_rows.specs.Schema.{context}
 use Rattle.set_types.specs.declared.sets.Foo.{Foo}
 use Rattle.set_types.specs.declared.sets.FooField.{FooField}
 use Rattle.set_types.specs.declared.sets.FooField.TheVariants.{A, B, C}

@@ -1,13 +1,8 @@
 //! Choices that hold a value of another type, in two versions, of which the newer has a further alternative.
 
 use crate::pairs::{OnPair, with_pair};
-use asn1_core::{Choice, Constraints, EncodeError, Tag};
-use oer_choices::{
-    Alternating, AlternativeViews, Alternatives, Context, Extensible, NoMore, Offers, OneOf,
-    from_row, tags, to_row,
-};
-use oer_write::{Encode, Encoder};
 use rasn_oer::Decode;
+use rasn_oer::prelude::*;
 
 /// `CHOICE { inner [0] T, ... }`
 pub type Choice1<T> = OneOf<Choice1Alternatives<T>>;
@@ -69,7 +64,7 @@ impl<T: Decode + Encode> Alternating for Choice1Alternatives<T> {
         constraints: Constraints,
     ) -> Result<(), EncodeError> {
         let view = to_row!(self => Choice1Alternatives: Inner);
-        <Choice1Row<T>>::write::<E>(view, encoder, constraints)
+        <Choice1Row<T>>::write_alternative::<E>(view, encoder, constraints)
     }
 
     ghost apart = { refl };
@@ -106,7 +101,7 @@ impl<T: Decode + Encode> Alternating for Choice2Alternatives<T> {
         constraints: Constraints,
     ) -> Result<(), EncodeError> {
         let view = to_row!(self => Choice2Alternatives: Inner, Added);
-        <Choice2Row<T>>::write::<E>(view, encoder, constraints)
+        <Choice2Row<T>>::write_alternative::<E>(view, encoder, constraints)
     }
 
     ghost apart = { refl };

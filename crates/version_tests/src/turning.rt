@@ -1,6 +1,6 @@
 //! Values of one version as ones of another, and back again.
 
-use crate::nests::{Adding, Holding, Nest};
+use crate::nests::Nest;
 use crate::pairs::OnPair;
 use anyhow::{Error, Result};
 use asn1_core::{Codec, SetOf};
@@ -8,6 +8,7 @@ use oer_write::Encode;
 use rasn_oer::oer::CodecError;
 use rasn_oer::{Decode, coer, oer};
 use std::alloc::Global;
+use version_types::{Adding, Holding};
 
 /// Which version the octets are of.
 #[derive(Clone, Copy, PartialEq, Eq)]

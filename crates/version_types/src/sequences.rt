@@ -1,12 +1,6 @@
 //! A later version of `SEQUENCE { a BOOLEAN, ..., b BOOLEAN OPTIONAL, c BOOLEAN OPTIONAL }`.
 
-use asn1_core::{DecodeError, EncodeError, Field, Fields};
-use asn1_ints::Integer;
-use oer_read::{Decoder, Encoder};
-use oer_rows::{
-    AdditionViews, Additions, Components, Context, Defaults, Extensible, IsNumber, MayAdd,
-    MayAddGroup, MayHave, Needs, NoMore, Rowed, Sequence, Tabled, Views, fields,
-};
+use rasn_oer::prelude::*;
 use std::alloc::Global;
 
 /// `[[ e BOOLEAN OPTIONAL, f INTEGER DEFAULT 0 ]]`, the group of `Sequence7`

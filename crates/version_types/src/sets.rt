@@ -1,13 +1,6 @@
 //! Two versions of a set, each by the row of its components in the order of their tags.
 
-use asn1_core::{EncodeError, Field, Fields};
-use asn1_ints::Integer;
-use asn1_strings::OctetString;
-use oer_read::Encoder;
-use oer_rows::{
-    Application, Components, Context, Defaults, Extensible, InTagOrder, IsNumber, MayAdd, MayHave,
-    Needs, NoMore, Rowed, Set, Tabled, Views, fields,
-};
+use rasn_oer::prelude::*;
 
 /// `SET { z [APPLICATION 1] INTEGER DEFAULT 0, y [1] INTEGER OPTIONAL, x [2] BOOLEAN, ..., n [0] BOOLEAN OPTIONAL }`
 pub type MixSet = Set<MixSetComponents, 3, 1>;

@@ -77,21 +77,17 @@ impl EqualAsSpelled for BitString {
 }
 
 impl EqualAsSpelled for OctetString {
-    ghost use Rattle.std.specs.Prelude.{nat_eq};
-    ghost use Rattle.std.specs.Cmp.Lexicographic.{pointwise};
     ghost use Rattle.asn1_core.specs.Texts.{AnyOctets};
-    ghost use Rattle.oer_spec.specs.Spelled.{beside_nothing, texts_same};
+    ghost use Rattle.oer_spec.specs.Spelled.{texts_same};
 
-    ghost eq_is_same = { λ c k o p i j. beside_nothing (pointwise nat_eq o p) (texts_same AnyOctets c o p) };
+    ghost eq_is_same = { λ c k o p i j. texts_same AnyOctets c o p };
 }
 
 impl EqualAsSpelled for Any {
-    ghost use Rattle.std.specs.Prelude.{nat_eq};
-    ghost use Rattle.std.specs.Cmp.Lexicographic.{pointwise};
     ghost use Rattle.asn1_core.specs.Texts.{AnyOctets};
-    ghost use Rattle.oer_spec.specs.Spelled.{beside_nothing, unsized_texts_same};
+    ghost use Rattle.oer_spec.specs.Spelled.{unsized_texts_same};
 
-    ghost eq_is_same = { λ c k o p i j. beside_nothing (pointwise nat_eq o p) (unsized_texts_same AnyOctets o p) };
+    ghost eq_is_same = { λ c k o p i j. unsized_texts_same AnyOctets o p };
 }
 
 impl EqualAsSpelled for Utf8String {

@@ -8,7 +8,7 @@ use Rattle.oer_read.proofs.Promises.{promise_of_fn, decodes_rear}
 use Rattle.oer_read.proofs.SetCalls.{lent_call, lent_levels}
 use Rattle.oer_read.proofs.SetPromises.{promise_of_field, promise_of_fields}
 use Rattle.oer_read.specs.Law.{Decodes}
-use Rattle.sequence_types.specs.Pairs.{plain_integer, IsWhole}
+use Rattle.oer_rows.specs.Integers.{plain_integer, IsWhole}
 use Rattle.recursive_types.proofs.bushes.+decode_bush.Goals as goal
 
 -- ---- the calls of the set, and its levels

@@ -3,7 +3,7 @@ use Rattle.oer_spec.specs.Spelled.{IsAny}
 use Rattle.choice_types.proofs.Choosing.{context_is}
 use Rattle.recursive_types.proofs.LinkLaw.{links_are_chosen, end_holds, link_only, link_boxed}
 use Rattle.recursive_types.specs.Links.{link_parts, link_rows, link_table, link_tree, link_made, link_choice_tree, link_roots, link_tag, link_child}
-use Rattle.sequence_types.specs.Pairs.{none_of}
+use Rattle.oer_rows.specs.Integers.{none_of}
 use Rattle.oer_read.proofs.Alternatives.{alternative_read, alternative_stops, alternative_made, alternative_refused, alternative_law}
 use Rattle.oer_read.proofs.ChoiceLaw.{choice_law, promise_with}
 use Rattle.oer_read.proofs.Levels.{opened_levels, chosen_levels}

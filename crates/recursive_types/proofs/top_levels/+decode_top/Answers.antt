@@ -3,7 +3,8 @@ use Rattle.oer_spec.specs.Spelled.{IsAny}
 use Rattle.choice_types.proofs.Choosing.{context_is}
 use Rattle.recursive_types.proofs.TopLaw.{tests_are_chosen, null_holds, bool_holds, top_only, top_boxed}
 use Rattle.recursive_types.specs.TopLevels.{top_parts, top_rows, top_tree, top_made, test_tree, test_roots, test_tag, test_child}
-use Rattle.sequence_types.specs.Pairs.{none_of, two_rows}
+use Rattle.oer_rows.specs.Integers.{none_of}
+use Rattle.oer_rows.specs.Integers.{two_rows}
 use Rattle.oer_read.proofs.Alternatives.{alternative_read, alternative_stops, alternative_made, alternative_refused, alternative_law}
 use Rattle.oer_read.proofs.ChoiceLaw.{choice_law, promise_with}
 use Rattle.oer_read.proofs.Levels.{opened_levels, chosen_levels}

@@ -1,6 +1,6 @@
 use Rattle.std.proofs.Common.{◌≡◌, refl}
 use Rattle.set_types.specs.Mixed.{mixed_field_tree, IsMixedAt}
-use Rattle.sequence_types.specs.Pairs.{plain_integer, IsWhole}
+use Rattle.oer_rows.specs.Integers.{plain_integer, IsWhole}
 use Rattle.set_types.specs.declared.mixed.MixedField.TheVariants.{Y}
 use Rattle.set_types.proofs.MixedParts.{y_holds}
 use Rattle.oer_read.proofs.Alternatives.{alternative_read, alternative_stops}

@@ -1,7 +1,7 @@
 use Rattle.std.proofs.Common.{◌≡◌, ◌∙◌, inl, inr, refl, sym, ap, Err}
 use Rattle.asn1_core.specs.declared.codec.Codec.{Codec}
 use Rattle.set_types.specs.Mixed.{mixed_field_tree, IsMixedAt}
-use Rattle.sequence_types.specs.Pairs.{plain_integer, IsWhole}
+use Rattle.oer_rows.specs.Integers.{plain_integer, IsWhole}
 use Rattle.set_types.specs.declared.mixed.MixedField.TheVariants.{Z}
 use Rattle.set_types.proofs.MixedParts.{z_holds}
 use Rattle.oer_read.specs.State.{State}

@@ -1,5 +1,5 @@
 use Rattle.std.proofs.Common.{◌≡◌, refl}
-use Rattle.sequence_types.specs.Pairs.{plain_integer, IsWhole}
+use Rattle.oer_rows.specs.Integers.{plain_integer, IsWhole}
 use Rattle.set_types.specs.Sets.{foo_field_tree, foo_field_at, IsFooAt}
 use Rattle.set_types.proofs.SetParts.{foo_holds}
 use Rattle.oer_read.proofs.Alternatives.{alternative_read, alternative_stops}

@@ -1,7 +1,7 @@
 use Rattle.std.proofs.Common.{refl, [], false}
 use Rattle.oer_spec.specs.Spelled.{IsAny}
 use Rattle.recursive_types.specs.DeepDefaults.{deep_default_parts, deep_default_rows, deep_default_tree, deep_default_made, deep_default_table}
-use Rattle.sequence_types.specs.Pairs.{none_of}
+use Rattle.oer_rows.specs.Integers.{none_of}
 use Rattle.oer_read.proofs.Promises.{promise_of}
 use Rattle.oer_read.proofs.SequenceLaw.{sequence_law}
 use Rattle.oer_read.specs.Parts.{NoParts, ReadsParts}

@@ -1,6 +1,7 @@
 use Rattle.std.proofs.Common.{refl, [], false}
 use Rattle.oer_spec.specs.Spelled.{IsAny}
-use Rattle.sequence_types.specs.Pairs.{pair_parts, pair_rows, none_of, pair_tree, pair_made, two_rows}
+use Rattle.oer_rows.specs.Integers.{none_of, two_rows}
+use Rattle.sequence_types.specs.Pairs.{pair_parts, pair_rows, pair_tree, pair_made}
 use Rattle.oer_read.proofs.Promises.{promise_of}
 use Rattle.oer_read.proofs.SequenceLaw.{sequence_law}
 use Rattle.oer_read.specs.Parts.{NoParts, ReadsParts}

@@ -1,0 +1,166 @@
+//! A sequence of a component with a default, and an optional one.
+ghost use Rattle.oer_spec.specs.Tree.{NoRows};
+ghost use Rattle.oer_read.specs.Parts.{NoParts, ReadsParts};
+ghost use Rattle.oer_write.specs.Rows.{InSequence};
+ghost use Rattle.oer_rows.specs.Integers.{none_of};
+ghost use Rattle.my_closures.specs.Reports.{report_rows, report_parts};
+
+use asn1_core::{
+    AsnType, Class, Constraints, Constructed, DecodeError, EncodeError, Field, FieldPresence,
+    Fields, Tag,
+};
+use asn1_ints::Integer;
+use oer_read::{Decode, Decoder};
+use oer_rows::put_optional;
+use oer_spec::Spelled;
+use oer_write::{Encode, Encoder};
+use std::alloc::Global;
+
+/// `SEQUENCE { urgent BOOLEAN DEFAULT FALSE, number INTEGER OPTIONAL }`
+#[derive(Debug, PartialEq, Eq, Drop)]
+pub struct Report {
+    pub urgent: bool,
+    pub number: Option<Integer>,
+}
+
+const REPORT_FIELDS: &'static [Field<'static>] = &[
+    Field {
+        index: 0,
+        tag: Tag {
+            class: Class::Context,
+            value: 0,
+        },
+        presence: FieldPresence::Default,
+        name: "urgent",
+    },
+    Field {
+        index: 1,
+        tag: Tag {
+            class: Class::Context,
+            value: 1,
+        },
+        presence: FieldPresence::Optional,
+        name: "number",
+    },
+];
+
+impl AsnType for Report {
+    ghost use Rattle.std.specs.Prelude.{refl};
+    ghost use Rattle.asn1_core.specs.declared.tag.TheConstants.Tag.{SEQUENCE};
+    ghost use Rattle.asn1_core.specs.declared.constraints.TheConstants.Constraints.{NONE};
+
+    ghost TAG = { SEQUENCE };
+
+    const TAG: Tag = Tag::SEQUENCE;
+
+    ghost CONSTRAINTS = { NONE };
+
+    const CONSTRAINTS: Constraints = Constraints::NONE;
+
+    ghost consistent = { refl };
+}
+
+impl Constructed<2, 0> for Report {
+    ghost use Rattle.std.specs.Prelude.{false, refl, []};
+    ghost use Rattle.my_closures.specs.Reports.{report_table};
+
+    ghost is_set = { false };
+
+    ghost root_rows = { report_table };
+
+    ghost addition_rows = { [] };
+
+    ghost IS_EXTENSIBLE = { false };
+
+    const IS_EXTENSIBLE: bool = false;
+
+    const FIELDS: Fields<2> = Fields {
+        fields: REPORT_FIELDS,
+    };
+
+    const EXTENDED_FIELDS: Option<Fields<0>> = None;
+
+    fn root_fields() -> &'static [Field<'static>] {
+        Self::FIELDS.fields
+    }
+
+    fn addition_fields() -> &'static [Field<'static>] {
+        match Self::EXTENDED_FIELDS {
+            Some(table) => table.fields,
+            None => &[],
+        }
+    }
+
+    ghost tables = { record { root_count = refl; addition_count = refl; root_indexes = (refl, (refl, tt)); addition_indexes = tt; only = λ e. refl; distinct = λ e. absurd (cc e) } };
+}
+
+impl Spelled for Report {
+    ghost use Rattle.oer_spec.specs.Spelled.{IsAny};
+    ghost use Rattle.my_closures.specs.Reports.{report_tree, report_is, reports_alike};
+
+    ghost tree = { λ c v. report_tree v };
+
+    ghost IsValue = { IsAny };
+
+    ghost is_tree = { λ c k v i. report_is v };
+
+    ghost alike = { λ c k v w i j. reports_alike v w };
+}
+
+impl Encode for Report {
+    #[tactic(auto, unfolding(crate::specs::Reports::report_tree))]
+    fn encode_with_tag_and_constraints(
+        &self,
+        encoder: &mut Encoder<'_>,
+        tag: Tag,
+        _constraints: Constraints,
+    ) -> Result<(), EncodeError> {
+        encoder.encode_sequence::<2, 0, Report, _>(
+            tag,
+            |encoder: &mut Encoder<'_>| -> Result<(), EncodeError>
+                ensures { InSequence (report_rows self.entry.now) NoRows encoder.old result encoder.new }
+            {
+                encoder.encode_default_with_tag_and_constraints(
+                    Tag::new(Class::Context, 0),
+                    bool::CONSTRAINTS,
+                    &self.urgent,
+                    &false,
+                )?;
+                put_optional(encoder, Tag::new(Class::Context, 1), &self.number)?;
+                Ok(())
+            },
+        )
+    }
+}
+
+#[tactic(auto, using(oer_read::proofs::Reading::reading))]
+impl Decode for Report {
+    ghost use Rattle.std.specs.Prelude.{⊤};
+
+    ghost Answered = { λ c s r t. ⊤ };
+
+    fn decode_with_tag_and_constraints(
+        alloc: Global,
+        decoder: &mut Decoder<'_>,
+        tag: Tag,
+        _constraints: Constraints,
+    ) -> Result<Report, DecodeError> {
+        decoder.decode_sequence::<2, 0, Report, _>(
+            tag,
+            |decoder: &mut Decoder<'_>| -> Result<Report, DecodeError>
+                ensures { ReadsParts report_parts NoParts report_rows none_of decoder.old result decoder.new }
+            {
+                let urgent = decoder.decode_default_with_tag::<bool>(
+                    alloc,
+                    Tag::new(Class::Context, 0),
+                    false,
+                )?;
+                let number = decoder.decode_optional_with_tag::<Integer>(
+                    alloc,
+                    Tag::new(Class::Context, 1),
+                )?;
+                Ok(Report { urgent, number })
+            },
+        )
+    }
+}

@@ -1,0 +1,106 @@
+//! An extensible sequence: an addition, and a group.
+
+use rasn_oer::prelude::*;
+
+/// `SEQUENCE { last BOOLEAN, count INTEGER (0..65535) OPTIONAL }`, which stands as a group in `Notice`
+pub type Closing = Sequence<ClosingComponents, 2, 0>;
+
+/// The components of a `Closing`.
+#[derive(Debug, PartialEq, Eq, Drop)]
+pub struct ClosingComponents {
+    pub last: bool,
+    pub count: Option<u16>,
+}
+
+type ClosingRow = Needs<Context<2>, bool, MayHave<Context<3>, u16, NoMore>>;
+
+impl Rowed for ClosingComponents {
+    type Row = ClosingRow;
+
+    ghost components = { λ v. (v.last, (v.count, tt)) };
+
+    fn from_row((last, (count, ())): <ClosingRow as Components>::Values) -> ClosingComponents {
+        ClosingComponents { last, count }
+    }
+}
+
+impl Tabled<2, 0> for ClosingComponents {
+    ghost use Rattle.std.specs.Prelude.{refl};
+
+    const FIELDS: Fields<2> = Fields {
+        fields: fields![0 Required Context 2 "last", 1 Optional Context 3 "count"],
+    };
+
+    const EXTENDED_FIELDS: Option<Fields<0>> = None;
+
+    fn root_fields() -> &'static [Field<'static>] {
+        Self::FIELDS.fields
+    }
+
+    fn addition_fields() -> &'static [Field<'static>] {
+        match Self::EXTENDED_FIELDS {
+            Some(table) => table.fields,
+            None => &[],
+        }
+    }
+
+    fn put(&self, encoder: &mut Encoder<'_>) -> Result<(), EncodeError> {
+        ClosingRow::write((&self.last, (&self.count, ())), encoder)
+    }
+
+    ghost counts = { (refl, refl) };
+}
+
+/// `SEQUENCE { ok BOOLEAN, ..., level INTEGER OPTIONAL, [[ last BOOLEAN, count INTEGER (0..65535) OPTIONAL ]] }`
+pub type Notice = Sequence<NoticeComponents, 1, 2>;
+
+/// The components of a `Notice`.
+#[derive(Debug, PartialEq, Eq, Drop)]
+pub struct NoticeComponents {
+    pub ok: bool,
+    pub level: Option<Integer>,
+    pub closing: Option<Closing>,
+}
+
+type NoticeRow = Needs<Context<0>, bool, Extensible<NoticeAdditions>>;
+
+type NoticeAdditions = MayAdd<Context<1>, Integer, MayAddGroup<2, 0, Closing, NoMore>>;
+
+impl Rowed for NoticeComponents {
+    type Row = NoticeRow;
+
+    ghost components = { λ v. (v.ok, (v.level, (v.closing, tt))) };
+
+    fn from_row(row: <NoticeRow as Components>::Values) -> NoticeComponents {
+        built![NoticeComponents from row: ok, level, closing]
+    }
+}
+
+impl Tabled<1, 2> for NoticeComponents {
+    ghost use Rattle.std.specs.Prelude.{refl};
+
+    const FIELDS: Fields<1> = Fields {
+        fields: fields![0 Required Context 0 "ok"],
+    };
+
+    const EXTENDED_FIELDS: Option<Fields<2>> = Some(Fields {
+        fields: fields![0 Optional Context 1 "level", 1 Optional Universal 16 "closing"],
+    });
+
+    fn root_fields() -> &'static [Field<'static>] {
+        Self::FIELDS.fields
+    }
+
+    fn addition_fields() -> &'static [Field<'static>] {
+        match Self::EXTENDED_FIELDS {
+            Some(table) => table.fields,
+            None => &[],
+        }
+    }
+
+    fn put(&self, encoder: &mut Encoder<'_>) -> Result<(), EncodeError> {
+        NoticeRow::write(views![self: ok, level, closing], encoder)
+    }
+
+    ghost counts = { (refl, refl) };
+}

@@ -1,0 +1,52 @@
+//! A sequence of a component with a default, and an optional one.
+
+use rasn_oer::prelude::*;
+
+/// `SEQUENCE { urgent BOOLEAN DEFAULT FALSE, number INTEGER OPTIONAL }`
+pub type Report = Sequence<ReportComponents, 2, 0>;
+
+/// The components of a `Report`.
+#[derive(Debug, PartialEq, Eq, Drop)]
+pub struct ReportComponents {
+    pub urgent: bool,
+    pub number: Option<Integer>,
+}
+
+type ReportRow = Defaults<Context<0>, bool, IsFalse, MayHave<Context<1>, Integer, NoMore>>;
+
+impl Rowed for ReportComponents {
+    type Row = ReportRow;
+
+    ghost components = { λ v. (v.urgent, (v.number, tt)) };
+
+    fn from_row((urgent, (number, ())): <ReportRow as Components>::Values) -> ReportComponents {
+        ReportComponents { urgent, number }
+    }
+}
+
+impl Tabled<2, 0> for ReportComponents {
+    ghost use Rattle.std.specs.Prelude.{refl};
+
+    const FIELDS: Fields<2> = Fields {
+        fields: fields![0 Default Context 0 "urgent", 1 Optional Context 1 "number"],
+    };
+
+    const EXTENDED_FIELDS: Option<Fields<0>> = None;
+
+    fn root_fields() -> &'static [Field<'static>] {
+        Self::FIELDS.fields
+    }
+
+    fn addition_fields() -> &'static [Field<'static>] {
+        match Self::EXTENDED_FIELDS {
+            Some(table) => table.fields,
+            None => &[],
+        }
+    }
+
+    fn put(&self, encoder: &mut Encoder<'_>) -> Result<(), EncodeError> {
+        ReportRow::write((&self.urgent, (&self.number, ())), encoder)
+    }
+
+    ghost counts = { (refl, refl) };
+}

@@ -1,0 +1,59 @@
+//! A choice by the row of its alternatives.
+
+use rasn_oer::prelude::*;
+
+/// `CHOICE { busy BOOLEAN, level INTEGER, ..., count INTEGER (0..65535) }`
+pub type Signal = OneOf<SignalAlternatives>;
+
+/// The alternatives of a `Signal`.
+#[derive(Debug, PartialEq, Eq, Drop)]
+pub enum SignalAlternatives {
+    Busy(bool),
+    Level(Integer),
+    Count(u16),
+}
+
+type SignalRow = Offers<Context<0>, bool, Offers<Context<1>, Integer, SignalAdditions>>;
+
+type SignalAdditions = Extensible<Offers<Context<2>, u16, NoMore>>;
+
+const SIGNAL_ROOTS: &'static [Tag] = tags![Context 0, Context 1];
+
+const SIGNAL_ADDITIONS: &'static [Tag] = tags![Context 2];
+
+impl Alternating for SignalAlternatives {
+    ghost use Rattle.std.specs.Prelude.{refl};
+    ghost use Rattle.rasn_oer.specs.Alternative.{First, Rest};
+    ghost use Rattle.my_types.specs.declared.signals.SignalAlternatives.TheVariants.{Busy, Level, Count};
+
+    type Row = SignalRow;
+
+    ghost alternative = { elim [ Busy b ↦ First b | Level n ↦ Rest (First n) | Count n ↦ Rest (Rest (First n)) ] };
+
+    const VARIANTS: &'static [Tag] = SIGNAL_ROOTS;
+
+    const EXTENDED_VARIANTS: Option<&'static [Tag]> = Some(SIGNAL_ADDITIONS);
+
+    fn root_tags() -> &'static [Tag] {
+        Self::VARIANTS
+    }
+
+    fn addition_tags() -> Option<&'static [Tag]> {
+        Self::EXTENDED_VARIANTS
+    }
+
+    fn from_alternative(value: <SignalRow as Alternatives>::Values) -> SignalAlternatives {
+        from_row!(value => SignalAlternatives: Busy, Level, Count)
+    }
+
+    fn put<E: Choice>(
+        &self,
+        encoder: &mut Encoder<'_>,
+        constraints: Constraints,
+    ) -> Result<(), EncodeError> {
+        let view = to_row!(self => SignalAlternatives: Busy, Level, Count);
+        SignalRow::write_alternative::<E>(view, encoder, constraints)
+    }
+
+    ghost apart = { refl };
+}

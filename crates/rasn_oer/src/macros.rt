@@ -1,0 +1,82 @@
+//! What a type by its row writes in fewer words: its tables, and the pairs and alternatives of its row.
+
+/// A table of components: the index, the need, the tag's class and number, and the name of each.
+#[macro_export]
+macro_rules! fields {
+    ($($index:literal $presence:ident $class:ident $number:literal $name:literal),*) => {
+        &[$($crate::Field {
+            index: $index,
+            tag: $crate::Tag { class: $crate::Class::$class, value: $number },
+            presence: $crate::FieldPresence::$presence,
+            name: $name,
+        }),*]
+    };
+}
+
+/// The nested pairs of a row's values: `pairs![a, b]` is `(a, (b, ()))`, as a pattern and as an expression.
+#[macro_export]
+macro_rules! pairs {
+    () => { () };
+    ($first:ident $(, $rest:ident)*) => { ($first, $crate::pairs![$($rest),*]) };
+}
+
+/// References to the fields of a struct as a row has them: `views![self: a, b]` is `(&self.a, (&self.b, ()))`.
+#[macro_export]
+macro_rules! views {
+    ($of:ident:) => { () };
+    ($of:ident: $first:ident $(, $rest:ident)*) => { (&$of.$first, $crate::views![$of: $($rest),*]) };
+}
+
+/// The struct of a row's values: `built![T from row: a, b]` is `T { a, b }`, each field by its name.
+#[macro_export]
+macro_rules! built {
+    ($made:ident from $row:ident: $($name:ident),*) => {{
+        let $crate::pairs![$($name),*] = $row;
+        $made { $($name),* }
+    }};
+}
+
+/// A table of alternatives: the class and the number of the tag of each.
+#[macro_export]
+macro_rules! tags {
+    ($($class:ident $number:literal),*) => {
+        &[$($crate::Tag { class: $crate::Class::$class, value: $number }),*]
+    };
+}
+
+/// The value of an enum that a row's value is: `from_row!(value => Alternatives: A, B)`.
+#[macro_export]
+macro_rules! from_row {
+    ($value:expr => $choice:ident: ) => {
+        match $value {}
+    };
+    ($value:expr => $choice:ident: $first:ident $(, $more:ident)*) => {
+        match $value {
+            $crate::Either::First(value) => $choice::$first(value),
+            $crate::Either::Rest(rest) => $crate::from_row!(rest => $choice: $($more),*),
+        }
+    };
+}
+
+/// The view of a reference to an enum, by which its row writes it: `to_row!(self => Alternatives: A, B)`.
+#[macro_export]
+macro_rules! to_row {
+    (@at $value:ident) => {
+        $crate::Either::First($value)
+    };
+    (@at $value:ident Rest $($more:ident)*) => {
+        $crate::Either::Rest($crate::to_row!(@at $value $($more)*))
+    };
+    (@arms $value:tt $choice:ident [$($arms:tt)*] [$($rests:ident)*] ) => {
+        match $value { $($arms)* }
+    };
+    (@arms $value:tt $choice:ident [$($arms:tt)*] [$($rests:ident)*] $first:ident $($more:ident)*) => {
+        $crate::to_row!(@arms $value $choice
+            [$($arms)* $choice::$first(value) => $crate::to_row!(@at value $($rests)*),]
+            [$($rests)* Rest]
+            $($more)*)
+    };
+    ($value:tt => $choice:ident: $($name:ident),*) => {
+        $crate::to_row!(@arms $value $choice [] [] $($name)*)
+    };
+}

@@ -1,0 +1,267 @@
+//! Sequences of root components by their rows: required, optional and with defaults.
+
+use crate::components;
+use crate::pairs::Pair;
+use rasn_oer::prelude::*;
+
+/// `SEQUENCE { a BOOLEAN, b Pair }`
+pub type Nested = Sequence<components::Nested, 2, 0>;
+
+type NestedRow = Needs<Context<0>, bool, Needs<Context<1>, Pair, NoMore>>;
+
+impl Rowed for components::Nested {
+    type Row = NestedRow;
+
+    ghost components = { λ v. (v.a, (v.b, tt)) };
+
+    fn from_row((a, (b, ())): <NestedRow as Components>::Values) -> components::Nested {
+        components::Nested { a, b }
+    }
+}
+
+impl Tabled<2, 0> for components::Nested {
+    ghost use Rattle.std.specs.Prelude.{refl};
+
+    const FIELDS: Fields<2> = Fields {
+        fields: fields![0 Required Context 0 "a", 1 Required Context 1 "b"],
+    };
+
+    const EXTENDED_FIELDS: Option<Fields<0>> = None;
+
+    fn root_fields() -> &'static [Field<'static>] {
+        Self::FIELDS.fields
+    }
+
+    fn addition_fields() -> &'static [Field<'static>] {
+        match Self::EXTENDED_FIELDS {
+            Some(table) => table.fields,
+            None => &[],
+        }
+    }
+
+    fn put(&self, encoder: &mut Encoder<'_>) -> Result<(), EncodeError> {
+        NestedRow::write((&self.a, (&self.b, ())), encoder)
+    }
+
+    ghost counts = { (refl, refl) };
+}
+
+/// `SEQUENCE { }`
+pub type Empty = Sequence<components::Empty, 0, 0>;
+
+type EmptyRow = NoMore;
+
+impl Rowed for components::Empty {
+    type Row = EmptyRow;
+
+    ghost components = { λ v. tt };
+
+    fn from_row((): <EmptyRow as Components>::Values) -> components::Empty {
+        components::Empty {}
+    }
+}
+
+impl Tabled<0, 0> for components::Empty {
+    ghost use Rattle.std.specs.Prelude.{refl};
+
+    const FIELDS: Fields<0> = Fields { fields: fields![] };
+
+    const EXTENDED_FIELDS: Option<Fields<0>> = None;
+
+    fn root_fields() -> &'static [Field<'static>] {
+        Self::FIELDS.fields
+    }
+
+    fn addition_fields() -> &'static [Field<'static>] {
+        match Self::EXTENDED_FIELDS {
+            Some(table) => table.fields,
+            None => &[],
+        }
+    }
+
+    fn put(&self, encoder: &mut Encoder<'_>) -> Result<(), EncodeError> {
+        EmptyRow::write((), encoder)
+    }
+
+    ghost counts = { (refl, refl) };
+}
+
+/// `SEQUENCE { a INTEGER DEFAULT 0 }`
+pub type DefaultInteger = Sequence<components::DefaultInteger, 1, 0>;
+
+type DefaultIntegerRow = Defaults<Context<0>, Integer, IsNumber<0>, NoMore>;
+
+impl Rowed for components::DefaultInteger {
+    type Row = DefaultIntegerRow;
+
+    ghost components = { λ v. (v.a, tt) };
+
+    fn from_row((a, ()): <DefaultIntegerRow as Components>::Values) -> components::DefaultInteger {
+        components::DefaultInteger { a }
+    }
+}
+
+impl Tabled<1, 0> for components::DefaultInteger {
+    ghost use Rattle.std.specs.Prelude.{refl};
+
+    const FIELDS: Fields<1> = Fields {
+        fields: fields![0 Default Context 0 "a"],
+    };
+
+    const EXTENDED_FIELDS: Option<Fields<0>> = None;
+
+    fn root_fields() -> &'static [Field<'static>] {
+        Self::FIELDS.fields
+    }
+
+    fn addition_fields() -> &'static [Field<'static>] {
+        match Self::EXTENDED_FIELDS {
+            Some(table) => table.fields,
+            None => &[],
+        }
+    }
+
+    fn put(&self, encoder: &mut Encoder<'_>) -> Result<(), EncodeError> {
+        DefaultIntegerRow::write((&self.a, ()), encoder)
+    }
+
+    ghost counts = { (refl, refl) };
+}
+
+/// `SEQUENCE { a INTEGER DEFAULT 0, b INTEGER OPTIONAL }`
+pub type DefaultAndOptional = Sequence<components::DefaultAndOptional, 2, 0>;
+
+type DefaultAndOptionalRow = Defaults<
+    Context<0>,
+    Integer,
+    IsNumber<0>,
+    MayHave<Context<1>, Integer, NoMore>,
+>;
+
+impl Rowed for components::DefaultAndOptional {
+    type Row = DefaultAndOptionalRow;
+
+    ghost components = { λ v. (v.a, (v.b, tt)) };
+
+    fn from_row(
+        (a, (b, ())): <DefaultAndOptionalRow as Components>::Values,
+    ) -> components::DefaultAndOptional {
+        components::DefaultAndOptional { a, b }
+    }
+}
+
+impl Tabled<2, 0> for components::DefaultAndOptional {
+    ghost use Rattle.std.specs.Prelude.{refl};
+
+    const FIELDS: Fields<2> = Fields {
+        fields: fields![0 Default Context 0 "a", 1 Optional Context 1 "b"],
+    };
+
+    const EXTENDED_FIELDS: Option<Fields<0>> = None;
+
+    fn root_fields() -> &'static [Field<'static>] {
+        Self::FIELDS.fields
+    }
+
+    fn addition_fields() -> &'static [Field<'static>] {
+        match Self::EXTENDED_FIELDS {
+            Some(table) => table.fields,
+            None => &[],
+        }
+    }
+
+    fn put(&self, encoder: &mut Encoder<'_>) -> Result<(), EncodeError> {
+        DefaultAndOptionalRow::write((&self.a, (&self.b, ())), encoder)
+    }
+
+    ghost counts = { (refl, refl) };
+}
+
+/// `SEQUENCE { a INTEGER DEFAULT 0, b INTEGER DEFAULT 1 }`
+pub type AllDefault = Sequence<components::AllDefault, 2, 0>;
+
+type AllDefaultRow = Defaults<
+    Context<0>,
+    Integer,
+    IsNumber<0>,
+    Defaults<Context<1>, Integer, IsNumber<1>, NoMore>,
+>;
+
+impl Rowed for components::AllDefault {
+    type Row = AllDefaultRow;
+
+    ghost components = { λ v. (v.a, (v.b, tt)) };
+
+    fn from_row((a, (b, ())): <AllDefaultRow as Components>::Values) -> components::AllDefault {
+        components::AllDefault { a, b }
+    }
+}
+
+impl Tabled<2, 0> for components::AllDefault {
+    ghost use Rattle.std.specs.Prelude.{refl};
+
+    const FIELDS: Fields<2> = Fields {
+        fields: fields![0 Default Context 0 "a", 1 Default Context 1 "b"],
+    };
+
+    const EXTENDED_FIELDS: Option<Fields<0>> = None;
+
+    fn root_fields() -> &'static [Field<'static>] {
+        Self::FIELDS.fields
+    }
+
+    fn addition_fields() -> &'static [Field<'static>] {
+        match Self::EXTENDED_FIELDS {
+            Some(table) => table.fields,
+            None => &[],
+        }
+    }
+
+    fn put(&self, encoder: &mut Encoder<'_>) -> Result<(), EncodeError> {
+        AllDefaultRow::write((&self.a, (&self.b, ())), encoder)
+    }
+
+    ghost counts = { (refl, refl) };
+}
+
+/// `SEQUENCE { a INTEGER OPTIONAL, b INTEGER OPTIONAL }`
+pub type AllOptional = Sequence<components::AllOptional, 2, 0>;
+
+type AllOptionalRow = MayHave<Context<0>, Integer, MayHave<Context<1>, Integer, NoMore>>;
+
+impl Rowed for components::AllOptional {
+    type Row = AllOptionalRow;
+
+    ghost components = { λ v. (v.a, (v.b, tt)) };
+
+    fn from_row((a, (b, ())): <AllOptionalRow as Components>::Values) -> components::AllOptional {
+        components::AllOptional { a, b }
+    }
+}
+
+impl Tabled<2, 0> for components::AllOptional {
+    ghost use Rattle.std.specs.Prelude.{refl};
+
+    const FIELDS: Fields<2> = Fields {
+        fields: fields![0 Optional Context 0 "a", 1 Optional Context 1 "b"],
+    };
+
+    const EXTENDED_FIELDS: Option<Fields<0>> = None;
+
+    fn root_fields() -> &'static [Field<'static>] {
+        Self::FIELDS.fields
+    }
+
+    fn addition_fields() -> &'static [Field<'static>] {
+        match Self::EXTENDED_FIELDS {
+            Some(table) => table.fields,
+            None => &[],
+        }
+    }
+
+    fn put(&self, encoder: &mut Encoder<'_>) -> Result<(), EncodeError> {
+        AllOptionalRow::write((&self.a, (&self.b, ())), encoder)
+    }
+
+    ghost counts = { (refl, refl) };
+}

@@ -1,0 +1,100 @@
+//! Types that hold a value of any other: a sequence, and a sequence that holds it as an addition.
+
+use rasn_oer::prelude::*;
+
+/// `SEQUENCE { inner T }`
+pub type Holding<T> = Sequence<HoldingComponents<T>, 1, 0>;
+
+/// The components of a `Holding`.
+#[derive(Debug, PartialEq, Eq, Drop)]
+pub struct HoldingComponents<T> {
+    pub inner: T,
+}
+
+type HoldingRow<T> = Needs<Context<0>, T, NoMore>;
+
+const INNER_FIELDS: &'static [Field<'static>] = fields![0 Required Context 0 "inner"];
+
+impl<T: Decode + Encode> Rowed for HoldingComponents<T> {
+    type Row = HoldingRow<T>;
+
+    ghost components = { λ v. (v.inner, tt) };
+
+    fn from_row((inner, ()): <HoldingRow<T> as Components>::Values) -> HoldingComponents<T> {
+        HoldingComponents { inner }
+    }
+}
+
+impl<T: Decode + Encode> Tabled<1, 0> for HoldingComponents<T> {
+    ghost use Rattle.std.specs.Prelude.{refl};
+
+    const FIELDS: Fields<1> = Fields {
+        fields: INNER_FIELDS,
+    };
+
+    const EXTENDED_FIELDS: Option<Fields<0>> = None;
+
+    fn root_fields() -> &'static [Field<'static>] {
+        INNER_FIELDS
+    }
+
+    fn addition_fields() -> &'static [Field<'static>] {
+        &[]
+    }
+
+    fn put(&self, encoder: &mut Encoder<'_>) -> Result<(), EncodeError> {
+        <HoldingRow<T>>::write((&self.inner, ()), encoder)
+    }
+
+    ghost counts = { (refl, refl) };
+}
+
+/// `SEQUENCE { ok BOOLEAN, ..., inner T OPTIONAL }`
+pub type Adding<T> = Sequence<AddingComponents<T>, 1, 1>;
+
+/// The components of an `Adding`.
+#[derive(Debug, PartialEq, Eq, Drop)]
+pub struct AddingComponents<T> {
+    pub ok: bool,
+    pub inner: Option<T>,
+}
+
+type AddingRow<T> = Needs<Context<0>, bool, Extensible<MayAdd<Context<1>, T, NoMore>>>;
+
+const OK_FIELDS: &'static [Field<'static>] = fields![0 Required Context 0 "ok"];
+
+const INNER_ADDITIONS: &'static [Field<'static>] = fields![0 Optional Context 1 "inner"];
+
+impl<T: Decode + Encode> Rowed for AddingComponents<T> {
+    type Row = AddingRow<T>;
+
+    ghost components = { λ v. (v.ok, (v.inner, tt)) };
+
+    fn from_row((ok, (inner, ())): <AddingRow<T> as Components>::Values) -> AddingComponents<T> {
+        AddingComponents { ok, inner }
+    }
+}
+
+impl<T: Decode + Encode> Tabled<1, 1> for AddingComponents<T> {
+    ghost use Rattle.std.specs.Prelude.{refl};
+
+    const FIELDS: Fields<1> = Fields { fields: OK_FIELDS };
+
+    const EXTENDED_FIELDS: Option<Fields<1>> = Some(Fields {
+        fields: INNER_ADDITIONS,
+    });
+
+    fn root_fields() -> &'static [Field<'static>] {
+        OK_FIELDS
+    }
+
+    fn addition_fields() -> &'static [Field<'static>] {
+        INNER_ADDITIONS
+    }
+
+    fn put(&self, encoder: &mut Encoder<'_>) -> Result<(), EncodeError> {
+        <AddingRow<T>>::write((&self.ok, (&self.inner, ())), encoder)
+    }
+
+    ghost counts = { (refl, refl) };
+}
