@@ -87,7 +87,7 @@ ROWS = [
     Row("date", "08" + hexed("20240229"), "Date { value: 2024-02-29 }"),
     Row("date", "08" + hexed("20230229"), "InvalidTime"),
     # a set with an addition
-    Row("mixset", "e0 01 03 01 05 ff 02 07 80 01 00", f"MixSetComponents {{ x: true, y: Some({number(5)}), z: {number(3)}, n: Some(false) }}"),
+    Row("mixset", "e0 01 03 01 05 ff 02 07 80 01 00", f"MixedSet {{ x: true, y: Some({number(5)}), z: {number(3)}, n: Some(false) }}"),
     # what those don't reach
     Row("bool", "ff", "true"),
     Row("octets", "03 61 62 63", octets("abc")),
@@ -125,11 +125,11 @@ ROWS = [
     Row("bag3", "01 02 80 00 02 04 20 02 01 01 80 00 02 04 80 01 ff", "SetOf { items: [%s, %s] }" % (
         f"Sequence7Components {{ a: false, b: None, c: None, d: Some({number(1)}), group: None }}",
         "Sequence7Components { a: false, b: Some(true), c: None, d: None, group: None }")),
-    Row("mixset", f"60 {G} {G} ff", f"MixSetComponents {{ x: true, y: Some({number(GREAT)}), z: {number(GREAT)}, n: None }}"),
+    Row("mixset", f"60 {G} {G} ff", f"MixedSet {{ x: true, y: Some({number(GREAT)}), z: {number(GREAT)}, n: None }}"),
     Row("mixset2", "e0 01 03 01 05 ff 02 06 c0 01 00 02 01 61",
-        f"MixSet2Components {{ x: true, y: Some({number(5)}), z: {number(3)}, n: Some(false), m: Some({octets('a')}) }}"),
+        f"MixedSet2 {{ x: true, y: Some({number(5)}), z: {number(3)}, n: Some(false), m: Some({octets('a')}) }}"),
     Row("mixset2", f"e0 {G} {G} ff 02 06 40 02 01 61",
-        f"MixSet2Components {{ x: true, y: Some({number(GREAT)}), z: {number(GREAT)}, n: None, m: Some({octets('a')}) }}"),
+        f"MixedSet2 {{ x: true, y: Some({number(GREAT)}), z: {number(GREAT)}, n: None, m: Some({octets('a')}) }}"),
     # components that take memory, of each kind of scope
     Row("MixedSet", f"60 {G} {G} ff", f"MixedSet {{ x: true, y: Some({number(GREAT)}), z: {number(GREAT)}, n: None }}"),
     Row("foo", f"e0 {G} 01 06 01 05", f"Foo {{ a: Some({number(5)}), b: Some({number(6)}), c: Some({number(GREAT)}) }}"),
@@ -384,7 +384,7 @@ def values():
 # what no case calls by its own word: a row that goes through it, with a request for memory in it
 THROUGH = {
     "decode_sequence": ("defopt", f"c0 {G} {G}"),
-    "decode_set": ("MixedSet", f"60 {G} {G} ff"),
+    "decode_set": ("foo", f"e0 {G} 01 06 01 05"),
     "decode_choice_with": ("Link", f"80 {G} 81 80 01 02 80 ff"),
     "decode_sequence_of_with": ("Bush", f"{G} 01 01 01 ff 01 00"),
     "decode_extension_addition_group": ("seq7", f"80 ff 02 04 30 {OPEN_G} 81 83 40 {G}"),

@@ -4,7 +4,7 @@ ghost use Rattle.oer_read.specs.Law.{IsRear};
 
 use asn1_core::{AsnType, Class, DecodeError, DecodeErrorKind, Tag};
 use asn1_ints::Integer;
-use oer_types::{AllOptional, MixedSet, Pair, Sequence, Sequence1, components};
+use oer_types::{AllOptional, Foo, MixedSet, Pair, Sequence, Sequence1, Set, components};
 use rasn_oer::{Decode, Decoder, DecoderOptions};
 use std::alloc::Global;
 use std::process::Abort;
@@ -105,7 +105,7 @@ fn no_addition_is_asked_past_the_table(rt: HostRuntime) -> Result<(), Fail> {
     Ok(())
 }
 
-/// Reads a component of a mixed set, and answers by which index and tag it was asked.
+/// Reads a component of a set, and answers by which index and tag it was asked.
 fn asked_by(
     alloc: Global,
     decoder: &mut Decoder<'_>,
@@ -114,9 +114,9 @@ fn asked_by(
 ) -> Result<(usize, Tag), DecodeError>
     ensures { OnOk result (IsRear decoder.old.input decoder.new.input) }
 {
-    match index {
-        0 => pass_boolean(alloc, decoder)?,
-        3 => {
+    match (tag.class, tag.value) {
+        (Class::Context, 2) => pass_boolean(alloc, decoder)?,
+        (Class::Context, 0) => {
             let _addition = addition(alloc, decoder, tag)?;
         }
         _ => pass_integer(alloc, decoder)?,
@@ -135,11 +135,35 @@ fn calls_of(alloc: Global, decoder: &mut Decoder<'_>) -> Result<Vec<(usize, Tag)
         { asked_by(alloc, inner, index, tag) },
         |fields: Vec<(usize, Tag)>| -> Result<MixedSet, DecodeError> {
             calls = fields;
-            Ok(MixedSet {
+            Ok(Set(components::MixedSet {
                 x: true,
                 y: None,
                 z: Integer::from_i128(0),
                 n: None,
+            }))
+        },
+    )?;
+    Ok(calls)
+}
+
+/// By which indexes and tags the closure of a set whose table isn't in the order of its tags is asked.
+fn calls_of_foo(
+    alloc: Global,
+    decoder: &mut Decoder<'_>,
+) -> Result<Vec<(usize, Tag)>, DecodeError> {
+    let mut calls = Vec::new(alloc);
+    let _set = decoder.decode_set::<3, 0, (usize, Tag), Foo, _, _>(
+        alloc,
+        Tag::SET,
+        |inner: &mut Decoder<'_>, index: usize, tag: Tag| -> Result<(usize, Tag), DecodeError>
+            ensures { OnOk result (IsRear inner.old.input inner.new.input) }
+        { asked_by(alloc, inner, index, tag) },
+        |fields: Vec<(usize, Tag)>| -> Result<Foo, DecodeError> {
+            calls = fields;
+            Ok(Foo {
+                a: None,
+                b: None,
+                c: None,
             })
         },
     )?;
@@ -148,11 +172,28 @@ fn calls_of(alloc: Global, decoder: &mut Decoder<'_>) -> Result<Vec<(usize, Tag)
 
 #[test]
 fn components_of_a_set_are_read_in_the_order_of_their_tags(rt: HostRuntime) -> Result<(), Fail> {
+    let octets = [0xe0, 1, 7, 1, 6, 1, 5];
+    let expected = [
+        (2, Tag::new(Class::Application, 9)),
+        (1, Tag::new(Class::Context, 5)),
+        (0, Tag::new(Class::Context, 444)),
+    ];
+    for options in [DecoderOptions::oer(), DecoderOptions::coer()] {
+        let mut decoder = Decoder::new(&octets, options);
+        let calls = calls_of_foo(rt.alloc(), &mut decoder)?;
+        assert_eq!(rt; calls.as_slice(), expected.as_slice());
+        assert!(rt; decoder.remaining().is_empty());
+    }
+    Ok(())
+}
+
+#[test]
+fn additions_of_a_set_are_asked_behind_its_roots(rt: HostRuntime) -> Result<(), Fail> {
     let octets = [0xe0, 1, 3, 1, 5, 0xff, 2, 7, 0x80, 1, 0];
     let expected = [
-        (2, Tag::new(Class::Application, 1)),
+        (0, Tag::new(Class::Application, 1)),
         (1, Tag::new(Class::Context, 1)),
-        (0, Tag::new(Class::Context, 2)),
+        (2, Tag::new(Class::Context, 2)),
         (3, Tag::new(Class::Context, 0)),
     ];
     for options in [DecoderOptions::oer(), DecoderOptions::coer()] {

@@ -25,3 +25,5 @@ mod sets;
 mod surface;
 #[cfg(test)]
 mod tables;
+#[cfg(test)]
+mod types;

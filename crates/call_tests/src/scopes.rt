@@ -7,7 +7,7 @@ ghost use Rattle.oer_write.specs.Rows.{InSequence};
 ghost use Rattle.oer_write.specs.Written.{WritesTree};
 ghost use Rattle.oer_read.specs.Law.{IsRear};
 ghost use Rattle.oer_rows.specs.Integers.{plain_integer};
-ghost use Rattle.sequence_types.specs.Pairs.{pair_rows};
+ghost use Rattle.oer_types.specs.Pairs.{pair_rows};
 
 use asn1_core::{Class, Codec, Constraints, DecodeError, DecodeErrorKind, EncodeError, SetOf, Tag};
 use asn1_ints::Integer;

@@ -7,9 +7,9 @@ ghost use Rattle.oer_write.specs.Rows.{InSequence, InSet};
 ghost use Rattle.oer_write.specs.Written.{WritesTree};
 ghost use Rattle.oer_rows.specs.Integers.{integer_unless};
 ghost use Rattle.oer_rows.specs.Integers.{plain_integer};
-ghost use Rattle.sequence_types.specs.Pairs.{pair_rows};
+ghost use Rattle.oer_types.specs.Pairs.{pair_rows};
 ghost use Rattle.oer_rows.specs.Schema.{context};
-ghost use Rattle.set_types.specs.Sets.{application};
+ghost use Rattle.oer_types.specs.Sets.{application};
 
 use crate::encoding::Done;
 use crate::entry::one;

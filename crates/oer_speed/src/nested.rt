@@ -2,9 +2,8 @@
 
 use anyhow::Result;
 use asn1_ints::Integer;
-use oer_types::{Link, LinkChoice, Sequence};
+use oer_types::{Adding, AddingComponents, Link, LinkChoice, Sequence};
 use std::alloc::Global;
-use version_types::{Adding, AddingComponents};
 
 /// The number in a sequence that ends in a boolean, within further sequences that end in a choice of the next; `depth` in all.
 pub(crate) fn linked(alloc: Global, number: Option<Integer>, depth: u32) -> Result<Link> {

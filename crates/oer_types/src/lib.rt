@@ -1,49 +1,60 @@
-//! Types of messages, by rows, by lists of values and by hand: each states its tree, and keeps the laws of writing and reading.
+//! Types of messages, by rows, by lists of values and by closures: each states its tree, and keeps the laws of writing and
+//! reading.
 #![tactic(auto)]
 
+mod bushes;
+mod choices;
+pub mod components;
 mod constrained;
+mod deep_defaults;
 mod enums;
+mod extended;
+mod extensible;
+mod extension_defaults;
+mod groups;
+mod holders;
+mod links;
+mod many;
+mod mixed;
+mod mixed_sets;
+mod nests;
+mod octet_additions;
+mod pairs;
 mod ranges;
+mod required_additions;
+mod sequences;
+mod sets;
+mod top_levels;
+mod versions;
+mod wide_choice;
 mod wrappers;
 
-/// The components of each sequence that is written by its row.
-pub mod components {
-    pub use extensible_types::components::{
-        AddDef, EmptyExtensible, Holder1, Holder2, Outer, Sequence1, Sequence2, Sequence5,
-    };
-    pub use group_types::components::{
-        Group6, Omitted, Sequence3, Sequence4, Sequence6, SequenceDuplicatesExtended,
-    };
-    pub use long_types::components::{ExtendedOptional, ManyOptional};
-    pub use sequence_types::components::{
-        AllDefault, AllOptional, DefaultAndOptional, DefaultInteger, Empty, Nested,
-    };
-
-    /// The components of a `ConstrainedOptions`.
-    #[derive(Debug, PartialEq, Eq, Drop)]
-    pub struct ConstrainedOptions {
-        pub a: Option<crate::wrappers::HashedId3>,
-    }
-}
-
-pub use choice_types::{
+pub use bushes::Bush;
+pub use choices::{
     BoolAlternatives, BoolChoice, OnlyAlternatives, OnlyChoice, PriorityAlternatives,
-    PriorityChoice, WideChoice,
+    PriorityChoice,
 };
 pub use constrained::ConstrainedOptions;
+pub use deep_defaults::DeepDefault;
 pub use enums::{Answer, Color, Enum3, Enum4};
-pub use extensible_types::{
-    AddDef, EmptyExtensible, Holder1, Holder2, Outer, Sequence1, Sequence2, Sequence5,
-};
-pub use group_types::{
-    Group6, Omitted, Sequence3, Sequence4, Sequence6, SequenceDuplicatesExtended,
-};
-pub use long_types::{ExtendedOptional, ManyOptional};
+pub use extended::ExtendedOptional;
+pub use extensible::{EmptyExtensible, Outer, Sequence1, Sequence2, Sequence5};
+pub use extension_defaults::{AddDef, Holder1, Holder2};
+pub use groups::{Group6, Sequence3, Sequence4, Sequence6};
+pub use holders::{Adding, AddingComponents, Holding, HoldingComponents};
+pub use links::{Link, LinkChoice};
+pub use many::ManyOptional;
+pub use mixed::{Mixed, MixedComponents};
+pub use mixed_sets::{MixedSet, MixedSet2};
+pub use nests::Nest;
+pub use octet_additions::{Omitted, SequenceDuplicatesExtended};
+pub use pairs::Pair;
 pub use ranges::{FiveAroundZero, FromZeroTo64Bits, GreatPositive, Small};
-pub use rasn_oer::prelude::{OneOf, Sequence};
-pub use recursive_types::{Bush, DeepDefault, Link, LinkChoice, Nest, TestChoice, TopLevel};
-pub use sequence_types::{
-    AllDefault, AllOptional, DefaultAndOptional, DefaultInteger, Empty, Nested, Pair,
-};
-pub use set_types::{Foo, MixedSet};
+pub use rasn_oer::prelude::{ListOf, OneOf, Sequence, Set};
+pub use required_additions::{Sure, SureComponents};
+pub use sequences::{AllDefault, AllOptional, DefaultAndOptional, DefaultInteger, Empty, Nested};
+pub use sets::Foo;
+pub use top_levels::{TestChoice, TopLevel};
+pub use versions::{Addition7, Addition7Components, Sequence7, Sequence7Components};
+pub use wide_choice::WideChoice;
 pub use wrappers::{HashedId3, Negative, Positive};

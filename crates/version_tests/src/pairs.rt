@@ -3,12 +3,12 @@
 use asn1_core::SetOf;
 use asn1_ints::Integer;
 use oer_types::{
-    DeepDefault, ExtendedOptional, Foo, Holder1, Holder2, Outer, PriorityChoice, Sequence1,
-    Sequence2, Sequence3, Sequence5, SequenceDuplicatesExtended, TopLevel,
+    DeepDefault, ExtendedOptional, Foo, Holder1, Holder2, MixedSet, MixedSet2, Outer,
+    PriorityChoice, Sequence1, Sequence2, Sequence3, Sequence5, Sequence7,
+    SequenceDuplicatesExtended, TopLevel,
 };
 use oer_write::Encode;
 use rasn_oer::Decode;
-use version_types::{MixSet, MixSet2, Sequence7};
 
 /// What is done with two versions of a type.
 pub trait OnPair {
@@ -49,9 +49,9 @@ fn with_others<W: OnPair>(pair: &str, work: W) -> Result<W::Output, W> {
         "holder1/holder1" => Ok(work.on::<Holder1, Holder1>()),
         "holder2/holder1" => Ok(work.on::<Holder2, Holder1>()),
         "holder2/holder2" => Ok(work.on::<Holder2, Holder2>()),
-        "mixset/mixset" => Ok(work.on::<MixSet, MixSet>()),
-        "mixset2/mixset" => Ok(work.on::<MixSet2, MixSet>()),
-        "mixset2/mixset2" => Ok(work.on::<MixSet2, MixSet2>()),
+        "mixset/mixset" => Ok(work.on::<MixedSet, MixedSet>()),
+        "mixset2/mixset" => Ok(work.on::<MixedSet2, MixedSet>()),
+        "mixset2/mixset2" => Ok(work.on::<MixedSet2, MixedSet2>()),
         _ => Err(work),
     }
 }

@@ -4,11 +4,11 @@ use crate::nests::Nest;
 use crate::pairs::OnPair;
 use anyhow::{Error, Result};
 use asn1_core::{Codec, SetOf};
+use oer_types::{Adding, Holding};
 use oer_write::Encode;
 use rasn_oer::oer::CodecError;
 use rasn_oer::{Decode, coer, oer};
 use std::alloc::Global;
-use version_types::{Adding, Holding};
 
 /// Which version the octets are of.
 #[derive(Clone, Copy, PartialEq, Eq)]

@@ -3,10 +3,10 @@ use asn1_core::SetOf;
 use asn1_ints::Integer;
 use oer_types::{
     DeepDefault, DefaultAndOptional, DefaultInteger, Empty, EmptyExtensible, ExtendedOptional, Foo,
-    Holder1, Holder2, ManyOptional, Nest, Omitted, OnlyChoice, Outer, PriorityChoice, Sequence1,
-    Sequence2, Sequence3, Sequence5, Sequence6, SequenceDuplicatesExtended, TopLevel, WideChoice,
+    Holder1, Holder2, ManyOptional, MixedSet, MixedSet2, Nest, Omitted, OnlyChoice, Outer,
+    PriorityChoice, Sequence1, Sequence2, Sequence3, Sequence5, Sequence6, Sequence7,
+    SequenceDuplicatesExtended, TopLevel, WideChoice,
 };
-use version_types::{MixSet, MixSet2, Sequence7};
 
 /// Does it with the sequence or set of that word; the work again where none has it.
 pub(super) fn with_sequence<W: OnType>(word: &str, work: W) -> Result<W::Output, W> {
@@ -31,8 +31,8 @@ pub(super) fn with_sequence<W: OnType>(word: &str, work: W) -> Result<W::Output,
         "manyopt" => Ok(work.on::<ManyOptional>()),
         "toplevel" => Ok(work.on::<TopLevel>()),
         "foo" => Ok(work.on::<Foo>()),
-        "mixset" => Ok(work.on::<MixSet>()),
-        "mixset2" => Ok(work.on::<MixSet2>()),
+        "mixset" => Ok(work.on::<MixedSet>()),
+        "mixset2" => Ok(work.on::<MixedSet2>()),
         _ => Err(work),
     }
 }

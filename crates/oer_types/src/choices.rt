@@ -1,0 +1,165 @@
+//! Choices by the rows of their alternatives.
+
+use rasn_oer::prelude::*;
+
+/// `CHOICE { normal INTEGER, high INTEGER, ..., medium INTEGER }`
+pub type PriorityChoice = OneOf<PriorityAlternatives>;
+
+/// The alternatives of a `PriorityChoice`.
+#[derive(Debug, PartialEq, Eq, Drop)]
+pub enum PriorityAlternatives {
+    Normal(Integer),
+    High(Integer),
+    Medium(Integer),
+}
+
+/// `CHOICE { only [130] BOOLEAN }`
+pub type OnlyChoice = OneOf<OnlyAlternatives>;
+
+/// The alternative of an `OnlyChoice`.
+#[derive(Debug, PartialEq, Eq, Drop)]
+pub enum OnlyAlternatives {
+    Only(bool),
+}
+
+/// `CHOICE { a [0] BOOLEAN, c [2] PriorityChoice, ..., b [1] BOOLEAN }`
+pub type BoolChoice = OneOf<BoolAlternatives>;
+
+/// The alternatives of a `BoolChoice`.
+#[derive(Debug, PartialEq, Eq, Drop)]
+pub enum BoolAlternatives {
+    A(bool),
+    C(PriorityChoice),
+    B(bool),
+}
+
+type PriorityRow = Offers<Context<0>, Integer, Offers<Context<1>, Integer, PriorityAdditions>>;
+
+type PriorityAdditions = Extensible<Offers<Context<2>, Integer, NoMore>>;
+
+type OnlyRow = Offers<Context<130>, bool, NoMore>;
+
+type BoolRow = Offers<Context<0>, bool, Offers<Context<2>, PriorityChoice, BoolAdditions>>;
+
+type BoolAdditions = Extensible<Offers<Context<1>, bool, NoMore>>;
+
+const PRIORITY_ROOTS: &'static [Tag] = tags![Context 0, Context 1];
+
+const PRIORITY_ADDITIONS: &'static [Tag] = tags![Context 2];
+
+const ONLY_ROOTS: &'static [Tag] = tags![Context 130];
+
+const BOOL_ROOTS: &'static [Tag] = tags![Context 0, Context 2];
+
+const BOOL_ADDITIONS: &'static [Tag] = tags![Context 1];
+
+impl Alternating for PriorityAlternatives {
+    ghost use Rattle.std.specs.Prelude.{refl};
+    ghost use Rattle.oer_choices.specs.declared.alternatives.Either.TheVariants.{First, Rest};
+    ghost use Rattle.oer_types.specs.declared.choices.PriorityAlternatives.TheVariants.{Normal, High, Medium};
+
+    type Row = PriorityRow;
+
+    ghost alternative = { elim [ Normal n ↦ First n | High n ↦ Rest (First n) | Medium n ↦ Rest (Rest (First n)) ] };
+
+    const VARIANTS: &'static [Tag] = PRIORITY_ROOTS;
+
+    const EXTENDED_VARIANTS: Option<&'static [Tag]> = Some(PRIORITY_ADDITIONS);
+
+    fn root_tags() -> &'static [Tag] {
+        Self::VARIANTS
+    }
+
+    fn addition_tags() -> Option<&'static [Tag]> {
+        Self::EXTENDED_VARIANTS
+    }
+
+    fn from_alternative(value: <PriorityRow as Alternatives>::Values) -> PriorityAlternatives {
+        from_row!(value => PriorityAlternatives: Normal, High, Medium)
+    }
+
+    fn put<E: Choice>(
+        &self,
+        encoder: &mut Encoder<'_>,
+        constraints: Constraints,
+    ) -> Result<(), EncodeError> {
+        let view = to_row!(self => PriorityAlternatives: Normal, High, Medium);
+        PriorityRow::write_alternative::<E>(view, encoder, constraints)
+    }
+
+    ghost apart = { refl };
+}
+
+impl Alternating for OnlyAlternatives {
+    ghost use Rattle.std.specs.Prelude.{refl};
+    ghost use Rattle.oer_choices.specs.declared.alternatives.Either.TheVariants.{First};
+    ghost use Rattle.oer_types.specs.declared.choices.OnlyAlternatives.TheVariants.{Only};
+
+    type Row = OnlyRow;
+
+    ghost alternative = { elim [ Only b ↦ First b ] };
+
+    const VARIANTS: &'static [Tag] = ONLY_ROOTS;
+
+    const EXTENDED_VARIANTS: Option<&'static [Tag]> = None;
+
+    fn root_tags() -> &'static [Tag] {
+        Self::VARIANTS
+    }
+
+    fn addition_tags() -> Option<&'static [Tag]> {
+        Self::EXTENDED_VARIANTS
+    }
+
+    fn from_alternative(value: <OnlyRow as Alternatives>::Values) -> OnlyAlternatives {
+        from_row!(value => OnlyAlternatives: Only)
+    }
+
+    fn put<E: Choice>(
+        &self,
+        encoder: &mut Encoder<'_>,
+        constraints: Constraints,
+    ) -> Result<(), EncodeError> {
+        let view = to_row!(self => OnlyAlternatives: Only);
+        OnlyRow::write_alternative::<E>(view, encoder, constraints)
+    }
+
+    ghost apart = { refl };
+}
+
+impl Alternating for BoolAlternatives {
+    ghost use Rattle.std.specs.Prelude.{refl};
+    ghost use Rattle.oer_choices.specs.declared.alternatives.Either.TheVariants.{First, Rest};
+    ghost use Rattle.oer_types.specs.declared.choices.BoolAlternatives.TheVariants.{A, C, B};
+
+    type Row = BoolRow;
+
+    ghost alternative = { elim [ A b ↦ First b | C p ↦ Rest (First p) | B b ↦ Rest (Rest (First b)) ] };
+
+    const VARIANTS: &'static [Tag] = BOOL_ROOTS;
+
+    const EXTENDED_VARIANTS: Option<&'static [Tag]> = Some(BOOL_ADDITIONS);
+
+    fn root_tags() -> &'static [Tag] {
+        Self::VARIANTS
+    }
+
+    fn addition_tags() -> Option<&'static [Tag]> {
+        Self::EXTENDED_VARIANTS
+    }
+
+    fn from_alternative(value: <BoolRow as Alternatives>::Values) -> BoolAlternatives {
+        from_row!(value => BoolAlternatives: A, C, B)
+    }
+
+    fn put<E: Choice>(
+        &self,
+        encoder: &mut Encoder<'_>,
+        constraints: Constraints,
+    ) -> Result<(), EncodeError> {
+        let view = to_row!(self => BoolAlternatives: A, C, B);
+        BoolRow::write_alternative::<E>(view, encoder, constraints)
+    }
+
+    ghost apart = { refl };
+}

@@ -1,0 +1,53 @@
+//! A sequence of a choice, and of a list.
+
+use crate::PriorityChoice;
+use rasn_oer::prelude::*;
+
+/// `SEQUENCE { priority PriorityChoice, names SEQUENCE OF OCTET STRING }`
+pub type Mixed = Sequence<MixedComponents, 2, 0>;
+
+/// The components of a `Mixed`.
+#[derive(Debug, PartialEq, Eq, Drop)]
+pub struct MixedComponents {
+    pub priority: PriorityChoice,
+    pub names: ListOf<OctetString>,
+}
+
+type MixedRow = Needs<Context<0>, PriorityChoice, Needs<Context<1>, ListOf<OctetString>, NoMore>>;
+
+impl Rowed for MixedComponents {
+    type Row = MixedRow;
+
+    ghost components = { λ v. (v.priority, (v.names, tt)) };
+
+    fn from_row((priority, (names, ())): <MixedRow as Components>::Values) -> MixedComponents {
+        MixedComponents { priority, names }
+    }
+}
+
+impl Tabled<2, 0> for MixedComponents {
+    ghost use Rattle.std.specs.Prelude.{refl};
+
+    const FIELDS: Fields<2> = Fields {
+        fields: fields![0 Required Context 0 "priority", 1 Required Context 1 "names"],
+    };
+
+    const EXTENDED_FIELDS: Option<Fields<0>> = None;
+
+    fn root_fields() -> &'static [Field<'static>] {
+        Self::FIELDS.fields
+    }
+
+    fn addition_fields() -> &'static [Field<'static>] {
+        match Self::EXTENDED_FIELDS {
+            Some(table) => table.fields,
+            None => &[],
+        }
+    }
+
+    fn put(&self, encoder: &mut Encoder<'_>) -> Result<(), EncodeError> {
+        MixedRow::write((&self.priority, (&self.names, ())), encoder)
+    }
+
+    ghost counts = { (refl, refl) };
+}

@@ -1,0 +1,137 @@
+//! Two versions of a set, each by the row of its components in the order of their tags.
+
+use crate::components;
+use rasn_oer::prelude::*;
+
+/// `SET { z [APPLICATION 1] INTEGER DEFAULT 0, y [1] INTEGER OPTIONAL, x [2] BOOLEAN, ..., n [0] BOOLEAN OPTIONAL }`
+pub type MixedSet = Set<components::MixedSet, 3, 1>;
+
+type MixedSetRow = Defaults<
+    Application<1>,
+    Integer,
+    IsNumber<0>,
+    MayHave<
+        Context<1>,
+        Integer,
+        Needs<Context<2>, bool, Extensible<MayAdd<Context<0>, bool, NoMore>>>,
+    >,
+>;
+
+const MIXED_SET_FIELDS: &'static [Field<'static>] = fields![
+    0 Default Application 1 "z", 1 Optional Context 1 "y", 2 Required Context 2 "x"
+];
+
+const MIXED_SET_ADDITIONS: &'static [Field<'static>] = fields![0 Optional Context 0 "n"];
+
+impl Rowed for components::MixedSet {
+    type Row = MixedSetRow;
+
+    ghost components = { λ v. (v.z, (v.y, (v.x, (v.n, tt)))) };
+
+    fn from_row(
+        (z, (y, (x, (n, ())))): <MixedSetRow as Components>::Values,
+    ) -> components::MixedSet {
+        components::MixedSet { x, y, z, n }
+    }
+}
+
+impl Tabled<3, 1> for components::MixedSet {
+    ghost use Rattle.std.specs.Prelude.{refl};
+
+    const FIELDS: Fields<3> = Fields {
+        fields: MIXED_SET_FIELDS,
+    };
+
+    const EXTENDED_FIELDS: Option<Fields<1>> = Some(Fields {
+        fields: MIXED_SET_ADDITIONS,
+    });
+
+    fn root_fields() -> &'static [Field<'static>] {
+        Self::FIELDS.fields
+    }
+
+    fn addition_fields() -> &'static [Field<'static>] {
+        match Self::EXTENDED_FIELDS {
+            Some(table) => table.fields,
+            None => &[],
+        }
+    }
+
+    fn put(&self, encoder: &mut Encoder<'_>) -> Result<(), EncodeError> {
+        MixedSetRow::write((&self.z, (&self.y, (&self.x, (&self.n, ())))), encoder)
+    }
+
+    ghost counts = { (refl, refl) };
+}
+
+impl InTagOrder<3, 1> for components::MixedSet {
+    ghost use Rattle.std.specs.Prelude.{refl};
+
+    ghost in_order = { refl };
+}
+
+/// `SET { z [APPLICATION 1] INTEGER DEFAULT 0, y [1] INTEGER OPTIONAL, x [2] BOOLEAN, ..., n [0] BOOLEAN OPTIONAL,
+/// m [3] OCTET STRING OPTIONAL }`: a newer version of `MixedSet`
+pub type MixedSet2 = Set<components::MixedSet2, 3, 2>;
+
+type MixedSet2Row = Defaults<
+    Application<1>,
+    Integer,
+    IsNumber<0>,
+    MayHave<Context<1>, Integer, Needs<Context<2>, bool, Extensible<FromN>>>,
+>;
+
+type FromN = MayAdd<Context<0>, bool, MayAdd<Context<3>, OctetString, NoMore>>;
+
+const MIXED_SET2_ADDITIONS: &'static [Field<'static>] =
+    fields![0 Optional Context 0 "n", 1 Optional Context 3 "m"];
+
+impl Rowed for components::MixedSet2 {
+    type Row = MixedSet2Row;
+
+    ghost components = { λ v. (v.z, (v.y, (v.x, (v.n, (v.m, tt))))) };
+
+    fn from_row(
+        (z, (y, (x, (n, (m, ()))))): <MixedSet2Row as Components>::Values,
+    ) -> components::MixedSet2 {
+        components::MixedSet2 { x, y, z, n, m }
+    }
+}
+
+impl Tabled<3, 2> for components::MixedSet2 {
+    ghost use Rattle.std.specs.Prelude.{refl};
+
+    const FIELDS: Fields<3> = Fields {
+        fields: MIXED_SET_FIELDS,
+    };
+
+    const EXTENDED_FIELDS: Option<Fields<2>> = Some(Fields {
+        fields: MIXED_SET2_ADDITIONS,
+    });
+
+    fn root_fields() -> &'static [Field<'static>] {
+        Self::FIELDS.fields
+    }
+
+    fn addition_fields() -> &'static [Field<'static>] {
+        match Self::EXTENDED_FIELDS {
+            Some(table) => table.fields,
+            None => &[],
+        }
+    }
+
+    fn put(&self, encoder: &mut Encoder<'_>) -> Result<(), EncodeError> {
+        MixedSet2Row::write(
+            (&self.z, (&self.y, (&self.x, (&self.n, (&self.m, ()))))),
+            encoder,
+        )
+    }
+
+    ghost counts = { (refl, refl) };
+}
+
+impl InTagOrder<3, 2> for components::MixedSet2 {
+    ghost use Rattle.std.specs.Prelude.{refl};
+
+    ghost in_order = { refl };
+}

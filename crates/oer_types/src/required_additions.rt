@@ -1,0 +1,54 @@
+//! An extensible sequence with an addition that newer versions always have.
+
+use rasn_oer::prelude::*;
+
+/// `SEQUENCE { ok BOOLEAN, ..., sure BOOLEAN }`
+pub type Sure = Sequence<SureComponents, 1, 1>;
+
+/// The components of a `Sure`.
+#[derive(Debug, PartialEq, Eq, Drop)]
+pub struct SureComponents {
+    pub ok: bool,
+    pub sure: bool,
+}
+
+type SureRow = Needs<Context<0>, bool, Extensible<Adds<Context<1>, bool, NoMore>>>;
+
+impl Rowed for SureComponents {
+    type Row = SureRow;
+
+    ghost components = { λ v. (v.ok, (v.sure, tt)) };
+
+    fn from_row((ok, (sure, ())): <SureRow as Components>::Values) -> SureComponents {
+        SureComponents { ok, sure }
+    }
+}
+
+impl Tabled<1, 1> for SureComponents {
+    ghost use Rattle.std.specs.Prelude.{refl};
+
+    const FIELDS: Fields<1> = Fields {
+        fields: fields![0 Required Context 0 "ok"],
+    };
+
+    const EXTENDED_FIELDS: Option<Fields<1>> = Some(Fields {
+        fields: fields![0 Required Context 1 "sure"],
+    });
+
+    fn root_fields() -> &'static [Field<'static>] {
+        Self::FIELDS.fields
+    }
+
+    fn addition_fields() -> &'static [Field<'static>] {
+        match Self::EXTENDED_FIELDS {
+            Some(table) => table.fields,
+            None => &[],
+        }
+    }
+
+    fn put(&self, encoder: &mut Encoder<'_>) -> Result<(), EncodeError> {
+        SureRow::write((&self.ok, (&self.sure, ())), encoder)
+    }
+
+    ghost counts = { (refl, refl) };
+}

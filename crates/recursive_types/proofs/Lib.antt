@@ -1,6 +1,0 @@
-pub mod BushLaw
-pub mod DeepDefaultLaw
-pub mod LinkLaw
-pub mod NestLaw
-pub mod NestedLaw
-pub mod TopLaw

@@ -1,5 +1,0 @@
-use Rattle.recursive_types.specs.Bushes.{BushSoFar}
-use Rattle.recursive_types.proofs.bushes.bush_parts.Given as goal
-
-abbrev pub invariant-loop-field : goal.invariant-loop-field
-invariant-loop-field l = BushSoFar l.yielded l.parts

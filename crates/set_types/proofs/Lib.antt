@@ -1,2 +1,0 @@
-pub mod SetParts
-pub mod MixedParts
