@@ -30,7 +30,7 @@ own = (top / "docs/OWN_TYPE.md").read_text()
 shown = dict(re.findall(r"`(crates/my_\S+)`\n\n```(?:rust)?\n(.*?)```", own, re.S))
 crates = [top / "crates/my_types", top / "crates/my_closures"]
 files = [it for crate in crates for part in ("src", "specs", "proofs") for it in (crate / part).rglob("*.*t")]
-there = {str(it.relative_to(top)): it.read_text() for it in files if it.name != "tests.rt"}
+there = {str(it.relative_to(top)): it.read_text() for it in files}
 for name in sorted(there.keys() | shown.keys()):
     if there.get(name) != shown.get(name):
         print(f"docs/OWN_TYPE.md has another {name}, or none")

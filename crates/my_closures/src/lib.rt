@@ -2,7 +2,5 @@
 #![tactic(auto)]
 
 mod reports;
-#[cfg(test)]
-mod tests;
 
 pub use reports::Report;

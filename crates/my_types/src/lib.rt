@@ -5,8 +5,6 @@ mod messages;
 mod notices;
 mod reports;
 mod signals;
-#[cfg(test)]
-mod tests;
 
 pub use messages::{Key, Message, MessageComponents, OfThree};
 pub use notices::{Closing, ClosingComponents, Notice, NoticeComponents};

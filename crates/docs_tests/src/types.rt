@@ -1,6 +1,6 @@
-//! Octets by hand from X.696, of each type.
+//! Octets by hand from X.696, of each type by its row.
 
-use crate::{
+use my_types::{
     ClosingComponents, Message, MessageComponents, Notice, NoticeComponents, Report,
     ReportComponents, Signal, SignalAlternatives,
 };

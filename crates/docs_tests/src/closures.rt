@@ -1,8 +1,8 @@
-//! Octets by hand from X.696.
+//! Octets by hand from X.696, of the type by closures.
 
-use crate::Report;
-use asn1_ints::Integer;
+use my_closures::Report;
 use rasn_oer::coer;
+use rasn_oer::prelude::*;
 use std::test::Fail;
 
 #[test]
