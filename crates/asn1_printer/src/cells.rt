@@ -1,5 +1,6 @@
 //! A component as a cell of a row.
 
+use crate::inner::leads_on;
 use crate::items::{push_default, push_limits};
 use crate::shapes::shape_of;
 use asn1_core::{Class, Tag};
@@ -25,6 +26,9 @@ pub struct Cell {
     pub arguments: Vec<String>,
     /// Its line in the table, less the index.
     pub entry: String,
+    /// Whether its type has a row itself.
+    pub leads: bool,
+    pub is_group: bool,
 }
 
 /// The class of a tag, as a table and a row write it.
@@ -101,6 +105,8 @@ pub fn cell_of<'m, 'a>(
         head,
         arguments,
         entry,
+        leads: leads_on(scope, row)?,
+        is_group: false,
     })
 }
 
@@ -122,6 +128,8 @@ pub fn group_cell(
         head: "MayAddGroup",
         arguments,
         entry: format!(in alloc; "Optional Universal 16 \"group {number}\"")?,
+        leads: true,
+        is_group: true,
     })
 }
 
@@ -154,5 +162,7 @@ pub fn alternative_of<'m, 'a>(
         head: "Offers",
         arguments,
         entry: format!(in alloc; "{class} {number}")?,
+        leads: leads_on(scope, row)?,
+        is_group: false,
     })
 }

@@ -1,4 +1,5 @@
 //! The row of a type, cut into chains of few cells.
+ghost use Rattle.std.specs.Prelude.{◌≡◌, ◌≤◌, ◌<◌, ◌+◌, length, true};
 
 use crate::cells::Cell;
 use crate::templates::{ADDITIONS_CUT, COMPONENTS_CUT, CUT};
@@ -6,7 +7,7 @@ use crate::text::{fill, repeated};
 use std::alloc::{AllocError, Global};
 
 /// How many cells stand in a chain: what the check writes out of one grows with it.
-const CELLS: usize = 5;
+const CELLS: usize = 3;
 
 /// How many characters a line has at most.
 const WIDTH: usize = 100;
@@ -83,21 +84,32 @@ pub fn push_alias(
     out.push_str(";\n\n")
 }
 
-/// The cells of a chain, by its number.
-fn cells_of(cells: &[Cell], chain: usize) -> &[Cell] {
-    let start = chain.saturating_mul(CELLS);
-    let end = start.saturating_add(CELLS).min(cells.len());
-    cells.get(start..end).unwrap_or(&[])
+/// The place behind the last cell of the chain that begins at one. A cell that leads to another row stands alone; but a group
+/// begins no chain, since the check refuses a call whose type begins with numbers.
+fn end_of(cells: &[Cell], start: usize) -> usize
+    ensures behind { start < length cells.now → start < result }
+{
+    let mut end = start;
+    let mut leads = false;
+    for cell in cells.get(start..).unwrap_or(&[]).iter() {
+        let is_full = leads || cell.leads || end.saturating_sub(start) >= CELLS;
+        if end != start && is_full && !cell.is_group {
+            break;
+        }
+        leads = leads || cell.leads;
+        end = end.saturating_add(1);
+    }
+    end
 }
 
-/// The name of what stands for the cells from a chain on.
+/// The name of what stands for the cells from a place on.
 fn cut_name(
     alloc: Global,
     owner: &str,
     cells: &[Cell],
-    chain: usize,
+    start: usize,
 ) -> Result<Option<String>, AllocError> {
-    match cells_of(cells, chain).first() {
+    match cells.get(start) {
         Some(cell) => {
             let camel = cell.camel.as_str();
             Ok(Some(format!(in alloc; "{owner}From{camel}")?))
@@ -147,58 +159,64 @@ fn end_of_roots(alloc: Global, of: Chain<'_>) -> Result<String, AllocError> {
 /// Prints the chains of the root components.
 fn push_roots(alloc: Global, out: &mut String, of: Chain<'_>) -> Result<(), AllocError> {
     let owner = of.owner;
+    let mut start = 0usize;
     for chain in 0..of.roots.len().saturating_add(1) {
-        let cells = cells_of(of.roots, chain);
+        let behind = end_of(of.roots, start);
+        let cells = of.roots.get(start..behind).unwrap_or(&[]);
         if chain != 0 && cells.is_empty() {
             break;
         }
-        let end = match cut_name(alloc, owner, of.roots, chain.saturating_add(1))? {
+        let end = match cut_name(alloc, owner, of.roots, behind)? {
             Some(next) => next,
             None => end_of_roots(alloc, of)?,
         };
         if chain == 0 {
             let name = format!(in alloc; "{owner}Row")?;
             push_alias(alloc, out, name.as_str(), cells, end.as_str())?;
-        } else if let Some(name) = cut_name(alloc, owner, of.roots, chain)? {
+        } else if let Some(name) = cut_name(alloc, owner, of.roots, start)? {
             let cells = (cells, end.as_str());
             push_cut(alloc, out, COMPONENTS_CUT, of, name.as_str(), cells)?;
         }
+        start = behind;
     }
     Ok(())
 }
 
-/// How many cells the last chain of the root components has.
-fn last_roots(of: Chain<'_>) -> usize {
-    let count = of.roots.len();
-    if count == 0 {
-        0
-    } else {
-        count.saturating_sub(1) % CELLS + 1
-    }
+/// Whether the additions are so few that they are one chain with the root components.
+fn are_few(of: Chain<'_>) -> bool
+    ensures { result ≡ true → length of.roots.now + length of.additions.now ≤ 3 }
+{
+    let count = of.roots.len().saturating_add(of.additions.len());
+    let leads = of.roots.iter().any(|c| c.leads) || of.additions.iter().any(|c| c.leads);
+    count <= CELLS && !leads
 }
 
 /// Prints the chains of the additions.
 fn push_additions(alloc: Global, out: &mut String, of: Chain<'_>) -> Result<(), AllocError> {
     let owner = of.owner;
+    let mut start = 0usize;
     for chain in 0..of.additions.len() {
-        let cells = cells_of(of.additions, chain);
+        let behind = end_of(of.additions, start);
+        let cells = of.additions.get(start..behind).unwrap_or(&[]);
         if cells.is_empty() {
             break;
         }
-        let end = match cut_name(alloc, owner, of.additions, chain.saturating_add(1))? {
+        let end = match cut_name(alloc, owner, of.additions, behind)? {
             Some(next) => next,
             None => String::from_str(alloc, "NoMore")?,
         };
-        let name = match cut_name(alloc, owner, of.additions, chain)? {
+        let name = match cut_name(alloc, owner, of.additions, start)? {
             Some(name) if chain != 0 => name,
             _ => format!(in alloc; "{owner}Additions")?,
         };
-        if chain == 0 && last_roots(of).saturating_add(cells.len()) <= CELLS {
+        let begins_with_group = chain == 0 && cells.iter().take(1).any(|c| c.is_group);
+        if are_few(of) || begins_with_group {
             push_alias(alloc, out, name.as_str(), cells, end.as_str())?;
         } else {
             let cells = (cells, end.as_str());
             push_cut(alloc, out, ADDITIONS_CUT, of, name.as_str(), cells)?;
         }
+        start = behind;
     }
     Ok(())
 }

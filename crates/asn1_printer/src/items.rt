@@ -1,4 +1,5 @@
 //! What stands beside a type: its limits, and the defaults of its components.
+ghost use Rattle.std.specs.Prelude.{◌≡◌, false, true, int_le, IfOk, IfSome};
 
 use crate::shapes::number_of_octets;
 use crate::templates::{DEFAULT, LIMITS};
@@ -112,7 +113,10 @@ fn default_number<'m, 'a>(
     spot: Spot<'m, 'a>,
     first: Token<'a>,
     limits: Limits,
-) -> Result<i128, Refusal> {
+) -> Result<i128, Refusal>
+    ensures low { limits.is_extensible ≡ false → IfOk result (λ n. IfSome limits.low (λ l. int_le l n ≡ true)) }
+    ensures high { limits.is_extensible ≡ false → IfOk result (λ n. IfSome limits.high (λ h. int_le n h ≡ true)) }
+{
     let number = number_of(scope, spot)?;
     let is_allowed = limits.is_extensible
         || limits.low.unwrap_or(number) <= number && number <= limits.high.unwrap_or(number);

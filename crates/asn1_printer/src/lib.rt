@@ -3,7 +3,10 @@
 
 pub mod cells;
 pub mod chains;
+pub mod choices;
+pub mod enumerations;
 pub mod files;
+pub mod inner;
 pub mod items;
 pub mod notation;
 pub mod printer;

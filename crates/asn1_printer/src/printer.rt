@@ -1,5 +1,8 @@
 //! All types in order of use, each printed or left out.
+ghost use Rattle.std.specs.Prelude.{◌≡◌, [], Err, false, IfOk};
 
+use crate::choices::push_choice;
+use crate::enumerations::push_enumerated;
 use crate::items::push_limits;
 use crate::notation::{Places, notation, places_of};
 use crate::sequences::push_sequence;
@@ -152,11 +155,10 @@ fn text_of<'m, 'a>(
         Body::Sequence(_) | Body::Set(_) => {
             push_sequence(scope, source.all, &mut out, definition, doc.as_str())?;
         }
-        Body::Choice(_) | Body::Enumerated(_, _) => {
-            return Err(scope.refused(
-                definition.link.of.first,
-                "a type that is printed: CHOICE and ENUMERATED aren't yet",
-            ));
+        Body::Choice(_) => push_choice(scope, source.all, &mut out, definition, doc.as_str())?,
+        Body::Enumerated(items, root) => {
+            let items = (items.as_slice(), root.unwrap_or(items.len()));
+            push_enumerated(scope, &mut out, definition, items, doc.as_str())?;
         }
         _ => push_alias(source, &mut out, definition, doc.as_str())?,
     }
@@ -220,7 +222,10 @@ fn left_out_by(
     definition: &Definition<'_, '_>,
     why: Refusal,
     leaves_out: bool,
-) -> Result<LeftOut, Refusal> {
+) -> Result<LeftOut, Refusal>
+    ensures refused { leaves_out ≡ false → result ≡ Err why }
+    ensures reason { IfOk result (λ one. one.why ≡ why) }
+{
     if !leaves_out || matches!(why, Refusal::OutOfMemory) {
         return Err(why);
     }
@@ -233,7 +238,9 @@ fn print_in_turn(
     source: Source<'_, '_, '_>,
     order: &[usize],
     leaves_out: bool,
-) -> Result<Outcome, Refusal> {
+) -> Result<Outcome, Refusal>
+    ensures { leaves_out ≡ false → IfOk result (λ all. all.left_out.items ≡ []) }
+{
     let alloc = source.scope.alloc;
     let mut states = vec![in alloc; State::New; source.all.len()]?;
     let mut seen = taken_names(alloc)?;
@@ -266,7 +273,9 @@ pub fn print_types(
     scope: Scope<'_, '_>,
     tokens: &[Token<'_>],
     leaves_out: bool,
-) -> Result<Outcome, Refusal> {
+) -> Result<Outcome, Refusal>
+    ensures { leaves_out ≡ false → IfOk result (λ all. all.left_out.items ≡ []) }
+{
     let all = definitions(scope)?;
     let order = order_of_use(scope.alloc, all.as_slice())?;
     let places = places_of(scope.alloc, tokens)?;

@@ -2,6 +2,7 @@
 
 use crate::cells::{Cell, cell_of, group_cell};
 use crate::chains::{Chain, push_chains};
+use crate::inner::require_stated;
 use crate::templates::{IN_TAG_ORDER, MEMBERS, TABLES, TYPE};
 use crate::text::{fill, joined, repeated};
 use asn1_core::Class;
@@ -24,6 +25,17 @@ fn push_fields(out: &mut String, cells: &[Cell]) -> Result<(), AllocError> {
         out.push(',')?;
     }
     Ok(())
+}
+
+/// All fields of the struct of a type.
+fn fields_text(alloc: Global, of: Chain<'_>) -> Result<String, AllocError> {
+    let mut fields = String::new(alloc);
+    push_fields(&mut fields, of.roots)?;
+    push_fields(&mut fields, of.additions)?;
+    if !fields.is_empty() {
+        fields.push('\n')?;
+    }
+    Ok(fields)
 }
 
 /// The names of the fields.
@@ -78,12 +90,7 @@ fn push_members(
     of: Chain<'_>,
     is_set: bool,
 ) -> Result<(), AllocError> {
-    let mut fields = String::new(alloc);
-    push_fields(&mut fields, of.roots)?;
-    push_fields(&mut fields, of.additions)?;
-    if !fields.is_empty() {
-        fields.push('\n')?;
-    }
+    let fields = fields_text(alloc, of)?;
     let mut names = Vec::new(alloc);
     push_names(&mut names, of.roots)?;
     push_names(&mut names, of.additions)?;
@@ -159,6 +166,21 @@ fn in_text_order(
     Ok(places)
 }
 
+/// The rows of components by their places.
+fn rows_at<'m, 'a>(
+    alloc: Global,
+    parts: &[Part<'m, 'a>],
+    places: &[usize],
+) -> Result<Vec<Row<'m, 'a>>, AllocError> {
+    let mut rows = Vec::new(alloc);
+    for at in places.iter() {
+        if let Some(row) = parts.get(*at).and_then(|p| p.row) {
+            rows.push(row)?;
+        }
+    }
+    Ok(rows)
+}
+
 /// The cells of components by their places.
 fn cells_at<'m, 'a>(
     scope: Scope<'m, 'a>,
@@ -192,6 +214,7 @@ fn push_group<'m, 'a>(
     let name = format!(in alloc; "{owner}Group{number}")?;
     let parts = definition.parts.as_slice();
     let places = in_text_order(alloc, parts, Position::Group(number))?;
+    require_stated(scope, rows_at(alloc, parts, places.as_slice())?.as_slice())?;
     let roots = cells_at(scope, all, out, name.as_str(), parts, places.as_slice())?;
     let doc = format!(in alloc; "/// The addition group {number} of `{owner}`.\n")?;
     let of = Chain {

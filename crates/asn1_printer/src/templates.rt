@@ -3,7 +3,7 @@
 /// A SEQUENCE or a SET, and the struct of its components.
 pub const TYPE: &str = r#"@DOC@pub type @NAME@ = @KIND@<@NAME@Components, @RC@, @EC@>;
 
-/// The components of a `@NAME@`.
+/// The components of `@NAME@`.
 #[derive(Debug, PartialEq, Eq, Drop)]
 pub struct @NAME@Components {@FIELDS@}
 
@@ -65,7 +65,7 @@ pub const IN_TAG_ORDER: &str = r#"impl InTagOrder<@RC@, @EC@> for @NAME@Componen
 "#;
 
 /// What stands for the cells of a row from one on.
-pub const CUT: &str = r#"/// The components of a `@OWNER@` from `@FIELD@` on.
+pub const CUT: &str = r#"/// The components of `@OWNER@` from `@FIELD@` on.
 pub struct @NAME@;
 
 "#;
@@ -179,15 +179,15 @@ pub const ALIAS: &str = r#"@DOC@pub type @NAME@ = @TYPE@;
 /// A CHOICE, and the enum of its alternatives.
 pub const CHOICE: &str = r#"@DOC@pub type @NAME@ = OneOf<@NAME@Alternatives>;
 
-/// The alternatives of a `@NAME@`.
+/// The alternatives of `@NAME@`.
 #[derive(Debug, PartialEq, Eq, Drop)]
 pub enum @NAME@Alternatives {
 @VARIANTS@}
 
 "#;
 
-/// What the alternatives of a CHOICE have.
-pub const CHOICE_IMPLS: &str = r#"impl Alternating for @NAME@Alternatives {
+/// The tables of a CHOICE, and what its alternatives have.
+pub const CHOICE_IMPLS: &str = r#"@TABLES@impl Alternating for @NAME@Alternatives {
     ghost use Rattle.std.specs.Prelude.{refl};
     ghost use Rattle.rasn_oer.specs.Alternative.{First, Rest};
     ghost use Rattle.@HOME@.@NAME@Alternatives.TheVariants.{@LIST@};
@@ -209,9 +209,7 @@ pub const CHOICE_IMPLS: &str = r#"impl Alternating for @NAME@Alternatives {
     }
 
     fn from_alternative(value: <Self::Row as Alternatives>::Values) -> Self {
-        from_row!(value => @NAME@Alternatives:
-@LINES@
-        )
+        from_row!(value => @NAME@Alternatives: @LIST@)
     }
 
     fn put<E: Choice>(
@@ -219,9 +217,7 @@ pub const CHOICE_IMPLS: &str = r#"impl Alternating for @NAME@Alternatives {
         encoder: &mut Encoder<'_>,
         constraints: Constraints,
     ) -> Result<(), EncodeError> {
-        let view = to_row!(self => @NAME@Alternatives:
-@LINES@
-        );
+        let view = to_row!(self => @NAME@Alternatives: @LIST@);
         @NAME@Row::write_alternative::<E>(view, encoder, constraints)
     }
 
@@ -230,10 +226,15 @@ pub const CHOICE_IMPLS: &str = r#"impl Alternating for @NAME@Alternatives {
 
 "#;
 
+/// The tags of a CHOICE's root alternatives, or of its additions.
+pub const TAGS: &str = r#"const @TABLE@: &'static [Tag] = @TAGS@;
+
+"#;
+
 /// An ENUMERATED, and the enum of its values.
 pub const ENUMERATED: &str = r#"@DOC@pub type @NAME@ = Enumeration<@NAME@Values>;
 
-/// The values of a `@NAME@`.
+/// The values of `@NAME@`.
 #[derive(Debug, Clone, Copy, PartialEq, Eq)]
 pub enum @NAME@Values {
 @VARIANTS@}

@@ -97,3 +97,12 @@ pub fn lower(alloc: Global, name: &str) -> Result<String, AllocError> {
     }
     Ok(out)
 }
+
+/// A name in capitals.
+pub fn upper(alloc: Global, name: &str) -> Result<String, AllocError> {
+    let mut out = String::new(alloc);
+    for c in name.chars() {
+        out.push(c.to_ascii_uppercase())?;
+    }
+    Ok(out)
+}

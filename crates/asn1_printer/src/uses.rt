@@ -13,10 +13,29 @@ const PRELUDE: &str = "rasn_oer::prelude";
 /// The names that printed text takes from elsewhere, each by its path.
 pub const KNOWN: &str = "std::alloc::Global std::marker::PhantomData";
 
-/// Whether a line takes names from elsewhere: it is no comment, no `ghost use`, and no type of an impl.
-fn is_code(line: &str) -> bool {
+/// The part of a line that can take names from elsewhere: none of a comment, a ghost member, the type of an impl, or a list of
+/// variants; of a variant what it holds.
+fn code_of(line: &str) -> &str {
     let text = line.trim_start();
-    !text.starts_with("//") && !text.starts_with("ghost use") && !line.starts_with("    type ")
+    let is_other = text.starts_with("//")
+        || text.starts_with("ghost ")
+        || text.contains("_row!(")
+        || line.starts_with("    type ");
+    if is_other { "" } else { behind_variant(line) }
+}
+
+/// A line behind the name of the variant that it declares; where it declares none, the whole.
+fn behind_variant(line: &str) -> &str {
+    let Some(text) = line.strip_prefix("    ") else {
+        return line;
+    };
+    let Some((name, _)) = text.split_once(|c: char| !c.is_ascii_alphanumeric()) else {
+        return line;
+    };
+    match text.strip_prefix(name) {
+        Some(rest) if rest.starts_with('(') || rest.starts_with(" = ") => rest,
+        _ => line,
+    }
 }
 
 /// Puts the words of a line to others: one that stands behind `::` with a colon in front.
@@ -43,9 +62,7 @@ fn push_words(alloc: Global, words: &mut BTreeSet<String>, line: &str) -> Result
 fn words_of(alloc: Global, body: &str) -> Result<BTreeSet<String>, AllocError> {
     let mut words = BTreeSet::new(alloc);
     for line in body.lines() {
-        if is_code(line) {
-            push_words(alloc, &mut words, line)?;
-        }
+        push_words(alloc, &mut words, code_of(line))?;
     }
     Ok(words)
 }
