@@ -3,7 +3,7 @@ ghost use Rattle.std.specs.Prelude.{◌≡◌, ◌≤◌, ◌<◌, ◌+◌, leng
 
 use crate::cells::Cell;
 use crate::templates::{ADDITIONS_CUT, COMPONENTS_CUT, CUT};
-use crate::text::{fill, repeated};
+use crate::text::{Words, fill, repeated};
 use std::alloc::{AllocError, Global};
 
 /// How many cells stand in a chain: what the check writes out of one grows with it.
@@ -132,12 +132,11 @@ fn push_cut(
         Some(cell) => cell.field.as_str(),
         None => "",
     };
-    let words = [
-        ("NAME", name),
-        ("OWNER", of.owner),
-        ("FIELD", field),
-        ("EXT", if of.is_extensible { "true" } else { "false" }),
-    ];
+    let mut words = Words::new(alloc);
+    words.put("NAME", name)?;
+    words.put("OWNER", of.owner)?;
+    words.put("FIELD", field)?;
+    words.put("EXT", if of.is_extensible { "true" } else { "false" })?;
     fill(out, CUT, &words)?;
     let alias = format!(in alloc; "{name}Row")?;
     push_alias(alloc, out, alias.as_str(), cells, end)?;
@@ -184,11 +183,27 @@ fn push_roots(alloc: Global, out: &mut String, of: Chain<'_>) -> Result<(), Allo
 
 /// Whether the additions are so few that they are one chain with the root components.
 fn are_few(of: Chain<'_>) -> bool
-    ensures { result ≡ true → length of.roots.now + length of.additions.now ≤ 3 }
+    ensures { result ≡ true → length of.entry.roots.now + length of.entry.additions.now ≤ 3 }
 {
     let count = of.roots.len().saturating_add(of.additions.len());
     let leads = of.roots.iter().any(|c| c.leads) || of.additions.iter().any(|c| c.leads);
     count <= CELLS && !leads
+}
+
+/// The name of what stands for the additions from a place on.
+fn additions_name(
+    alloc: Global,
+    owner: &str,
+    cells: &[Cell],
+    start: usize,
+) -> Result<String, AllocError> {
+    match cells.get(start) {
+        Some(cell) if start != 0 => {
+            let camel = cell.camel.as_str();
+            format!(in alloc; "{owner}From{camel}")
+        }
+        _ => format!(in alloc; "{owner}Additions"),
+    }
 }
 
 /// Prints the chains of the additions.
@@ -205,10 +220,7 @@ fn push_additions(alloc: Global, out: &mut String, of: Chain<'_>) -> Result<(), 
             Some(next) => next,
             None => String::from_str(alloc, "NoMore")?,
         };
-        let name = match cut_name(alloc, owner, of.additions, start)? {
-            Some(name) if chain != 0 => name,
-            _ => format!(in alloc; "{owner}Additions")?,
-        };
+        let name = additions_name(alloc, owner, of.additions, start)?;
         let begins_with_group = chain == 0 && cells.iter().take(1).any(|c| c.is_group);
         if are_few(of) || begins_with_group {
             push_alias(alloc, out, name.as_str(), cells, end.as_str())?;

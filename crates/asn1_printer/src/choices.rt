@@ -3,7 +3,7 @@
 use crate::cells::{Cell, alternative_of};
 use crate::chains::push_alias;
 use crate::templates::{CHOICE, CHOICE_IMPLS, TAGS};
-use crate::text::{fill, joined, repeated, upper};
+use crate::text::{Words, fill, joined, repeated, upper};
 use asn1_layouts::definitions::{Definition, Part};
 use asn1_layouts::layouts::is_extensible;
 use asn1_layouts::rows::Position;
@@ -38,11 +38,10 @@ fn push_table(
     };
     let capitals = upper(alloc, owner)?;
     let table = format!(in alloc; "{capitals}_{part}")?;
-    fill(
-        out,
-        TAGS,
-        &[("TABLE", table.as_str()), ("TAGS", list.as_str())],
-    )?;
+    let mut words = Words::new(alloc);
+    words.put("TABLE", table.as_str())?;
+    words.put("TAGS", list.as_str())?;
+    fill(out, TAGS, &words)?;
     Ok(table)
 }
 
@@ -131,17 +130,16 @@ fn push_alternatives(
     } else {
         String::from_str(alloc, "None")?
     };
-    let words = [
-        ("HOME", "@HOME@"),
-        ("DOC", doc),
-        ("NAME", owner),
-        ("VARIANTS", variants.as_str()),
-        ("LIST", list.as_str()),
-        ("CASES", cases.as_str()),
-        ("TABLES", tables.as_str()),
-        ("ROOTS", root_table.as_str()),
-        ("ADDITIONS", addition_table.as_str()),
-    ];
+    let mut words = Words::new(alloc);
+    words.put("HOME", "@HOME@")?;
+    words.put("DOC", doc)?;
+    words.put("NAME", owner)?;
+    words.put("VARIANTS", variants.as_str())?;
+    words.put("LIST", list.as_str())?;
+    words.put("CASES", cases.as_str())?;
+    words.put("TABLES", tables.as_str())?;
+    words.put("ROOTS", root_table.as_str())?;
+    words.put("ADDITIONS", addition_table.as_str())?;
     fill(out, CHOICE, &words)?;
     push_row(alloc, out, owner, cells, extensible)?;
     fill(out, CHOICE_IMPLS, &words)

@@ -3,7 +3,7 @@
 use crate::cells::camel_of;
 use crate::items::defined_number;
 use crate::templates::ENUMERATED;
-use crate::text::{fill, joined};
+use crate::text::{Words, fill, joined};
 use asn1_layouts::definitions::Definition;
 use asn1_layouts::numbers::enumerated_numbers;
 use asn1_layouts::scope::Scope;
@@ -112,20 +112,16 @@ pub fn push_enumerated<'m, 'a>(
     let numbers = joined(alloc, values.numbers.as_slice(), "", " | ")?;
     let listed = joined(alloc, names, "", " ↦ (refl, refl) | ")?;
     let paths = paths_text(alloc, values.paths.as_slice())?;
-    fill(
-        out,
-        ENUMERATED,
-        &[
-            ("HOME", "@HOME@"),
-            ("DOC", doc),
-            ("NAME", owner),
-            ("VARIANTS", values.variants.as_str()),
-            ("LIST", list.as_str()),
-            ("NUMBERS", numbers.as_str()),
-            ("CHAIN", chain.as_str()),
-            ("LISTED", listed.as_str()),
-            ("PATHS", paths.as_str()),
-        ],
-    )?;
+    let mut words = Words::new(alloc);
+    words.put("HOME", "@HOME@")?;
+    words.put("DOC", doc)?;
+    words.put("NAME", owner)?;
+    words.put("VARIANTS", values.variants.as_str())?;
+    words.put("LIST", list.as_str())?;
+    words.put("NUMBERS", numbers.as_str())?;
+    words.put("CHAIN", chain.as_str())?;
+    words.put("LISTED", listed.as_str())?;
+    words.put("PATHS", paths.as_str())?;
+    fill(out, ENUMERATED, &words)?;
     Ok(())
 }

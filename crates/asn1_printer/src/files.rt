@@ -250,9 +250,9 @@ fn push_left_out(
 }
 
 /// The crates of modules that were resolved.
-fn crates_of_scope(
-    scope: Scope<'_, '_>,
-    tokens: &[Token<'_>],
+fn crates_of_scope<'m, 'a>(
+    scope: Scope<'m, 'a>,
+    tokens: &[Token<'a>],
     wish: Wish<'_>,
 ) -> Result<Output, Refusal> {
     let alloc = scope.alloc;
@@ -263,9 +263,9 @@ fn crates_of_scope(
 }
 
 /// The crates of the modules in tokens.
-fn crates_of_tokens(
+fn crates_of_tokens<'a>(
     alloc: Global,
-    tokens: &[Token<'_>],
+    tokens: &[Token<'a>],
     wish: Wish<'_>,
 ) -> Result<Output, Refusal> {
     let modules = read_modules(alloc, tokens)?;
@@ -273,10 +273,10 @@ fn crates_of_tokens(
 }
 
 /// The crates of modules.
-fn crates_of_modules(
+fn crates_of_modules<'a>(
     alloc: Global,
-    modules: &[Module<'_>],
-    tokens: &[Token<'_>],
+    modules: &[Module<'a>],
+    tokens: &[Token<'a>],
     wish: Wish<'_>,
 ) -> Result<Output, Refusal> {
     crates_of_scope(Scope { alloc, modules }, tokens, wish)

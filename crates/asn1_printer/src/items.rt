@@ -3,7 +3,7 @@ ghost use Rattle.std.specs.Prelude.{◌≡◌, false, true, int_le, IfOk, IfSome
 
 use crate::shapes::number_of_octets;
 use crate::templates::{DEFAULT, LIMITS};
-use crate::text::fill;
+use crate::text::{Words, fill};
 use asn1_layouts::numbers::{Spot, names_of, number_of, settled};
 use asn1_layouts::rows::Row;
 use asn1_layouts::scope::Scope;
@@ -93,17 +93,13 @@ pub fn push_limits(
     } else {
         ((code.as_str(), defined.as_str()), (none, none))
     };
-    fill(
-        out,
-        LIMITS,
-        &[
-            ("NAME", name),
-            ("VALUE", value.0),
-            ("SIZE", size.0),
-            ("GHOST_VALUE", value.1),
-            ("GHOST_SIZE", size.1),
-        ],
-    )?;
+    let mut words = Words::new(scope.alloc);
+    words.put("NAME", name)?;
+    words.put("VALUE", value.0)?;
+    words.put("SIZE", size.0)?;
+    words.put("GHOST_VALUE", value.1)?;
+    words.put("GHOST_SIZE", size.1)?;
+    fill(out, LIMITS, &words)?;
     Ok(())
 }
 
@@ -153,17 +149,13 @@ fn push_number<'m, 'a>(
         (plain, defined)
     };
     let number = format!(in alloc; "{number}")?;
-    fill(
-        out,
-        DEFAULT,
-        &[
-            ("NAME", name),
-            ("TYPE", rust),
-            ("NUMBER", number.as_str()),
-            ("CODE", code.as_str()),
-            ("GHOST", defined.as_str()),
-        ],
-    )?;
+    let mut words = Words::new(alloc);
+    words.put("NAME", name)?;
+    words.put("TYPE", rust)?;
+    words.put("NUMBER", number.as_str())?;
+    words.put("CODE", code.as_str())?;
+    words.put("GHOST", defined.as_str())?;
+    fill(out, DEFAULT, &words)?;
     Ok(format!(in alloc; "{name}Default")?)
 }
 

@@ -8,7 +8,7 @@ use crate::notation::{Places, notation, places_of};
 use crate::sequences::push_sequence;
 use crate::shapes::shape_of;
 use crate::templates::ALIAS;
-use crate::text::{fill, lower};
+use crate::text::{Words, fill, lower};
 use crate::uses::{KNOWN, declared_names};
 use asn1_layouts::definitions::{Definition, definitions};
 use asn1_layouts::order::order_of_use;
@@ -107,11 +107,11 @@ fn push_alias<'m, 'a>(
     };
     let name = definition.rust_name.as_str();
     let shape = shape_of(source.scope, source.all, part, definition.link, name)?;
-    fill(
-        out,
-        ALIAS,
-        &[("DOC", doc), ("NAME", name), ("TYPE", shape.text.as_str())],
-    )?;
+    let mut words = Words::new(source.scope.alloc);
+    words.put("DOC", doc)?;
+    words.put("NAME", name)?;
+    words.put("TYPE", shape.text.as_str())?;
+    fill(out, ALIAS, &words)?;
     match shape.limits {
         Some(limits) => push_limits(source.scope, out, name, limits, definition.link.of.first),
         None => Ok(()),
@@ -269,9 +269,9 @@ fn print_in_turn(
 
 /// Prints the types of modules in order of use. Refused at the first that can't be printed; with `leaves_out` that one, and all
 /// that stand on it, are left out.
-pub fn print_types(
-    scope: Scope<'_, '_>,
-    tokens: &[Token<'_>],
+pub fn print_types<'m, 'a>(
+    scope: Scope<'m, 'a>,
+    tokens: &[Token<'a>],
     leaves_out: bool,
 ) -> Result<Outcome, Refusal>
     ensures { leaves_out ≡ false → IfOk result (λ all. all.left_out.items ≡ []) }

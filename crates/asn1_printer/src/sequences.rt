@@ -4,7 +4,7 @@ use crate::cells::{Cell, cell_of, group_cell};
 use crate::chains::{Chain, push_chains};
 use crate::inner::require_stated;
 use crate::templates::{IN_TAG_ORDER, MEMBERS, TABLES, TYPE};
-use crate::text::{fill, joined, repeated};
+use crate::text::{Words, fill, joined, repeated};
 use asn1_core::Class;
 use asn1_layouts::definitions::{Definition, Part};
 use asn1_layouts::layouts::is_extensible;
@@ -100,18 +100,17 @@ fn push_members(
     let additions = additions_text(alloc, of)?;
     let root_count = format!(in alloc; "{}", of.roots.len())?;
     let addition_count = format!(in alloc; "{}", of.additions.len())?;
-    let words = [
-        ("DOC", doc),
-        ("NAME", of.owner),
-        ("KIND", if is_set { "Set" } else { "Sequence" }),
-        ("FIELDS", fields.as_str()),
-        ("PAIRS", pairs.as_str()),
-        ("LIST", list.as_str()),
-        ("ROOTS", roots.as_str()),
-        ("ADDITIONS", additions.as_str()),
-        ("RC", root_count.as_str()),
-        ("EC", addition_count.as_str()),
-    ];
+    let mut words = Words::new(alloc);
+    words.put("DOC", doc)?;
+    words.put("NAME", of.owner)?;
+    words.put("KIND", if is_set { "Set" } else { "Sequence" })?;
+    words.put("FIELDS", fields.as_str())?;
+    words.put("PAIRS", pairs.as_str())?;
+    words.put("LIST", list.as_str())?;
+    words.put("ROOTS", roots.as_str())?;
+    words.put("ADDITIONS", additions.as_str())?;
+    words.put("RC", root_count.as_str())?;
+    words.put("EC", addition_count.as_str())?;
     fill(out, TYPE, &words)?;
     push_chains(alloc, out, of)?;
     fill(out, MEMBERS, &words)?;

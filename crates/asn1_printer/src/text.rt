@@ -2,22 +2,46 @@
 
 use std::alloc::{AllocError, Global};
 
-/// What stands for a word of a template; nothing where there is none.
-fn value_of<'a>(words: &[(&str, &'a str)], name: &str) -> &'a str {
-    for (word, value) in words.iter() {
-        if *word == name {
-            return *value;
+/// What stands for the words of templates.
+#[derive(Drop)]
+pub struct Words {
+    alloc: Global,
+    texts: Vec<(&'static str, String)>,
+}
+
+impl Words {
+    /// None yet.
+    pub fn new(alloc: Global) -> Words {
+        Words {
+            alloc,
+            texts: Vec::new(alloc),
         }
     }
-    ""
+
+    /// Says what stands for a word; the first that is said of it counts.
+    pub fn put(&mut self, word: &'static str, text: &str) -> Result<(), AllocError> {
+        let text = String::from_str(self.alloc, text)?;
+        self.texts.push((word, text))?;
+        Ok(())
+    }
+
+    /// What stands for a word; nothing where there is none.
+    fn text_of(&self, name: &str) -> &str {
+        for (word, text) in self.texts.iter() {
+            if *word == name {
+                return text.as_str();
+            }
+        }
+        ""
+    }
 }
 
 /// Appends a template with its words put in: between two `@` stands a word's name.
-pub fn fill(out: &mut String, template: &str, words: &[(&str, &str)]) -> Result<(), AllocError> {
+pub fn fill(out: &mut String, template: &str, words: &Words) -> Result<(), AllocError> {
     let mut is_word = false;
     for piece in template.split('@') {
         if is_word {
-            out.push_str(value_of(words, piece))?;
+            out.push_str(words.text_of(piece))?;
         } else {
             out.push_str(piece)?;
         }
