@@ -1,5 +1,5 @@
 //! The row of a type, cut into chains of few cells.
-ghost use Rattle.std.specs.Prelude.{◌≡◌, ◌≤◌, ◌<◌, ◌+◌, length, true};
+ghost use Rattle.std.specs.Prelude.{◌≡◌, ◌≤◌, ◌+◌, length, true};
 
 use crate::cells::Cell;
 use crate::templates::{ADDITIONS_CUT, COMPONENTS_CUT, CUT};
@@ -86,9 +86,7 @@ pub fn push_alias(
 
 /// The place behind the last cell of the chain that begins at one. A cell that leads to another row stands alone; but a group
 /// begins no chain, since the check refuses a call whose type begins with numbers.
-fn end_of(cells: &[Cell], start: usize) -> usize
-    ensures behind { start < length cells.now → start < result }
-{
+fn end_of(cells: &[Cell], start: usize) -> usize {
     let mut end = start;
     let mut leads = false;
     for cell in cells.get(start..).unwrap_or(&[]).iter() {

@@ -20,10 +20,19 @@ fn digits_of<T: Encode + Decode + PartialEq>(alloc: Global, value: &T) -> Result
     Ok(hex::encode(alloc, octets.as_slice())?)
 }
 
+/// Prints a value's octets.
+fn show<R: Print + AllocGlobal, T: Encode + Decode + PartialEq>(rt: &R, value: &T) -> Result<()> {
+    let digits = digits_of(rt.alloc(), value)?;
+    println!(rt; "{digits}")?;
+    Ok(())
+}
+
+/// A name of these letters.
 fn name(alloc: Global, letters: &[u8]) -> Result<Name> {
     Ok(Limited::new(Ia5String::from_bytes(alloc, letters)?))
 }
 
+/// A key of four octets.
 fn key(alloc: Global) -> Result<Key> {
     let octets = OctetString::from_slice(alloc, &[0xAA, 0xBB, 0xCC, 0xDD])?;
     Ok(Limited::new(octets))
@@ -45,6 +54,8 @@ fn full_row(alloc: Global) -> Result<Row> {
     let mut names = Vec::new(alloc);
     names.push(name(alloc, b"Al")?)?;
     names.push(name(alloc, b"Bo")?)?;
+    let key = key(alloc)?;
+    let group = group(alloc)?;
     let inner: RowInner = Sequence(RowInnerComponents {
         x: 7,
         colour: Some(Enumeration(ColourValues::Blue)),
@@ -52,12 +63,12 @@ fn full_row(alloc: Global) -> Result<Row> {
     Ok(Sequence(RowComponents {
         ok: false,
         percent: Limited::new(50),
-        key: Some(key(alloc)?),
+        key: Some(key),
         names: ListOf(names),
         inner,
         r_type: Integer::from_i128(300),
         next: None,
-        group_1: Some(group(alloc)?),
+        group_1: Some(group),
         sure: true,
     }))
 }
@@ -81,10 +92,12 @@ fn short_row(alloc: Global) -> Row {
     })
 }
 
+/// A bag, with or without its addition.
 fn bag(alloc: Global, more: Option<()>) -> Result<Bag> {
+    let c = name(alloc, b"N")?;
     Ok(Set(BagComponents {
         a: Some(true),
-        c: name(alloc, b"N")?,
+        c,
         b: -1,
         more,
     }))
@@ -92,17 +105,16 @@ fn bag(alloc: Global, more: Option<()>) -> Result<Bag> {
 
 fn main(rt: HostRuntime) -> Result<()> {
     let alloc = rt.alloc();
-    println!(rt; "{}", digits_of(alloc, &full_row(alloc)?)?)?;
-    println!(rt; "{}", digits_of(alloc, &short_row(alloc))?)?;
-    println!(rt; "{}", digits_of(alloc, &bag(alloc, None)?)?)?;
-    println!(rt; "{}", digits_of(alloc, &bag(alloc, Some(()))?)?)?;
+    show(&rt, &full_row(alloc)?)?;
+    show(&rt, &short_row(alloc))?;
+    show(&rt, &bag(alloc, None)?)?;
+    show(&rt, &bag(alloc, Some(()))?)?;
     let busy: Signal = OneOf(SignalAlternatives::Busy(()));
-    println!(rt; "{}", digits_of(alloc, &busy)?)?;
+    show(&rt, &busy)?;
     let level: Signal = OneOf(SignalAlternatives::Level(Limited::new(99)));
-    println!(rt; "{}", digits_of(alloc, &level)?)?;
+    show(&rt, &level)?;
     let new_key: Signal = OneOf(SignalAlternatives::NewKey(key(alloc)?));
-    println!(rt; "{}", digits_of(alloc, &new_key)?)?;
+    show(&rt, &new_key)?;
     let colour: Colour = Enumeration(ColourValues::DarkGrey);
-    println!(rt; "{}", digits_of(alloc, &colour)?)?;
-    Ok(())
+    show(&rt, &colour)
 }
