@@ -1,4 +1,5 @@
-//! `oergen --list MODULE.asn..` reads ASN.1 modules, and prints each type in order of use with its layout.
+//! `oergen --list MODULE.asn..` reads ASN.1 modules, and prints each type in order of use with its layout;
+//! `oergen --out FOLDER --name NAME MODULE.asn..` writes crates of these types.
 #![tactic(auto)]
 
 #[cfg(test)]
@@ -6,7 +7,8 @@ mod tests;
 
 use asn1_layouts::listing::list;
 use asn1_modules::refusal::Refusal;
-use clap::{Arg, ArgAction, Command};
+use asn1_printer::files::{File, Output, Wish, crates_of};
+use clap::{Arg, ArgAction, ArgMatches, Command};
 use std::alloc::{AllocError, Global};
 use std::process::ExitCode;
 use std::rt::{Env, Files};
@@ -16,12 +18,21 @@ use std::{env, fs, io};
 fn command<'a>(alloc: Global) -> Result<Command<'a>, AllocError> {
     let list = Arg::new(alloc, "list")
         .long("list")
-        .required(true)
+        .action(ArgAction::SetTrue);
+    let out = Arg::new(alloc, "FOLDER").long("out").action(ArgAction::Set);
+    let name = Arg::new(alloc, "NAME").long("name").action(ArgAction::Set);
+    let leave_out = Arg::new(alloc, "leave-out")
+        .long("leave-out")
         .action(ArgAction::SetTrue);
     let files = Arg::new(alloc, "MODULE.asn")
         .required(true)
         .action(ArgAction::Append);
-    Command::new(alloc, "oergen").arg(list)?.arg(files)
+    Command::new(alloc, "oergen")
+        .arg(list)?
+        .arg(out)?
+        .arg(name)?
+        .arg(leave_out)?
+        .arg(files)
 }
 
 /// The program's words, its own name first.
@@ -60,18 +71,105 @@ fn refusal_text(alloc: Global, names: &[&str], refusal: &Refusal) -> Result<Stri
     format!(in alloc; "{file}:{refusal}")
 }
 
+/// Says a refusal on standard error: status 1.
+fn refuse<R: Eprint + AllocGlobal>(rt: &R, names: &[&str], refusal: &Refusal) -> io::Result<u8> {
+    let text = refusal_text(rt.alloc(), names, refusal)?;
+    eprintln!(rt; "{text}")?;
+    Ok(1)
+}
+
 /// Reads the files and prints their table: status 0, or 1 with a refusal on standard error.
-fn run<R: Files + Print + Eprint + AllocGlobal>(rt: &R, names: &[&str]) -> io::Result<u8> {
+fn list_files<R: Files + Print + Eprint + AllocGlobal>(rt: &R, names: &[&str]) -> io::Result<u8> {
     let texts = texts_of(rt, names)?;
     match table_of(rt.alloc(), texts.as_slice()) {
         Ok(table) => {
             print!(rt; "{table}")?;
             Ok(0)
         }
-        Err(refusal) => {
-            let text = refusal_text(rt.alloc(), names, &refusal)?;
-            eprintln!(rt; "{text}")?;
-            Ok(1)
+        Err(refusal) => refuse(rt, names, &refusal),
+    }
+}
+
+/// The crates of the modules in the texts.
+fn output_of(alloc: Global, texts: &[String], wish: Wish<'_>) -> Result<Output, Refusal> {
+    let mut all = Vec::new(alloc);
+    for text in texts.iter() {
+        all.push(text.as_str())?;
+    }
+    crates_of(alloc, all.as_slice(), wish)
+}
+
+/// The folder of a path.
+fn folder_of(path: &str) -> &str {
+    match path.rsplit_once('/') {
+        Some((folder, _)) => folder,
+        None => "",
+    }
+}
+
+/// Writes the files below a folder.
+fn write_files<R: Files + AllocGlobal>(rt: &R, folder: &str, files: &[File]) -> io::Result<()> {
+    for file in files.iter() {
+        let path = file.path.as_str();
+        let path = format!(in rt.alloc(); "{folder}/{path}")?;
+        fs::create_dir_all(rt, folder_of(path.as_str()))?;
+        fs::write(rt, path.as_str(), file.text.as_str())?;
+    }
+    Ok(())
+}
+
+/// Whether it can be the name of a crate.
+fn is_name(name: &str) -> bool {
+    let is_begun = match name.chars().next() {
+        Some(first) => first.is_ascii_lowercase(),
+        None => false,
+    };
+    is_begun && name.chars().all(|c| c.is_ascii_lowercase() || c.is_ascii_digit() || c == '_')
+}
+
+/// Reads the files, writes their crates below a folder and prints the lines of `crates.txt`: status 0, or 1 with a refusal on
+/// standard error, and nothing is written.
+fn write_crates<R: Files + Print + Eprint + AllocGlobal>(
+    rt: &R,
+    folder: &str,
+    wish: Wish<'_>,
+) -> io::Result<u8> {
+    let texts = texts_of(rt, wish.files)?;
+    match output_of(rt.alloc(), texts.as_slice(), wish) {
+        Ok(output) => {
+            write_files(rt, folder, output.files.as_slice())?;
+            let lines = output.lines.as_str();
+            print!(rt; "{lines}")?;
+            Ok(0)
+        }
+        Err(refusal) => refuse(rt, wish.files, &refusal),
+    }
+}
+
+/// Does what the words ask for: status 2 where they name neither a list nor a folder and a crate.
+fn run<R: Files + Print + Eprint + AllocGlobal>(
+    rt: &R,
+    matches: &ArgMatches<'_>,
+) -> io::Result<u8> {
+    let files = matches.get_strs("MODULE.asn").unwrap_or(&[]);
+    if matches.get_flag("list") {
+        return list_files(rt, files);
+    }
+    match (matches.get_str("FOLDER"), matches.get_str("NAME")) {
+        (Some(folder), Some(name)) if is_name(name) => {
+            let leaves_out = matches.get_flag("leave-out");
+            let wish = Wish {
+                name,
+                files,
+                leaves_out,
+            };
+            write_crates(rt, folder, wish)
+        }
+        _ => {
+            eprintln!(rt;
+                "oergen: give --list, or --out FOLDER and --name NAME of small letters, digits and _"
+            )?;
+            Ok(2)
         }
     }
 }
@@ -80,10 +178,7 @@ fn run<R: Files + Print + Eprint + AllocGlobal>(rt: &R, names: &[&str]) -> io::R
 fn run_words<R: Files + Print + Eprint + AllocGlobal>(rt: &R, words: &[String]) -> io::Result<u8> {
     let command = command(rt.alloc())?;
     match command.try_get_matches_from(words) {
-        Ok(matches) => match matches.get_strs("MODULE.asn") {
-            Some(names) => run(rt, names),
-            None => Ok(2),
-        },
+        Ok(matches) => run(rt, &matches),
         Err(e) => {
             eprint!(rt; "{e}")?;
             Ok(2)

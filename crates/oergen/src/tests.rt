@@ -1,22 +1,49 @@
 //! Refused modules, each with its message.
 
 mod refused;
+mod unprinted;
 
 use asn1_layouts::listing::list;
+use asn1_printer::files::{Wish, crates_of};
 use refused::REFUSED;
 use std::alloc::Global;
 use std::process::Abort;
 use std::test::Fail;
+use unprinted::{LEFT_OUT, LEFT_OUT_LINES, UNPRINTED};
 
-/// One row: what stands in a module, and the message, typed from the place of what is met and from what can be read there.
-fn is_refused(rt: &impl Abort, alloc: Global, row: &str) -> Result<(), Fail> {
+/// The module of a row, and its message: typed from the place of what is met and from what can be read there.
+fn parts_of<'r>(alloc: Global, row: &'r str) -> Result<(String, &'r str), Fail> {
     let (body, message) = row.split_once(" => ").ok_or("a row without a message")?;
     let text = format!(in alloc; "M DEFINITIONS AUTOMATIC TAGS ::= BEGIN\n{body}\nEND\n")?;
+    Ok((text, message))
+}
+
+/// Whether a module isn't listed, by the row's message.
+fn is_refused(rt: &impl Abort, alloc: Global, row: &str) -> Result<(), Fail> {
+    let (text, message) = parts_of(alloc, row)?;
     match list(alloc, &[text.as_str()]) {
         Ok(_) => Err(Fail::from("not refused")),
         Err(refusal) => {
             let said = format!(in alloc; "{refusal}")?;
-            assert_eq!(rt; said.as_str(), message, "at {body}");
+            assert_eq!(rt; said.as_str(), message, "at {row}");
+            Ok(())
+        }
+    }
+}
+
+/// Whether a module isn't printed, by the row's message.
+fn is_unprinted(rt: &impl Abort, alloc: Global, row: &str) -> Result<(), Fail> {
+    let (text, message) = parts_of(alloc, row)?;
+    let wish = Wish {
+        name: "m",
+        files: &["m.asn"],
+        leaves_out: false,
+    };
+    match crates_of(alloc, &[text.as_str()], wish) {
+        Ok(_) => Err(Fail::from("not refused")),
+        Err(refusal) => {
+            let said = format!(in alloc; "{refusal}")?;
+            assert_eq!(rt; said.as_str(), message, "at {row}");
             Ok(())
         }
     }
@@ -27,5 +54,26 @@ fn modules_are_refused_with_their_message(rt: HostRuntime) -> Result<(), Fail> {
     for row in REFUSED.split('\n') {
         is_refused(&rt, rt.alloc(), row)?;
     }
+    Ok(())
+}
+
+#[test]
+fn types_are_not_printed_with_their_message(rt: HostRuntime) -> Result<(), Fail> {
+    for row in UNPRINTED.split('\n') {
+        is_unprinted(&rt, rt.alloc(), row)?;
+    }
+    Ok(())
+}
+
+#[test]
+fn types_are_left_out_with_those_that_stand_on_them(rt: HostRuntime) -> Result<(), Fail> {
+    let wish = Wish {
+        name: "m",
+        files: &["m.asn"],
+        leaves_out: true,
+    };
+    let output = crates_of(rt.alloc(), &[LEFT_OUT], wish)?;
+    assert_eq!(rt; output.lines.as_str(), LEFT_OUT_LINES);
+    assert_eq!(rt; output.files.len(), 2);
     Ok(())
 }

@@ -1,0 +1,17 @@
+//! Prints ASN.1 types as Rattle crates: each type by the row of its components.
+#![tactic(auto)]
+
+pub mod cells;
+pub mod chains;
+pub mod choices;
+pub mod enumerations;
+pub mod files;
+pub mod inner;
+pub mod items;
+pub mod notation;
+pub mod printer;
+pub mod sequences;
+pub mod shapes;
+pub mod templates;
+pub mod text;
+pub mod uses;

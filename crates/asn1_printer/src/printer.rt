@@ -1,0 +1,289 @@
+//! All types in order of use, each printed or left out.
+ghost use Rattle.std.specs.Prelude.{◌≡◌, [], Err, false, IfOk};
+
+use crate::choices::push_choice;
+use crate::enumerations::push_enumerated;
+use crate::items::push_limits;
+use crate::notation::{Places, notation, places_of};
+use crate::sequences::push_sequence;
+use crate::shapes::shape_of;
+use crate::templates::ALIAS;
+use crate::text::{Words, fill, lower};
+use crate::uses::{KNOWN, declared_names};
+use asn1_layouts::definitions::{Definition, definitions};
+use asn1_layouts::order::order_of_use;
+use asn1_layouts::scope::Scope;
+use asn1_modules::ast::Body;
+use asn1_modules::lexer::Token;
+use asn1_modules::refusal::Refusal;
+use std::alloc::{AllocError, Global};
+use std::collections::BTreeSet;
+
+/// Names, in small letters, that printed text has of the language and of the library's prelude.
+const TAKEN: &str =
+    "option some none result ok err vec string box drop debug partialeq eq copy clone self bool str \
+any asntype bitstring bmpstring bounded choice class codec constraints constructed date decodeerror decodeerrorkind \
+encodeerror encodeerrorkind enumerated field fieldpresence fields generalstring generalizedtime graphicstring ia5string \
+numericstring objectidentifier octetstring printablestring sequenceof setof tag teletexstring utctime utf8string \
+visiblestring constrainedinteger integer integerrange alternating alternativeviews alternatives either enumeration \
+numbered offers oneof decode decodechoice decoder decoderoptions adddefaults additionviews additions adds application \
+compared components context defaults extensible intagorder isfalse isnumber istrue limited limits listof mayadd \
+mayaddgroup mayhave needs nomore place private rowed schemed sequence set standard tabled universal views writes \
+equalasspelled spelled encode encoder built fields from_row pairs tags to_row";
+
+/// A type that was printed: its text, and the names that others may use.
+#[derive(Drop)]
+pub struct Printed {
+    pub text: String,
+    pub names: Vec<String>,
+}
+
+/// A type that was left out, and why.
+#[derive(Drop)]
+pub struct LeftOut {
+    pub name: String,
+    pub why: Refusal,
+}
+
+/// What came of the types.
+#[derive(Drop)]
+pub struct Outcome {
+    pub printed: Vec<Printed>,
+    pub left_out: Vec<LeftOut>,
+}
+
+/// What became of a type so far.
+#[derive(Clone, Copy, PartialEq, Eq)]
+enum State {
+    New,
+    Printed,
+    LeftOut,
+}
+
+/// What the types are printed from.
+#[derive(Clone, Copy)]
+struct Source<'s, 'm, 'a> {
+    scope: Scope<'m, 'a>,
+    all: &'s [Definition<'m, 'a>],
+    tokens: &'s [Token<'a>],
+    places: &'s Places,
+}
+
+/// Refuses a type that stands on one that isn't printed.
+fn require_targets<'m, 'a>(
+    scope: Scope<'m, 'a>,
+    definition: &Definition<'m, 'a>,
+    states: &[State],
+) -> Result<(), Refusal> {
+    for part in definition.parts.iter() {
+        let Some(target) = part.target else {
+            continue;
+        };
+        match states.get(target).copied() {
+            Some(State::Printed) => {}
+            Some(State::LeftOut) => {
+                return Err(scope.refused(part.inner.of.first, "a type that is printed"));
+            }
+            _ => {
+                return Err(scope.refused(
+                    part.inner.of.first,
+                    "a type that doesn't contain itself: recursion by rows isn't printed yet",
+                ));
+            }
+        }
+    }
+    Ok(())
+}
+
+/// A name for a type, or for a list or a type without parts.
+fn push_alias<'m, 'a>(
+    source: Source<'_, 'm, 'a>,
+    out: &mut String,
+    definition: &Definition<'m, 'a>,
+    doc: &str,
+) -> Result<(), Refusal> {
+    let Some(part) = definition.parts.first() else {
+        return Ok(());
+    };
+    let name = definition.rust_name.as_str();
+    let shape = shape_of(source.scope, source.all, part, definition.link, name)?;
+    let mut words = Words::new(source.scope.alloc);
+    words.put("DOC", doc)?;
+    words.put("NAME", name)?;
+    words.put("TYPE", shape.text.as_str())?;
+    fill(out, ALIAS, &words)?;
+    match shape.limits {
+        Some(limits) => push_limits(source.scope, out, name, limits, definition.link.of.first),
+        None => Ok(()),
+    }
+}
+
+/// A type's ASN.1 as a doc comment.
+fn doc_of(
+    source: Source<'_, '_, '_>,
+    definition: &Definition<'_, '_>,
+) -> Result<String, AllocError> {
+    let alloc = source.scope.alloc;
+    let first = definition.link.of.first.place;
+    let start = match source.places.get(&(first.file, first.line, first.column)) {
+        Some(start) => *start,
+        None => source.tokens.len(),
+    };
+    let assigns = start.checked_sub(1).and_then(|at| source.tokens.get(at));
+    let name = start.checked_sub(2).and_then(|at| source.tokens.get(at));
+    let front = match (name, assigns) {
+        (Some(name), Some(assigns)) if assigns.text == "::=" => {
+            let name = name.text;
+            format!(in alloc; "{name} ::= ")?
+        }
+        _ => String::new(alloc),
+    };
+    notation(alloc, front.as_str(), source.tokens, start)
+}
+
+/// The text of one type.
+fn text_of<'m, 'a>(
+    source: Source<'_, 'm, 'a>,
+    definition: &Definition<'m, 'a>,
+    states: &[State],
+) -> Result<String, Refusal> {
+    let scope = source.scope;
+    require_targets(scope, definition, states)?;
+    let doc = doc_of(source, definition)?;
+    let mut out = String::new(scope.alloc);
+    match &definition.link.of.body {
+        Body::Sequence(_) | Body::Set(_) => {
+            push_sequence(scope, source.all, &mut out, definition, doc.as_str())?;
+        }
+        Body::Choice(_) => push_choice(scope, source.all, &mut out, definition, doc.as_str())?,
+        Body::Enumerated(items, root) => {
+            let items = (items.as_slice(), root.unwrap_or(items.len()));
+            push_enumerated(scope, &mut out, definition, items, doc.as_str())?;
+        }
+        _ => push_alias(source, &mut out, definition, doc.as_str())?,
+    }
+    Ok(out)
+}
+
+/// The names, in small letters, that printed text takes from elsewhere.
+fn taken_names(alloc: Global) -> Result<BTreeSet<String>, AllocError> {
+    let mut names = BTreeSet::new(alloc);
+    for path in KNOWN.split(' ') {
+        let name = match path.rsplit_once("::") {
+            Some((_, name)) => name,
+            None => path,
+        };
+        let _ = names.insert(lower(alloc, name)?)?;
+    }
+    for name in TAKEN.split(' ') {
+        let _ = names.insert(String::from_str(alloc, name)?)?;
+    }
+    Ok(names)
+}
+
+/// The names of a text that others may use. Refused where one, in letters of either size, is that of another.
+fn names_of_text<'m, 'a>(
+    scope: Scope<'m, 'a>,
+    definition: &Definition<'m, 'a>,
+    text: &str,
+    seen: &mut BTreeSet<String>,
+) -> Result<Vec<String>, Refusal> {
+    let alloc = scope.alloc;
+    let mut names = Vec::new(alloc);
+    for (name, is_shown) in declared_names(alloc, text)? {
+        let small = lower(alloc, name.as_str())?;
+        if !seen.insert(small)? {
+            return Err(scope.refused(
+                definition.link.of.first,
+                "a type none of whose printed names, in letters of either size, is another's",
+            ));
+        }
+        if is_shown {
+            names.push(name)?;
+        }
+    }
+    Ok(names)
+}
+
+/// Prints a type, with its names.
+fn print_one<'m, 'a>(
+    source: Source<'_, 'm, 'a>,
+    definition: &Definition<'m, 'a>,
+    states: &[State],
+    seen: &mut BTreeSet<String>,
+) -> Result<Printed, Refusal> {
+    let text = text_of(source, definition, states)?;
+    let names = names_of_text(source.scope, definition, text.as_str(), seen)?;
+    Ok(Printed { text, names })
+}
+
+/// A type that is left out; the refusal itself, where types aren't left out or memory was refused.
+fn left_out_by(
+    definition: &Definition<'_, '_>,
+    why: Refusal,
+    leaves_out: bool,
+) -> Result<LeftOut, Refusal>
+    ensures refused { leaves_out ≡ false → result ≡ Err why }
+    ensures reason { IfOk result (λ one. one.why ≡ why) }
+{
+    if !leaves_out || matches!(why, Refusal::OutOfMemory) {
+        return Err(why);
+    }
+    let name = definition.rust_name.clone()?;
+    Ok(LeftOut { name, why })
+}
+
+/// Prints the types in turn; what can't be printed is refused, or left out.
+fn print_in_turn(
+    source: Source<'_, '_, '_>,
+    order: &[usize],
+    leaves_out: bool,
+) -> Result<Outcome, Refusal>
+    ensures { leaves_out ≡ false → IfOk result (λ all. all.left_out.items ≡ []) }
+{
+    let alloc = source.scope.alloc;
+    let mut states = vec![in alloc; State::New; source.all.len()]?;
+    let mut seen = taken_names(alloc)?;
+    let mut printed = Vec::new(alloc);
+    let mut left_out = Vec::new(alloc);
+    for at in order.iter() {
+        let Some(definition) = source.all.get(*at) else {
+            continue;
+        };
+        let state = match print_one(source, definition, states.as_slice(), &mut seen) {
+            Ok(one) => {
+                printed.push(one)?;
+                State::Printed
+            }
+            Err(why) => {
+                left_out.push(left_out_by(definition, why, leaves_out)?)?;
+                State::LeftOut
+            }
+        };
+        if let Some(place) = states.get_mut(*at) {
+            *place = state;
+        }
+    }
+    Ok(Outcome { printed, left_out })
+}
+
+/// Prints the types of modules in order of use. Refused at the first that can't be printed; with `leaves_out` that one, and all
+/// that stand on it, are left out.
+pub fn print_types<'m, 'a>(
+    scope: Scope<'m, 'a>,
+    tokens: &[Token<'a>],
+    leaves_out: bool,
+) -> Result<Outcome, Refusal>
+    ensures { leaves_out ≡ false → IfOk result (λ all. all.left_out.items ≡ []) }
+{
+    let all = definitions(scope)?;
+    let order = order_of_use(scope.alloc, all.as_slice())?;
+    let places = places_of(scope.alloc, tokens)?;
+    let source = Source {
+        scope,
+        all: all.as_slice(),
+        tokens,
+        places: &places,
+    };
+    print_in_turn(source, order.as_slice(), leaves_out)
+}

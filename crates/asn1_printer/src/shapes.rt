@@ -1,0 +1,216 @@
+//! The Rust type of a type without parts, of a name, and of lists of either.
+
+use asn1_layouts::definitions::{Definition, Part};
+use asn1_layouts::numbers::names_of;
+use asn1_layouts::scope::{Link, Scope};
+use asn1_layouts::visible::{Limits, Purpose, UNLIMITED, limits_of};
+use asn1_modules::ast::{Body, Simple, Type};
+use asn1_modules::refusal::Refusal;
+use std::alloc::{AllocError, Global};
+
+/// How many lists may stand inside one another.
+const MAX_LISTS: usize = 64;
+
+/// A Rust type.
+#[derive(Drop)]
+pub struct Shape {
+    pub text: String,
+    /// The limits that it has a name for, where it has some.
+    pub limits: Option<(Limits, Purpose)>,
+    /// The type within the limits.
+    pub base: &'static str,
+}
+
+/// The Rust type of a type without parts.
+fn simple_type(simple: Simple) -> &'static str {
+    match simple {
+        Simple::Boolean => "bool",
+        Simple::Null => "()",
+        Simple::OctetString => "OctetString",
+        Simple::ObjectIdentifier => "ObjectIdentifier",
+        Simple::Utf8String => "Utf8String",
+        Simple::NumericString => "NumericString",
+        Simple::PrintableString => "PrintableString",
+        Simple::VisibleString => "VisibleString",
+        Simple::Ia5String => "Ia5String",
+        Simple::GeneralString => "GeneralString",
+        Simple::GraphicString => "GraphicString",
+        Simple::TeletexString => "TeletexString",
+        Simple::BmpString => "BmpString",
+        Simple::UtcTime => "UtcTime",
+        Simple::GeneralizedTime => "GeneralizedTime",
+        Simple::Date => "Date",
+        Simple::Any => "Any",
+    }
+}
+
+/// Whether the octets of a type depend on its sizes (X.696, clauses 14 and 27).
+fn has_sizes(simple: Simple) -> bool {
+    matches!(
+        simple,
+        Simple::OctetString
+            | Simple::NumericString
+            | Simple::PrintableString
+            | Simple::VisibleString
+            | Simple::Ia5String
+            | Simple::BmpString
+    )
+}
+
+/// The Rust type of numbers within limits, with its own limits: those that X.696 writes in as many octets.
+fn number_type(limits: Limits) -> (&'static str, Limits) {
+    let (name, low, high) = match limits.width() {
+        (Some(1), false) => ("u8", 0, 255),
+        (Some(2), false) => ("u16", 0, 65535),
+        (Some(4), false) => ("u32", 0, 4294967295),
+        (Some(8), false) => ("u64", 0, 18446744073709551615),
+        (Some(1), true) => ("i8", -128, 127),
+        (Some(2), true) => ("i16", -32768, 32767),
+        (Some(4), true) => ("i32", -2147483648, 2147483647),
+        (Some(8), true) => ("i64", -9223372036854775808, 9223372036854775807),
+        _ => return ("Integer", UNLIMITED),
+    };
+    let own = Limits {
+        low: Some(low),
+        high: Some(high),
+        is_extensible: false,
+    };
+    (name, own)
+}
+
+/// The type within limits, and the limits where they are not its own.
+fn limited(
+    alloc: Global,
+    base: &'static str,
+    own: Limits,
+    limits: Limits,
+    purpose: Purpose,
+    name: &str,
+) -> Result<Shape, AllocError> {
+    if limits.is_extensible || limits == own {
+        return Ok(Shape {
+            text: String::from_str(alloc, base)?,
+            limits: None,
+            base,
+        });
+    }
+    Ok(Shape {
+        text: format!(in alloc; "Limited<{base}, {name}Limits>")?,
+        limits: Some((limits, purpose)),
+        base,
+    })
+}
+
+/// What the limits of a type are of; nothing where it has none.
+fn purpose_of(base: Link<'_, '_>) -> Option<Purpose> {
+    match &base.of.body {
+        Body::Integer(_) => Some(Purpose::Value),
+        Body::BitString(_) => Some(Purpose::Size),
+        Body::Simple(simple) if has_sizes(*simple) => Some(Purpose::Size),
+        _ => None,
+    }
+}
+
+/// Whether a type that is named where it is used is taken by its name: nothing is said there that changes its limits.
+fn is_plain<'m, 'a>(
+    scope: Scope<'m, 'a>,
+    chain: &[Link<'m, 'a>],
+    base: Link<'m, 'a>,
+) -> Result<bool, Refusal> {
+    let Some(purpose) = purpose_of(base) else {
+        return Ok(true);
+    };
+    let names = names_of(base);
+    let whole = limits_of(scope, chain, names, purpose)?;
+    let named = limits_of(scope, chain.get(1..).unwrap_or(&[]), names, purpose)?;
+    Ok(whole == named)
+}
+
+/// The Rust type of a part without the lists around it; `name` is that of its limits, where they need one.
+fn inner_shape<'m, 'a>(
+    scope: Scope<'m, 'a>,
+    all: &[Definition<'m, 'a>],
+    part: &Part<'m, 'a>,
+    name: &str,
+) -> Result<Shape, Refusal> {
+    let alloc = scope.alloc;
+    let chain = scope.chain_of(part.inner)?;
+    let base = chain.last().copied().unwrap_or(part.inner);
+    let target = part.target.and_then(|t| all.get(t));
+    if let Some(target) = target {
+        if is_plain(scope, chain.as_slice(), base)? {
+            return Ok(Shape {
+                text: target.rust_name.clone()?,
+                limits: None,
+                base: "",
+            });
+        }
+    }
+    let (limits, purpose) = match purpose_of(base) {
+        Some(purpose) => {
+            let limits = limits_of(scope, chain.as_slice(), names_of(base), purpose)?;
+            (limits, purpose)
+        }
+        None => (UNLIMITED, Purpose::Value),
+    };
+    let (rust, own) = match &base.of.body {
+        Body::Integer(_) => number_type(limits),
+        Body::BitString(_) => ("BitString", UNLIMITED),
+        Body::Simple(simple) => (simple_type(*simple), UNLIMITED),
+        _ => ("", UNLIMITED),
+    };
+    Ok(limited(alloc, rust, own, limits, purpose, name)?)
+}
+
+/// The Rust type of an INTEGER's numbers, whether it stands within limits, and these.
+pub fn number_of_octets<'m, 'a>(
+    scope: Scope<'m, 'a>,
+    link: Link<'m, 'a>,
+) -> Result<(&'static str, bool, Limits), Refusal> {
+    let chain = scope.chain_of(link)?;
+    let base = chain.last().copied().unwrap_or(link);
+    let limits = limits_of(scope, chain.as_slice(), names_of(base), Purpose::Value)?;
+    let (rust, own) = number_type(limits);
+    Ok((rust, !limits.is_extensible && limits != own, limits))
+}
+
+/// Appends the fronts of the lists around a type, and answers how many there are.
+fn push_lists(out: &mut String, start: &Type<'_>) -> Result<usize, AllocError> {
+    let mut of = start;
+    for count in 0..MAX_LISTS {
+        match &of.body {
+            Body::SequenceOf(element) => {
+                out.push_str("ListOf<")?;
+                of = &**element;
+            }
+            Body::SetOf(element) => {
+                out.push_str("SetOf<")?;
+                of = &**element;
+            }
+            _ => return Ok(count),
+        }
+    }
+    Ok(MAX_LISTS)
+}
+
+/// The Rust type of a part; `name` is that of its limits, where they need one.
+pub fn shape_of<'m, 'a>(
+    scope: Scope<'m, 'a>,
+    all: &[Definition<'m, 'a>],
+    part: &Part<'m, 'a>,
+    whole: Link<'m, 'a>,
+    name: &str,
+) -> Result<Shape, Refusal> {
+    let inner = inner_shape(scope, all, part, name)?;
+    let mut text = String::new(scope.alloc);
+    let lists = push_lists(&mut text, whole.of)?;
+    text.push_str(inner.text.as_str())?;
+    for _ in 0..lists {
+        text.push('>')?;
+    }
+    Ok(Shape {
+        text,
+        limits: inner.limits,
+        base: inner.base,
+    })
+}

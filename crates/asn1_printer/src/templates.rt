@@ -1,0 +1,261 @@
+//! What is printed of each sort of item: between two `@` stands a word that is put in.
+
+/// A SEQUENCE or a SET, and the struct of its components.
+pub const TYPE: &str = r#"@DOC@pub type @NAME@ = @KIND@<@NAME@Components, @RC@, @EC@>;
+
+/// The components of `@NAME@`.
+#[derive(Debug, PartialEq, Eq, Drop)]
+pub struct @NAME@Components {@FIELDS@}
+
+"#;
+
+/// The components of a struct as a row.
+pub const MEMBERS: &str = r#"impl Rowed for @NAME@Components {
+    type Row = @NAME@Row;
+
+    ghost components = { λ v. @PAIRS@ };
+
+    fn from_row(row: <Self::Row as Components>::Values) -> Self {
+        built![@NAME@Components from row:
+@LIST@
+        ]
+    }
+}
+
+"#;
+
+/// The tables of components, and how they are written.
+pub const TABLES: &str = r#"impl Tabled<@RC@, @EC@> for @NAME@Components {
+    ghost use Rattle.std.specs.Prelude.{refl};
+
+    const FIELDS: Fields<@RC@> = @ROOTS@;
+
+    const EXTENDED_FIELDS: Option<Fields<@EC@>> = @ADDITIONS@;
+
+    fn root_fields() -> &'static [Field<'static>] {
+        Self::FIELDS.fields
+    }
+
+    fn addition_fields() -> &'static [Field<'static>] {
+        match Self::EXTENDED_FIELDS {
+            Some(table) => table.fields,
+            None => &[],
+        }
+    }
+
+    fn put(&self, encoder: &mut Encoder<'_>) -> Result<(), EncodeError> {
+        let view = views![self:
+@LIST@
+        ];
+        @NAME@Row::write(view, encoder)
+    }
+
+    ghost counts = { (refl, refl) };
+}
+
+"#;
+
+/// That the components of a SET stand in the order of their tags.
+pub const IN_TAG_ORDER: &str = r#"impl InTagOrder<@RC@, @EC@> for @NAME@Components {
+    ghost use Rattle.std.specs.Prelude.{refl};
+
+    ghost in_order = { refl };
+}
+
+"#;
+
+/// What stands for the cells of a row from one on.
+pub const CUT: &str = r#"/// The components of `@OWNER@` from `@FIELD@` on.
+pub struct @NAME@;
+
+"#;
+
+/// Its impls, where these are root components.
+pub const COMPONENTS_CUT: &str = r#"impl Components for @NAME@ {
+    ghost use Rattle.std.specs.Prelude.{@EXT@};
+
+    type Values = <@NAME@Row as Components>::Values;
+
+    ghost EXTENSIBLE = { @EXT@ };
+
+    const EXTENSIBLE: bool = @EXT@;
+
+    ghost schema = { ⟦<@NAME@Row as Components>⟧.schema };
+
+    ghost is_schema = { ⟦<@NAME@Row as Components>⟧.is_schema };
+
+    fn read(alloc: Global, decoder: &mut Decoder<'_>) -> Result<Self::Values, DecodeError> {
+        @NAME@Row::read(alloc, decoder)
+    }
+}
+
+impl<'v> Views<'v> for @NAME@ {
+    type View = <@NAME@Row as Views<'v>>::View;
+
+    ghost seen = { ⟦<@NAME@Row as Views<'v>>⟧.seen };
+
+    fn write(
+        view: <@NAME@Row as Views<'v>>::View,
+        encoder: &mut Encoder<'_>,
+    ) -> Result<(), EncodeError> {
+        @NAME@Row::write(view, encoder)
+    }
+}
+
+"#;
+
+/// Its impls, where these are additions.
+pub const ADDITIONS_CUT: &str = r#"impl Additions for @NAME@ {
+    type More = <@NAME@Row as Additions>::More;
+
+    ghost table = { ⟦<@NAME@Row as Additions>⟧.table };
+
+    ghost is_table = { ⟦<@NAME@Row as Additions>⟧.is_table };
+
+    fn read_additions(alloc: Global, decoder: &mut Decoder<'_>) -> Result<Self::More, DecodeError> {
+        @NAME@Row::read_additions(alloc, decoder)
+    }
+}
+
+impl<'v> AdditionViews<'v> for @NAME@ {
+    type MoreView = <@NAME@Row as AdditionViews<'v>>::MoreView;
+
+    ghost seen = { ⟦<@NAME@Row as AdditionViews<'v>>⟧.seen };
+
+    fn write_additions(
+        view: <@NAME@Row as AdditionViews<'v>>::MoreView,
+        encoder: &mut Encoder<'_>,
+    ) -> Result<(), EncodeError> {
+        @NAME@Row::write_additions(view, encoder)
+    }
+}
+
+"#;
+
+/// The limits of a type.
+pub const LIMITS: &str = r#"/// The limits of `@NAME@`.
+#[derive(Drop)]
+pub enum @NAME@Limits {}
+
+impl Limits for @NAME@Limits {
+    ghost use Rattle.std.specs.Prelude.{None, Some, false, negsuc, pos, refl};
+    ghost use Rattle.rasn_oer.specs.Bounded.{Range, Single};
+
+    ghost LIMITS = { record { value = @GHOST_VALUE@; size = @GHOST_SIZE@ } };
+
+    const LIMITS: Constraints = Constraints {
+        value: @VALUE@,
+        size: @SIZE@,
+    };
+
+    ghost consistent = { refl };
+}
+
+"#;
+
+/// A number's default.
+pub const DEFAULT: &str = r#"/// The default @NUMBER@ of `@NAME@`.
+pub struct @NAME@Default;
+
+impl Standard<@TYPE@> for @NAME@Default {
+    ghost use Rattle.std.specs.Prelude.{negsuc, pos, refl};
+
+    ghost value = { @GHOST@ };
+
+    fn value() -> @TYPE@ {
+        @CODE@
+    }
+
+    ghost admitted = { refl };
+}
+
+"#;
+
+/// A name of a type.
+pub const ALIAS: &str = r#"@DOC@pub type @NAME@ = @TYPE@;
+
+"#;
+
+/// A CHOICE, and the enum of its alternatives.
+pub const CHOICE: &str = r#"@DOC@pub type @NAME@ = OneOf<@NAME@Alternatives>;
+
+/// The alternatives of `@NAME@`.
+#[derive(Debug, PartialEq, Eq, Drop)]
+pub enum @NAME@Alternatives {
+@VARIANTS@}
+
+"#;
+
+/// The tables of a CHOICE, and what its alternatives have.
+pub const CHOICE_IMPLS: &str = r#"@TABLES@impl Alternating for @NAME@Alternatives {
+    ghost use Rattle.std.specs.Prelude.{refl};
+    ghost use Rattle.rasn_oer.specs.Alternative.{First, Rest};
+    ghost use Rattle.@HOME@.@NAME@Alternatives.TheVariants.{@LIST@};
+
+    type Row = @NAME@Row;
+
+    ghost alternative = { elim [ @CASES@ ] };
+
+    const VARIANTS: &'static [Tag] = @ROOTS@;
+
+    const EXTENDED_VARIANTS: Option<&'static [Tag]> = @ADDITIONS@;
+
+    fn root_tags() -> &'static [Tag] {
+        Self::VARIANTS
+    }
+
+    fn addition_tags() -> Option<&'static [Tag]> {
+        Self::EXTENDED_VARIANTS
+    }
+
+    fn from_alternative(value: <Self::Row as Alternatives>::Values) -> Self {
+        from_row!(value => @NAME@Alternatives: @LIST@)
+    }
+
+    fn put<E: Choice>(
+        &self,
+        encoder: &mut Encoder<'_>,
+        constraints: Constraints,
+    ) -> Result<(), EncodeError> {
+        let view = to_row!(self => @NAME@Alternatives: @LIST@);
+        @NAME@Row::write_alternative::<E>(view, encoder, constraints)
+    }
+
+    ghost apart = { refl };
+}
+
+"#;
+
+/// The tags of a CHOICE's root alternatives, or of its additions.
+pub const TAGS: &str = r#"const @TABLE@: &'static [Tag] = @TAGS@;
+
+"#;
+
+/// An ENUMERATED, and the enum of its values.
+pub const ENUMERATED: &str = r#"@DOC@pub type @NAME@ = Enumeration<@NAME@Values>;
+
+/// The values of `@NAME@`.
+#[derive(Debug, Clone, Copy, PartialEq, Eq)]
+pub enum @NAME@Values {
+@VARIANTS@}
+
+impl Numbered for @NAME@Values {
+    ghost use Rattle.std.specs.Prelude.{pos, negsuc, [], ◌∷◌, refl};
+    ghost use Rattle.@HOME@.@NAME@Values.TheVariants.{@LIST@};
+
+    ghost number = { elim [ @NUMBERS@ ] };
+
+    ghost values = { @CHAIN@[] };
+
+    ghost listed = { elim [ @LISTED@ ↦ (refl, refl) ] };
+
+    fn number(self) -> isize {
+        self as isize
+    }
+
+    fn values() -> &'static [@NAME@Values] {
+        @PATHS@
+    }
+}
+
+"#;

@@ -1,0 +1,209 @@
+//! The `use` lines of a file, from the words of its text.
+
+use crate::text::sort_key;
+use std::alloc::{AllocError, Global};
+use std::collections::{BTreeMap, BTreeSet};
+
+/// How many characters a line has at most.
+const WIDTH: usize = 100;
+
+/// The library whose names printed text takes, all in one line.
+const PRELUDE: &str = "rasn_oer::prelude";
+
+/// The names that printed text takes from elsewhere, each by its path.
+pub const KNOWN: &str = "std::alloc::Global std::marker::PhantomData";
+
+/// The part of a line that can take names from elsewhere: none of a comment, a ghost member, the type of an impl, or a list of
+/// variants; of a variant what it holds.
+fn code_of(line: &str) -> &str {
+    let text = line.trim_start();
+    let is_other = text.starts_with("//")
+        || text.starts_with("ghost ")
+        || text.contains("_row!(")
+        || line.starts_with("    type ");
+    if is_other { "" } else { behind_variant(line) }
+}
+
+/// A line behind the name of the variant that it declares; where it declares none, the whole.
+fn behind_variant(line: &str) -> &str {
+    let Some(text) = line.strip_prefix("    ") else {
+        return line;
+    };
+    let Some((name, _)) = text.split_once(|c: char| !c.is_ascii_alphanumeric()) else {
+        return line;
+    };
+    match text.strip_prefix(name) {
+        Some(rest) if rest.starts_with('(') || rest.starts_with(" = ") => rest,
+        _ => line,
+    }
+}
+
+/// Puts the words of a line to others: one that stands behind `::` with a colon in front.
+fn push_words(alloc: Global, words: &mut BTreeSet<String>, line: &str) -> Result<(), AllocError> {
+    let mut word = String::new(alloc);
+    let mut before = ' ';
+    for c in line.chars() {
+        if c.is_ascii_alphanumeric() || c == '_' {
+            if word.is_empty() && before == ':' {
+                word.push(':')?;
+            }
+            word.push(c)?;
+        } else if !word.is_empty() {
+            let _ = words.insert(word)?;
+            word = String::new(alloc);
+        }
+        before = c;
+    }
+    let _ = words.insert(word)?;
+    Ok(())
+}
+
+/// The words of a text's code.
+fn words_of(alloc: Global, body: &str) -> Result<BTreeSet<String>, AllocError> {
+    let mut words = BTreeSet::new(alloc);
+    for line in body.lines() {
+        push_words(alloc, &mut words, code_of(line))?;
+    }
+    Ok(words)
+}
+
+/// Paths to names, in the order in which rustfmt has them.
+pub type Paths = BTreeMap<String, (String, String)>;
+
+/// Puts a name's path to others.
+pub fn push_path(
+    alloc: Global,
+    paths: &mut Paths,
+    home: &str,
+    name: &str,
+) -> Result<(), AllocError> {
+    let front = if home == "crate" { "" } else { home };
+    let key = sort_key(alloc, format!(in alloc; "{front}::{name}")?.as_str())?;
+    let path = (
+        String::from_str(alloc, home)?,
+        String::from_str(alloc, name)?,
+    );
+    paths.insert(key, path)?;
+    Ok(())
+}
+
+/// One line of names, or several.
+fn push_line(
+    alloc: Global,
+    out: &mut String,
+    word: &str,
+    home: &str,
+    names: &[String],
+) -> Result<(), AllocError> {
+    let mut one = format!(in alloc; "{word} {home}::")?;
+    let front = one.len();
+    let mut many = String::from_str(alloc, "   ")?;
+    let mut column = 3usize;
+    let last = names.len().saturating_sub(1);
+    for (at, name) in names.iter().enumerate() {
+        if at != 0 {
+            one.push_str(", ")?;
+        }
+        one.push_str(name.as_str())?;
+        column = column.saturating_add(name.len()).saturating_add(2);
+        let room = if at == last { WIDTH } else { WIDTH - 1 };
+        if column > room {
+            many.push_str("\n   ")?;
+            column = name.len().saturating_add(5);
+        }
+        many.push(' ')?;
+        many.push_str(name.as_str())?;
+        many.push(',')?;
+    }
+    if names.len() == 1 {
+        out.push_str(one.as_str())?;
+        out.push_str(";\n")?;
+    } else if one.len().saturating_add(3) <= WIDTH {
+        let list = one.get(front..).unwrap_or("");
+        out.push_str(format!(in alloc; "{word} {home}::{{{list}}};\n")?.as_str())?;
+    } else {
+        out.push_str(format!(in alloc; "{word} {home}::{{\n{many}\n}};\n")?.as_str())?;
+    }
+    Ok(())
+}
+
+/// The lines `use home::names`, or `pub use`, for paths.
+pub fn path_lines(alloc: Global, word: &str, paths: &Paths) -> Result<String, AllocError> {
+    let mut out = String::new(alloc);
+    let mut home = String::new(alloc);
+    let mut names: Vec<String> = Vec::new(alloc);
+    for (module, name) in paths.values() {
+        if module.as_str() != home.as_str() {
+            if !names.is_empty() {
+                push_line(alloc, &mut out, word, home.as_str(), names.as_slice())?;
+            }
+            home = module.clone()?;
+            names = Vec::new(alloc);
+        }
+        names.push(name.clone()?)?;
+    }
+    if !names.is_empty() {
+        push_line(alloc, &mut out, word, home.as_str(), names.as_slice())?;
+    }
+    Ok(out)
+}
+
+/// The crate and the module of each printed name.
+pub type Homes = BTreeMap<String, (String, String)>;
+
+/// The `use` lines of a text, which stands in that crate and module.
+pub fn use_lines(
+    alloc: Global,
+    body: &str,
+    homes: &Homes,
+    library: &str,
+    module: &str,
+) -> Result<String, AllocError> {
+    let words = words_of(alloc, body)?;
+    let mut paths: Paths = BTreeMap::new(alloc);
+    push_path(alloc, &mut paths, PRELUDE, "*")?;
+    for path in KNOWN.split(' ') {
+        if let Some((home, name)) = path.rsplit_once("::") {
+            if words.contains(name) {
+                push_path(alloc, &mut paths, home, name)?;
+            }
+        }
+    }
+    for word in words.iter() {
+        if let Some((home, file)) = homes.get(word.as_str()) {
+            if home.as_str() != library {
+                push_path(alloc, &mut paths, home.as_str(), word.as_str())?;
+            } else if file.as_str() != module {
+                push_path(alloc, &mut paths, "crate", word.as_str())?;
+            }
+        }
+    }
+    path_lines(alloc, "use", &paths)
+}
+
+/// The name that a line declares, and whether others may use it.
+fn declared(line: &str) -> Option<(&str, bool)> {
+    let (rest, is_public) = match line.strip_prefix("pub ") {
+        Some(rest) => (rest, true),
+        None => (line, false),
+    };
+    let (sort, after) = rest.split_once(' ')?;
+    if sort != "struct" && sort != "enum" && sort != "type" {
+        return None;
+    }
+    let (name, _) = after.split_once(|c: char| !(c.is_ascii_alphanumeric() || c == '_'))?;
+    let is_limits = sort == "enum" && line.ends_with("{}");
+    let is_shown = is_public && !is_limits && (sort == "type" || !line.ends_with(';'));
+    Some((name, is_shown))
+}
+
+/// The names that a text declares, and whether others may use each.
+pub fn declared_names(alloc: Global, body: &str) -> Result<Vec<(String, bool)>, AllocError> {
+    let mut names = Vec::new(alloc);
+    for line in body.lines() {
+        if let Some((name, is_shown)) = declared(line) {
+            names.push((String::from_str(alloc, name)?, is_shown))?;
+        }
+    }
+    Ok(names)
+}

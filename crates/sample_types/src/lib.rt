@@ -1,0 +1,11 @@
+//! Types of ASN.1 modules, as oergen printed them.
+#![tactic(auto)]
+
+mod types_01;
+mod types_02;
+
+pub use types_01::{
+    Again, Below, Bits, Colour, ColourValues, Key, Name, Names, Narrow, Percent, Row,
+    RowComponents, RowGroup1, RowGroup1Components, RowInner, RowInnerComponents,
+};
+pub use types_02::{Bag, BagComponents, Signal, SignalAlternatives};

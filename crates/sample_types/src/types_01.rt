@@ -1,0 +1,610 @@
+//! Types of ASN.1 modules, as oergen printed them.
+
+use rasn_oer::prelude::*;
+use std::alloc::Global;
+use std::marker::PhantomData;
+
+/// `Percent ::= INTEGER (0..100)`
+pub type Percent = Limited<u8, PercentLimits>;
+
+/// The limits of `Percent`.
+#[derive(Drop)]
+pub enum PercentLimits {}
+
+impl Limits for PercentLimits {
+    ghost use Rattle.std.specs.Prelude.{None, Some, false, negsuc, pos, refl};
+    ghost use Rattle.rasn_oer.specs.Bounded.{Range, Single};
+
+    ghost LIMITS = { record { value = Some (Range (Some (pos 0)) (Some (pos 100)), false); size = None } };
+
+    const LIMITS: Constraints = Constraints {
+        value: Some((
+            Bounded::Range {
+                start: Some(0),
+                end: Some(100),
+            },
+            false,
+        )),
+        size: None,
+    };
+
+    ghost consistent = { refl };
+}
+
+/// `Below ::= INTEGER (-5..MAX)`
+pub type Below = Limited<Integer, BelowLimits>;
+
+/// The limits of `Below`.
+#[derive(Drop)]
+pub enum BelowLimits {}
+
+impl Limits for BelowLimits {
+    ghost use Rattle.std.specs.Prelude.{None, Some, false, negsuc, pos, refl};
+    ghost use Rattle.rasn_oer.specs.Bounded.{Range, Single};
+
+    ghost LIMITS = { record { value = Some (Range (Some (negsuc 4)) None, false); size = None } };
+
+    const LIMITS: Constraints = Constraints {
+        value: Some((
+            Bounded::Range {
+                start: Some(-5),
+                end: None,
+            },
+            false,
+        )),
+        size: None,
+    };
+
+    ghost consistent = { refl };
+}
+
+/// `Again ::= Percent`
+pub type Again = Percent;
+
+/// `Narrow ::= Percent (0..9)`
+pub type Narrow = Limited<u8, NarrowLimits>;
+
+/// The limits of `Narrow`.
+#[derive(Drop)]
+pub enum NarrowLimits {}
+
+impl Limits for NarrowLimits {
+    ghost use Rattle.std.specs.Prelude.{None, Some, false, negsuc, pos, refl};
+    ghost use Rattle.rasn_oer.specs.Bounded.{Range, Single};
+
+    ghost LIMITS = { record { value = Some (Range (Some (pos 0)) (Some (pos 9)), false); size = None } };
+
+    const LIMITS: Constraints = Constraints {
+        value: Some((
+            Bounded::Range {
+                start: Some(0),
+                end: Some(9),
+            },
+            false,
+        )),
+        size: None,
+    };
+
+    ghost consistent = { refl };
+}
+
+/// `Key ::= OCTET STRING (SIZE(4))`
+pub type Key = Limited<OctetString, KeyLimits>;
+
+/// The limits of `Key`.
+#[derive(Drop)]
+pub enum KeyLimits {}
+
+impl Limits for KeyLimits {
+    ghost use Rattle.std.specs.Prelude.{None, Some, false, negsuc, pos, refl};
+    ghost use Rattle.rasn_oer.specs.Bounded.{Range, Single};
+
+    ghost LIMITS = { record { value = None; size = Some (Single 4, false) } };
+
+    const LIMITS: Constraints = Constraints {
+        value: None,
+        size: Some((Bounded::Single(4), false)),
+    };
+
+    ghost consistent = { refl };
+}
+
+/// `Bits ::= BIT STRING { first(0), last(11) } (SIZE(12))`
+pub type Bits = Limited<BitString, BitsLimits>;
+
+/// The limits of `Bits`.
+#[derive(Drop)]
+pub enum BitsLimits {}
+
+impl Limits for BitsLimits {
+    ghost use Rattle.std.specs.Prelude.{None, Some, false, negsuc, pos, refl};
+    ghost use Rattle.rasn_oer.specs.Bounded.{Range, Single};
+
+    ghost LIMITS = { record { value = None; size = Some (Single 12, false) } };
+
+    const LIMITS: Constraints = Constraints {
+        value: None,
+        size: Some((Bounded::Single(12), false)),
+    };
+
+    ghost consistent = { refl };
+}
+
+/// `Name ::= IA5String (SIZE(1..8))`
+pub type Name = Limited<Ia5String, NameLimits>;
+
+/// The limits of `Name`.
+#[derive(Drop)]
+pub enum NameLimits {}
+
+impl Limits for NameLimits {
+    ghost use Rattle.std.specs.Prelude.{None, Some, false, negsuc, pos, refl};
+    ghost use Rattle.rasn_oer.specs.Bounded.{Range, Single};
+
+    ghost LIMITS = { record { value = None; size = Some (Range (Some 1) (Some 8), false) } };
+
+    const LIMITS: Constraints = Constraints {
+        value: None,
+        size: Some((
+            Bounded::Range {
+                start: Some(1),
+                end: Some(8),
+            },
+            false,
+        )),
+    };
+
+    ghost consistent = { refl };
+}
+
+/// `Names ::= SEQUENCE OF Name`
+pub type Names = ListOf<Name>;
+
+/// `Colour ::= ENUMERATED { red, green(5), blue, ..., dark-grey }`
+pub type Colour = Enumeration<ColourValues>;
+
+/// The values of `Colour`.
+#[derive(Debug, Clone, Copy, PartialEq, Eq)]
+pub enum ColourValues {
+    Red = 0,
+    Green = 5,
+    Blue = 1,
+    DarkGrey = 2,
+}
+
+impl Numbered for ColourValues {
+    ghost use Rattle.std.specs.Prelude.{pos, negsuc, [], ◌∷◌, refl};
+    ghost use Rattle.sample_types.specs.declared.types_01.ColourValues.TheVariants.{Red, Green, Blue, DarkGrey};
+
+    ghost number = { elim [ Red ↦ (pos 0) | Green ↦ (pos 5) | Blue ↦ (pos 1) | DarkGrey ↦ (pos 2) ] };
+
+    ghost values = { Red ∷ Green ∷ Blue ∷ DarkGrey ∷ [] };
+
+    ghost listed = { elim [ Red ↦ (refl, refl) | Green ↦ (refl, refl) | Blue ↦ (refl, refl) | DarkGrey ↦ (refl, refl) ] };
+
+    fn number(self) -> isize {
+        self as isize
+    }
+
+    fn values() -> &'static [ColourValues] {
+        &[
+            ColourValues::Red,
+            ColourValues::Green,
+            ColourValues::Blue,
+            ColourValues::DarkGrey,
+        ]
+    }
+}
+
+/// `SEQUENCE { x INTEGER (0..255), colour Colour OPTIONAL }`
+pub type RowInner = Sequence<RowInnerComponents, 2, 0>;
+
+/// The components of `RowInner`.
+#[derive(Debug, PartialEq, Eq, Drop)]
+pub struct RowInnerComponents {
+    pub x: u8,
+    pub colour: Option<Colour>,
+}
+
+type RowInnerRow = Needs<Context<0>, u8, MayHave<Context<1>, Colour, NoMore>>;
+
+impl Rowed for RowInnerComponents {
+    type Row = RowInnerRow;
+
+    ghost components = { λ v. (v.x, (v.colour, tt)) };
+
+    fn from_row(row: <Self::Row as Components>::Values) -> Self {
+        built![RowInnerComponents from row:
+            x,
+            colour
+        ]
+    }
+}
+
+impl Tabled<2, 0> for RowInnerComponents {
+    ghost use Rattle.std.specs.Prelude.{refl};
+
+    const FIELDS: Fields<2> = Fields {
+        fields: fields![
+            0 Required Context 0 "x",
+            1 Optional Context 1 "colour"
+        ],
+    };
+
+    const EXTENDED_FIELDS: Option<Fields<0>> = None;
+
+    fn root_fields() -> &'static [Field<'static>] {
+        Self::FIELDS.fields
+    }
+
+    fn addition_fields() -> &'static [Field<'static>] {
+        match Self::EXTENDED_FIELDS {
+            Some(table) => table.fields,
+            None => &[],
+        }
+    }
+
+    fn put(&self, encoder: &mut Encoder<'_>) -> Result<(), EncodeError> {
+        let view = views![self:
+            x,
+            colour
+        ];
+        RowInnerRow::write(view, encoder)
+    }
+
+    ghost counts = { (refl, refl) };
+}
+
+/// The default 3 of `RowPercent`.
+pub struct RowPercentDefault;
+
+impl Standard<Percent> for RowPercentDefault {
+    ghost use Rattle.std.specs.Prelude.{negsuc, pos, refl};
+
+    ghost value = { record { 0 = 3; 1 = record {} } };
+
+    fn value() -> Percent {
+        Limited(3, PhantomData)
+    }
+
+    ghost admitted = { refl };
+}
+
+/// The default -2 of `RowType`.
+pub struct RowTypeDefault;
+
+impl Standard<Integer> for RowTypeDefault {
+    ghost use Rattle.std.specs.Prelude.{negsuc, pos, refl};
+
+    ghost value = { (negsuc 1) };
+
+    fn value() -> Integer {
+        Integer::from_i128(-2)
+    }
+
+    ghost admitted = { refl };
+}
+
+/// The addition group 1 of `Row`.
+pub type RowGroup1 = Sequence<RowGroup1Components, 2, 0>;
+
+/// The components of `RowGroup1`.
+#[derive(Debug, PartialEq, Eq, Drop)]
+pub struct RowGroup1Components {
+    pub bits: Bits,
+    pub level: Option<u16>,
+}
+
+type RowGroup1Row = Needs<Context<7>, Bits, MayHave<Context<8>, u16, NoMore>>;
+
+impl Rowed for RowGroup1Components {
+    type Row = RowGroup1Row;
+
+    ghost components = { λ v. (v.bits, (v.level, tt)) };
+
+    fn from_row(row: <Self::Row as Components>::Values) -> Self {
+        built![RowGroup1Components from row:
+            bits,
+            level
+        ]
+    }
+}
+
+impl Tabled<2, 0> for RowGroup1Components {
+    ghost use Rattle.std.specs.Prelude.{refl};
+
+    const FIELDS: Fields<2> = Fields {
+        fields: fields![
+            0 Required Context 7 "bits",
+            1 Optional Context 8 "level"
+        ],
+    };
+
+    const EXTENDED_FIELDS: Option<Fields<0>> = None;
+
+    fn root_fields() -> &'static [Field<'static>] {
+        Self::FIELDS.fields
+    }
+
+    fn addition_fields() -> &'static [Field<'static>] {
+        match Self::EXTENDED_FIELDS {
+            Some(table) => table.fields,
+            None => &[],
+        }
+    }
+
+    fn put(&self, encoder: &mut Encoder<'_>) -> Result<(), EncodeError> {
+        let view = views![self:
+            bits,
+            level
+        ];
+        RowGroup1Row::write(view, encoder)
+    }
+
+    ghost counts = { (refl, refl) };
+}
+
+/// `Row ::= SEQUENCE { ok BOOLEAN DEFAULT TRUE, percent Percent DEFAULT 3, key Key OPTIONAL, names Names,
+/// inner SEQUENCE { x INTEGER (0..255), colour Colour OPTIONAL }, type INTEGER DEFAULT -2, ...,
+/// next Below OPTIONAL, [[ bits Bits, level INTEGER (0..65535) OPTIONAL ]], sure BOOLEAN }`
+pub type Row = Sequence<RowComponents, 6, 3>;
+
+/// The components of `Row`.
+#[derive(Debug, PartialEq, Eq, Drop)]
+pub struct RowComponents {
+    pub ok: bool,
+    pub percent: Percent,
+    pub key: Option<Key>,
+    pub names: Names,
+    pub inner: RowInner,
+    pub r_type: Integer,
+    pub next: Option<Below>,
+    pub group_1: Option<RowGroup1>,
+    pub sure: bool,
+}
+
+type RowRow = Defaults<
+    Context<0>,
+    bool,
+    IsTrue,
+    Defaults<Context<1>, Percent, RowPercentDefault, MayHave<Context<2>, Key, RowFromNames>>,
+>;
+
+/// The components of `Row` from `names` on.
+pub struct RowFromNames;
+
+type RowFromNamesRow = Needs<Context<3>, Names, RowFromInner>;
+
+impl Components for RowFromNames {
+    ghost use Rattle.std.specs.Prelude.{true};
+
+    type Values = <RowFromNamesRow as Components>::Values;
+
+    ghost EXTENSIBLE = { true };
+
+    const EXTENSIBLE: bool = true;
+
+    ghost schema = { ⟦<RowFromNamesRow as Components>⟧.schema };
+
+    ghost is_schema = { ⟦<RowFromNamesRow as Components>⟧.is_schema };
+
+    fn read(alloc: Global, decoder: &mut Decoder<'_>) -> Result<Self::Values, DecodeError> {
+        RowFromNamesRow::read(alloc, decoder)
+    }
+}
+
+impl<'v> Views<'v> for RowFromNames {
+    type View = <RowFromNamesRow as Views<'v>>::View;
+
+    ghost seen = { ⟦<RowFromNamesRow as Views<'v>>⟧.seen };
+
+    fn write(
+        view: <RowFromNamesRow as Views<'v>>::View,
+        encoder: &mut Encoder<'_>,
+    ) -> Result<(), EncodeError> {
+        RowFromNamesRow::write(view, encoder)
+    }
+}
+
+/// The components of `Row` from `inner` on.
+pub struct RowFromInner;
+
+type RowFromInnerRow = Needs<Context<4>, RowInner, RowFromType>;
+
+impl Components for RowFromInner {
+    ghost use Rattle.std.specs.Prelude.{true};
+
+    type Values = <RowFromInnerRow as Components>::Values;
+
+    ghost EXTENSIBLE = { true };
+
+    const EXTENSIBLE: bool = true;
+
+    ghost schema = { ⟦<RowFromInnerRow as Components>⟧.schema };
+
+    ghost is_schema = { ⟦<RowFromInnerRow as Components>⟧.is_schema };
+
+    fn read(alloc: Global, decoder: &mut Decoder<'_>) -> Result<Self::Values, DecodeError> {
+        RowFromInnerRow::read(alloc, decoder)
+    }
+}
+
+impl<'v> Views<'v> for RowFromInner {
+    type View = <RowFromInnerRow as Views<'v>>::View;
+
+    ghost seen = { ⟦<RowFromInnerRow as Views<'v>>⟧.seen };
+
+    fn write(
+        view: <RowFromInnerRow as Views<'v>>::View,
+        encoder: &mut Encoder<'_>,
+    ) -> Result<(), EncodeError> {
+        RowFromInnerRow::write(view, encoder)
+    }
+}
+
+/// The components of `Row` from `r_type` on.
+pub struct RowFromType;
+
+type RowFromTypeRow = Defaults<Context<5>, Integer, RowTypeDefault, Extensible<RowAdditions>>;
+
+impl Components for RowFromType {
+    ghost use Rattle.std.specs.Prelude.{true};
+
+    type Values = <RowFromTypeRow as Components>::Values;
+
+    ghost EXTENSIBLE = { true };
+
+    const EXTENSIBLE: bool = true;
+
+    ghost schema = { ⟦<RowFromTypeRow as Components>⟧.schema };
+
+    ghost is_schema = { ⟦<RowFromTypeRow as Components>⟧.is_schema };
+
+    fn read(alloc: Global, decoder: &mut Decoder<'_>) -> Result<Self::Values, DecodeError> {
+        RowFromTypeRow::read(alloc, decoder)
+    }
+}
+
+impl<'v> Views<'v> for RowFromType {
+    type View = <RowFromTypeRow as Views<'v>>::View;
+
+    ghost seen = { ⟦<RowFromTypeRow as Views<'v>>⟧.seen };
+
+    fn write(
+        view: <RowFromTypeRow as Views<'v>>::View,
+        encoder: &mut Encoder<'_>,
+    ) -> Result<(), EncodeError> {
+        RowFromTypeRow::write(view, encoder)
+    }
+}
+
+/// The components of `Row` from `next` on.
+pub struct RowAdditions;
+
+type RowAdditionsRow = MayAdd<Context<6>, Below, MayAddGroup<2, 0, RowGroup1, RowFromSure>>;
+
+impl Additions for RowAdditions {
+    type More = <RowAdditionsRow as Additions>::More;
+
+    ghost table = { ⟦<RowAdditionsRow as Additions>⟧.table };
+
+    ghost is_table = { ⟦<RowAdditionsRow as Additions>⟧.is_table };
+
+    fn read_additions(alloc: Global, decoder: &mut Decoder<'_>) -> Result<Self::More, DecodeError> {
+        RowAdditionsRow::read_additions(alloc, decoder)
+    }
+}
+
+impl<'v> AdditionViews<'v> for RowAdditions {
+    type MoreView = <RowAdditionsRow as AdditionViews<'v>>::MoreView;
+
+    ghost seen = { ⟦<RowAdditionsRow as AdditionViews<'v>>⟧.seen };
+
+    fn write_additions(
+        view: <RowAdditionsRow as AdditionViews<'v>>::MoreView,
+        encoder: &mut Encoder<'_>,
+    ) -> Result<(), EncodeError> {
+        RowAdditionsRow::write_additions(view, encoder)
+    }
+}
+
+/// The components of `Row` from `sure` on.
+pub struct RowFromSure;
+
+type RowFromSureRow = Adds<Context<9>, bool, NoMore>;
+
+impl Additions for RowFromSure {
+    type More = <RowFromSureRow as Additions>::More;
+
+    ghost table = { ⟦<RowFromSureRow as Additions>⟧.table };
+
+    ghost is_table = { ⟦<RowFromSureRow as Additions>⟧.is_table };
+
+    fn read_additions(alloc: Global, decoder: &mut Decoder<'_>) -> Result<Self::More, DecodeError> {
+        RowFromSureRow::read_additions(alloc, decoder)
+    }
+}
+
+impl<'v> AdditionViews<'v> for RowFromSure {
+    type MoreView = <RowFromSureRow as AdditionViews<'v>>::MoreView;
+
+    ghost seen = { ⟦<RowFromSureRow as AdditionViews<'v>>⟧.seen };
+
+    fn write_additions(
+        view: <RowFromSureRow as AdditionViews<'v>>::MoreView,
+        encoder: &mut Encoder<'_>,
+    ) -> Result<(), EncodeError> {
+        RowFromSureRow::write_additions(view, encoder)
+    }
+}
+
+impl Rowed for RowComponents {
+    type Row = RowRow;
+
+    ghost components = { λ v. (v.ok, (v.percent, (v.key, (v.names, (v.inner, (v.r_type, (v.next, (v.group_1, (v.sure, tt))))))))) };
+
+    fn from_row(row: <Self::Row as Components>::Values) -> Self {
+        built![RowComponents from row:
+            ok,
+            percent,
+            key,
+            names,
+            inner,
+            r_type,
+            next,
+            group_1,
+            sure
+        ]
+    }
+}
+
+impl Tabled<6, 3> for RowComponents {
+    ghost use Rattle.std.specs.Prelude.{refl};
+
+    const FIELDS: Fields<6> = Fields {
+        fields: fields![
+            0 Default Context 0 "ok",
+            1 Default Context 1 "percent",
+            2 Optional Context 2 "key",
+            3 Required Context 3 "names",
+            4 Required Context 4 "inner",
+            5 Default Context 5 "type"
+        ],
+    };
+
+    const EXTENDED_FIELDS: Option<Fields<3>> = Some(Fields {
+        fields: fields![
+            0 Optional Context 6 "next",
+            1 Optional Universal 16 "group 1",
+            2 Required Context 9 "sure"
+        ],
+    });
+
+    fn root_fields() -> &'static [Field<'static>] {
+        Self::FIELDS.fields
+    }
+
+    fn addition_fields() -> &'static [Field<'static>] {
+        match Self::EXTENDED_FIELDS {
+            Some(table) => table.fields,
+            None => &[],
+        }
+    }
+
+    fn put(&self, encoder: &mut Encoder<'_>) -> Result<(), EncodeError> {
+        let view = views![self:
+            ok,
+            percent,
+            key,
+            names,
+            inner,
+            r_type,
+            next,
+            group_1,
+            sure
+        ];
+        RowRow::write(view, encoder)
+    }
+
+    ghost counts = { (refl, refl) };
+}
