@@ -15,6 +15,7 @@ pub struct BitSlice<'a> {
 }
 
 /// The bit at that place, counted from the highest bit of the first octet.
+#[inline(always)]
 #[tactic(auto, using(crate::proofs::BitSlices::bit_is))]
 fn bit_at(octets: &[u8], place: u8) -> bool
     requires { place / 8 < length octets.now }
@@ -26,6 +27,7 @@ fn bit_at(octets: &[u8], place: u8) -> bool
 
 impl<'a> BitSlice<'a> {
     /// The bits of the octets, but for `unused` low ones at their end.
+    #[inline(always)]
     #[tactic(auto, unfolding(crate::specs::Views::bits_left))]
     pub fn new(octets: &'a [u8], unused: u8) -> BitSlice<'a>
         ensures { bits_left result ≡ front_bits unused octets.now }
@@ -38,6 +40,7 @@ impl<'a> BitSlice<'a> {
     }
 
     /// Whether no bit is left.
+    #[inline(always)]
     #[tactic(auto, using(crate::proofs::BitSlices::empty_is), unfolding(crate::specs::Views::bits_left))]
     pub fn is_empty(&self) -> bool
         ensures { result ≡ has_no_bit (bits_left self.now) }
@@ -46,6 +49,7 @@ impl<'a> BitSlice<'a> {
     }
 
     /// The next bit and the bits after it, where one is left.
+    #[inline(always)]
     #[tactic(auto, using(crate::proofs::BitSlices::left_none, crate::proofs::BitSlices::left_next, crate::proofs::BitSlices::left_advanced), unfolding(crate::specs::Views::bits_left))]
     pub fn split_first(self) -> Option<(bool, BitSlice<'a>)>
         ensures { option_map (λ x. (x.0, bits_left x.1)) result ≡ first_bit (bits_left self.entry) }

@@ -3,6 +3,7 @@ ghost use Rattle.oer_spec.specs.Bits.{has_set_fill};
 ghost use Rattle.oer_spec.specs.ReadingBits.{is_overfull};
 
 /// Whether one of the unused bits is set.
+#[inline(always)]
 #[tactic(auto, unfolding(oer_spec::specs::Bits::has_set_fill))]
 pub(crate) fn has_set_fill(unused: u8, octets: &[u8]) -> bool
     requires { unused < 8 }
@@ -15,6 +16,7 @@ pub(crate) fn has_set_fill(unused: u8, octets: &[u8]) -> bool
 }
 
 /// Whether a count of unused bits is above 7, or above the bits of so many octets.
+#[inline(always)]
 pub(crate) fn is_overfull(unused: u8, count: usize) -> bool
     ensures { result ≡ is_overfull unused count }
 {

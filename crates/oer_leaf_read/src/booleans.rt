@@ -11,6 +11,7 @@ use asn1_core::{Codec, DecodeErrorKind};
 ///
 /// Refused, the first that applies: `Incomplete` by 1 where there is no octet; in canonical reading an octet that is
 /// neither 00 nor FF, as `InvalidBool` with that octet.
+#[inline(always)]
 #[tactic(auto, unfolding(oer_spec::specs::Reading::bool_at))]
 pub fn read_bool(codec: Codec, input: &[u8]) -> Result<(bool, &[u8]), DecodeErrorKind>
     ensures function { Gives (λ x. (x.0, x.1.now)) result (bool_at codec input.now) }

@@ -16,6 +16,7 @@ use oer_spec::leaf::{IntegerWidth, is_in_range, width_of};
 use std::alloc::Global;
 
 /// Whether the first octet of a number could be left out.
+#[inline(always)]
 fn is_superfluous(signed: bool, content: &[u8]) -> bool
     ensures { result ≡ is_superfluous signed content.now }
 {
@@ -27,6 +28,7 @@ fn is_superfluous(signed: bool, content: &[u8]) -> bool
 }
 
 /// The octets of a number, of which there is at least one, and in canonical reading none that could be left out.
+#[inline(always)]
 pub(crate) fn number_content_in(
     signed: bool,
     codec: Codec,
@@ -47,6 +49,7 @@ pub(crate) fn number_content_in(
 ///
 /// Refused as the octets behind a length are (`read_content`); then, the first that applies: no octets, as `EmptyInteger`;
 /// in canonical reading a first octet that could be left out, as `NotValidCanonicalEncoding`.
+#[inline(always)]
 #[tactic(auto, unfolding(oer_spec::specs::ReadingIntegers::number_content_at))]
 pub fn read_number_content(
     signed: bool,
@@ -63,6 +66,7 @@ pub fn read_number_content(
 }
 
 /// The octets of a number of that layout.
+#[inline(always)]
 #[tactic(auto, unfolding(oer_spec::specs::ReadingIntegers::number_octets_at))]
 fn read_number_octets(
     width: IntegerWidth,
@@ -79,6 +83,7 @@ fn read_number_octets(
 }
 
 /// The number of octets in two's complement, or unsigned, where it is one of the type.
+#[inline(always)]
 fn number_of<I: IntegerType>(
     alloc: Global,
     signed: bool,
@@ -100,6 +105,7 @@ fn number_of<I: IntegerType>(
 }
 
 /// Only a number that the constraints allow.
+#[inline(always)]
 fn require_in_range<I: IntegerType>(
     constraints: &Constraints,
     value: &I,
@@ -125,6 +131,7 @@ fn require_in_range<I: IntegerType>(
 /// what `read_number_content` refuses; then a number that the type doesn't hold, as `IntegerOverflow`; under a constraint
 /// that isn't extensible, a number outside it or outside i128, as `ValueConstraintNotSatisfied`. A type that takes memory
 /// may be refused it, as `OutOfMemory`.
+#[inline]
 #[tactic(auto, unfolding(oer_spec::specs::ReadingIntegers::integer_at))]
 pub fn read_integer<I: IntegerType>(
     alloc: Global,

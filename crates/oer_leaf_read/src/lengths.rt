@@ -29,6 +29,7 @@ fn read_long_length(
 /// `Incomplete` by as many octets of the number as are missing; a leading octet 00 in canonical reading, as
 /// `NotValidCanonicalEncoding`; above `usize::MAX`, as `LengthExceedsPlatformWidth`; a number below 128 in the long form
 /// in canonical reading, as `NotValidCanonicalEncoding`.
+#[inline(always)]
 #[tactic(auto, unfolding(oer_spec::specs::Reading::length_at))]
 pub fn read_length(codec: Codec, input: &[u8]) -> Result<(usize, &[u8]), DecodeErrorKind>
     ensures function { Gives (λ x. (x.0, x.1.now)) result (length_at codec input.now) }
@@ -49,6 +50,7 @@ pub fn read_length(codec: Codec, input: &[u8]) -> Result<(usize, &[u8]), DecodeE
 /// (X.696, 8.6 and 30).
 ///
 /// Refused as the length is (`read_length`); then `Incomplete` by as many octets as are missing.
+#[inline(always)]
 #[tactic(auto, unfolding(oer_spec::specs::Reading::content_at))]
 pub fn read_content(codec: Codec, input: &[u8]) -> Result<(&[u8], &[u8]), DecodeErrorKind>
     ensures function { Gives (λ x. (x.0.now, x.1.now)) result (content_at codec input.now) }

@@ -5,6 +5,7 @@ ghost use Rattle.oer_spec.specs.Reading.{Gives, IsNotForMemory, octet_at, octets
 use asn1_core::{Codec, DecodeErrorKind};
 
 /// The octet at the front, and what is left; refused as `Incomplete` by 1 where there is none.
+#[inline(always)]
 pub fn read_octet(input: &[u8]) -> Result<(u8, &[u8]), DecodeErrorKind>
     ensures function { Gives (λ x. (x.0, x.1.now)) result (octet_at input.now) }
     ensures memory { IfErr result IsNotForMemory }
@@ -16,6 +17,7 @@ pub fn read_octet(input: &[u8]) -> Result<(u8, &[u8]), DecodeErrorKind>
 }
 
 /// That many octets at the front, and what is left; refused as `Incomplete` by as many as are missing.
+#[inline(always)]
 pub fn read_octets(count: usize, input: &[u8]) -> Result<(&[u8], &[u8]), DecodeErrorKind>
     ensures function { Gives (λ x. (x.0.now, x.1.now)) result (octets_at count input.now) }
     ensures memory { IfErr result IsNotForMemory }
@@ -28,6 +30,7 @@ pub fn read_octets(count: usize, input: &[u8]) -> Result<(&[u8], &[u8]), DecodeE
 }
 
 /// Canonical reading refuses what is superfluous, as `NotValidCanonicalEncoding`.
+#[inline(always)]
 pub fn require_canonical(codec: Codec, superfluous: bool) -> Result<(), DecodeErrorKind>
     ensures function { Gives (λ x. x) result (canonical codec superfluous) }
     ensures memory { IfErr result IsNotForMemory }
@@ -40,6 +43,7 @@ pub fn require_canonical(codec: Codec, superfluous: bool) -> Result<(), DecodeEr
 }
 
 /// Whether the first octet is zero, as where there is none.
+#[inline(always)]
 pub(crate) fn begins_with_zero(octets: &[u8]) -> bool
     ensures { result ≡ begins_with_zero octets.now }
 {

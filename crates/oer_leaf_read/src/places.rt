@@ -14,12 +14,14 @@ use asn1_core::{Codec, DecodeErrorKind};
 use oer_spec::leaf::{octets_for, unused_for};
 
 /// A test that refuses by that kind.
+#[inline(always)]
 pub(crate) fn refuse_if(test: bool, kind: DecodeErrorKind) -> Result<(), DecodeErrorKind>
     ensures { Gives (λ x. x) result (refuse_if test kind) }
 {
     if test { Err(kind) } else { Ok(()) }
 }
 
+#[inline(always)]
 #[tactic(auto, unfolding(oer_spec::specs::ReadingBits::preamble_at))]
 fn preamble(bits: usize, input: &[u8]) -> Result<(BitSlice<'_>, &[u8]), DecodeErrorKind>
     ensures function { Gives (λ x. (bits_left x.0, x.1.now)) result (preamble_at bits input.now) }
@@ -38,6 +40,7 @@ fn preamble(bits: usize, input: &[u8]) -> Result<(BitSlice<'_>, &[u8]), DecodeEr
 ///
 /// Refused, the first that applies: `Incomplete` by as many octets as are missing; nonzero bits after the last one, as
 /// `InvalidPreamble`.
+#[inline(always)]
 pub fn read_preamble(bits: usize, input: &[u8]) -> Result<(BitSlice<'_>, &[u8]), DecodeErrorKind>
     ensures function { Gives (λ x. (bits_left x.0, x.1.now)) result (preamble_at bits input.now) }
     ensures relation { ReadsFront (λ o b. IsPreamble o b × (length b ≡ bits)) input.now (seen (λ x. (bits_left x.0, x.1.now)) result) }
@@ -46,6 +49,7 @@ pub fn read_preamble(bits: usize, input: &[u8]) -> Result<(BitSlice<'_>, &[u8]),
     preamble(bits, input)
 }
 
+#[inline]
 #[tactic(auto, unfolding(oer_spec::specs::ReadingBits::bitmap_of))]
 fn bitmap_of(codec: Codec, content: &[u8]) -> Result<BitSlice<'_>, DecodeErrorKind>
     ensures function { Gives bits_left result (bitmap_of codec content.now) }
@@ -64,6 +68,7 @@ fn bitmap_of(codec: Codec, content: &[u8]) -> Result<BitSlice<'_>, DecodeErrorKi
     Ok(bits)
 }
 
+#[inline]
 #[tactic(auto, unfolding(oer_spec::specs::ReadingBits::bitmap_at))]
 fn bitmap(codec: Codec, input: &[u8]) -> Result<(BitSlice<'_>, &[u8]), DecodeErrorKind>
     ensures function { Gives (λ x. (bits_left x.0, x.1.now)) result (bitmap_at codec input.now) }
@@ -79,6 +84,7 @@ fn bitmap(codec: Codec, input: &[u8]) -> Result<(BitSlice<'_>, &[u8]), DecodeErr
 /// Refused, the first that applies: as an open type's octets are (`read_content`); no octet, or a count of unused bits
 /// above 7 or above the bits that there are, as `InvalidExtensionHeader`; in canonical reading a nonzero unused bit, and
 /// no bit set, as `NotValidCanonicalEncoding`.
+#[inline]
 pub fn read_bitmap(codec: Codec, input: &[u8]) -> Result<(BitSlice<'_>, &[u8]), DecodeErrorKind>
     ensures function { Gives (λ x. (bits_left x.0, x.1.now)) result (bitmap_at codec input.now) }
     ensures relation { ReadsFront (IsBitmap (mode_of codec)) input.now (seen (λ x. (bits_left x.0, x.1.now)) result) }

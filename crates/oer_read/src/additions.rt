@@ -20,6 +20,7 @@ use oer_leaf_read::{BitSlice, read_bitmap, read_content};
 use std::alloc::Global;
 
 /// An addition whose bit is not set has to be one that may be absent.
+#[inline(always)]
 fn require_row(field: &Field<'_>, bit: bool) -> Result<(), DecodeErrorKind>
     ensures { Gives (λ x. x) result (row_present (record { tag = field.now.tag; needed = not (may_be_absent field.now.presence) }) bit) }
 {
@@ -32,6 +33,7 @@ fn require_row(field: &Field<'_>, bit: bool) -> Result<(), DecodeErrorKind>
 }
 
 /// Each required addition has its bit set, else the first that has not is missing.
+#[inline]
 fn require_present(rows: &[Field<'_>], bits: BitSlice<'_>) -> Result<(), DecodeErrorKind>
     ensures { Gives (λ x. x) result (all_present (places_of (map row rows.now)) (bits_left bits.entry)) }
 {
@@ -47,6 +49,7 @@ fn require_present(rows: &[Field<'_>], bits: BitSlice<'_>) -> Result<(), DecodeE
 }
 
 /// The row of the next addition, which has to have that tag.
+#[inline(always)]
 fn require_next<'a>(
     tag: Option<Tag>,
     extensible: bool,
@@ -73,6 +76,7 @@ struct Found<'input> {
 
 impl<'input> Decoder<'input> {
     /// The bits of the bitmap that are left, which is read where it was not yet, and what is left behind it.
+    #[inline]
     #[tactic(auto, unfolding(crate::specs::Additions::mapped_at))]
     fn mapped(&self) -> Result<(BitSlice<'input>, &'input [u8]), DecodeErrorKind>
         ensures { Gives (λ x. with_bitmap self.now (bits_left x.0) x.1.now) result (mapped_at self.now) }
@@ -95,6 +99,7 @@ impl<'input> Decoder<'input> {
     }
 
     /// The next addition's octets, where its bit is set, and what is behind it.
+    #[inline(always)]
     fn open_content(
         &self,
         bits: BitSlice<'input>,
@@ -121,6 +126,7 @@ impl<'input> Decoder<'input> {
     }
 
     /// The next addition: its row, the bitmap, and its octets, where its bit is set.
+    #[inline]
     #[tactic(auto, unfolding(crate::specs::Additions::addition_at))]
     fn next_addition(&self, tag: Option<Tag>) -> Result<Found<'input>, DecodeErrorKind>
         ensures { Gives (λ x. (option_map (λ o. o.now) x.content, past_place self.now (bits_left x.bits) x.rest.now)) result (addition_at self.now tag) }
@@ -132,6 +138,7 @@ impl<'input> Decoder<'input> {
     }
 
     /// Goes on behind the next addition's row, with these bits and octets.
+    #[inline(always)]
     fn pass_place(&mut self, bits: BitSlice<'input>, rest: &'input [u8])
         ensures { self.new ≡ past_place self.old (bits_left bits.entry) rest.entry.now }
     {
@@ -145,6 +152,7 @@ impl<'input> Decoder<'input> {
     }
 
     /// A decoder of an open type's octets.
+    #[inline(always)]
     pub(crate) fn inside(&self, content: &'input [u8]) -> Decoder<'input>
         ensures { result ≡ inside self.now content.entry.now }
     {
@@ -157,6 +165,7 @@ impl<'input> Decoder<'input> {
     }
 
     /// Canonically no octets of an open type are left over.
+    #[inline(always)]
     pub(crate) fn require_whole(&self, rest: &[u8]) -> Result<(), DecodeError>
         ensures ok { OnOk result (self.now.codec ≡ Codec.Coer → rest.now ≡ []) }
         ensures err { IfErr result (λ e. (rest.now ≢ []) × (self.now.codec ≡ Codec.Coer) × (e ≡ record { kind = DecodeErrorKind.NotValidCanonicalEncoding; codec = self.now.codec })) }
@@ -170,6 +179,7 @@ impl<'input> Decoder<'input> {
     }
 
     /// The value in an open type's octets, of which canonically none may be left over.
+    #[inline]
     pub(crate) fn open_type<D: Decode>(
         &self,
         alloc: Global,
@@ -192,6 +202,7 @@ impl<'input> Decoder<'input> {
     }
 
     /// An addition, asked by its tag or, for a group, by its row alone.
+    #[inline]
     fn addition<D: Decode>(
         &mut self,
         alloc: Global,
@@ -231,6 +242,7 @@ impl<'input> Decoder<'input> {
     /// such call the bitmap as `read_bitmap` refuses it, and then a required addition without a set bit, as
     /// `RequiredExtensionNotPresent` with its tag; the open type's octets as `read_content` refuses them; what the type
     /// refuses of the value in them; octets left over in canonical mode, as `NotValidCanonicalEncoding`.
+    #[inline]
     pub fn decode_extension_addition_with_tag_and_constraints<D: Decode>(
         &mut self,
         alloc: Global,

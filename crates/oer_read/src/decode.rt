@@ -31,6 +31,7 @@ pub trait Decode: Spelled {
         ensures answered { Self.Answered constraints decoder.old result decoder.new };
 
     /// Reads a value, under the type's own tag and constraints.
+    #[inline(always)]
     final fn decode(alloc: Global, decoder: &mut Decoder<'_>) -> Result<Self, DecodeError>
         ensures law { Decodes (Self.tree Self.CONSTRAINTS) Self.IsValue decoder.old result decoder.new }
         ensures answered { Self.Answered Self.CONSTRAINTS decoder.old result decoder.new }
@@ -39,6 +40,7 @@ pub trait Decode: Spelled {
     }
 
     /// Reads a value, under the handed-in tag and the type's own constraints.
+    #[inline(always)]
     final fn decode_with_tag(
         alloc: Global,
         decoder: &mut Decoder<'_>,
@@ -51,6 +53,7 @@ pub trait Decode: Spelled {
     }
 
     /// Reads a value, under the type's own tag and the handed-in constraints.
+    #[inline(always)]
     final fn decode_with_constraints(
         alloc: Global,
         decoder: &mut Decoder<'_>,

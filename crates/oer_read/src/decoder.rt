@@ -27,6 +27,7 @@ pub(crate) struct OpenScope<'input> {
 
 impl<'input> OpenScope<'input> {
     /// No scope is open.
+    #[inline(always)]
     pub(crate) fn closed() -> OpenScope<'input>
         ensures { frame_of result ≡ closed }
     {
@@ -42,6 +43,7 @@ impl<'input> OpenScope<'input> {
     }
 
     /// No scope is open any more.
+    #[inline(always)]
     pub(crate) fn close(&mut self)
         ensures { frame_of self.new ≡ closed }
     {
@@ -87,6 +89,7 @@ impl<'input> Model for Decoder<'input> {
 
 impl<'input> Decoder<'input> {
     /// A decoder of the octets, with no scope open.
+    #[inline(always)]
     pub fn new(input: &'input [u8], options: DecoderOptions) -> Decoder<'input>
         ensures { result ≡ record { input = input.entry.now; codec = options.codec; levels = options.levels; frame = closed } }
     {
@@ -99,6 +102,7 @@ impl<'input> Decoder<'input> {
     }
 
     /// The octets that are left.
+    #[inline(always)]
     pub fn remaining(&self) -> &'input [u8]
         ensures { result.now ≡ self.now.input }
     {
@@ -106,6 +110,7 @@ impl<'input> Decoder<'input> {
     }
 
     /// The octets that are left, each of which is one.
+    #[inline(always)]
     pub(crate) fn octets(&self) -> &'input [u8]
         ensures input { result.now ≡ self.now.input }
         ensures octets { AreOctets self.now.input }
@@ -115,6 +120,7 @@ impl<'input> Decoder<'input> {
     }
 
     /// The rules that octets are read by.
+    #[inline(always)]
     pub fn codec(&self) -> Codec
         ensures { result ≡ self.now.codec }
     {
@@ -122,6 +128,7 @@ impl<'input> Decoder<'input> {
     }
 
     /// How many levels of nesting are left: sequences, sets, lists and choices count one each.
+    #[inline(always)]
     pub fn levels(&self) -> usize
         ensures { result ≡ self.now.levels }
     {
@@ -129,6 +136,7 @@ impl<'input> Decoder<'input> {
     }
 
     /// Goes on with these octets.
+    #[inline(always)]
     pub(crate) fn set_remaining(&mut self, rest: &'input [u8])
         ensures { self.new ≡ record self.old { input = rest.entry.now } }
     {
@@ -136,6 +144,7 @@ impl<'input> Decoder<'input> {
     }
 
     /// What components were asked up to here.
+    #[inline(always)]
     pub(crate) fn mark(&self) -> Mark<'input>
         ensures { at_mark self.now result ≡ self.now }
     {
@@ -149,6 +158,7 @@ impl<'input> Decoder<'input> {
     }
 
     /// Goes back to the mark.
+    #[inline(always)]
     pub(crate) fn go_back(&mut self, mark: Mark<'input>)
         ensures { self.new ≡ at_mark self.old mark.entry }
     {
@@ -160,6 +170,7 @@ impl<'input> Decoder<'input> {
     }
 
     /// A refusal in the decoder's mode.
+    #[inline(always)]
     pub(crate) fn refusal(&self, kind: DecodeErrorKind) -> DecodeError
         ensures { result ≡ record { kind = kind; codec = self.now.codec } }
     {
@@ -170,6 +181,7 @@ impl<'input> Decoder<'input> {
     }
 
     /// Goes on behind what a reader read, or answers its refusal.
+    #[inline(always)]
     pub(crate) fn take<T>(
         &mut self,
         answer: Result<(T, &'input [u8]), DecodeErrorKind>,

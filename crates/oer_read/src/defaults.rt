@@ -14,6 +14,7 @@ impl<'input> Decoder<'input> {
     ///
     /// A set's closure asks this of each such value that it read; the methods `decode_default..` do it themselves.
     /// Refused: equal values in canonical mode, as `NotValidCanonicalEncoding`.
+    #[inline(always)]
     pub fn refuse_default<D: PartialEq>(&self, value: &D, default: &D) -> Result<(), DecodeError>
         ensures ok { OnOk result (self.now.codec ≡ Codec.Coer → D.eq value.now default.now ≡ false) }
         ensures err { IfErr result (λ e. (self.now.codec ≡ Codec.Coer) × (D.eq value.now default.now ≡ true) × (e ≡ only_lenient self.now)) }
@@ -35,6 +36,7 @@ impl<'input> Decoder<'input> {
     /// Refused, the first that applies: no root row is left to ask, or the next one has another tag, as
     /// `MissingTagClassOrValueInSequenceOrSet` with `tag`; what the type refuses of the value; a value that is equal to
     /// `default` in canonical mode, as `NotValidCanonicalEncoding`.
+    #[inline(always)]
     pub fn decode_default_with_tag_and_constraints<D: Decode + PartialEq>(
         &mut self,
         alloc: Global,
@@ -73,6 +75,7 @@ impl<'input> Decoder<'input> {
 
     /// Reads a component with a default under the handed-in tag and its type's constraints, as
     /// `decode_default_with_tag_and_constraints` does.
+    #[inline(always)]
     pub fn decode_default_with_tag<D: Decode + PartialEq>(
         &mut self,
         alloc: Global,

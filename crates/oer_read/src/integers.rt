@@ -20,6 +20,7 @@ impl<'input> Decoder<'input> {
     /// Refused, the first that applies: what the octets are refused by (docs/REFUSALS.md); `IntegerOverflow` where the
     /// number isn't one of the type; `ValueConstraintNotSatisfied` where it is outside a constraint that isn't extensible,
     /// or no i128 under one. Types that take no memory never answer `OutOfMemory`.
+    #[inline(always)]
     pub fn decode_integer<I: IntegerType>(
         &mut self,
         alloc: Global,

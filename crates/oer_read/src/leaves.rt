@@ -16,6 +16,7 @@ impl<'input> Decoder<'input> {
     /// Reads a BOOLEAN (X.696, 9).
     ///
     /// Refused: `Incomplete`; `InvalidBool` where an octet is neither 00 nor FF, in canonical mode.
+    #[inline(always)]
     pub fn decode_bool(&mut self, _tag: Tag) -> Result<bool, DecodeError>
         ensures function { Answers (λ v. v) self.old result self.new (bool_at self.old.codec self.old.input) }
         ensures no_memory { IfErr result (λ e. IsForMemory e → ⊥) }
@@ -26,6 +27,7 @@ impl<'input> Decoder<'input> {
     }
 
     /// Reads a NULL, which has no octets (X.696, 15); it never refuses.
+    #[inline(always)]
     pub fn decode_null(&mut self, _tag: Tag) -> Result<(), DecodeError>
         ensures answer { result ≡ Ok tt }
         ensures unchanged { self.new ≡ self.old }
@@ -42,6 +44,7 @@ impl Decode for bool {
 
     ghost Answered = { λ c s r t. LeafAnswers (λ v. v) false s r t (bool_at s.codec s.input) };
 
+    #[inline(always)]
     fn decode_with_tag_and_constraints(
         _alloc: Global,
         decoder: &mut Decoder<'_>,
@@ -57,6 +60,7 @@ impl Decode for () {
 
     ghost Answered = { λ c s r t. (r ≡ Ok tt) × (t ≡ s) };
 
+    #[inline(always)]
     fn decode_with_tag_and_constraints(
         _alloc: Global,
         decoder: &mut Decoder<'_>,

@@ -24,6 +24,7 @@ const MOST_AT_ONCE: usize = 1024;
 
 /// How many elements a list makes room for at its first one, which left so many of the octets that were there: as many as
 /// those would hold, were each as long as the first, but no more than are stated, nor than 1,024.
+#[inline]
 fn room_for(quantity: usize, there: usize, left: usize) -> usize
     ensures stated { result ≤ quantity }
     ensures octets { result ≤ there }
@@ -37,6 +38,7 @@ fn room_for(quantity: usize, there: usize, left: usize) -> usize
 }
 
 /// Keeps an element, which left so many of the octets that were there. At the first one room is made for others.
+#[inline]
 pub(crate) fn keep<D: Drop>(
     items: &mut Vec<D>,
     item: D,
@@ -55,6 +57,7 @@ pub(crate) fn keep<D: Drop>(
 
 impl<'input> Decoder<'input> {
     /// How many elements a list has, and what is left.
+    #[inline]
     #[tactic(auto, unfolding(crate::specs::Lists::list_opened_at))]
     pub(crate) fn open_list(&self) -> Result<(usize, &'input [u8]), DecodeErrorKind>
         ensures quantity { Gives (λ x. (x.0, x.1.now)) result (list_opened_at self.now) }
@@ -68,6 +71,7 @@ impl<'input> Decoder<'input> {
     }
 
     /// A decoder for the elements, within one level less.
+    #[inline(always)]
     pub(crate) fn element(&self, rest: &'input [u8]) -> Decoder<'input>
         requires { 0 < self.now.levels }
         ensures { result ≡ lent_element self.now rest.entry.now }
@@ -81,6 +85,7 @@ impl<'input> Decoder<'input> {
     }
 
     /// Is what a list lends again, whose decoder is handed in: what is left stays, and no scope is open.
+    #[inline(always)]
     fn lend_again(&mut self, list: &Decoder<'input>)
         requires { 0 < list.now.levels }
         ensures { self.new ≡ lent_element list.now self.old.input }
@@ -91,6 +96,7 @@ impl<'input> Decoder<'input> {
     }
 
     /// A refusal of memory.
+    #[inline(always)]
     pub(crate) fn want_of_memory(&self) -> DecodeError
         ensures { WantsMemory self.now result }
     {
@@ -98,6 +104,7 @@ impl<'input> Decoder<'input> {
     }
 
     /// Reads one element on the decoder that the list lends, and makes that ready to be lent again.
+    #[inline(always)]
     fn read_element<D, F>(&self, lent: &mut Decoder<'input>, f: &F) -> Result<D, DecodeError>
     where
         F: Fn(&mut Decoder<'_>) -> Result<D, DecodeError>,
@@ -137,6 +144,7 @@ impl<'input> Decoder<'input> {
     }
 
     /// Reads that many elements in turn.
+    #[inline]
     fn read_elements<D, F>(
         &self,
         alloc: Global,

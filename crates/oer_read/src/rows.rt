@@ -18,6 +18,7 @@ use std::alloc::Global;
 
 impl<'input> Decoder<'input> {
     /// The bit of the next row, which has to have that tag. The decoder goes on behind the row.
+    #[inline(always)]
     fn next_row(&mut self, tag: Tag) -> Result<bool, DecodeError>
         ensures ok { IfOk result (λ b. (more : List Ask) × (self.old.frame.asks ≡ record { tag = tag; bit = b } ∷ more) × (self.new ≡ asking self.old more)) }
         ensures err { IfErr result (λ e. ((b : Bool) (more : List Ask) → ◌≡◌ {A = List Ask} self.old.frame.asks (record { tag = tag; bit = b } ∷ more) → ⊥) × (e ≡ record { kind = missing tag; codec = self.old.codec })) }
@@ -38,6 +39,7 @@ impl<'input> Decoder<'input> {
     }
 
     /// Goes on with these root rows and presence bits.
+    #[inline(always)]
     fn ask_from(&mut self, roots: &'input [Field<'input>], presence: BitSlice<'input>)
         ensures { self.new ≡ asking self.old (asks_of (map row roots.entry.now) (bits_left presence.entry)) }
     {
@@ -49,6 +51,7 @@ impl<'input> Decoder<'input> {
     ///
     /// Refused, the first that applies: no root row is left to ask, or the next one has another tag, as
     /// `MissingTagClassOrValueInSequenceOrSet` with `tag`; what the type refuses of the value.
+    #[inline(always)]
     pub fn decode_optional_with_tag_and_constraints<D: Decode>(
         &mut self,
         alloc: Global,
@@ -82,6 +85,7 @@ impl<'input> Decoder<'input> {
 
     /// Reads an optional component under the handed-in tag and its type's constraints, as
     /// `decode_optional_with_tag_and_constraints` does.
+    #[inline(always)]
     pub fn decode_optional_with_tag<D: Decode>(
         &mut self,
         alloc: Global,

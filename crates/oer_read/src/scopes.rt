@@ -17,6 +17,7 @@ use asn1_core::{Constructed, DecodeError, DecodeErrorKind, Field, FieldPresence,
 use oer_leaf_read::{BitSlice, read_bitmap, read_preamble, skip_additions};
 
 /// The bit that is next, false past the end, and the bits after it.
+#[inline(always)]
 pub(crate) fn next_bit(bits: BitSlice<'_>) -> (bool, BitSlice<'_>)
     ensures bit { result.0 ≡ get_or (bits_left bits.entry) 0 false }
     ensures rest { bits_left result.1 ≡ drop 1 (bits_left bits.entry) }
@@ -28,6 +29,7 @@ pub(crate) fn next_bit(bits: BitSlice<'_>) -> (bool, BitSlice<'_>)
 }
 
 /// The first row whose component may be absent, and the rows after it.
+#[inline(always)]
 pub(crate) fn next_marked<'a>(rows: &'a [Field<'a>]) -> Option<(&'a Field<'a>, &'a [Field<'a>])>
     ensures none { IfNone result ((b : List Bool) → asks_of (map row rows.now) b ≡ []) }
     ensures some { IfSome result (λ p. (b : List Bool) → asks_of (map row rows.now) b ≡ record { tag = p.0.now.tag; bit = get_or b 0 false } ∷ asks_of (map row p.1.now) (drop 1 b)) }
@@ -43,6 +45,7 @@ pub(crate) fn next_marked<'a>(rows: &'a [Field<'a>]) -> Option<(&'a Field<'a>, &
 }
 
 /// How many rows there are whose component may be absent.
+#[inline(always)]
 fn marked_count(rows: &[Field<'_>]) -> usize
     ensures count { result ≡ marked_count (map row rows.now) }
     ensures few { result ≤ length rows.now }
@@ -58,6 +61,7 @@ fn marked_count(rows: &[Field<'_>]) -> usize
 }
 
 /// One level less, where one is left.
+#[inline(always)]
 pub(crate) fn one_level_less(levels: usize) -> Result<usize, DecodeErrorKind>
     ensures { Gives (λ n. n) result (level_at levels) }
 {
@@ -68,6 +72,7 @@ pub(crate) fn one_level_less(levels: usize) -> Result<usize, DecodeErrorKind>
 }
 
 /// How many bits a preamble has.
+#[inline(always)]
 pub(crate) fn bits_for(extensible: bool, roots: &[Field<'_>]) -> usize
     ensures { result ≡ bits_for extensible (map row roots.now) }
 {
@@ -77,6 +82,7 @@ pub(crate) fn bits_for(extensible: bool, roots: &[Field<'_>]) -> usize
 }
 
 /// The extension bit of an extensible type, and the presence bits.
+#[inline(always)]
 pub(crate) fn split_extension(extensible: bool, bits: BitSlice<'_>) -> (bool, BitSlice<'_>)
     ensures extended { result.0 ≡ extension_of extensible (bits_left bits.entry) }
     ensures presence { bits_left result.1 ≡ presence_of extensible (bits_left bits.entry) }
@@ -89,6 +95,7 @@ pub(crate) fn split_extension(extensible: bool, bits: BitSlice<'_>) -> (bool, Bi
 }
 
 /// A row that is asked out of order or not at all.
+#[inline(always)]
 pub(crate) fn missing(tag: Tag) -> DecodeErrorKind
     ensures { result ≡ missing tag }
 {
@@ -100,6 +107,7 @@ pub(crate) fn missing(tag: Tag) -> DecodeErrorKind
 
 impl<'input> Decoder<'input> {
     /// A decoder behind the preamble, within one level less, whose frame holds the rows.
+    #[inline(always)]
     #[tactic(auto, unfolding(crate::specs::Scopes::opened_at))]
     fn open(
         &self,
@@ -134,6 +142,7 @@ impl<'input> Decoder<'input> {
     }
 
     /// The same, or the refusal in the decoder's mode.
+    #[inline(always)]
     fn opened(
         &self,
         roots: &'input [Field<'input>],
@@ -150,6 +159,7 @@ impl<'input> Decoder<'input> {
     }
 
     /// Every row was asked, else the first that was not is missing.
+    #[inline]
     fn require_all_asked(&self) -> Result<(), DecodeErrorKind>
         ensures { Gives (λ x. x) result (all_asked self.now.frame.asks self.now.frame.additions) }
     {
@@ -163,6 +173,7 @@ impl<'input> Decoder<'input> {
     }
 
     /// What is left behind the additions that were not asked.
+    #[inline]
     fn skip_unknown(&self) -> Result<&'input [u8], DecodeErrorKind>
         ensures { Gives (λ x. x.now) result (unknown_at self.now) }
     {
@@ -198,6 +209,7 @@ impl<'input> Decoder<'input> {
     /// `Incomplete` where the preamble's octets are missing; nonzero fill bits, as `InvalidPreamble`; what `f` refuses; a
     /// row that was not asked, as `MissingTagClassOrValueInSequenceOrSet` with its tag, root rows first; the bitmap, where
     /// it was not yet read, and the skipped additions as `read_bitmap` and `skip_additions` refuse them.
+    #[inline]
     pub fn decode_sequence<const RC: usize, const EC: usize, D, F>(
         &mut self,
         _tag: Tag,

@@ -37,6 +37,7 @@ pub struct Extensible<R>(PhantomData<R>);
 pub struct MayAdd<G, B, R>(PhantomData<(G, B, R)>);
 
 /// Reads an addition under its type's constraints.
+#[inline(always)]
 pub(crate) fn read_addition<B: Decode>(
     alloc: Global,
     decoder: &mut Decoder<'_>,

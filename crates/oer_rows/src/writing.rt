@@ -13,6 +13,7 @@ use oer_write::{Encode, Encoder};
 /// Writes a required component (X.696, 16).
 ///
 /// Refused by what the value is refused by.
+#[inline]
 pub fn put_needed<E: Encode>(
     encoder: &mut Encoder<'_>,
     tag: Tag,
@@ -29,6 +30,7 @@ pub fn put_needed<E: Encode>(
 /// Writes an OPTIONAL component: its presence bit, and the value that is there.
 ///
 /// Refused by what the value is refused by.
+#[inline]
 pub fn put_optional<E: Encode>(
     encoder: &mut Encoder<'_>,
     tag: Tag,
@@ -48,6 +50,7 @@ pub fn put_optional<E: Encode>(
 /// Writes a component with the DEFAULT `D`: nothing but its presence bit where the value equals it.
 ///
 /// Refused by what the value is refused by.
+#[inline]
 pub fn put_default<D: Standard<E>, E: Encode + EqualAsSpelled>(
     encoder: &mut Encoder<'_>,
     tag: Tag,
@@ -66,6 +69,7 @@ pub fn put_default<D: Standard<E>, E: Encode + EqualAsSpelled>(
 /// Writes an OPTIONAL extension addition, one that is there as an open type (X.696, 16.4 and 30).
 ///
 /// Refused by what the value is refused by.
+#[inline]
 pub fn put_addition<E: Encode>(
     encoder: &mut Encoder<'_>,
     tag: Tag,
@@ -82,6 +86,7 @@ pub fn put_addition<E: Encode>(
 /// Writes a required extension addition as an open type (X.696, 16.4 and 30).
 ///
 /// Refused by what the value is refused by.
+#[inline]
 pub fn put_added<E: Encode>(
     encoder: &mut Encoder<'_>,
     tag: Tag,
@@ -97,6 +102,7 @@ pub fn put_added<E: Encode>(
 /// Writes an extension addition with the DEFAULT `D`: nothing but its bit of the bitmap where the value equals it.
 ///
 /// Refused by what the value is refused by.
+#[inline]
 pub fn put_default_addition<D: Standard<E>, E: Encode + EqualAsSpelled>(
     encoder: &mut Encoder<'_>,
     tag: Tag,
@@ -142,6 +148,7 @@ pub trait Writes: Spelled {
 /// Writes a SEQUENCE (X.696, 16) by the rows of its value, with the tables of `C`: by the law of writing.
 ///
 /// Refused by what a component is refused by, or for want of memory.
+#[inline]
 pub fn encode_rows<const RC: usize, const EC: usize, C: Constructed<RC, EC>, T: Writes>(
     value: &T,
     encoder: &mut Encoder<'_>,
