@@ -19,7 +19,7 @@ use values::measure_word;
 
 const USAGE: &str = "usage: oer_speed WHAT COUNT encode|decode|lenient TIMES
 WHAT: ints, intset, mixed, nest, link, seq2, seqs, extopt, foo, linked, added,
-  added3, octets, text, bits, great, times or colors";
+  octets, text, bits, great, times or colors";
 
 /// What is done with the value.
 #[derive(Clone, Copy)]

@@ -27,8 +27,3 @@ pub(crate) fn added<T>(inner: T) -> Adding<T> {
         inner: Some(inner),
     })
 }
-
-/// Three additions in one another. More of them would be too many impls to pass for one call: each level doubles them.
-pub(crate) fn added_thrice<T>(inner: T) -> Adding<Adding<Adding<T>>> {
-    added(added(added(inner)))
-}

@@ -1,7 +1,7 @@
 //! The values that are measured.
 
 use crate::leaves::{bits, colors, great, octets, sequence, sequences, text, times};
-use crate::nested::{added, added_thrice, linked};
+use crate::nested::{added, linked};
 use crate::{Figures, Plan, measure};
 use anyhow::Result;
 use asn1_core::SetOf;
@@ -92,7 +92,7 @@ fn measure_sequence<C: Clock>(
     }
 }
 
-/// Measures an integer within ten sequences, or octets within one addition or three; nothing where the word is none of these.
+/// Measures an integer within ten sequences, or octets as an addition; nothing where the word is none of these.
 fn measure_nested<C: Clock>(
     clock: &C,
     alloc: Global,
@@ -106,7 +106,6 @@ fn measure_nested<C: Clock>(
             measure(clock, alloc, plan, &linked(alloc, number, 10)?)
         }
         "added" => measure(clock, alloc, plan, &added(octets(alloc, count)?)),
-        "added3" => measure(clock, alloc, plan, &added_thrice(octets(alloc, count)?)),
         _ => Ok(None),
     }
 }
@@ -161,7 +160,7 @@ pub(crate) fn measure_word<R: Clock + AllocGlobal>(
     let alloc = rt.alloc();
     match what {
         "ints" | "intset" | "mixed" | "nest" => measure_list(rt, alloc, what, plan),
-        "linked" | "added" | "added3" => measure_nested(rt, alloc, what, plan),
+        "linked" | "added" => measure_nested(rt, alloc, what, plan),
         "octets" | "text" | "bits" | "great" | "times" | "colors" => {
             measure_leaf(rt, alloc, what, plan)
         }
