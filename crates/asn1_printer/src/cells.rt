@@ -60,6 +60,15 @@ pub fn camel_of(alloc: Global, owner: &str, name: &str) -> Result<String, AllocE
     Ok(out)
 }
 
+/// The name of a variant: as a type's, with `R` in front of one of those words.
+pub fn variant_name(alloc: Global, name: &str, kept: &str) -> Result<String, AllocError> {
+    let own = camel_of(alloc, "", name)?;
+    if kept.split(' ').any(|word| word == own.as_str()) {
+        return format!(in alloc; "R{own}");
+    }
+    Ok(own)
+}
+
 /// The field's type.
 fn field_type(alloc: Global, rust: &str, is_option: bool) -> Result<String, AllocError> {
     if is_option {
@@ -158,7 +167,7 @@ pub fn alternative_of<'m, 'a>(
     Ok(Cell {
         field: part.rust_name.clone()?,
         field_type: shape.text,
-        camel: camel_of(alloc, "", name)?,
+        camel: variant_name(alloc, name, "Self First Rest")?,
         head: "Offers",
         arguments,
         entry: format!(in alloc; "{class} {number}")?,

@@ -15,9 +15,6 @@ use std::collections::BTreeSet;
 /// How many alternatives a printed CHOICE has at most.
 const MAX_ALTERNATIVES: usize = 8;
 
-/// Names that no variant can have.
-const KEPT: &str = "Self First Rest";
-
 /// Prints tags as a table, and answers its name.
 fn push_table(
     alloc: Global,
@@ -165,7 +162,7 @@ fn cells_at<'m, 'a>(
     Ok(cells)
 }
 
-/// Refuses two alternatives whose variants have one name, and a name that the text has otherwise.
+/// Refuses two alternatives whose variants have one name.
 fn require_names<'m, 'a>(
     scope: Scope<'m, 'a>,
     definition: &Definition<'m, 'a>,
@@ -173,11 +170,10 @@ fn require_names<'m, 'a>(
     seen: &mut BTreeSet<String>,
 ) -> Result<(), Refusal> {
     for cell in cells.iter() {
-        let is_kept = KEPT.split(' ').any(|word| word == cell.camel.as_str());
-        if is_kept || !seen.insert(cell.camel.clone()?)? {
+        if !seen.insert(cell.camel.clone()?)? {
             return Err(scope.refused(
                 definition.link.of.first,
-                "alternatives whose Rust names differ, and are none of Self, First and Rest",
+                "alternatives whose Rust names differ",
             ));
         }
     }

@@ -1,6 +1,6 @@
 //! An ENUMERATED: its enum, and the list of its values.
 
-use crate::cells::camel_of;
+use crate::cells::variant_name;
 use crate::items::defined_number;
 use crate::templates::ENUMERATED;
 use crate::text::{Words, fill, joined};
@@ -60,12 +60,12 @@ fn values_of<'m, 'a>(
     };
     let mut seen = BTreeSet::new(alloc);
     for (token, number) in numbers.iter() {
-        let name = camel_of(alloc, "", token.text)?;
+        let name = variant_name(alloc, token.text, "Self")?;
         let is_long = i64::try_from(*number).is_err();
-        if is_long || name.as_str() == "Self" || !seen.insert(name.clone()?)? {
+        if is_long || !seen.insert(name.clone()?)? {
             return Err(scope.refused(
                 *token,
-                "a value whose Rust name no other has and isn't Self, and a number of 64 bits",
+                "a value whose Rust name no other has, and a number of 64 bits",
             ));
         }
         push_value(alloc, &mut values, owner, name, *number)?;

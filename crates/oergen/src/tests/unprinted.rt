@@ -7,8 +7,8 @@ A ::= SEQUENCE { a INTEGER (0..9) DEFAULT 10 } => 2:18: met 'a'; can read a defa
 A ::= SEQUENCE { a SEQUENCE { b OCTET STRING } } => 2:31: met 'b'; can read a component without octets or characters, where its type or its group stands in another type
 A ::= SEQUENCE { ..., [[ a UTF8String ]] } => 2:26: met 'a'; can read a component without octets or characters, where its type or its group stands in another type
 A ::= CHOICE { a NULL, b NULL, c NULL, d NULL, e NULL, f NULL, g NULL, h NULL, i NULL } => 2:7: met 'CHOICE'; can read a CHOICE of 1 to 8 alternatives: others aren't printed yet
-A ::= CHOICE { first NULL } => 2:7: met 'CHOICE'; can read alternatives whose Rust names differ, and are none of Self, First and Rest
-A ::= ENUMERATED { self } => 2:20: met 'self'; can read a value whose Rust name no other has and isn't Self, and a number of 64 bits
+A ::= CHOICE { a-b NULL, aB NULL } => 2:7: met 'CHOICE'; can read alternatives whose Rust names differ
+A ::= ENUMERATED { a-b, aB } => 2:25: met 'aB'; can read a value whose Rust name no other has, and a number of 64 bits
 Sequence ::= NULL => 2:14: met 'NULL'; can read a type none of whose printed names, in letters of either size, is another's
 A ::= SEQUENCE { a-b NULL, aB NULL } => 2:28: met 'aB'; can read a component whose Rust name no other has"#;
 
