@@ -17,8 +17,8 @@ pub trait OnPair {
     fn on<New: Decode + Encode + Eq, Old: Decode + Encode + Eq>(self) -> Self::Output;
 }
 
-/// Versions of a sequence of one boolean and none or two additions; the work again where the word names none.
-fn with_first_versions<W: OnPair>(pair: &str, work: W) -> Result<W::Output, W> {
+/// Versions of a sequence; the work again where the word names none.
+fn with_sequences<W: OnPair>(pair: &str, work: W) -> Result<W::Output, W> {
     match pair {
         "seq1/seq1" => Ok(work.on::<Sequence1, Sequence1>()),
         "seq5/seq1" => Ok(work.on::<Sequence5, Sequence1>()),
@@ -26,13 +26,6 @@ fn with_first_versions<W: OnPair>(pair: &str, work: W) -> Result<W::Output, W> {
         "seq2/seq1" => Ok(work.on::<Sequence2, Sequence1>()),
         "seq2/seq5" => Ok(work.on::<Sequence2, Sequence5>()),
         "seq2/seq2" => Ok(work.on::<Sequence2, Sequence2>()),
-        _ => Err(work),
-    }
-}
-
-/// Versions of a sequence of which the newer has further additions, or holds another; the work again where the word names none.
-fn with_later_versions<W: OnPair>(pair: &str, work: W) -> Result<W::Output, W> {
-    match pair {
         "seq7/seq1" => Ok(work.on::<Sequence7, Sequence1>()),
         "seq7/seq5" => Ok(work.on::<Sequence7, Sequence5>()),
         "seq7/seq2" => Ok(work.on::<Sequence7, Sequence2>()),
@@ -44,8 +37,8 @@ fn with_later_versions<W: OnPair>(pair: &str, work: W) -> Result<W::Output, W> {
     }
 }
 
-/// Versions of the elements of an unordered list; the work again where the word names none.
-fn with_unordered_lists<W: OnPair>(pair: &str, work: W) -> Result<W::Output, W> {
+/// Versions of a list, of a sequence with a default, of a set; the work again where the word names none.
+fn with_others<W: OnPair>(pair: &str, work: W) -> Result<W::Output, W> {
     match pair {
         "bag1/bag1" => Ok(work.on::<SetOf<Sequence1>, SetOf<Sequence1>>()),
         "bag2/bag1" => Ok(work.on::<SetOf<Sequence2>, SetOf<Sequence1>>()),
@@ -53,13 +46,6 @@ fn with_unordered_lists<W: OnPair>(pair: &str, work: W) -> Result<W::Output, W> 
         "bag3/bag1" => Ok(work.on::<SetOf<Sequence7>, SetOf<Sequence1>>()),
         "bag3/bag2" => Ok(work.on::<SetOf<Sequence7>, SetOf<Sequence2>>()),
         "bag3/bag3" => Ok(work.on::<SetOf<Sequence7>, SetOf<Sequence7>>()),
-        _ => Err(work),
-    }
-}
-
-/// Versions of a component, and of a set; the work again where the word names none.
-fn with_holders_and_sets<W: OnPair>(pair: &str, work: W) -> Result<W::Output, W> {
-    match pair {
         "holder1/holder1" => Ok(work.on::<Holder1, Holder1>()),
         "holder2/holder1" => Ok(work.on::<Holder2, Holder1>()),
         "holder2/holder2" => Ok(work.on::<Holder2, Holder2>()),
@@ -70,56 +56,25 @@ fn with_holders_and_sets<W: OnPair>(pair: &str, work: W) -> Result<W::Output, W>
     }
 }
 
-/// A type of one version, as both; the work again where the word names none.
-fn with_one_version<W: OnPair>(pair: &str, work: W) -> Result<W::Output, W> {
-    match pair {
-        "int/int" => Ok(work.on::<Integer, Integer>()),
-        "ints/ints" => Ok(work.on::<Vec<Integer>, Vec<Integer>>()),
-        "choice/choice" => Ok(work.on::<PriorityChoice, PriorityChoice>()),
-        "foo/foo" => Ok(work.on::<Foo, Foo>()),
-        _ => Err(work),
-    }
-}
-
-/// A sequence of one version, as both; the work again where the word names none.
-fn with_one_sequence<W: OnPair>(pair: &str, work: W) -> Result<W::Output, W> {
-    match pair {
-        "dup/dup" => Ok(work.on::<SequenceDuplicatesExtended, SequenceDuplicatesExtended>()),
-        "extopt/extopt" => Ok(work.on::<ExtendedOptional, ExtendedOptional>()),
-        "deepdef/deepdef" => Ok(work.on::<DeepDefault, DeepDefault>()),
-        "toplevel/toplevel" => Ok(work.on::<TopLevel, TopLevel>()),
-        _ => Err(work),
-    }
-}
-
-/// Does it with the versions that the word names of a sequence or a component of one; the work again where it names none.
-fn with_versions<W: OnPair + Drop>(pair: &str, work: W) -> Result<W::Output, W> {
-    let work = match with_first_versions(pair, work) {
-        Ok(output) => return Ok(output),
-        Err(work) => work,
-    };
-    let work = match with_later_versions(pair, work) {
-        Ok(output) => return Ok(output),
-        Err(work) => work,
-    };
-    match with_unordered_lists(pair, work) {
-        Ok(output) => Ok(output),
-        Err(work) => with_holders_and_sets(pair, work),
-    }
-}
-
 /// Does it with the versions that the word names, or with a type of one version as both; none where it names none.
 pub fn with_pair<W: OnPair + Drop>(pair: &str, work: W) -> Option<W::Output> {
-    let work = match with_versions(pair, work) {
+    let work = match with_sequences(pair, work) {
         Ok(output) => return Some(output),
         Err(work) => work,
     };
-    let work = match with_one_version(pair, work) {
+    let work = match with_others(pair, work) {
         Ok(output) => return Some(output),
         Err(work) => work,
     };
-    match with_one_sequence(pair, work) {
-        Ok(output) => Some(output),
-        Err(_) => None,
+    match pair {
+        "int/int" => Some(work.on::<Integer, Integer>()),
+        "ints/ints" => Some(work.on::<Vec<Integer>, Vec<Integer>>()),
+        "choice/choice" => Some(work.on::<PriorityChoice, PriorityChoice>()),
+        "foo/foo" => Some(work.on::<Foo, Foo>()),
+        "dup/dup" => Some(work.on::<SequenceDuplicatesExtended, SequenceDuplicatesExtended>()),
+        "extopt/extopt" => Some(work.on::<ExtendedOptional, ExtendedOptional>()),
+        "deepdef/deepdef" => Some(work.on::<DeepDefault, DeepDefault>()),
+        "toplevel/toplevel" => Some(work.on::<TopLevel, TopLevel>()),
+        _ => None,
     }
 }

@@ -1,5 +1,3 @@
-//! Types of components and of elements, by their words; a function of many arms takes the prover long.
-
 use crate::known::OnType;
 use asn1_core::SetOf;
 use asn1_ints::Integer;
@@ -10,9 +8,11 @@ use oer_types::{
     SequenceDuplicatesExtended, TopLevel, WideChoice,
 };
 
-/// Does it with the sequence of booleans, or around one, of that word; the work again where none has it.
-pub(super) fn with_numbered_sequence<W: OnType>(word: &str, work: W) -> Result<W::Output, W> {
+/// Does it with the sequence or set of that word; the work again where none has it.
+pub(super) fn with_sequence<W: OnType>(word: &str, work: W) -> Result<W::Output, W> {
     match word {
+        "empty" => Ok(work.on::<Empty>()),
+        "emptyext" => Ok(work.on::<EmptyExtensible>()),
         "seq1" => Ok(work.on::<Sequence1>()),
         "seq2" => Ok(work.on::<Sequence2>()),
         "seq3" => Ok(work.on::<Sequence3>()),
@@ -20,52 +20,29 @@ pub(super) fn with_numbered_sequence<W: OnType>(word: &str, work: W) -> Result<W
         "seq6" => Ok(work.on::<Sequence6>()),
         "seq7" => Ok(work.on::<Sequence7>()),
         "outer" => Ok(work.on::<Outer>()),
-        _ => Err(work),
-    }
-}
-
-/// Does it with the sequence of that word whose root components may be absent; the work again where none has it.
-pub(super) fn with_optional_sequence<W: OnType>(word: &str, work: W) -> Result<W::Output, W> {
-    match word {
         "defint" => Ok(work.on::<DefaultInteger>()),
         "defopt" => Ok(work.on::<DefaultAndOptional>()),
         "deepdef" => Ok(work.on::<DeepDefault>()),
-        "extopt" => Ok(work.on::<ExtendedOptional>()),
-        "manyopt" => Ok(work.on::<ManyOptional>()),
-        _ => Err(work),
-    }
-}
-
-/// Does it with the sequence of that word that is empty, holds another or leaves one out; the work again where none has it.
-pub(super) fn with_other_sequence<W: OnType>(word: &str, work: W) -> Result<W::Output, W> {
-    match word {
-        "empty" => Ok(work.on::<Empty>()),
-        "emptyext" => Ok(work.on::<EmptyExtensible>()),
         "holder1" => Ok(work.on::<Holder1>()),
         "holder2" => Ok(work.on::<Holder2>()),
         "omitted" => Ok(work.on::<Omitted>()),
         "dup" => Ok(work.on::<SequenceDuplicatesExtended>()),
+        "extopt" => Ok(work.on::<ExtendedOptional>()),
+        "manyopt" => Ok(work.on::<ManyOptional>()),
         "toplevel" => Ok(work.on::<TopLevel>()),
-        _ => Err(work),
-    }
-}
-
-/// Does it with the set or choice of that word; the work again where none has it.
-pub(super) fn with_set_or_choice<W: OnType>(word: &str, work: W) -> Result<W::Output, W> {
-    match word {
         "foo" => Ok(work.on::<Foo>()),
         "mixset" => Ok(work.on::<MixedSet>()),
         "mixset2" => Ok(work.on::<MixedSet2>()),
-        "choice" => Ok(work.on::<PriorityChoice>()),
-        "tagmax" => Ok(work.on::<WideChoice>()),
-        "tag130" => Ok(work.on::<OnlyChoice>()),
         _ => Err(work),
     }
 }
 
-/// Does it with the list of that word; the work again where none has it.
-pub(super) fn with_list<W: OnType>(word: &str, work: W) -> Result<W::Output, W> {
+/// Does it with the list or choice of that word; the work again where none has it.
+pub(super) fn with_list_or_choice<W: OnType>(word: &str, work: W) -> Result<W::Output, W> {
     match word {
+        "choice" => Ok(work.on::<PriorityChoice>()),
+        "tagmax" => Ok(work.on::<WideChoice>()),
+        "tag130" => Ok(work.on::<OnlyChoice>()),
         "ints" => Ok(work.on::<Vec<Integer>>()),
         "nulls" => Ok(work.on::<Vec<()>>()),
         "intset" => Ok(work.on::<SetOf<Integer>>()),
