@@ -4,7 +4,6 @@ use crate::names::{component_name, push_type_name, type_name};
 use crate::rows::{Row, rows_of};
 use crate::scope::{Link, Scope};
 use asn1_modules::ast::{Body, Type};
-use asn1_modules::lexer::Token;
 use asn1_modules::refusal::Refusal;
 use std::collections::BTreeSet;
 
@@ -16,35 +15,35 @@ const MAX_DEFINITIONS: usize = 1000000;
 
 /// What a type has: a component, an alternative, an element, or what it is a name of.
 #[derive(Drop)]
-pub struct Part<'m, 'a> {
+pub struct Part<'m> {
     /// Its row, where it is a component or an alternative.
-    pub row: Option<Row<'m, 'a>>,
+    pub row: Option<Row<'m>>,
     pub rust_name: String,
     /// How many lists are around the type below.
     pub lists: usize,
     /// The type, without lists.
-    pub inner: Link<'m, 'a>,
+    pub inner: Link<'m>,
     /// The place of its definition, where it has one.
     pub target: Option<usize>,
 }
 
 /// A Rust type.
 #[derive(Drop)]
-pub struct Definition<'m, 'a> {
+pub struct Definition<'m> {
     pub rust_name: String,
-    pub link: Link<'m, 'a>,
-    pub parts: Vec<Part<'m, 'a>>,
+    pub link: Link<'m>,
+    pub parts: Vec<Part<'m>>,
 }
 
 /// A type that waits to be defined.
 #[derive(Drop)]
-struct Pending<'m, 'a> {
+struct Pending<'m> {
     rust_name: String,
-    link: Link<'m, 'a>,
+    link: Link<'m>,
 }
 
 /// A type without the lists around it, and how many these are.
-fn peeled<'m, 'a>(start: &'m Type<'a>) -> (usize, &'m Type<'a>) {
+fn peeled<'m>(start: &'m Type) -> (usize, &'m Type) {
     let mut of = start;
     let mut lists = 0usize;
     for _ in 0..MAX_LISTS {
@@ -58,7 +57,7 @@ fn peeled<'m, 'a>(start: &'m Type<'a>) -> (usize, &'m Type<'a>) {
 }
 
 /// Whether a type needs a Rust type of its own.
-fn has_parts(of: &Type<'_>) -> bool {
+fn has_parts(of: &Type) -> bool {
     matches!(
         of.body,
         Body::Sequence(_) | Body::Set(_) | Body::Choice(_) | Body::Enumerated(_, _)
@@ -66,20 +65,20 @@ fn has_parts(of: &Type<'_>) -> bool {
 }
 
 /// A part, by the type where it is written. A type with parts inside it gets the name of the type around it and its own.
-fn make_part<'m, 'a>(
-    scope: Scope<'m, 'a>,
-    pending: &mut Vec<Pending<'m, 'a>>,
+fn make_part<'m>(
+    scope: Scope<'m, '_>,
+    pending: &mut Vec<Pending<'m>>,
     parent: &str,
-    row: Option<Row<'m, 'a>>,
-    link: Link<'m, 'a>,
-) -> Result<Part<'m, 'a>, Refusal> {
+    row: Option<Row<'m>>,
+    link: Link<'m>,
+) -> Result<Part<'m>, Refusal> {
     let (lists, of) = peeled(link.of);
     let inner = Link {
         module: link.module,
         of,
     };
     let name = match row {
-        Some(row) => row.name.text,
+        Some(row) => scope.text(row.name),
         None => "item",
     };
     let rust_name = component_name(scope.alloc, name)?;
@@ -105,12 +104,12 @@ fn make_part<'m, 'a>(
 }
 
 /// A definition: its parts are its components or alternatives, or the type itself.
-fn define<'m, 'a>(
-    scope: Scope<'m, 'a>,
-    pending: &mut Vec<Pending<'m, 'a>>,
+fn define<'m>(
+    scope: Scope<'m, '_>,
+    pending: &mut Vec<Pending<'m>>,
     rust_name: String,
-    link: Link<'m, 'a>,
-) -> Result<Definition<'m, 'a>, Refusal> {
+    link: Link<'m>,
+) -> Result<Definition<'m>, Refusal> {
     let rows = rows_of(scope, link)?;
     let mut parts = Vec::new(scope.alloc);
     for row in rows.iter() {
@@ -127,7 +126,7 @@ fn define<'m, 'a>(
 }
 
 /// The assignments of all modules, in the order of their text.
-fn assignments<'m, 'a>(scope: Scope<'m, 'a>) -> Result<Vec<Pending<'m, 'a>>, Refusal> {
+fn assignments<'m>(scope: Scope<'m, '_>) -> Result<Vec<Pending<'m>>, Refusal> {
     let mut all = Vec::new(scope.alloc);
     for (module, one) in scope.modules.iter().enumerate() {
         push_assignments(scope, module, one.types.as_slice(), &mut all)?;
@@ -136,15 +135,15 @@ fn assignments<'m, 'a>(scope: Scope<'m, 'a>) -> Result<Vec<Pending<'m, 'a>>, Ref
 }
 
 /// The assignments of a module.
-fn push_assignments<'m, 'a>(
-    scope: Scope<'m, 'a>,
+fn push_assignments<'m>(
+    scope: Scope<'m, '_>,
     module: usize,
-    types: &'m [asn1_modules::ast::TypeAssignment<'a>],
-    all: &mut Vec<Pending<'m, 'a>>,
+    types: &'m [asn1_modules::ast::TypeAssignment],
+    all: &mut Vec<Pending<'m>>,
 ) -> Result<(), Refusal> {
     for one in types.iter() {
         all.push(Pending {
-            rust_name: type_name(scope.alloc, one.name.text)?,
+            rust_name: type_name(scope.alloc, scope.text(one.name))?,
             link: Link {
                 module,
                 of: &one.of,
@@ -155,7 +154,7 @@ fn push_assignments<'m, 'a>(
 }
 
 /// All definitions: first the assignments, then the types inside them. Refused where two would have one Rust name.
-pub fn definitions<'m, 'a>(scope: Scope<'m, 'a>) -> Result<Vec<Definition<'m, 'a>>, Refusal> {
+pub fn definitions<'m>(scope: Scope<'m, '_>) -> Result<Vec<Definition<'m>>, Refusal> {
     let mut pending = assignments(scope)?;
     let mut names = BTreeSet::new(scope.alloc);
     let mut all = Vec::new(scope.alloc);

@@ -12,7 +12,7 @@ use std::alloc::{AllocError, Global};
 const MAX_LISTS: usize = 64;
 
 /// Whether a type has an extension mark.
-pub fn is_extensible<'m, 'a>(of: &'m Type<'a>) -> bool {
+pub fn is_extensible<'m>(of: &'m Type) -> bool {
     match members_of(of) {
         Some(members) => members.iter().any(|m| matches!(m, Member::Mark(_))),
         None => false,
@@ -20,7 +20,7 @@ pub fn is_extensible<'m, 'a>(of: &'m Type<'a>) -> bool {
 }
 
 /// The lists around a type, as ASN.1 writes them.
-pub fn lists_of(alloc: Global, start: &Type<'_>) -> Result<String, AllocError> {
+pub fn lists_of(alloc: Global, start: &Type) -> Result<String, AllocError> {
     let mut text = String::new(alloc);
     let mut of = start;
     for _ in 0..MAX_LISTS {
@@ -41,7 +41,7 @@ pub fn lists_of(alloc: Global, start: &Type<'_>) -> Result<String, AllocError> {
 
 /// A type's layout, with the constraints that give it. Refused where named bits have no fixed size, since canonical form would drop
 /// trailing zero bits (X.696, 13.3).
-pub fn layout_of<'m, 'a>(scope: Scope<'m, 'a>, link: Link<'m, 'a>) -> Result<String, Refusal> {
+pub fn layout_of<'m>(scope: Scope<'m, '_>, link: Link<'m>) -> Result<String, Refusal> {
     let chain = scope.chain_of(link)?;
     let base = chain.last().copied().unwrap_or(link);
     let names = names_of(base);
@@ -72,12 +72,12 @@ pub fn layout_of<'m, 'a>(scope: Scope<'m, 'a>, link: Link<'m, 'a>) -> Result<Str
 }
 
 /// The sizes that a string may have.
-fn size_of<'m, 'a>(scope: Scope<'m, 'a>, chain: &[Link<'m, 'a>]) -> Result<Limits, Refusal> {
+fn size_of<'m>(scope: Scope<'m, '_>, chain: &[Link<'m>]) -> Result<Limits, Refusal> {
     limits_of(scope, chain, None, Purpose::Size)
 }
 
 /// What a type with parts is.
-fn body_name(body: &Body<'_>) -> &'static str {
+fn body_name(body: &Body) -> &'static str {
     match body {
         Body::Sequence(_) => "SEQUENCE",
         Body::Set(_) => "SET",

@@ -5,11 +5,11 @@ use crate::layouts::{is_extensible, layout_of, lists_of, octets_text};
 use crate::numbers::enumerated_numbers;
 use crate::order::{boxes, order_of_use};
 use crate::rows::{Position, Row};
-use crate::scope::{Link, Scope};
+use crate::scope::{Link, Scope, all_tokens};
 use crate::values::default_of;
 use asn1_core::{Class, Tag};
-use asn1_modules::ast::{Body, Module, Need, Numbered, Type};
-use asn1_modules::lexer::{Token, tokens};
+use asn1_modules::ast::{Body, Need, Numbered, Type};
+use asn1_modules::lexer::Token;
 use asn1_modules::modules::read_modules;
 use asn1_modules::refusal::Refusal;
 use std::alloc::{AllocError, Global};
@@ -23,29 +23,11 @@ pub fn list(alloc: Global, texts: &[&str]) -> Result<String, Refusal> {
 /// The table of the modules in the files' tokens.
 fn list_tokens(alloc: Global, tokens: &[Token<'_>]) -> Result<String, Refusal> {
     let modules = read_modules(alloc, tokens)?;
-    list_modules(alloc, modules.as_slice())
-}
-
-/// The table of modules.
-fn list_modules(alloc: Global, modules: &[Module<'_>]) -> Result<String, Refusal> {
-    list_scope(Scope { alloc, modules })
-}
-
-/// The tokens of the files' texts, in turn.
-fn all_tokens<'a>(alloc: Global, texts: &[&'a str]) -> Result<Vec<Token<'a>>, Refusal> {
-    let mut all = Vec::new(alloc);
-    for (file, text) in texts.iter().enumerate() {
-        push_tokens(&mut all, tokens(alloc, file, *text)?)?;
-    }
-    Ok(all)
-}
-
-/// Puts a file's tokens behind the others.
-fn push_tokens<'a>(all: &mut Vec<Token<'a>>, more: Vec<Token<'a>>) -> Result<(), AllocError> {
-    for token in more {
-        all.push(token)?;
-    }
-    Ok(())
+    list_scope(Scope {
+        alloc,
+        modules: modules.as_slice(),
+        tokens,
+    })
 }
 
 /// The table of modules.
@@ -70,15 +52,15 @@ fn list_scope(scope: Scope<'_, '_>) -> Result<String, Refusal> {
 }
 
 /// A definition's own line, and the values of an ENUMERATED.
-fn push_definition<'m, 'a>(
-    scope: Scope<'m, 'a>,
-    all: &[Definition<'m, 'a>],
-    definition: &Definition<'m, 'a>,
+fn push_definition<'m>(
+    scope: Scope<'m, '_>,
+    all: &[Definition<'m>],
+    definition: &Definition<'m>,
     out: &mut String,
 ) -> Result<(), Refusal> {
     let name = definition.rust_name.as_str();
     let module = match scope.modules.get(definition.link.module) {
-        Some(module) => module.name.text,
+        Some(module) => scope.text(module.name),
         None => "",
     };
     let mut what = String::new(scope.alloc);
@@ -103,7 +85,7 @@ fn push_definition<'m, 'a>(
 }
 
 /// Whether a CHOICE or an ENUMERATED has an extension mark; of a SEQUENCE and a SET the preamble's line says it.
-fn mark_text<'m, 'a>(of: &'m Type<'a>) -> &'static str {
+fn mark_text<'m>(of: &'m Type) -> &'static str {
     match &of.body {
         Body::Choice(_) if is_extensible(of) => ", extensible",
         Body::Enumerated(_, Some(_)) => ", extensible",
@@ -112,16 +94,16 @@ fn mark_text<'m, 'a>(of: &'m Type<'a>) -> &'static str {
 }
 
 /// The values of an ENUMERATED, a line each.
-fn push_values<'m, 'a>(
-    scope: Scope<'m, 'a>,
+fn push_values<'m>(
+    scope: Scope<'m, '_>,
     module: usize,
-    items: &'m [Numbered<'a>],
+    items: &'m [Numbered],
     root: usize,
     out: &mut String,
 ) -> Result<(), Refusal> {
     let numbers = enumerated_numbers(scope, module, items, root)?;
     for (at, (name, number)) in numbers.iter().enumerate() {
-        let text = name.text;
+        let text = scope.text(*name);
         let place = if at < root { "" } else { ", addition" };
         out.push_str(format!(in scope.alloc; "    {text} = {number}{place}\n")?.as_str())?;
     }
@@ -129,9 +111,9 @@ fn push_values<'m, 'a>(
 }
 
 /// How many octets the preamble of a SEQUENCE or a SET has (X.696, 16.2).
-fn push_preamble<'m, 'a>(
-    scope: Scope<'m, 'a>,
-    definition: &Definition<'m, 'a>,
+fn push_preamble<'m>(
+    scope: Scope<'m, '_>,
+    definition: &Definition<'m>,
     out: &mut String,
 ) -> Result<(), Refusal> {
     if !matches!(definition.link.of.body, Body::Sequence(_) | Body::Set(_)) {
@@ -156,7 +138,7 @@ fn push_preamble<'m, 'a>(
 }
 
 /// Whether the preamble has a bit for a component.
-fn is_asked(part: &Part<'_, '_>) -> bool {
+fn is_asked(part: &Part<'_>) -> bool {
     match &part.row {
         Some(row) => row.position == Position::Root && !matches!(row.need, Need::Required),
         None => false,
@@ -164,11 +146,11 @@ fn is_asked(part: &Part<'_, '_>) -> bool {
 }
 
 /// A definition's components or alternatives, a line each.
-fn push_parts<'m, 'a>(
-    scope: Scope<'m, 'a>,
-    all: &[Definition<'m, 'a>],
+fn push_parts<'m>(
+    scope: Scope<'m, '_>,
+    all: &[Definition<'m>],
     boxed: &[(usize, usize)],
-    definition: (usize, &Definition<'m, 'a>),
+    definition: (usize, &Definition<'m>),
     out: &mut String,
 ) -> Result<(), Refusal> {
     let (at, definition) = definition;
@@ -190,10 +172,10 @@ fn push_parts<'m, 'a>(
 }
 
 /// A component's Rust name, its tag, and whether it is an addition.
-fn push_row<'m, 'a>(
-    scope: Scope<'m, 'a>,
-    part: &Part<'m, 'a>,
-    row: Row<'m, 'a>,
+fn push_row<'m>(
+    scope: Scope<'m, '_>,
+    part: &Part<'m>,
+    row: Row<'m>,
     out: &mut String,
 ) -> Result<(), Refusal> {
     let name = part.rust_name.as_str();
@@ -204,11 +186,7 @@ fn push_row<'m, 'a>(
 }
 
 /// Whether a component may be left out, and what stands for it then.
-fn push_need<'m, 'a>(
-    scope: Scope<'m, 'a>,
-    row: Row<'m, 'a>,
-    out: &mut String,
-) -> Result<(), Refusal> {
+fn push_need<'m>(scope: Scope<'m, '_>, row: Row<'m>, out: &mut String) -> Result<(), Refusal> {
     match row.need {
         Need::Required => out.push_str(" required")?,
         Need::Optional => out.push_str(" optional")?,
@@ -245,11 +223,11 @@ fn place_text(alloc: Global, position: Position) -> Result<String, AllocError> {
 }
 
 /// The lists around a type, the name of its Rust type, and its layout.
-fn push_type<'m, 'a>(
-    scope: Scope<'m, 'a>,
-    all: &[Definition<'m, 'a>],
-    part: &Part<'m, 'a>,
-    whole: Link<'m, 'a>,
+fn push_type<'m>(
+    scope: Scope<'m, '_>,
+    all: &[Definition<'m>],
+    part: &Part<'m>,
+    whole: Link<'m>,
     out: &mut String,
 ) -> Result<(), Refusal> {
     out.push_str(lists_of(scope.alloc, whole.of)?.as_str())?;

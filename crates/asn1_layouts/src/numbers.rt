@@ -2,7 +2,7 @@
 
 use crate::scope::{Link, Scope};
 use asn1_modules::ast::{Body, Numbered, Value};
-use asn1_modules::lexer::{Kind, Token};
+use asn1_modules::lexer::{Kind, TokenId};
 use asn1_modules::refusal::Refusal;
 use std::collections::BTreeSet;
 
@@ -11,21 +11,21 @@ const MAX_CHAIN: usize = 64;
 
 /// The names that a type gives to numbers, and its module.
 #[derive(Clone, Copy)]
-pub struct Names<'m, 'a> {
+pub struct Names<'m> {
     pub module: usize,
-    pub items: &'m [Numbered<'a>],
+    pub items: &'m [Numbered],
 }
 
 /// A value, its module, and the names of its type.
 #[derive(Clone, Copy)]
-pub struct Spot<'m, 'a> {
+pub struct Spot<'m> {
     pub module: usize,
-    pub value: &'m Value<'a>,
-    pub names: Option<Names<'m, 'a>>,
+    pub value: &'m Value,
+    pub names: Option<Names<'m>>,
 }
 
 /// The names that the type at the end of a chain gives to numbers.
-pub fn names_of<'m, 'a>(base: Link<'m, 'a>) -> Option<Names<'m, 'a>> {
+pub fn names_of<'m>(base: Link<'m>) -> Option<Names<'m>> {
     let module = base.module;
     match &base.of.body {
         Body::Integer(names) | Body::Enumerated(names, _) | Body::BitString(names) => Some(Names {
@@ -37,10 +37,15 @@ pub fn names_of<'m, 'a>(base: Link<'m, 'a>) -> Option<Names<'m, 'a>> {
 }
 
 /// The value that a type's name for a number is written with, and its module.
-fn named_value<'m, 'a>(names: Option<Names<'m, 'a>>, name: &str) -> Option<(usize, &'m Value<'a>)> {
+fn named_value<'m>(
+    scope: Scope<'m, '_>,
+    names: Option<Names<'m>>,
+    name: TokenId,
+) -> Option<(usize, &'m Value)> {
     let names = names?;
+    let text = scope.text(name);
     for item in names.items.iter() {
-        if item.name.text == name {
+        if scope.text(item.name) == text {
             return Some((names.module, item.number.as_ref()?));
         }
     }
@@ -48,14 +53,11 @@ fn named_value<'m, 'a>(names: Option<Names<'m, 'a>>, name: &str) -> Option<(usiz
 }
 
 /// What a name stands for: a number of its type, or a value that is assigned; nothing where the value isn't a name.
-fn next_spot<'m, 'a>(
-    scope: Scope<'m, 'a>,
-    spot: Spot<'m, 'a>,
-) -> Result<Option<Spot<'m, 'a>>, Refusal> {
+fn next_spot<'m>(scope: Scope<'m, '_>, spot: Spot<'m>) -> Result<Option<Spot<'m>>, Refusal> {
     let Value::Reference(reference) = spot.value else {
         return Ok(None);
     };
-    if let Some((module, value)) = named_value(spot.names, reference.name.text) {
+    if let Some((module, value)) = named_value(scope, spot.names, reference.name) {
         return Ok(Some(Spot {
             module,
             value,
@@ -75,7 +77,7 @@ fn next_spot<'m, 'a>(
 }
 
 /// The value that is no name, at the end of the names.
-pub fn settled<'m, 'a>(scope: Scope<'m, 'a>, start: Spot<'m, 'a>) -> Result<Spot<'m, 'a>, Refusal> {
+pub fn settled<'m>(scope: Scope<'m, '_>, start: Spot<'m>) -> Result<Spot<'m>, Refusal> {
     let mut spot = start;
     for _ in 0..MAX_CHAIN {
         match next_spot(scope, spot)? {
@@ -90,7 +92,7 @@ pub fn settled<'m, 'a>(scope: Scope<'m, 'a>, start: Spot<'m, 'a>) -> Result<Spot
 }
 
 /// The first token of a value; of names between braces the first of them.
-pub fn first_of<'a>(value: &Value<'a>) -> Token<'a> {
+pub fn first_of(value: &Value) -> TokenId {
     match value {
         Value::Literal(token) | Value::Negative(token) | Value::Braces(token) => *token,
         Value::Reference(reference) => reference.name,
@@ -114,11 +116,13 @@ fn digits(text: &str, is_negative: bool) -> Option<i128> {
 }
 
 /// The number that a value is.
-pub fn number_of<'m, 'a>(scope: Scope<'m, 'a>, spot: Spot<'m, 'a>) -> Result<i128, Refusal> {
+pub fn number_of<'m>(scope: Scope<'m, '_>, spot: Spot<'m>) -> Result<i128, Refusal> {
     let end = settled(scope, spot)?;
     let number = match end.value {
-        Value::Literal(token) if token.kind == Kind::Number => digits(token.text, false),
-        Value::Negative(token) => digits(token.text, true),
+        Value::Literal(id) if scope.token(*id).kind == Kind::Number => {
+            digits(scope.text(*id), false)
+        }
+        Value::Negative(id) => digits(scope.text(*id), true),
         other => return Err(scope.refused(first_of(other), "a number")),
     };
     match number {
@@ -131,10 +135,10 @@ pub fn number_of<'m, 'a>(scope: Scope<'m, 'a>, spot: Spot<'m, 'a>) -> Result<i12
 }
 
 /// The numbers that are written in the root of an ENUMERATED.
-fn taken_numbers<'m, 'a>(
-    scope: Scope<'m, 'a>,
+fn taken_numbers<'m>(
+    scope: Scope<'m, '_>,
     module: usize,
-    root: &'m [Numbered<'a>],
+    root: &'m [Numbered],
 ) -> Result<Vec<i128>, Refusal> {
     let mut taken = Vec::new(scope.alloc);
     for item in root.iter() {
@@ -147,12 +151,12 @@ fn taken_numbers<'m, 'a>(
 
 /// The numbers of an ENUMERATED's values, each with its name: where none is written, the least that the root leaves free, behind
 /// those that were given before (X.680, 20.3 to 20.6). Refused where two are the same.
-pub fn enumerated_numbers<'m, 'a>(
-    scope: Scope<'m, 'a>,
+pub fn enumerated_numbers<'m>(
+    scope: Scope<'m, '_>,
     module: usize,
-    items: &'m [Numbered<'a>],
+    items: &'m [Numbered],
     root: usize,
-) -> Result<Vec<(Token<'a>, i128)>, Refusal> {
+) -> Result<Vec<(TokenId, i128)>, Refusal> {
     let front = items.get(..root).unwrap_or(items);
     let taken = taken_numbers(scope, module, front)?;
     let mut seen = BTreeSet::new(scope.alloc);
@@ -173,10 +177,10 @@ pub fn enumerated_numbers<'m, 'a>(
 }
 
 /// The number that is written behind a name of an ENUMERATED.
-fn written_number<'m, 'a>(
-    scope: Scope<'m, 'a>,
+fn written_number<'m>(
+    scope: Scope<'m, '_>,
     module: usize,
-    item: &'m Numbered<'a>,
+    item: &'m Numbered,
 ) -> Result<Option<i128>, Refusal> {
     let Some(value) = &item.number else {
         return Ok(None);

@@ -46,7 +46,7 @@ impl Walk {
 }
 
 /// Past names of types, which hold nothing themselves, to the type that is named.
-fn behind_names(definitions: &[Definition<'_, '_>], start: usize) -> usize {
+fn behind_names(definitions: &[Definition<'_>], start: usize) -> usize {
     let mut at = start;
     for _ in 0..MAX_CHAIN {
         match definitions.get(at) {
@@ -59,16 +59,12 @@ fn behind_names(definitions: &[Definition<'_, '_>], start: usize) -> usize {
     at
 }
 
-fn first_target(definition: &Definition<'_, '_>) -> Option<usize> {
+fn first_target(definition: &Definition<'_>) -> Option<usize> {
     definition.parts.first().and_then(|p| p.target)
 }
 
 /// The definition that a part leads to; where boxes are sought, not through a list, and past names.
-fn target_of(
-    definitions: &[Definition<'_, '_>],
-    part: &Part<'_, '_>,
-    for_boxes: bool,
-) -> Option<usize> {
+fn target_of(definitions: &[Definition<'_>], part: &Part<'_>, for_boxes: bool) -> Option<usize> {
     let target = part.target?;
     if !for_boxes {
         return Some(target);
@@ -82,7 +78,7 @@ fn target_of(
 
 /// Walks from one definition to all that it uses and that are new.
 fn walk_from(
-    definitions: &[Definition<'_, '_>],
+    definitions: &[Definition<'_>],
     start: usize,
     for_boxes: bool,
     walk: &mut Walk,
@@ -114,7 +110,7 @@ fn walk_from(
 /// Walks from every definition, in turn.
 fn walked(
     alloc: Global,
-    definitions: &[Definition<'_, '_>],
+    definitions: &[Definition<'_>],
     for_boxes: bool,
 ) -> Result<Walk, AllocError> {
     let mut walk = Walk {
@@ -134,7 +130,7 @@ fn walked(
 /// The places of definitions in order of use: each behind those that it uses, but where types contain themselves.
 pub fn order_of_use(
     alloc: Global,
-    definitions: &[Definition<'_, '_>],
+    definitions: &[Definition<'_>],
 ) -> Result<Vec<usize>, AllocError> {
     Ok(walked(alloc, definitions, false)?.done)
 }
@@ -142,7 +138,7 @@ pub fn order_of_use(
 /// The parts that need a box, as the places of definition and part: without them a type would contain itself other than by a list.
 pub fn boxes(
     alloc: Global,
-    definitions: &[Definition<'_, '_>],
+    definitions: &[Definition<'_>],
 ) -> Result<Vec<(usize, usize)>, AllocError> {
     Ok(walked(alloc, definitions, true)?.back)
 }

@@ -4,7 +4,7 @@ use crate::numbers::{Spot, number_of};
 use crate::scope::{Link, Scope};
 use asn1_core::{Class, Tag};
 use asn1_modules::ast::{Body, Member, Need, Simple, Tagging, Type, WrittenTag};
-use asn1_modules::lexer::Token;
+use asn1_modules::lexer::TokenId;
 use asn1_modules::refusal::Refusal;
 
 /// How deep COMPONENTS OF may lead.
@@ -25,10 +25,10 @@ pub enum Position {
 
 /// A component or an alternative.
 #[derive(Clone, Copy)]
-pub struct Row<'m, 'a> {
-    pub name: Token<'a>,
-    pub link: Link<'m, 'a>,
-    pub need: &'m Need<'a>,
+pub struct Row<'m> {
+    pub name: TokenId,
+    pub link: Link<'m>,
+    pub need: &'m Need,
     pub position: Position,
     /// None for a choice without a tag in front, and for an open type.
     pub tag: Option<Tag>,
@@ -54,7 +54,7 @@ impl Walk {
     }
 
     /// Passes a mark or a bracket of a group; false where none may stand.
-    fn passes(&mut self, member: &Member<'_>) -> bool {
+    fn passes(&mut self, member: &Member) -> bool {
         match member {
             Member::Mark(_) if self.marks < 2 && !self.in_group => {
                 self.marks = self.marks.saturating_add(1);
@@ -75,7 +75,7 @@ impl Walk {
 }
 
 /// The members of a SEQUENCE, a SET or a CHOICE.
-pub fn members_of<'m, 'a>(of: &'m Type<'a>) -> Option<&'m [Member<'a>]> {
+pub fn members_of<'m>(of: &'m Type) -> Option<&'m [Member]> {
     match &of.body {
         Body::Choice(alternatives) => Some(alternatives.as_slice()),
         _ => components_of(of),
@@ -83,7 +83,7 @@ pub fn members_of<'m, 'a>(of: &'m Type<'a>) -> Option<&'m [Member<'a>]> {
 }
 
 /// The first token of a member.
-fn first_of<'a>(member: &Member<'a>) -> Token<'a> {
+fn first_of(member: &Member) -> TokenId {
     match member {
         Member::Mark(token) | Member::Opens(token) | Member::Closes(token) => *token,
         Member::ComponentsOf(of) => of.first,
@@ -93,12 +93,12 @@ fn first_of<'a>(member: &Member<'a>) -> Token<'a> {
 
 /// The components as they are written, with those that COMPONENTS OF takes over, and with the tags that are in front of their types.
 #[cycle(rows)]
-fn written_rows<'m, 'a>(
-    scope: Scope<'m, 'a>,
+fn written_rows<'m>(
+    scope: Scope<'m, '_>,
     module: usize,
-    members: &'m [Member<'a>],
+    members: &'m [Member],
     levels: u32,
-) -> Result<Vec<Row<'m, 'a>>, Refusal> {
+) -> Result<Vec<Row<'m>>, Refusal> {
     let mut rows = Vec::new(scope.alloc);
     let mut walk = Walk {
         marks: 0,
@@ -135,9 +135,9 @@ fn written_rows<'m, 'a>(
 }
 
 /// Puts the root components of one list behind another (X.680, 25.5).
-fn push_roots<'m, 'a>(
-    rows: &mut Vec<Row<'m, 'a>>,
-    taken: &[Row<'m, 'a>],
+fn push_roots<'m>(
+    rows: &mut Vec<Row<'m>>,
+    taken: &[Row<'m>],
     position: Position,
 ) -> Result<(), Refusal> {
     for row in taken.iter() {
@@ -150,11 +150,11 @@ fn push_roots<'m, 'a>(
 
 /// The components of the type behind COMPONENTS OF.
 #[cycle(rows)]
-fn taken_rows<'m, 'a>(
-    scope: Scope<'m, 'a>,
-    link: Link<'m, 'a>,
+fn taken_rows<'m>(
+    scope: Scope<'m, '_>,
+    link: Link<'m>,
     levels: u32,
-) -> Result<Vec<Row<'m, 'a>>, Refusal> {
+) -> Result<Vec<Row<'m>>, Refusal> {
     const READS: &str = "a SEQUENCE or a SET that doesn't take over its own components";
     let base = scope.base_of(link)?;
     let Some(levels) = levels.checked_sub(1) else {
@@ -167,7 +167,7 @@ fn taken_rows<'m, 'a>(
 }
 
 /// The members of a SEQUENCE or a SET.
-fn components_of<'m, 'a>(of: &'m Type<'a>) -> Option<&'m [Member<'a>]> {
+fn components_of<'m>(of: &'m Type) -> Option<&'m [Member]> {
     match &of.body {
         Body::Sequence(members) | Body::Set(members) => Some(members.as_slice()),
         _ => None,
@@ -175,7 +175,7 @@ fn components_of<'m, 'a>(of: &'m Type<'a>) -> Option<&'m [Member<'a>]> {
 }
 
 /// Whether a member is a component with a tag in front of its type.
-fn is_tagged(member: &Member<'_>) -> bool {
+fn is_tagged(member: &Member) -> bool {
     match member {
         Member::Component(component) => !component.of.tags.is_empty(),
         _ => false,
@@ -183,11 +183,11 @@ fn is_tagged(member: &Member<'_>) -> bool {
 }
 
 /// The number of a tag, which is a u32.
-fn tag_of<'m, 'a>(
-    scope: Scope<'m, 'a>,
+fn tag_of<'m>(
+    scope: Scope<'m, '_>,
     module: usize,
-    written: &'m WrittenTag<'a>,
-    first: Token<'a>,
+    written: &'m WrittenTag,
+    first: TokenId,
 ) -> Result<Tag, Refusal> {
     let value = &written.number;
     let number = number_of(
@@ -208,7 +208,7 @@ fn tag_of<'m, 'a>(
 }
 
 /// The tag that a type has by itself: the outermost that is written, or its universal one.
-fn own_tag<'m, 'a>(scope: Scope<'m, 'a>, link: Link<'m, 'a>) -> Result<Option<Tag>, Refusal> {
+fn own_tag<'m>(scope: Scope<'m, '_>, link: Link<'m>) -> Result<Option<Tag>, Refusal> {
     let chain = scope.chain_of(link)?;
     for one in chain.iter() {
         if let Some(written) = one.of.tags.first() {
@@ -219,7 +219,7 @@ fn own_tag<'m, 'a>(scope: Scope<'m, 'a>, link: Link<'m, 'a>) -> Result<Option<Ta
 }
 
 /// The universal tag of a type (X.680, table 1).
-fn universal_tag(body: &Body<'_>) -> Option<Tag> {
+fn universal_tag(body: &Body) -> Option<Tag> {
     match body {
         Body::Simple(simple) => simple_tag(*simple),
         Body::Integer(_) => Some(Tag::INTEGER),
@@ -255,10 +255,7 @@ fn simple_tag(simple: Simple) -> Option<Tag> {
 }
 
 /// The rows with tags from 0: the root components first, then the additions (X.680, 25.7 to 25.9 and 29.5).
-fn numbered_rows<'m, 'a>(
-    scope: Scope<'m, 'a>,
-    rows: &[Row<'m, 'a>],
-) -> Result<Vec<Row<'m, 'a>>, Refusal> {
+fn numbered_rows<'m>(scope: Scope<'m, '_>, rows: &[Row<'m>]) -> Result<Vec<Row<'m>>, Refusal> {
     let mut all = Vec::new(scope.alloc);
     let mut root = 0u32;
     let roots = rows.iter().filter(|r| r.position == Position::Root).count();
@@ -280,10 +277,7 @@ fn numbered_rows<'m, 'a>(
 }
 
 /// The rows with the tags that their types have by themselves.
-fn tagged_rows<'m, 'a>(
-    scope: Scope<'m, 'a>,
-    rows: &[Row<'m, 'a>],
-) -> Result<Vec<Row<'m, 'a>>, Refusal> {
+fn tagged_rows<'m>(scope: Scope<'m, '_>, rows: &[Row<'m>]) -> Result<Vec<Row<'m>>, Refusal> {
     let mut all = Vec::new(scope.alloc);
     for row in rows.iter() {
         let tag = own_tag(scope, row.link)?;
@@ -293,9 +287,9 @@ fn tagged_rows<'m, 'a>(
 }
 
 /// Refuses tags that stand twice, or that lack, where octets depend on them: in a CHOICE, and among the root components of a SET.
-fn require_tags<'m, 'a>(
-    scope: Scope<'m, 'a>,
-    rows: &[Row<'m, 'a>],
+fn require_tags<'m>(
+    scope: Scope<'m, '_>,
+    rows: &[Row<'m>],
     is_choice: bool,
 ) -> Result<(), Refusal> {
     let mut seen = Vec::new(scope.alloc);
@@ -318,10 +312,10 @@ fn require_tags<'m, 'a>(
 }
 
 /// Refuses what a CHOICE can't have: alternatives that may be left out, or behind a second mark.
-fn require_alternatives<'m, 'a>(
-    scope: Scope<'m, 'a>,
-    rows: &[Row<'m, 'a>],
-    members: &[Member<'a>],
+fn require_alternatives<'m>(
+    scope: Scope<'m, '_>,
+    rows: &[Row<'m>],
+    members: &[Member],
 ) -> Result<(), Refusal> {
     for row in rows.iter() {
         if !matches!(row.need, Need::Required) {
@@ -337,10 +331,7 @@ fn require_alternatives<'m, 'a>(
 }
 
 /// The components or alternatives of a type with members; none of another.
-pub fn rows_of<'m, 'a>(
-    scope: Scope<'m, 'a>,
-    link: Link<'m, 'a>,
-) -> Result<Vec<Row<'m, 'a>>, Refusal> {
+pub fn rows_of<'m>(scope: Scope<'m, '_>, link: Link<'m>) -> Result<Vec<Row<'m>>, Refusal> {
     let Some(members) = members_of(link.of) else {
         return Ok(Vec::new(scope.alloc));
     };

@@ -1,53 +1,100 @@
 //! Finds what a name stands for: in its module, and in the modules that this one imports from (X.680, clause 13).
 
 use asn1_modules::ast::{Body, Module, Reference, Type, ValueAssignment};
-use asn1_modules::lexer::Token;
-use asn1_modules::refusal::Refusal;
-use std::alloc::Global;
+use asn1_modules::lexer::{Kind, Token, TokenId, tokens};
+use asn1_modules::refusal::{Place, Refusal};
+use std::alloc::{AllocError, Global};
 
 /// How many types may stand for one another in a row.
 const MAX_CHAIN: usize = 64;
 
-/// The modules that were handed in.
+/// What stands for a token that isn't there.
+const NO_TOKEN: Token<'static> = Token {
+    kind: Kind::End,
+    text: "",
+    place: Place {
+        file: 0,
+        line: 0,
+        column: 0,
+    },
+};
+
+/// The modules that were handed in, and their tokens.
 #[derive(Clone, Copy)]
 pub struct Scope<'m, 'a> {
     pub alloc: Global,
-    pub modules: &'m [Module<'a>],
+    pub modules: &'m [Module],
+    pub tokens: &'m [Token<'a>],
 }
 
 /// A type, and the module that it stands in, by its place.
 #[derive(Clone, Copy)]
-pub struct Link<'m, 'a> {
+pub struct Link<'m> {
     pub module: usize,
-    pub of: &'m Type<'a>,
+    pub of: &'m Type,
 }
 
 /// A type that was assigned to a name: its place among all assignments of types, and the type.
 #[derive(Clone, Copy)]
-pub struct Found<'m, 'a> {
+pub struct Found<'m> {
     pub index: usize,
-    pub link: Link<'m, 'a>,
+    pub link: Link<'m>,
+}
+
+/// The tokens of the files' texts, in turn.
+pub fn all_tokens<'a>(alloc: Global, texts: &[&'a str]) -> Result<Vec<Token<'a>>, Refusal> {
+    let mut all = Vec::new(alloc);
+    for (file, text) in texts.iter().enumerate() {
+        push_tokens(&mut all, tokens(alloc, file, *text)?)?;
+    }
+    Ok(all)
+}
+
+/// Puts a file's tokens behind the others.
+fn push_tokens<'a>(all: &mut Vec<Token<'a>>, more: Vec<Token<'a>>) -> Result<(), AllocError> {
+    for token in more {
+        all.push(token)?;
+    }
+    Ok(())
 }
 
 impl<'m, 'a> Scope<'m, 'a> {
+    /// A token by its number.
+    pub fn token(&self, id: TokenId) -> Token<'a> {
+        self.tokens.get(id.index).copied().unwrap_or(NO_TOKEN)
+    }
+
+    /// A token's text.
+    pub fn text(&self, id: TokenId) -> &'a str {
+        self.token(id).text
+    }
+
     /// The refusal of a token, where `reads` can be read.
-    pub fn refused(&self, token: Token<'_>, reads: &str) -> Refusal {
-        Refusal::of(self.alloc, token, reads)
+    pub fn refused(&self, id: TokenId, reads: &str) -> Refusal {
+        Refusal::of(self.alloc, self.token(id), reads)
+    }
+
+    /// Whether a name stands among others.
+    fn has(&self, names: &[TokenId], name: &str) -> bool {
+        names.iter().any(|id| self.text(*id) == name)
     }
 
     /// The place of the module of that name.
-    fn module_named(&self, name: Token<'a>) -> Result<usize, Refusal> {
-        match self.modules.iter().position(|m| m.name.text == name.text) {
-            Some(place) => Ok(place),
-            None => Err(self.refused(name, "the name of a module that was handed in")),
+    fn module_named(&self, name: TokenId) -> Result<usize, Refusal> {
+        let text = self.text(name);
+        for (at, module) in self.modules.iter().enumerate() {
+            if self.text(module.name) == text {
+                return Ok(at);
+            }
         }
+        Err(self.refused(name, "the name of a module that was handed in"))
     }
 
     /// The module that a name is imported from.
-    fn import_of(&self, at: usize, name: &str) -> Option<Token<'a>> {
+    fn import_of(&self, at: usize, name: &str) -> Option<TokenId> {
         let module = self.modules.get(at)?;
         for import in module.imports.iter() {
-            if import.names.iter().any(|n| n.text == name) {
+            if self.has(import.names.as_slice(), name) {
                 return Some(import.from);
             }
         }
@@ -58,7 +105,7 @@ impl<'m, 'a> Scope<'m, 'a> {
     fn exports(&self, home: usize, name: &str) -> bool {
         match self.modules.get(home) {
             Some(module) => match &module.exports {
-                Some(names) => names.iter().any(|n| n.text == name),
+                Some(names) => self.has(names.as_slice(), name),
                 None => true,
             },
             None => false,
@@ -66,17 +113,17 @@ impl<'m, 'a> Scope<'m, 'a> {
     }
 
     /// The module in which the name is assigned. Refused where that module wasn't handed in, or doesn't export the name.
-    fn home_of(&self, at: usize, reference: Reference<'a>) -> Result<usize, Refusal> {
+    fn home_of(&self, at: usize, reference: Reference) -> Result<usize, Refusal> {
         let name = reference.name;
         let from = match reference.module {
             Some(module) => Some(module),
-            None => self.import_of(at, name.text),
+            None => self.import_of(at, self.text(name)),
         };
         let Some(from) = from else {
             return Ok(at);
         };
         let home = self.module_named(from)?;
-        if home != at && !self.exports(home, name.text) {
+        if home != at && !self.exports(home, self.text(name)) {
             return Err(self.refused(name, "a name that its module exports"));
         }
         Ok(home)
@@ -92,12 +139,13 @@ impl<'m, 'a> Scope<'m, 'a> {
     }
 
     /// The type of a name.
-    pub fn find_type(&self, at: usize, reference: Reference<'a>) -> Result<Found<'m, 'a>, Refusal> {
+    pub fn find_type(&self, at: usize, reference: Reference) -> Result<Found<'m>, Refusal> {
         let home = self.home_of(at, reference)?;
+        let name = self.text(reference.name);
         let mut index = self.types_before(home);
         if let Some(module) = self.modules.get(home) {
             for one in module.types.iter() {
-                if one.name.text == reference.name.text {
+                if self.text(one.name) == name {
                     let link = Link {
                         module: home,
                         of: &one.of,
@@ -117,12 +165,13 @@ impl<'m, 'a> Scope<'m, 'a> {
     pub fn find_value(
         &self,
         at: usize,
-        reference: Reference<'a>,
-    ) -> Result<(usize, &'m ValueAssignment<'a>), Refusal> {
+        reference: Reference,
+    ) -> Result<(usize, &'m ValueAssignment), Refusal> {
         let home = self.home_of(at, reference)?;
+        let name = self.text(reference.name);
         if let Some(module) = self.modules.get(home) {
             for one in module.values.iter() {
-                if one.name.text == reference.name.text {
+                if self.text(one.name) == name {
                     return Ok((home, one));
                 }
             }
@@ -134,7 +183,7 @@ impl<'m, 'a> Scope<'m, 'a> {
     }
 
     /// A type and the types that it stands for, in turn; the last one is no name.
-    pub fn chain_of(&self, start: Link<'m, 'a>) -> Result<Vec<Link<'m, 'a>>, Refusal> {
+    pub fn chain_of(&self, start: Link<'m>) -> Result<Vec<Link<'m>>, Refusal> {
         let mut chain = Vec::new(self.alloc);
         let mut link = start;
         for _ in 0..MAX_CHAIN {
@@ -151,7 +200,7 @@ impl<'m, 'a> Scope<'m, 'a> {
     }
 
     /// What a type stands for: no name.
-    pub fn base_of(&self, start: Link<'m, 'a>) -> Result<Link<'m, 'a>, Refusal> {
+    pub fn base_of(&self, start: Link<'m>) -> Result<Link<'m>, Refusal> {
         let chain = self.chain_of(start)?;
         Ok(chain.last().copied().unwrap_or(start))
     }

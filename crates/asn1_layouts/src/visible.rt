@@ -30,7 +30,7 @@ pub enum Purpose {
 struct View<'m, 'a> {
     scope: Scope<'m, 'a>,
     module: usize,
-    names: Option<Names<'m, 'a>>,
+    names: Option<Names<'m>>,
     purpose: Purpose,
 }
 
@@ -136,9 +136,9 @@ fn signed_width(low: i128, high: i128) -> Option<u8> {
 
 /// The limits of a union: none where a part isn't seen.
 #[cycle(seen)]
-fn see_set<'m, 'a>(
-    view: View<'m, 'a>,
-    set: &'m ElementSet<'a>,
+fn see_set<'m>(
+    view: View<'m, '_>,
+    set: &'m ElementSet,
     levels: u32,
 ) -> Result<Option<Limits>, Refusal> {
     let mut whole: Option<Limits> = None;
@@ -156,9 +156,9 @@ fn see_set<'m, 'a>(
 
 /// The limits of an intersection, without the parts that aren't seen; none where none is.
 #[cycle(seen)]
-fn see_intersection<'m, 'a>(
-    view: View<'m, 'a>,
-    parts: &'m [Element<'a>],
+fn see_intersection<'m>(
+    view: View<'m, '_>,
+    parts: &'m [Element],
     levels: u32,
 ) -> Result<Option<Limits>, Refusal> {
     let mut whole: Option<Limits> = None;
@@ -175,9 +175,9 @@ fn see_intersection<'m, 'a>(
 
 /// The limits of an element.
 #[cycle(seen)]
-fn see_element<'m, 'a>(
-    view: View<'m, 'a>,
-    element: &'m Element<'a>,
+fn see_element<'m>(
+    view: View<'m, '_>,
+    element: &'m Element,
     levels: u32,
 ) -> Result<Option<Limits>, Refusal> {
     let Some(levels) = levels.checked_sub(1) else {
@@ -209,10 +209,10 @@ fn see_element<'m, 'a>(
 }
 
 /// The limits of a range.
-fn see_range<'m, 'a>(
-    view: View<'m, 'a>,
-    from: Option<&'m Value<'a>>,
-    to: Option<&'m Value<'a>>,
+fn see_range<'m>(
+    view: View<'m, '_>,
+    from: Option<&'m Value>,
+    to: Option<&'m Value>,
 ) -> Result<Option<Limits>, Refusal> {
     if view.purpose == Purpose::Size {
         return Ok(None);
@@ -225,10 +225,7 @@ fn see_range<'m, 'a>(
 }
 
 /// The number of an end of a range.
-fn see_number<'m, 'a>(
-    view: View<'m, 'a>,
-    end: Option<&'m Value<'a>>,
-) -> Result<Option<i128>, Refusal> {
+fn see_number<'m>(view: View<'m, '_>, end: Option<&'m Value>) -> Result<Option<i128>, Refusal> {
     let Some(value) = end else {
         return Ok(None);
     };
@@ -241,10 +238,10 @@ fn see_number<'m, 'a>(
 }
 
 /// The limits behind a further constraint. Its mark counts, and no longer that of the constraints before it (X.680, 50.8).
-fn constrained<'m, 'a>(
-    view: View<'m, 'a>,
+fn constrained<'m>(
+    view: View<'m, '_>,
     before: Limits,
-    constraint: &'m Constraint<'a>,
+    constraint: &'m Constraint,
 ) -> Result<Limits, Refusal> {
     let Some(seen) = see_set(view, &constraint.set, MAX_NESTING)? else {
         return Ok(before);
@@ -266,11 +263,7 @@ fn constrained<'m, 'a>(
 }
 
 /// The limits behind all constraints of a type that is written.
-fn link_limits<'m, 'a>(
-    view: View<'m, 'a>,
-    before: Limits,
-    link: Link<'m, 'a>,
-) -> Result<Limits, Refusal> {
+fn link_limits<'m>(view: View<'m, '_>, before: Limits, link: Link<'m>) -> Result<Limits, Refusal> {
     let mut limits = before;
     for constraint in link.of.constraints.iter() {
         limits = constrained(view, limits, constraint)?;
@@ -279,10 +272,10 @@ fn link_limits<'m, 'a>(
 }
 
 /// The limits of a type by its chain, from what it stands for up to itself.
-pub fn limits_of<'m, 'a>(
-    scope: Scope<'m, 'a>,
-    chain: &[Link<'m, 'a>],
-    names: Option<Names<'m, 'a>>,
+pub fn limits_of<'m>(
+    scope: Scope<'m, '_>,
+    chain: &[Link<'m>],
+    names: Option<Names<'m>>,
     purpose: Purpose,
 ) -> Result<Limits, Refusal> {
     let mut limits = UNLIMITED;

@@ -1,6 +1,7 @@
-//! What a module says, as it is written (X.680).
+//! What a module says, as it is written (X.680). A tree names its tokens by their numbers, and borrows nothing: what is said of a
+//! reference to it stays short, however large the tree's types are.
 
-use crate::lexer::Token;
+use crate::lexer::TokenId;
 use asn1_core::Class;
 
 /// How a module's types are tagged where they say nothing (X.680, 13.2).
@@ -13,77 +14,77 @@ pub enum Tagging {
 
 /// A module.
 #[derive(Drop)]
-pub struct Module<'a> {
-    pub name: Token<'a>,
+pub struct Module {
+    pub name: TokenId,
     pub tagging: Tagging,
     /// The names that others may import; all, where there is no list.
-    pub exports: Option<Vec<Token<'a>>>,
-    pub imports: Vec<Import<'a>>,
-    pub types: Vec<TypeAssignment<'a>>,
-    pub values: Vec<ValueAssignment<'a>>,
+    pub exports: Option<Vec<TokenId>>,
+    pub imports: Vec<Import>,
+    pub types: Vec<TypeAssignment>,
+    pub values: Vec<ValueAssignment>,
 }
 
 /// The names that are imported from one module.
 #[derive(Drop)]
-pub struct Import<'a> {
-    pub names: Vec<Token<'a>>,
-    pub from: Token<'a>,
+pub struct Import {
+    pub names: Vec<TokenId>,
+    pub from: TokenId,
 }
 
 /// `Name ::= Type`
 #[derive(Drop)]
-pub struct TypeAssignment<'a> {
-    pub name: Token<'a>,
-    pub of: Type<'a>,
+pub struct TypeAssignment {
+    pub name: TokenId,
+    pub of: Type,
 }
 
 /// `name Type ::= Value`
 #[derive(Drop)]
-pub struct ValueAssignment<'a> {
-    pub name: Token<'a>,
-    pub of: Type<'a>,
-    pub value: Value<'a>,
+pub struct ValueAssignment {
+    pub name: TokenId,
+    pub of: Type,
+    pub value: Value,
 }
 
 /// A name, in another module where one is named.
 #[derive(Clone, Copy)]
-pub struct Reference<'a> {
-    pub module: Option<Token<'a>>,
-    pub name: Token<'a>,
+pub struct Reference {
+    pub module: Option<TokenId>,
+    pub name: TokenId,
 }
 
 /// A tag that is written in front of a type. What is said behind it, `IMPLICIT` or `EXPLICIT`, changes no octet (X.696, 8.7).
 #[derive(Drop)]
-pub struct WrittenTag<'a> {
+pub struct WrittenTag {
     pub class: Class,
-    pub number: Value<'a>,
+    pub number: Value,
 }
 
 /// A type where it is written: its first token, its tags, what it is, and its constraints.
 #[cycle(ast)]
 #[derive(Drop)]
-pub struct Type<'a> {
-    pub first: Token<'a>,
-    pub tags: Vec<WrittenTag<'a>>,
-    pub body: Body<'a>,
-    pub constraints: Vec<Constraint<'a>>,
+pub struct Type {
+    pub first: TokenId,
+    pub tags: Vec<WrittenTag>,
+    pub body: Body,
+    pub constraints: Vec<Constraint>,
 }
 
 /// What a type is, less tags and constraints.
 #[cycle(ast)]
 #[derive(Drop)]
-pub enum Body<'a> {
+pub enum Body {
     Simple(Simple),
-    Integer(Vec<Numbered<'a>>),
-    BitString(Vec<Numbered<'a>>),
+    Integer(Vec<Numbered>),
+    BitString(Vec<Numbered>),
     /// The values, and how many of them stand before the extension mark, where there is one.
-    Enumerated(Vec<Numbered<'a>>, Option<usize>),
-    Sequence(Vec<Member<'a>>),
-    Set(Vec<Member<'a>>),
-    Choice(Vec<Member<'a>>),
-    SequenceOf(Box<Type<'a>>),
-    SetOf(Box<Type<'a>>),
-    Reference(Reference<'a>),
+    Enumerated(Vec<Numbered>, Option<usize>),
+    Sequence(Vec<Member>),
+    Set(Vec<Member>),
+    Choice(Vec<Member>),
+    SequenceOf(Box<Type>),
+    SetOf(Box<Type>),
+    Reference(Reference),
 }
 
 /// Types without parts.
@@ -111,82 +112,82 @@ pub enum Simple {
 
 /// A name with its number, as `red(3)`; in an ENUMERATED the number may be left out.
 #[derive(Drop)]
-pub struct Numbered<'a> {
-    pub name: Token<'a>,
-    pub number: Option<Value<'a>>,
+pub struct Numbered {
+    pub name: TokenId,
+    pub number: Option<Value>,
 }
 
 /// What stands between two commas of a SEQUENCE, a SET or a CHOICE.
 #[cycle(ast)]
 #[derive(Drop)]
-pub enum Member<'a> {
+pub enum Member {
     /// `...`
-    Mark(Token<'a>),
+    Mark(TokenId),
     /// `[[`
-    Opens(Token<'a>),
+    Opens(TokenId),
     /// `]]`
-    Closes(Token<'a>),
-    ComponentsOf(Type<'a>),
-    Component(Component<'a>),
+    Closes(TokenId),
+    ComponentsOf(Type),
+    Component(Component),
 }
 
 /// A component of a SEQUENCE or a SET, or an alternative of a CHOICE.
 #[cycle(ast)]
 #[derive(Drop)]
-pub struct Component<'a> {
-    pub name: Token<'a>,
-    pub of: Type<'a>,
-    pub need: Need<'a>,
+pub struct Component {
+    pub name: TokenId,
+    pub of: Type,
+    pub need: Need,
 }
 
 /// Whether a component may be left out.
 #[derive(Drop)]
-pub enum Need<'a> {
+pub enum Need {
     Required,
     Optional,
-    Default(Value<'a>),
+    Default(Value),
 }
 
 /// A value where it is written.
 #[derive(Drop)]
-pub enum Value<'a> {
+pub enum Value {
     /// A number, bits, hexadecimal digits, a text, TRUE, FALSE or NULL: one token.
-    Literal(Token<'a>),
+    Literal(TokenId),
     /// A number below zero, by its digits.
-    Negative(Token<'a>),
-    Reference(Reference<'a>),
+    Negative(TokenId),
+    Reference(Reference),
     /// `{a, b}`, or `{}`: its brace, and named bits, or no elements.
-    Names(Token<'a>, Vec<Token<'a>>),
+    Names(TokenId, Vec<TokenId>),
     /// Another value between braces, by its first token.
-    Braces(Token<'a>),
+    Braces(TokenId),
 }
 
 /// A constraint between parentheses.
 #[cycle(sets)]
 #[derive(Drop)]
-pub struct Constraint<'a> {
-    pub first: Token<'a>,
-    pub set: ElementSet<'a>,
+pub struct Constraint {
+    pub first: TokenId,
+    pub set: ElementSet,
     pub is_extensible: bool,
 }
 
 /// A union of intersections; what `EXCEPT` takes away is left out (X.696, 8.2).
 #[cycle(sets)]
 #[derive(Drop)]
-pub struct ElementSet<'a> {
-    pub unions: Vec<Vec<Element<'a>>>,
+pub struct ElementSet {
+    pub unions: Vec<Vec<Element>>,
 }
 
 /// An element of a constraint.
 #[cycle(sets)]
 #[derive(Drop)]
-pub enum Element<'a> {
-    Single(Value<'a>),
+pub enum Element {
+    Single(Value),
     /// From, to; `MIN` and `MAX` are none.
-    Range(Option<Value<'a>>, Option<Value<'a>>),
-    Size(Box<Constraint<'a>>),
-    Type(Reference<'a>),
-    Set(ElementSet<'a>),
+    Range(Option<Value>, Option<Value>),
+    Size(Box<Constraint>),
+    Type(Reference),
+    Set(ElementSet),
     /// What the octet encoding rules don't see (X.696, 8.2).
     Unseen,
 }

@@ -10,7 +10,7 @@ use crate::values::read_value;
 pub const MAX_NESTING: u32 = 64;
 
 /// The constraints behind a type.
-pub fn read_constraints<'a>(reader: &mut Reader<'a>) -> Result<Vec<Constraint<'a>>, Refusal> {
+pub fn read_constraints(reader: &mut Reader<'_>) -> Result<Vec<Constraint>, Refusal> {
     let mut all = Vec::new(reader.alloc);
     for _ in 0..reader.left() {
         if !reader.is("(") {
@@ -23,11 +23,8 @@ pub fn read_constraints<'a>(reader: &mut Reader<'a>) -> Result<Vec<Constraint<'a
 
 /// A constraint between parentheses. What stands behind its extension mark is read and left out.
 #[cycle(sets)]
-pub fn read_constraint<'a>(
-    reader: &mut Reader<'a>,
-    levels: u32,
-) -> Result<Constraint<'a>, Refusal> {
-    let first = reader.peek();
+pub fn read_constraint(reader: &mut Reader<'_>, levels: u32) -> Result<Constraint, Refusal> {
+    let first = reader.id();
     let Some(levels) = levels.checked_sub(1) else {
         return Err(reader.refused("at most 64 nested constraints"));
     };
@@ -51,7 +48,7 @@ pub fn read_constraint<'a>(
 
 /// A union of intersections.
 #[cycle(sets)]
-fn read_set<'a>(reader: &mut Reader<'a>, levels: u32) -> Result<ElementSet<'a>, Refusal> {
+fn read_set(reader: &mut Reader<'_>, levels: u32) -> Result<ElementSet, Refusal> {
     let mut unions = Vec::new(reader.alloc);
     for _ in 0..reader.left() {
         unions.push(read_intersection(reader, levels)?)?;
@@ -62,22 +59,12 @@ fn read_set<'a>(reader: &mut Reader<'a>, levels: u32) -> Result<ElementSet<'a>, 
     Ok(ElementSet { unions })
 }
 
-/// An intersection of elements. What `EXCEPT` takes away is read and left out.
+/// An intersection of elements.
 #[cycle(sets)]
-fn read_intersection<'a>(
-    reader: &mut Reader<'a>,
-    levels: u32,
-) -> Result<Vec<Element<'a>>, Refusal> {
+fn read_intersection(reader: &mut Reader<'_>, levels: u32) -> Result<Vec<Element>, Refusal> {
     let mut elements = Vec::new(reader.alloc);
     for _ in 0..reader.left() {
-        if reader.eats("ALL") {
-            elements.push(Element::Unseen)?;
-        } else {
-            elements.push(read_element(reader, levels)?)?;
-        }
-        if reader.eats("EXCEPT") {
-            let _ = read_element(reader, levels)?;
-        }
+        elements.push(read_operand(reader, levels)?)?;
         if !(reader.eats("^") || reader.eats("INTERSECTION")) {
             break;
         }
@@ -85,9 +72,23 @@ fn read_intersection<'a>(
     Ok(elements)
 }
 
+/// A part of an intersection. What `EXCEPT` takes away is read and left out.
+#[cycle(sets)]
+fn read_operand(reader: &mut Reader<'_>, levels: u32) -> Result<Element, Refusal> {
+    let element = if reader.eats("ALL") {
+        Element::Unseen
+    } else {
+        read_element(reader, levels)?
+    };
+    if reader.eats("EXCEPT") {
+        let _ = read_element(reader, levels)?;
+    }
+    Ok(element)
+}
+
 /// An element.
 #[cycle(sets)]
-fn read_element<'a>(reader: &mut Reader<'a>, levels: u32) -> Result<Element<'a>, Refusal> {
+fn read_element(reader: &mut Reader<'_>, levels: u32) -> Result<Element, Refusal> {
     let first = reader.peek();
     let Some(levels) = levels.checked_sub(1) else {
         return Err(reader.refused("at most 64 nested constraints"));
@@ -104,22 +105,27 @@ fn read_element<'a>(reader: &mut Reader<'a>, levels: u32) -> Result<Element<'a>,
             let size = read_constraint(reader, levels)?;
             Ok(Element::Size(Box::new(reader.alloc, size)?))
         }
-        "FROM" => {
-            let _ = reader.next();
-            let _ = read_constraint(reader, levels)?;
-            Ok(Element::Unseen)
-        }
-        "WITH" => {
-            let _ = reader.next();
-            if reader.eats("COMPONENT") {
-                let _ = read_constraint(reader, levels)?;
-            } else {
-                read_with_components(reader)?;
-            }
+        "FROM" | "WITH" => {
+            skip_inner(reader, levels)?;
             Ok(Element::Unseen)
         }
         _ => read_plain(reader),
     }
+}
+
+/// Passes over a constraint behind `FROM` or `WITH`.
+#[cycle(sets)]
+fn skip_inner(reader: &mut Reader<'_>, levels: u32) -> Result<(), Refusal> {
+    if reader.eats("FROM") {
+        let _ = read_constraint(reader, levels)?;
+        return Ok(());
+    }
+    reader.expects("WITH")?;
+    if !reader.eats("COMPONENT") {
+        return read_with_components(reader);
+    }
+    let _ = read_constraint(reader, levels)?;
+    Ok(())
 }
 
 /// `COMPONENTS {..}`
@@ -132,7 +138,7 @@ fn read_with_components(reader: &mut Reader<'_>) -> Result<(), Refusal> {
 }
 
 /// An element without elements.
-fn read_plain<'a>(reader: &mut Reader<'a>) -> Result<Element<'a>, Refusal> {
+fn read_plain(reader: &mut Reader<'_>) -> Result<Element, Refusal> {
     match reader.peek().text {
         "CONTAINING" | "CONSTRAINED" | "ENCODED" => {
             reader.skip_to_close()?;
@@ -152,7 +158,7 @@ fn read_plain<'a>(reader: &mut Reader<'a>) -> Result<Element<'a>, Refusal> {
 }
 
 /// A value, a range of values, or the name of a type whose values are meant.
-fn read_range<'a>(reader: &mut Reader<'a>) -> Result<Element<'a>, Refusal> {
+fn read_range(reader: &mut Reader<'_>) -> Result<Element, Refusal> {
     let from = if reader.eats("MIN") {
         None
     } else if reader.peek().kind == Kind::Name && !is_value(reader) {
@@ -185,7 +191,7 @@ fn is_value(reader: &Reader<'_>) -> bool {
 }
 
 /// The name of a type, in another module where one is named.
-pub fn read_type_name<'a>(reader: &mut Reader<'a>) -> Result<Reference<'a>, Refusal> {
+pub fn read_type_name(reader: &mut Reader<'_>) -> Result<Reference, Refusal> {
     let first = reader.takes(Kind::Name, "a type")?;
     if !reader.eats(".") {
         return Ok(Reference {

@@ -32,6 +32,12 @@ pub struct Token<'a> {
     pub place: Place,
 }
 
+/// A token by its number among those of all files that were handed in.
+#[derive(Clone, Copy)]
+pub struct TokenId {
+    pub index: usize,
+}
+
 /// What is left of a text, and where that begins.
 #[derive(Clone, Copy)]
 struct Cursor<'a> {

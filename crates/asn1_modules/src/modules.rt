@@ -1,7 +1,7 @@
 //! Reads modules (X.680, clauses 13 and 16).
 
 use crate::ast::{Import, Module, Tagging, TypeAssignment, ValueAssignment};
-use crate::lexer::{Kind, Token};
+use crate::lexer::{Kind, Token, TokenId};
 use crate::reader::Reader;
 use crate::refusal::Refusal;
 use crate::types::read_whole_type;
@@ -9,10 +9,7 @@ use crate::values::read_value;
 use std::alloc::Global;
 
 /// The modules in the tokens of files, one file behind another, each with its end. Refused at the first token that can't be read.
-pub fn read_modules<'a>(
-    alloc: Global,
-    tokens: &'a [Token<'a>],
-) -> Result<Vec<Module<'a>>, Refusal> {
+pub fn read_modules(alloc: Global, tokens: &[Token<'_>]) -> Result<Vec<Module>, Refusal> {
     let mut all = Vec::new(alloc);
     let Some(end) = tokens.last() else {
         return Ok(all);
@@ -29,13 +26,8 @@ pub fn read_modules<'a>(
 }
 
 /// A module.
-fn read_module<'a>(reader: &mut Reader<'a>) -> Result<Module<'a>, Refusal> {
-    let name = reader.takes(Kind::Name, "a module's name")?;
-    skip_identifier(reader)?;
-    reader.expects("DEFINITIONS")?;
-    let tagging = read_tagging(reader)?;
-    reader.expects("::=")?;
-    reader.expects("BEGIN")?;
+fn read_module(reader: &mut Reader<'_>) -> Result<Module, Refusal> {
+    let (name, tagging) = read_header(reader)?;
     let exports = read_exports(reader)?;
     let imports = read_imports(reader)?;
     let (types, values) = read_assignments(reader)?;
@@ -47,6 +39,17 @@ fn read_module<'a>(reader: &mut Reader<'a>) -> Result<Module<'a>, Refusal> {
         types,
         values,
     })
+}
+
+/// A module's name and how its types are tagged, up to `BEGIN`.
+fn read_header(reader: &mut Reader<'_>) -> Result<(TokenId, Tagging), Refusal> {
+    let name = reader.takes(Kind::Name, "a module's name")?;
+    skip_identifier(reader)?;
+    reader.expects("DEFINITIONS")?;
+    let tagging = read_tagging(reader)?;
+    reader.expects("::=")?;
+    reader.expects("BEGIN")?;
+    Ok((name, tagging))
 }
 
 /// Passes over an object identifier between braces, and an international one between quotes.
@@ -76,14 +79,10 @@ fn read_tagging(reader: &mut Reader<'_>) -> Result<Tagging, Refusal> {
 }
 
 /// Names with commas.
-fn read_names<'a>(reader: &mut Reader<'a>) -> Result<Vec<Token<'a>>, Refusal> {
+fn read_names(reader: &mut Reader<'_>) -> Result<Vec<TokenId>, Refusal> {
     let mut names = Vec::new(reader.alloc);
     for _ in 0..reader.left() {
-        if reader.peek().kind == Kind::Word {
-            names.push(reader.next())?;
-        } else {
-            names.push(reader.takes(Kind::Name, "a type's or a value's name")?)?;
-        }
+        names.push(read_name(reader)?)?;
         if !reader.eats(",") {
             break;
         }
@@ -91,8 +90,16 @@ fn read_names<'a>(reader: &mut Reader<'a>) -> Result<Vec<Token<'a>>, Refusal> {
     Ok(names)
 }
 
+/// The name of a type or a value.
+fn read_name(reader: &mut Reader<'_>) -> Result<TokenId, Refusal> {
+    if reader.peek().kind == Kind::Word {
+        return Ok(reader.next());
+    }
+    reader.takes(Kind::Name, "a type's or a value's name")
+}
+
 /// The names that others may import; none for all of them.
-fn read_exports<'a>(reader: &mut Reader<'a>) -> Result<Option<Vec<Token<'a>>>, Refusal> {
+fn read_exports(reader: &mut Reader<'_>) -> Result<Option<Vec<TokenId>>, Refusal> {
     if !reader.eats("EXPORTS") {
         return Ok(None);
     }
@@ -109,7 +116,7 @@ fn read_exports<'a>(reader: &mut Reader<'a>) -> Result<Option<Vec<Token<'a>>>, R
 }
 
 /// The names that are imported, by module.
-fn read_imports<'a>(reader: &mut Reader<'a>) -> Result<Vec<Import<'a>>, Refusal> {
+fn read_imports(reader: &mut Reader<'_>) -> Result<Vec<Import>, Refusal> {
     let mut all = Vec::new(reader.alloc);
     if !reader.eats("IMPORTS") {
         return Ok(all);
@@ -118,19 +125,24 @@ fn read_imports<'a>(reader: &mut Reader<'a>) -> Result<Vec<Import<'a>>, Refusal>
         if reader.eats(";") {
             return Ok(all);
         }
-        let names = read_names(reader)?;
-        reader.expects("FROM")?;
-        let from = reader.takes(Kind::Name, "a module's name")?;
-        skip_identifier(reader)?;
-        all.push(Import { names, from })?;
+        all.push(read_import(reader)?)?;
     }
     Err(reader.refused("';'"))
 }
 
+/// Names, and the module that they are imported from.
+fn read_import(reader: &mut Reader<'_>) -> Result<Import, Refusal> {
+    let names = read_names(reader)?;
+    reader.expects("FROM")?;
+    let from = reader.takes(Kind::Name, "a module's name")?;
+    skip_identifier(reader)?;
+    Ok(Import { names, from })
+}
+
 /// Types and values, up to `END`.
-fn read_assignments<'a>(
-    reader: &mut Reader<'a>,
-) -> Result<(Vec<TypeAssignment<'a>>, Vec<ValueAssignment<'a>>), Refusal> {
+fn read_assignments(
+    reader: &mut Reader<'_>,
+) -> Result<(Vec<TypeAssignment>, Vec<ValueAssignment>), Refusal> {
     let mut types = Vec::new(reader.alloc);
     let mut values = Vec::new(reader.alloc);
     for _ in 0..reader.left() {
@@ -147,7 +159,7 @@ fn read_assignments<'a>(
 }
 
 /// `Name ::= Type`
-fn read_type_assignment<'a>(reader: &mut Reader<'a>) -> Result<TypeAssignment<'a>, Refusal> {
+fn read_type_assignment(reader: &mut Reader<'_>) -> Result<TypeAssignment, Refusal> {
     let name = reader.takes(Kind::Name, "a type's or a value's name, or END")?;
     if !reader.eats("::=") {
         return Err(reader.refused("'::=', since parameters and value sets aren't read"));
@@ -157,7 +169,7 @@ fn read_type_assignment<'a>(reader: &mut Reader<'a>) -> Result<TypeAssignment<'a
 }
 
 /// `name Type ::= Value`
-fn read_value_assignment<'a>(reader: &mut Reader<'a>) -> Result<ValueAssignment<'a>, Refusal> {
+fn read_value_assignment(reader: &mut Reader<'_>) -> Result<ValueAssignment, Refusal> {
     let name = reader.next();
     let of = read_whole_type(reader)?;
     reader.expects("::=")?;

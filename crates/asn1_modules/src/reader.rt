@@ -1,14 +1,15 @@
 //! A reader over the tokens of files.
 
-use crate::lexer::{Kind, Token};
+use crate::lexer::{Kind, Token, TokenId};
 use crate::refusal::Refusal;
 use std::alloc::Global;
 
-/// What is left of the tokens of files, each with its end; a file's end is taken by `next` alone.
+/// The tokens of files, each with its end, and how many of them have been taken; a file's end is taken by `next` alone.
 #[derive(Clone, Copy)]
 pub struct Reader<'a> {
     pub alloc: Global,
-    rest: &'a [Token<'a>],
+    tokens: &'a [Token<'a>],
+    taken: usize,
     end: Token<'a>,
 }
 
@@ -17,36 +18,40 @@ impl<'a> Reader<'a> {
     pub fn new(alloc: Global, tokens: &'a [Token<'a>], end: Token<'a>) -> Reader<'a> {
         Reader {
             alloc,
-            rest: tokens,
+            tokens,
+            taken: 0,
             end,
         }
     }
 
     /// How many tokens are left.
     pub fn left(&self) -> usize {
-        self.rest.len()
+        self.tokens.len().saturating_sub(self.taken)
+    }
+
+    /// The number of the next token.
+    pub fn id(&self) -> TokenId {
+        TokenId { index: self.taken }
     }
 
     /// The next token; the end, where none is left.
     pub fn peek(&self) -> Token<'a> {
-        self.rest.first().copied().unwrap_or(self.end)
+        self.tokens.get(self.taken).copied().unwrap_or(self.end)
     }
 
     /// The token behind the next one.
     pub fn second(&self) -> Token<'a> {
-        self.rest.get(1).copied().unwrap_or(self.end)
+        let second = self.taken.saturating_add(1);
+        self.tokens.get(second).copied().unwrap_or(self.end)
     }
 
-    /// Takes the next token.
-    pub fn next(&mut self) -> Token<'a> {
-        let whole = self.rest;
-        match whole {
-            [first, rest @ ..] => {
-                self.rest = rest;
-                *first
-            }
-            [] => self.end,
+    /// Takes the next token, where one is left, and answers its number.
+    pub fn next(&mut self) -> TokenId {
+        let id = self.id();
+        if self.left() != 0 {
+            self.taken = self.taken.saturating_add(1);
         }
+        id
     }
 
     /// Whether the next token is this one.
@@ -73,7 +78,7 @@ impl<'a> Reader<'a> {
     }
 
     /// Takes the next token, which has to be of that kind; `reads` says what it is.
-    pub fn takes(&mut self, kind: Kind, reads: &str) -> Result<Token<'a>, Refusal> {
+    pub fn takes(&mut self, kind: Kind, reads: &str) -> Result<TokenId, Refusal> {
         if self.peek().kind == kind {
             Ok(self.next())
         } else {

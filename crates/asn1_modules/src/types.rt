@@ -5,11 +5,11 @@ use crate::constraints::{MAX_NESTING, read_constraint, read_constraints, read_ty
 use crate::lexer::Kind;
 use crate::reader::Reader;
 use crate::refusal::Refusal;
-use crate::values::{read_enumerated, read_exception, read_numbers, read_value};
+use crate::values::{goes_on, read_enumerated, read_exception, read_numbers, read_value};
 use asn1_core::Class;
 
-/// Types of one word without parts.
-static SIMPLE: [(&str, Simple); 18] = [
+/// Types without parts, by their first word.
+static SIMPLE: [(&str, Simple); 19] = [
     ("BOOLEAN", Simple::Boolean),
     ("NULL", Simple::Null),
     ("UTF8String", Simple::Utf8String),
@@ -28,6 +28,7 @@ static SIMPLE: [(&str, Simple); 18] = [
     ("DATE", Simple::Date),
     ("ANY", Simple::Any),
     ("OCTET", Simple::OctetString),
+    ("OBJECT", Simple::ObjectIdentifier),
 ];
 
 /// Words of X.680 that begin a type which isn't read, or that are no type's name (X.680, 12.38).
@@ -39,9 +40,9 @@ OF OPTIONAL PRIVATE SIZE STRING TAGS TRUE UNIVERSAL";
 
 /// The simple type that a word begins.
 fn simple_of(word: &str) -> Option<Simple> {
-    for (text, simple) in SIMPLE {
-        if text == word {
-            return Some(simple);
+    for (text, simple) in SIMPLE.iter() {
+        if *text == word {
+            return Some(*simple);
         }
     }
     None
@@ -53,13 +54,13 @@ fn is_reserved(word: &str) -> bool {
 }
 
 /// A type, with at most 64 types inside one another.
-pub fn read_whole_type<'a>(reader: &mut Reader<'a>) -> Result<Type<'a>, Refusal> {
+pub fn read_whole_type(reader: &mut Reader<'_>) -> Result<Type, Refusal> {
     read_type(reader, MAX_NESTING)
 }
 
 #[cycle(types)]
-fn read_type<'a>(reader: &mut Reader<'a>, levels: u32) -> Result<Type<'a>, Refusal> {
-    let first = reader.peek();
+fn read_type(reader: &mut Reader<'_>, levels: u32) -> Result<Type, Refusal> {
+    let first = reader.id();
     let Some(levels) = levels.checked_sub(1) else {
         return Err(reader.refused("at most 64 nested types"));
     };
@@ -75,32 +76,42 @@ fn read_type<'a>(reader: &mut Reader<'a>, levels: u32) -> Result<Type<'a>, Refus
 }
 
 /// The tags in front of a type (X.680, clause 31). Whether each is implicit changes no octet (X.696, 8.7), and is passed over.
-fn read_tags<'a>(reader: &mut Reader<'a>) -> Result<Vec<WrittenTag<'a>>, Refusal> {
+fn read_tags(reader: &mut Reader<'_>) -> Result<Vec<WrittenTag>, Refusal> {
     let mut tags = Vec::new(reader.alloc);
     for _ in 0..reader.left() {
         if !reader.eats("[") {
             break;
         }
-        let class = if reader.eats("UNIVERSAL") {
-            Class::Universal
-        } else if reader.eats("APPLICATION") {
-            Class::Application
-        } else if reader.eats("PRIVATE") {
-            Class::Private
-        } else {
-            Class::Context
-        };
-        let number = read_value(reader)?;
-        reader.expects("]")?;
-        let _ = reader.eats("IMPLICIT") || reader.eats("EXPLICIT");
-        tags.push(WrittenTag { class, number })?;
+        tags.push(read_tag(reader)?)?;
     }
     Ok(tags)
 }
 
+/// A tag behind its opening bracket.
+fn read_tag(reader: &mut Reader<'_>) -> Result<WrittenTag, Refusal> {
+    let class = read_class(reader);
+    let number = read_value(reader)?;
+    reader.expects("]")?;
+    let _ = reader.eats("IMPLICIT") || reader.eats("EXPLICIT");
+    Ok(WrittenTag { class, number })
+}
+
+/// The class of a tag: context-specific where no word says it.
+fn read_class(reader: &mut Reader<'_>) -> Class {
+    if reader.eats("UNIVERSAL") {
+        Class::Universal
+    } else if reader.eats("APPLICATION") {
+        Class::Application
+    } else if reader.eats("PRIVATE") {
+        Class::Private
+    } else {
+        Class::Context
+    }
+}
+
 /// What a type is, less tags and constraints.
 #[cycle(types)]
-fn read_body<'a>(reader: &mut Reader<'a>, levels: u32) -> Result<Body<'a>, Refusal> {
+fn read_body(reader: &mut Reader<'_>, levels: u32) -> Result<Body, Refusal> {
     let first = reader.peek();
     match first.text {
         "INTEGER" => {
@@ -127,22 +138,11 @@ fn read_body<'a>(reader: &mut Reader<'a>, levels: u32) -> Result<Body<'a>, Refus
 }
 
 /// A type without parts, or the name of a type.
-fn read_simple<'a>(reader: &mut Reader<'a>) -> Result<Body<'a>, Refusal> {
+fn read_simple(reader: &mut Reader<'_>) -> Result<Body, Refusal> {
     let first = reader.peek();
-    if first.text == "OBJECT" {
-        let _ = reader.next();
-        reader.expects("IDENTIFIER")?;
-        return Ok(Body::Simple(Simple::ObjectIdentifier));
-    }
     if let Some(simple) = simple_of(first.text) {
         let _ = reader.next();
-        if simple == Simple::OctetString {
-            reader.expects("STRING")?;
-        }
-        if simple == Simple::Any && reader.eats("DEFINED") {
-            reader.expects("BY")?;
-            let _ = reader.takes(Kind::Word, "a component's name")?;
-        }
+        skip_rest(reader, simple)?;
         return Ok(Body::Simple(simple));
     }
     if is_reserved(first.text) {
@@ -151,10 +151,25 @@ fn read_simple<'a>(reader: &mut Reader<'a>) -> Result<Body<'a>, Refusal> {
     Ok(Body::Reference(read_type_name(reader)?))
 }
 
+/// Passes over the further words of a type without parts.
+fn skip_rest(reader: &mut Reader<'_>, simple: Simple) -> Result<(), Refusal> {
+    match simple {
+        Simple::OctetString => reader.expects("STRING"),
+        Simple::ObjectIdentifier => reader.expects("IDENTIFIER"),
+        Simple::Any if reader.eats("DEFINED") => {
+            reader.expects("BY")?;
+            let _ = reader.takes(Kind::Word, "a component's name")?;
+            Ok(())
+        }
+        _ => Ok(()),
+    }
+}
+
 /// A SEQUENCE or a SET of components, or a list.
 #[cycle(types)]
-fn read_structure<'a>(reader: &mut Reader<'a>, levels: u32) -> Result<Body<'a>, Refusal> {
-    let is_set = reader.next().text == "SET";
+fn read_structure(reader: &mut Reader<'_>, levels: u32) -> Result<Body, Refusal> {
+    let is_set = reader.is("SET");
+    let _ = reader.next();
     if reader.is("{") {
         let members = read_members(reader, levels)?;
         return Ok(if is_set {
@@ -163,6 +178,17 @@ fn read_structure<'a>(reader: &mut Reader<'a>, levels: u32) -> Result<Body<'a>, 
             Body::Sequence(members)
         });
     }
+    let element = read_list(reader, levels)?;
+    Ok(if is_set {
+        Body::SetOf(element)
+    } else {
+        Body::SequenceOf(element)
+    })
+}
+
+/// The element of a list, behind the list's sizes, which are passed over.
+#[cycle(types)]
+fn read_list(reader: &mut Reader<'_>, levels: u32) -> Result<Box<Type>, Refusal> {
     if reader.eats("SIZE") {
         let _ = read_constraint(reader, MAX_NESTING)?;
     } else {
@@ -172,17 +198,12 @@ fn read_structure<'a>(reader: &mut Reader<'a>, levels: u32) -> Result<Body<'a>, 
     if reader.peek().kind == Kind::Word {
         let _ = reader.next();
     }
-    let element = Box::new(reader.alloc, read_type(reader, levels)?)?;
-    Ok(if is_set {
-        Body::SetOf(element)
-    } else {
-        Body::SequenceOf(element)
-    })
+    Ok(Box::new(reader.alloc, read_type(reader, levels)?)?)
 }
 
 /// What stands between the braces of a SEQUENCE, a SET or a CHOICE.
 #[cycle(types)]
-fn read_members<'a>(reader: &mut Reader<'a>, levels: u32) -> Result<Vec<Member<'a>>, Refusal> {
+fn read_members(reader: &mut Reader<'_>, levels: u32) -> Result<Vec<Member>, Refusal> {
     let mut members = Vec::new(reader.alloc);
     reader.expects("{")?;
     if reader.eats("}") {
@@ -194,19 +215,18 @@ fn read_members<'a>(reader: &mut Reader<'a>, levels: u32) -> Result<Vec<Member<'
         if opens || reader.is("]]") {
             continue;
         }
-        if reader.eats("}") {
+        if !goes_on(reader)? {
             return Ok(members);
         }
-        reader.expects(",")?;
     }
     Err(reader.refused("'}'"))
 }
 
 /// What stands between two commas.
 #[cycle(types)]
-fn read_member<'a>(reader: &mut Reader<'a>, levels: u32) -> Result<Member<'a>, Refusal> {
-    let first = reader.peek();
-    match first.text {
+fn read_member(reader: &mut Reader<'_>, levels: u32) -> Result<Member, Refusal> {
+    let first = reader.id();
+    match reader.peek().text {
         "..." => {
             let _ = reader.next();
             read_exception(reader)?;
@@ -226,20 +246,24 @@ fn read_member<'a>(reader: &mut Reader<'a>, levels: u32) -> Result<Member<'a>, R
             reader.expects("OF")?;
             Ok(Member::ComponentsOf(read_type(reader, levels)?))
         }
-        _ => {
-            let name = reader.takes(
-                Kind::Word,
-                "a component's name, '...', '[[' or COMPONENTS OF",
-            )?;
-            let of = read_type(reader, levels)?;
-            let need = read_need(reader)?;
-            Ok(Member::Component(Component { name, of, need }))
-        }
+        _ => Ok(Member::Component(read_component(reader, levels)?)),
     }
 }
 
+/// A component, or an alternative.
+#[cycle(types)]
+fn read_component(reader: &mut Reader<'_>, levels: u32) -> Result<Component, Refusal> {
+    let name = reader.takes(
+        Kind::Word,
+        "a component's name, '...', '[[' or COMPONENTS OF",
+    )?;
+    let of = read_type(reader, levels)?;
+    let need = read_need(reader)?;
+    Ok(Component { name, of, need })
+}
+
 /// `OPTIONAL`, `DEFAULT` and its value, or nothing.
-fn read_need<'a>(reader: &mut Reader<'a>) -> Result<Need<'a>, Refusal> {
+fn read_need(reader: &mut Reader<'_>) -> Result<Need, Refusal> {
     if reader.eats("OPTIONAL") {
         Ok(Need::Optional)
     } else if reader.eats("DEFAULT") {

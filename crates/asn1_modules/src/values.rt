@@ -1,7 +1,7 @@
 //! Reads values (X.680, clause 17).
 
 use crate::ast::{Numbered, Reference, Value};
-use crate::lexer::{Kind, Token};
+use crate::lexer::{Kind, TokenId};
 use crate::reader::Reader;
 use crate::refusal::Refusal;
 
@@ -9,7 +9,7 @@ const VALUE: &str =
     "a number, a string, TRUE, FALSE, NULL, a value's name, or names between braces";
 
 /// A value.
-pub fn read_value<'a>(reader: &mut Reader<'a>) -> Result<Value<'a>, Refusal> {
+pub fn read_value(reader: &mut Reader<'_>) -> Result<Value, Refusal> {
     let first = reader.peek();
     match first.kind {
         Kind::Number | Kind::Bits | Kind::Hex | Kind::Text => Ok(Value::Literal(reader.next())),
@@ -28,7 +28,7 @@ pub fn read_value<'a>(reader: &mut Reader<'a>) -> Result<Value<'a>, Refusal> {
 }
 
 /// `TRUE`, `FALSE`, `NULL`, or a value of another module.
-fn read_named<'a>(reader: &mut Reader<'a>) -> Result<Value<'a>, Refusal> {
+fn read_named(reader: &mut Reader<'_>) -> Result<Value, Refusal> {
     if reader.is("TRUE") || reader.is("FALSE") || reader.is("NULL") {
         return Ok(Value::Literal(reader.next()));
     }
@@ -44,8 +44,8 @@ fn read_named<'a>(reader: &mut Reader<'a>) -> Result<Value<'a>, Refusal> {
 }
 
 /// Names between braces, or another value between braces, whose inside is passed over.
-fn read_braces<'a>(reader: &mut Reader<'a>) -> Result<Value<'a>, Refusal> {
-    let first = reader.peek();
+fn read_braces(reader: &mut Reader<'_>) -> Result<Value, Refusal> {
+    let first = reader.id();
     let mut ahead = *reader;
     if let Some(names) = read_names(&mut ahead)? {
         *reader = ahead;
@@ -56,7 +56,7 @@ fn read_braces<'a>(reader: &mut Reader<'a>) -> Result<Value<'a>, Refusal> {
 }
 
 /// Names between braces, with commas; nothing where anything else stands there.
-fn read_names<'a>(reader: &mut Reader<'a>) -> Result<Option<Vec<Token<'a>>>, Refusal> {
+fn read_names(reader: &mut Reader<'_>) -> Result<Option<Vec<TokenId>>, Refusal> {
     let mut names = Vec::new(reader.alloc);
     let _ = reader.next();
     if reader.eats("}") {
@@ -78,27 +78,40 @@ fn read_names<'a>(reader: &mut Reader<'a>) -> Result<Option<Vec<Token<'a>>>, Ref
 }
 
 /// Named numbers or bits between braces, where there are any (X.680, 19.3 and 22.2).
-pub fn read_numbers<'a>(reader: &mut Reader<'a>) -> Result<Vec<Numbered<'a>>, Refusal> {
+pub fn read_numbers(reader: &mut Reader<'_>) -> Result<Vec<Numbered>, Refusal> {
     let mut all = Vec::new(reader.alloc);
     if !reader.eats("{") {
         return Ok(all);
     }
     for _ in 0..reader.left() {
-        let one = read_numbered(reader)?;
-        if one.number.is_none() {
-            return Err(reader.refused("'(' and the name's number"));
-        }
-        all.push(one)?;
-        if reader.eats("}") {
+        all.push(read_named_number(reader)?)?;
+        if !goes_on(reader)? {
             return Ok(all);
         }
-        reader.expects(",")?;
     }
     Err(reader.refused("'}'"))
 }
 
+/// Passes the comma behind what stands in a list between braces; false at the closing brace, which is passed too.
+pub fn goes_on(reader: &mut Reader<'_>) -> Result<bool, Refusal> {
+    if reader.eats("}") {
+        return Ok(false);
+    }
+    reader.expects(",")?;
+    Ok(true)
+}
+
+/// A name with its number.
+fn read_named_number(reader: &mut Reader<'_>) -> Result<Numbered, Refusal> {
+    let one = read_numbered(reader)?;
+    if one.number.is_none() {
+        return Err(reader.refused("'(' and the name's number"));
+    }
+    Ok(one)
+}
+
 /// A name, and its number between parentheses where there is one.
-fn read_numbered<'a>(reader: &mut Reader<'a>) -> Result<Numbered<'a>, Refusal> {
+fn read_numbered(reader: &mut Reader<'_>) -> Result<Numbered, Refusal> {
     let name = reader.takes(Kind::Word, "a name")?;
     let mut number = None;
     if reader.eats("(") {
@@ -109,25 +122,31 @@ fn read_numbered<'a>(reader: &mut Reader<'a>) -> Result<Numbered<'a>, Refusal> {
 }
 
 /// The values of an ENUMERATED, and how many stand before its mark, where it has one (X.680, 20.1).
-pub fn read_enumerated<'a>(
-    reader: &mut Reader<'a>,
-) -> Result<(Vec<Numbered<'a>>, Option<usize>), Refusal> {
+pub fn read_enumerated(reader: &mut Reader<'_>) -> Result<(Vec<Numbered>, Option<usize>), Refusal> {
     let mut all = Vec::new(reader.alloc);
     let mut mark = None;
     reader.expects("{")?;
     for _ in 0..reader.left() {
-        if mark.is_none() && all.len() != 0 && reader.eats("...") {
-            mark = Some(all.len());
-            read_exception(reader)?;
-        } else {
-            all.push(read_numbered(reader)?)?;
-        }
-        if reader.eats("}") {
+        push_enumerated(reader, &mut all, &mut mark)?;
+        if !goes_on(reader)? {
             return Ok((all, mark));
         }
-        reader.expects(",")?;
     }
     Err(reader.refused("'}'"))
+}
+
+/// A value of an ENUMERATED, or its mark.
+fn push_enumerated(
+    reader: &mut Reader<'_>,
+    all: &mut Vec<Numbered>,
+    mark: &mut Option<usize>,
+) -> Result<(), Refusal> {
+    if mark.is_none() && all.len() != 0 && reader.eats("...") {
+        *mark = Some(all.len());
+        return read_exception(reader);
+    }
+    all.push(read_numbered(reader)?)?;
+    Ok(())
 }
 
 /// Passes over what is said of exceptions behind an extension mark, as `! 3` (X.680, clause 53).

@@ -42,7 +42,7 @@ fn class_of(tag: Tag) -> &'static str {
 }
 
 /// The cell's name, the word of its table, and whether the field's type is an Option.
-fn need_of(need: &Need<'_>, is_addition: bool) -> (&'static str, &'static str, bool) {
+fn need_of(need: &Need, is_addition: bool) -> (&'static str, &'static str, bool) {
     match (need, is_addition) {
         (Need::Required, false) => ("Needs", "Required", false),
         (Need::Required, true) => ("Adds", "Required", false),
@@ -78,45 +78,100 @@ fn field_type(alloc: Global, rust: &str, is_option: bool) -> Result<String, Allo
     }
 }
 
+/// The first arguments of a cell: its tag, and its type.
+fn arguments_of(alloc: Global, tag: Tag, rust: &str) -> Result<Vec<String>, AllocError> {
+    let class = class_of(tag);
+    let number = tag.value;
+    let mut arguments = Vec::new(alloc);
+    arguments.push(format!(in alloc; "{class}<{number}>")?)?;
+    arguments.push(String::from_str(alloc, rust)?)?;
+    Ok(arguments)
+}
+
+/// A tag as a table writes it.
+fn tag_entry(alloc: Global, tag: Tag) -> Result<String, AllocError> {
+    let class = class_of(tag);
+    let number = tag.value;
+    format!(in alloc; "{class} {number}")
+}
+
+/// A component's line in a table of components.
+fn component_entry(
+    alloc: Global,
+    presence: &str,
+    tag: Tag,
+    name: &str,
+) -> Result<String, AllocError> {
+    let tag = tag_entry(alloc, tag)?;
+    format!(in alloc; "{presence} {tag} \"{name}\"")
+}
+
+/// A component's Rust type without an Option; its limits are printed, under the name `own`.
+fn push_shape<'m>(
+    scope: Scope<'m, '_>,
+    all: &[Definition<'m>],
+    out: &mut String,
+    own: &str,
+    part: &Part<'m>,
+    row: Row<'m>,
+) -> Result<String, Refusal> {
+    let shape = shape_of(scope, all, part, row.link, own)?;
+    if let Some(limits) = shape.limits {
+        push_limits(scope, out, own, limits, row.link.of.first)?;
+    }
+    Ok(shape.text)
+}
+
+/// A component's arguments before the row behind it. Its default is printed, under the name `own`.
+fn push_arguments<'m>(
+    scope: Scope<'m, '_>,
+    out: &mut String,
+    own: &str,
+    row: Row<'m>,
+    rust: &str,
+) -> Result<Vec<String>, Refusal> {
+    let mut arguments = arguments_of(scope.alloc, row.tag.unwrap_or(Tag::EOC), rust)?;
+    if let Need::Default(value) = row.need {
+        arguments.push(push_default(scope, out, row, value, rust, own)?)?;
+    }
+    Ok(arguments)
+}
+
 /// A component's cell. Its limits and its default are printed before.
-pub fn cell_of<'m, 'a>(
-    scope: Scope<'m, 'a>,
-    all: &[Definition<'m, 'a>],
+pub fn cell_of<'m>(
+    scope: Scope<'m, '_>,
+    all: &[Definition<'m>],
     out: &mut String,
     owner: &str,
-    part: &Part<'m, 'a>,
-    row: Row<'m, 'a>,
+    part: &Part<'m>,
+    row: Row<'m>,
     is_addition: bool,
 ) -> Result<Cell, Refusal> {
     let alloc = scope.alloc;
-    let own = camel_of(alloc, owner, row.name.text)?;
-    let shape = shape_of(scope, all, part, row.link, own.as_str())?;
-    if let Some(limits) = shape.limits {
-        push_limits(scope, out, own.as_str(), limits, row.link.of.first)?;
-    }
-    let tag = row.tag.unwrap_or(Tag::EOC);
-    let class = class_of(tag);
-    let number = tag.value;
+    let name = scope.text(row.name);
+    let own = camel_of(alloc, owner, name)?;
+    let rust = push_shape(scope, all, out, own.as_str(), part, row)?;
     let (head, presence, is_option) = need_of(row.need, is_addition);
-    let field_type = field_type(alloc, shape.text.as_str(), is_option)?;
-    let name = row.name.text;
-    let entry = format!(in alloc; "{presence} {class} {number} \"{name}\"")?;
-    let mut arguments = Vec::new(alloc);
-    arguments.push(format!(in alloc; "{class}<{number}>")?)?;
-    arguments.push(shape.text.clone()?)?;
-    if let Need::Default(value) = row.need {
-        arguments.push(push_default(scope, out, row, value, shape.text.as_str(), own.as_str())?)?;
-    }
+    let arguments = push_arguments(scope, out, own.as_str(), row, rust.as_str())?;
     Ok(Cell {
         field: part.rust_name.clone()?,
-        field_type,
+        field_type: field_type(alloc, rust.as_str(), is_option)?,
         camel: camel_of(alloc, "", name)?,
         head,
         arguments,
-        entry,
+        entry: component_entry(alloc, presence, row.tag.unwrap_or(Tag::EOC), name)?,
         leads: leads_on(scope, row)?,
         is_group: false,
     })
+}
+
+/// The arguments of a group's cell before the row behind it.
+fn group_arguments(alloc: Global, group: &str, roots: usize) -> Result<Vec<String>, AllocError> {
+    let mut arguments = Vec::new(alloc);
+    arguments.push(format!(in alloc; "{roots}")?)?;
+    arguments.push(String::from_str(alloc, "0")?)?;
+    arguments.push(String::from_str(alloc, group)?)?;
+    Ok(arguments)
 }
 
 /// The cell of an addition group, whose sequence is a type of its own.
@@ -125,52 +180,40 @@ pub fn group_cell(
     group: &str,
     number: usize,
     roots: usize,
-) -> Result<Cell, Refusal> {
-    let mut arguments = Vec::new(alloc);
-    arguments.push(format!(in alloc; "{roots}")?)?;
-    arguments.push(String::from_str(alloc, "0")?)?;
-    arguments.push(String::from_str(alloc, group)?)?;
+) -> Result<Cell, AllocError> {
     Ok(Cell {
         field: format!(in alloc; "group_{number}")?,
         field_type: format!(in alloc; "Option<{group}>")?,
         camel: format!(in alloc; "Group{number}")?,
         head: "MayAddGroup",
-        arguments,
+        arguments: group_arguments(alloc, group, roots)?,
         entry: format!(in alloc; "Optional Universal 16 \"group {number}\"")?,
         leads: true,
         is_group: true,
     })
 }
 
-/// An alternative's cell. Its limits are printed before. Refused where it has no tag.
-pub fn alternative_of<'m, 'a>(
-    scope: Scope<'m, 'a>,
-    all: &[Definition<'m, 'a>],
+/// An alternative's cell. Its limits are printed before.
+pub fn alternative_of<'m>(
+    scope: Scope<'m, '_>,
+    all: &[Definition<'m>],
     out: &mut String,
     owner: &str,
-    part: &Part<'m, 'a>,
-    row: Row<'m, 'a>,
+    part: &Part<'m>,
+    row: Row<'m>,
 ) -> Result<Cell, Refusal> {
     let alloc = scope.alloc;
-    let name = row.name.text;
+    let name = scope.text(row.name);
     let own = camel_of(alloc, owner, name)?;
-    let shape = shape_of(scope, all, part, row.link, own.as_str())?;
-    if let Some(limits) = shape.limits {
-        push_limits(scope, out, own.as_str(), limits, row.link.of.first)?;
-    }
+    let rust = push_shape(scope, all, out, own.as_str(), part, row)?;
     let tag = row.tag.unwrap_or(Tag::EOC);
-    let class = class_of(tag);
-    let number = tag.value;
-    let mut arguments = Vec::new(alloc);
-    arguments.push(format!(in alloc; "{class}<{number}>")?)?;
-    arguments.push(shape.text.clone()?)?;
     Ok(Cell {
         field: part.rust_name.clone()?,
-        field_type: shape.text,
+        arguments: arguments_of(alloc, tag, rust.as_str())?,
+        field_type: rust,
         camel: variant_name(alloc, name, "Self First Rest")?,
         head: "Offers",
-        arguments,
-        entry: format!(in alloc; "{class} {number}")?,
+        entry: tag_entry(alloc, tag)?,
         leads: leads_on(scope, row)?,
         is_group: false,
     })

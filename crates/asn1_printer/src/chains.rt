@@ -55,6 +55,16 @@ fn push_broken(
     out.push_str(indent.as_str())
 }
 
+/// The end of an alias of which so many cells are broken into lines.
+fn push_closing(alloc: Global, out: &mut String, broken: usize) -> Result<(), AllocError> {
+    for level in 1..broken.saturating_add(1) {
+        out.push_str(",\n")?;
+        out.push_str(repeated(alloc, "    ", broken.saturating_sub(level))?.as_str())?;
+        out.push('>')?;
+    }
+    out.push_str(";\n\n")
+}
+
 /// The alias of a chain, laid out as rustfmt does.
 pub fn push_alias(
     alloc: Global,
@@ -76,12 +86,7 @@ pub fn push_alias(
         column = broken.saturating_mul(4);
     }
     out.push_str(flat(alloc, cells.get(broken..).unwrap_or(&[]), end)?.as_str())?;
-    for level in 1..broken.saturating_add(1) {
-        out.push_str(",\n")?;
-        out.push_str(repeated(alloc, "    ", broken.saturating_sub(level))?.as_str())?;
-        out.push('>')?;
-    }
-    out.push_str(";\n\n")
+    push_closing(alloc, out, broken)
 }
 
 /// The place behind the last cell of the chain that begins at one. A cell that leads to another row stands alone; but a group
@@ -142,7 +147,7 @@ fn push_cut(
 }
 
 /// What stands behind the last root component.
-fn end_of_roots(alloc: Global, of: Chain<'_>) -> Result<String, AllocError> {
+pub fn end_of_roots(alloc: Global, of: Chain<'_>) -> Result<String, AllocError> {
     let owner = of.owner;
     if !of.is_extensible {
         String::from_str(alloc, "NoMore")
@@ -153,27 +158,42 @@ fn end_of_roots(alloc: Global, of: Chain<'_>) -> Result<String, AllocError> {
     }
 }
 
+/// Prints the chain of the root components between two places.
+fn push_root_chain(
+    alloc: Global,
+    out: &mut String,
+    of: Chain<'_>,
+    start: usize,
+    behind: usize,
+) -> Result<(), AllocError> {
+    let owner = of.owner;
+    let cells = of.roots.get(start..behind).unwrap_or(&[]);
+    let end = match cut_name(alloc, owner, of.roots, behind)? {
+        Some(next) => next,
+        None => end_of_roots(alloc, of)?,
+    };
+    if start == 0 {
+        let name = format!(in alloc; "{owner}Row")?;
+        return push_alias(alloc, out, name.as_str(), cells, end.as_str());
+    }
+    match cut_name(alloc, owner, of.roots, start)? {
+        Some(name) => {
+            let cells = (cells, end.as_str());
+            push_cut(alloc, out, COMPONENTS_CUT, of, name.as_str(), cells)
+        }
+        None => Ok(()),
+    }
+}
+
 /// Prints the chains of the root components.
 fn push_roots(alloc: Global, out: &mut String, of: Chain<'_>) -> Result<(), AllocError> {
-    let owner = of.owner;
     let mut start = 0usize;
     for chain in 0..of.roots.len().saturating_add(1) {
         let behind = end_of(of.roots, start);
-        let cells = of.roots.get(start..behind).unwrap_or(&[]);
-        if chain != 0 && cells.is_empty() {
+        if chain != 0 && start >= behind {
             break;
         }
-        let end = match cut_name(alloc, owner, of.roots, behind)? {
-            Some(next) => next,
-            None => end_of_roots(alloc, of)?,
-        };
-        if chain == 0 {
-            let name = format!(in alloc; "{owner}Row")?;
-            push_alias(alloc, out, name.as_str(), cells, end.as_str())?;
-        } else if let Some(name) = cut_name(alloc, owner, of.roots, start)? {
-            let cells = (cells, end.as_str());
-            push_cut(alloc, out, COMPONENTS_CUT, of, name.as_str(), cells)?;
-        }
+        push_root_chain(alloc, out, of, start, behind)?;
         start = behind;
     }
     Ok(())
@@ -204,6 +224,22 @@ fn additions_name(
     }
 }
 
+/// Prints a chain of additions: without impls of its own where these are few, or where it begins with a group.
+fn push_addition_chain(
+    alloc: Global,
+    out: &mut String,
+    of: Chain<'_>,
+    name: &str,
+    cells: (&[Cell], &str),
+    begins_with_group: bool,
+) -> Result<(), AllocError> {
+    if are_few(of) || begins_with_group {
+        push_alias(alloc, out, name, cells.0, cells.1)
+    } else {
+        push_cut(alloc, out, ADDITIONS_CUT, of, name, cells)
+    }
+}
+
 /// Prints the chains of the additions.
 fn push_additions(alloc: Global, out: &mut String, of: Chain<'_>) -> Result<(), AllocError> {
     let owner = of.owner;
@@ -220,12 +256,8 @@ fn push_additions(alloc: Global, out: &mut String, of: Chain<'_>) -> Result<(), 
         };
         let name = additions_name(alloc, owner, of.additions, start)?;
         let begins_with_group = chain == 0 && cells.iter().take(1).any(|c| c.is_group);
-        if are_few(of) || begins_with_group {
-            push_alias(alloc, out, name.as_str(), cells, end.as_str())?;
-        } else {
-            let cells = (cells, end.as_str());
-            push_cut(alloc, out, ADDITIONS_CUT, of, name.as_str(), cells)?;
-        }
+        let cells = (cells, end.as_str());
+        push_addition_chain(alloc, out, of, name.as_str(), cells, begins_with_group)?;
         start = behind;
     }
     Ok(())

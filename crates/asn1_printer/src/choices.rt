@@ -1,7 +1,7 @@
 //! A CHOICE: its enum, its row, its tags and its conversions.
 
 use crate::cells::{Cell, alternative_of};
-use crate::chains::push_alias;
+use crate::chains::{Chain, end_of_roots, push_alias};
 use crate::templates::{CHOICE, CHOICE_IMPLS, TAGS};
 use crate::text::{Words, fill, joined, repeated, upper};
 use asn1_layouts::definitions::{Definition, Part};
@@ -54,12 +54,16 @@ fn push_variants(out: &mut String, cells: &[Cell]) -> Result<(), AllocError> {
     Ok(())
 }
 
-/// The variants of all alternatives.
-fn variants_text(alloc: Global, cells: (&[Cell], &[Cell])) -> Result<String, AllocError> {
+/// Prints the enum of a CHOICE, and its name.
+fn push_enum(alloc: Global, out: &mut String, doc: &str, of: Chain<'_>) -> Result<(), AllocError> {
     let mut variants = String::new(alloc);
-    push_variants(&mut variants, cells.0)?;
-    push_variants(&mut variants, cells.1)?;
-    Ok(variants)
+    push_variants(&mut variants, of.roots)?;
+    push_variants(&mut variants, of.additions)?;
+    let mut words = Words::new(alloc);
+    words.put("DOC", doc)?;
+    words.put("NAME", of.owner)?;
+    words.put("VARIANTS", variants.as_str())?;
+    fill(out, CHOICE, &words)
 }
 
 /// The names of variants behind others, and what each is in the row.
@@ -79,76 +83,66 @@ fn push_names(
     Ok(())
 }
 
+/// The names of all variants, and what they are in the row.
+fn names_text(alloc: Global, of: Chain<'_>) -> Result<(String, String), AllocError> {
+    let mut names = Vec::new(alloc);
+    let mut cases = Vec::new(alloc);
+    push_names(alloc, &mut names, &mut cases, of.roots)?;
+    push_names(alloc, &mut names, &mut cases, of.additions)?;
+    let list = joined(alloc, names.as_slice(), "", ", ")?;
+    Ok((list, joined(alloc, cases.as_slice(), "", " | ")?))
+}
+
 /// Prints the row: the root alternatives, and behind them the additions.
-fn push_row(
-    alloc: Global,
-    out: &mut String,
-    owner: &str,
-    cells: (&[Cell], &[Cell]),
-    extensible: bool,
-) -> Result<(), AllocError> {
-    let (roots, additions) = cells;
-    let end = match (extensible, additions.is_empty()) {
-        (false, _) => String::from_str(alloc, "NoMore")?,
-        (true, true) => String::from_str(alloc, "Extensible<NoMore>")?,
-        (true, false) => format!(in alloc; "Extensible<{owner}Additions>")?,
-    };
+fn push_row(alloc: Global, out: &mut String, of: Chain<'_>) -> Result<(), AllocError> {
+    let owner = of.owner;
+    let end = end_of_roots(alloc, of)?;
     let row = format!(in alloc; "{owner}Row")?;
-    push_alias(alloc, out, row.as_str(), roots, end.as_str())?;
-    if additions.is_empty() {
+    push_alias(alloc, out, row.as_str(), of.roots, end.as_str())?;
+    if of.additions.is_empty() {
         return Ok(());
     }
     let row = format!(in alloc; "{owner}Additions")?;
-    push_alias(alloc, out, row.as_str(), additions, "NoMore")
+    push_alias(alloc, out, row.as_str(), of.additions, "NoMore")
 }
 
-/// Prints a CHOICE by its cells.
-fn push_alternatives(
+/// Prints the tags of the additions, and answers what names them.
+fn push_addition_table(
     alloc: Global,
-    out: &mut String,
-    owner: &str,
-    doc: &str,
-    cells: (&[Cell], &[Cell]),
-    extensible: bool,
-) -> Result<(), AllocError> {
-    let (roots, additions) = cells;
-    let variants = variants_text(alloc, cells)?;
-    let mut names = Vec::new(alloc);
-    let mut cases = Vec::new(alloc);
-    push_names(alloc, &mut names, &mut cases, roots)?;
-    push_names(alloc, &mut names, &mut cases, additions)?;
-    let list = joined(alloc, names.as_slice(), "", ", ")?;
-    let cases = joined(alloc, cases.as_slice(), "", " | ")?;
+    tables: &mut String,
+    of: Chain<'_>,
+) -> Result<String, AllocError> {
+    if !of.is_extensible {
+        return String::from_str(alloc, "None");
+    }
+    let table = push_table(alloc, tables, of.owner, "ADDITIONS", of.additions)?;
+    format!(in alloc; "Some({table})")
+}
+
+/// Prints the tags and the conversions of a CHOICE.
+fn push_impls(alloc: Global, out: &mut String, of: Chain<'_>) -> Result<(), AllocError> {
+    let (list, cases) = names_text(alloc, of)?;
     let mut tables = String::new(alloc);
-    let root_table = push_table(alloc, &mut tables, owner, "ROOTS", roots)?;
-    let addition_table = if extensible {
-        let table = push_table(alloc, &mut tables, owner, "ADDITIONS", additions)?;
-        format!(in alloc; "Some({table})")?
-    } else {
-        String::from_str(alloc, "None")?
-    };
+    let roots = push_table(alloc, &mut tables, of.owner, "ROOTS", of.roots)?;
+    let additions = push_addition_table(alloc, &mut tables, of)?;
     let mut words = Words::new(alloc);
     words.put("HOME", "@HOME@")?;
-    words.put("DOC", doc)?;
-    words.put("NAME", owner)?;
-    words.put("VARIANTS", variants.as_str())?;
+    words.put("NAME", of.owner)?;
     words.put("LIST", list.as_str())?;
     words.put("CASES", cases.as_str())?;
     words.put("TABLES", tables.as_str())?;
-    words.put("ROOTS", root_table.as_str())?;
-    words.put("ADDITIONS", addition_table.as_str())?;
-    fill(out, CHOICE, &words)?;
-    push_row(alloc, out, owner, cells, extensible)?;
+    words.put("ROOTS", roots.as_str())?;
+    words.put("ADDITIONS", additions.as_str())?;
     fill(out, CHOICE_IMPLS, &words)
 }
 
 /// The cells of the root alternatives, or of the others.
-fn cells_at<'m, 'a>(
-    scope: Scope<'m, 'a>,
-    all: &[Definition<'m, 'a>],
+fn cells_at<'m>(
+    scope: Scope<'m, '_>,
+    all: &[Definition<'m>],
     out: &mut String,
     owner: &str,
-    parts: &[Part<'m, 'a>],
+    parts: &[Part<'m>],
     are_roots: bool,
 ) -> Result<Vec<Cell>, Refusal> {
     let mut cells = Vec::new(scope.alloc);
@@ -163,9 +157,9 @@ fn cells_at<'m, 'a>(
 }
 
 /// Refuses two alternatives whose variants have one name.
-fn require_names<'m, 'a>(
-    scope: Scope<'m, 'a>,
-    definition: &Definition<'m, 'a>,
+fn require_names<'m>(
+    scope: Scope<'m, '_>,
+    definition: &Definition<'m>,
     cells: &[Cell],
     seen: &mut BTreeSet<String>,
 ) -> Result<(), Refusal> {
@@ -181,11 +175,11 @@ fn require_names<'m, 'a>(
 }
 
 /// Prints a CHOICE, behind what stands beside it. Refused where it has too many alternatives.
-pub fn push_choice<'m, 'a>(
-    scope: Scope<'m, 'a>,
-    all: &[Definition<'m, 'a>],
+pub fn push_choice<'m>(
+    scope: Scope<'m, '_>,
+    all: &[Definition<'m>],
     out: &mut String,
-    definition: &Definition<'m, 'a>,
+    definition: &Definition<'m>,
     doc: &str,
 ) -> Result<(), Refusal> {
     let alloc = scope.alloc;
@@ -202,14 +196,14 @@ pub fn push_choice<'m, 'a>(
     let mut seen = BTreeSet::new(alloc);
     require_names(scope, definition, roots.as_slice(), &mut seen)?;
     require_names(scope, definition, additions.as_slice(), &mut seen)?;
-    let cells = (roots.as_slice(), additions.as_slice());
-    push_alternatives(
-        alloc,
-        out,
+    let of = Chain {
         owner,
-        doc,
-        cells,
-        is_extensible(definition.link.of),
-    )?;
+        roots: roots.as_slice(),
+        additions: additions.as_slice(),
+        is_extensible: is_extensible(definition.link.of),
+    };
+    push_enum(alloc, out, doc, of)?;
+    push_row(alloc, out, of)?;
+    push_impls(alloc, out, of)?;
     Ok(())
 }

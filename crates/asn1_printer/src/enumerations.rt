@@ -8,7 +8,7 @@ use asn1_layouts::definitions::Definition;
 use asn1_layouts::numbers::enumerated_numbers;
 use asn1_layouts::scope::Scope;
 use asn1_modules::ast::Numbered;
-use asn1_modules::lexer::Token;
+use asn1_modules::lexer::TokenId;
 use asn1_modules::refusal::Refusal;
 use std::alloc::{AllocError, Global};
 use std::collections::BTreeSet;
@@ -46,10 +46,10 @@ fn push_value(
 }
 
 /// The parts of the text of all values. Refused where two have one Rust name, or a number is past 64 bits.
-fn values_of<'m, 'a>(
-    scope: Scope<'m, 'a>,
+fn values_of<'m>(
+    scope: Scope<'m, '_>,
     owner: &str,
-    numbers: &[(Token<'a>, i128)],
+    numbers: &[(TokenId, i128)],
 ) -> Result<Values, Refusal> {
     let alloc = scope.alloc;
     let mut values = Values {
@@ -59,12 +59,12 @@ fn values_of<'m, 'a>(
         paths: Vec::new(alloc),
     };
     let mut seen = BTreeSet::new(alloc);
-    for (token, number) in numbers.iter() {
-        let name = variant_name(alloc, token.text, "Self")?;
+    for (id, number) in numbers.iter() {
+        let name = variant_name(alloc, scope.text(*id), "Self")?;
         let is_long = i64::try_from(*number).is_err();
         if is_long || !seen.insert(name.clone()?)? {
             return Err(scope.refused(
-                *token,
+                *id,
                 "a value whose Rust name no other has, and a number of 64 bits",
             ));
         }
@@ -94,18 +94,14 @@ fn paths_text(alloc: Global, paths: &[String]) -> Result<String, AllocError> {
     format!(in alloc; "&[\n{lines},\n        ]")
 }
 
-/// Prints an ENUMERATED.
-pub fn push_enumerated<'m, 'a>(
-    scope: Scope<'m, 'a>,
+/// Prints an ENUMERATED by the parts of its text.
+fn push_parts(
+    alloc: Global,
     out: &mut String,
-    definition: &Definition<'m, 'a>,
-    items: (&'m [Numbered<'a>], usize),
+    owner: &str,
     doc: &str,
-) -> Result<(), Refusal> {
-    let alloc = scope.alloc;
-    let owner = definition.rust_name.as_str();
-    let numbers = enumerated_numbers(scope, definition.link.module, items.0, items.1)?;
-    let values = values_of(scope, owner, numbers.as_slice())?;
+    values: &Values,
+) -> Result<(), AllocError> {
     let names = values.names.as_slice();
     let list = joined(alloc, names, "", ", ")?;
     let chain = with_ends(alloc, names, " ∷ ")?;
@@ -122,6 +118,20 @@ pub fn push_enumerated<'m, 'a>(
     words.put("CHAIN", chain.as_str())?;
     words.put("LISTED", listed.as_str())?;
     words.put("PATHS", paths.as_str())?;
-    fill(out, ENUMERATED, &words)?;
+    fill(out, ENUMERATED, &words)
+}
+
+/// Prints an ENUMERATED.
+pub fn push_enumerated<'m>(
+    scope: Scope<'m, '_>,
+    out: &mut String,
+    definition: &Definition<'m>,
+    items: (&'m [Numbered], usize),
+    doc: &str,
+) -> Result<(), Refusal> {
+    let owner = definition.rust_name.as_str();
+    let numbers = enumerated_numbers(scope, definition.link.module, items.0, items.1)?;
+    let values = values_of(scope, owner, numbers.as_slice())?;
+    push_parts(scope.alloc, out, owner, doc, &values)?;
     Ok(())
 }

@@ -3,9 +3,8 @@
 use crate::printer::{LeftOut, Outcome, Printed, print_types};
 use crate::text::replaced;
 use crate::uses::{Homes, Paths, path_lines, push_path, use_lines};
-use asn1_layouts::scope::Scope;
-use asn1_modules::ast::Module;
-use asn1_modules::lexer::{Token, tokens};
+use asn1_layouts::scope::{Scope, all_tokens};
+use asn1_modules::lexer::Token;
 use asn1_modules::modules::read_modules;
 use asn1_modules::refusal::Refusal;
 use std::alloc::{AllocError, Global};
@@ -132,6 +131,15 @@ fn homes_of(alloc: Global, types: &[Printed], all: &[Section]) -> Result<Homes, 
     Ok(homes)
 }
 
+/// The texts of types, one behind another.
+fn body_of(alloc: Global, types: &[Printed]) -> Result<String, AllocError> {
+    let mut body = String::new(alloc);
+    for one in types.iter() {
+        body.push_str(one.text.as_str())?;
+    }
+    Ok(body)
+}
+
 /// A section's file.
 fn section_file(
     alloc: Global,
@@ -139,12 +147,9 @@ fn section_file(
     homes: &Homes,
     section: &Section,
 ) -> Result<File, AllocError> {
-    let mut body = String::new(alloc);
-    for one in types_of(types, section).iter() {
-        body.push_str(one.text.as_str())?;
-    }
     let library = section.library.as_str();
     let module = section.module.as_str();
+    let body = body_of(alloc, types_of(types, section))?;
     let uses = use_lines(alloc, body.as_str(), homes, library, module)?;
     let home = format!(in alloc; "{library}.specs.declared.{module}")?;
     let body = replaced(alloc, body.as_str().trim_end(), "@HOME@", home.as_str())?;
@@ -174,13 +179,13 @@ fn push_library(
     Ok(())
 }
 
-/// A crate's root file.
-fn root_file(
+/// The modules of a crate, and the lines that hand on the names of its types.
+fn root_parts(
     alloc: Global,
     types: &[Printed],
     all: &[Section],
     library: &str,
-) -> Result<File, AllocError> {
+) -> Result<(String, String), AllocError> {
     let mut modules = String::new(alloc);
     let mut paths: Paths = BTreeMap::new(alloc);
     for section in all.iter() {
@@ -189,6 +194,17 @@ fn root_file(
         }
     }
     let names = path_lines(alloc, "pub use", &paths)?;
+    Ok((modules, names))
+}
+
+/// A crate's root file.
+fn root_file(
+    alloc: Global,
+    types: &[Printed],
+    all: &[Section],
+    library: &str,
+) -> Result<File, AllocError> {
+    let (modules, names) = root_parts(alloc, types, all, library)?;
     Ok(File {
         path: format!(in alloc; "{library}/src/lib.rt")?,
         text: format!(in alloc;
@@ -250,53 +266,27 @@ fn push_left_out(
 }
 
 /// The crates of modules that were resolved.
-fn crates_of_scope<'m, 'a>(
-    scope: Scope<'m, 'a>,
-    tokens: &[Token<'a>],
-    wish: Wish<'_>,
-) -> Result<Output, Refusal> {
+fn crates_of_scope(scope: Scope<'_, '_>, wish: Wish<'_>) -> Result<Output, Refusal> {
     let alloc = scope.alloc;
-    let Outcome { printed, left_out } = print_types(scope, tokens, wish.leaves_out)?;
+    let Outcome { printed, left_out } = print_types(scope, wish.leaves_out)?;
     let (files, mut lines) = crate_files(alloc, wish.name, printed.as_slice())?;
     push_left_out(alloc, &mut lines, left_out.as_slice(), wish.files)?;
     Ok(Output { files, lines })
 }
 
 /// The crates of the modules in tokens.
-fn crates_of_tokens<'a>(
+fn crates_of_tokens(
     alloc: Global,
-    tokens: &[Token<'a>],
+    tokens: &[Token<'_>],
     wish: Wish<'_>,
 ) -> Result<Output, Refusal> {
     let modules = read_modules(alloc, tokens)?;
-    crates_of_modules(alloc, modules.as_slice(), tokens, wish)
-}
-
-/// The crates of modules.
-fn crates_of_modules<'a>(
-    alloc: Global,
-    modules: &[Module<'a>],
-    tokens: &[Token<'a>],
-    wish: Wish<'_>,
-) -> Result<Output, Refusal> {
-    crates_of_scope(Scope { alloc, modules }, tokens, wish)
-}
-
-/// The tokens of the files' texts, in turn.
-fn all_tokens<'a>(alloc: Global, texts: &[&'a str]) -> Result<Vec<Token<'a>>, Refusal> {
-    let mut all = Vec::new(alloc);
-    for (file, text) in texts.iter().enumerate() {
-        push_tokens(&mut all, tokens(alloc, file, *text)?)?;
-    }
-    Ok(all)
-}
-
-/// Puts a file's tokens behind the others.
-fn push_tokens<'a>(all: &mut Vec<Token<'a>>, more: Vec<Token<'a>>) -> Result<(), AllocError> {
-    for token in more {
-        all.push(token)?;
-    }
-    Ok(())
+    let scope = Scope {
+        alloc,
+        modules: modules.as_slice(),
+        tokens,
+    };
+    crates_of_scope(scope, wish)
 }
 
 /// The crates of the modules in the files' texts. Refused at the first place that can't be read, resolved or printed; types that

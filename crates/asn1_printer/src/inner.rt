@@ -9,7 +9,7 @@ use asn1_modules::refusal::Refusal;
 const MAX_LISTS: usize = 64;
 
 /// What a type is behind its names and the lists around it.
-fn core_of<'m, 'a>(scope: Scope<'m, 'a>, start: Link<'m, 'a>) -> Result<Link<'m, 'a>, Refusal> {
+fn core_of<'m>(scope: Scope<'m, '_>, start: Link<'m>) -> Result<Link<'m>, Refusal> {
     let mut link = scope.base_of(start)?;
     for _ in 0..MAX_LISTS {
         let of = match &link.of.body {
@@ -34,7 +34,7 @@ fn is_bound(simple: Simple) -> bool {
 }
 
 /// Refuses a row that stands in another, where it has such a type.
-pub fn require_stated<'m, 'a>(scope: Scope<'m, 'a>, rows: &[Row<'m, 'a>]) -> Result<(), Refusal> {
+pub fn require_stated<'m>(scope: Scope<'m, '_>, rows: &[Row<'m>]) -> Result<(), Refusal> {
     for row in rows.iter() {
         if let Body::Simple(simple) = &core_of(scope, row.link)?.of.body {
             if is_bound(*simple) {
@@ -49,7 +49,7 @@ pub fn require_stated<'m, 'a>(scope: Scope<'m, 'a>, rows: &[Row<'m, 'a>]) -> Res
 }
 
 /// Whether the type of a component has a row itself. Refused where that row can't stand in another.
-pub fn leads_on<'m, 'a>(scope: Scope<'m, 'a>, row: Row<'m, 'a>) -> Result<bool, Refusal> {
+pub fn leads_on<'m>(scope: Scope<'m, '_>, row: Row<'m>) -> Result<bool, Refusal> {
     let core = core_of(scope, row.link)?;
     match &core.of.body {
         Body::Sequence(_) | Body::Set(_) | Body::Choice(_) => {

@@ -9,7 +9,7 @@ use asn1_layouts::rows::Row;
 use asn1_layouts::scope::Scope;
 use asn1_layouts::visible::{Limits, Purpose};
 use asn1_modules::ast::{Body, Simple, Value};
-use asn1_modules::lexer::Token;
+use asn1_modules::lexer::TokenId;
 use asn1_modules::refusal::Refusal;
 use std::alloc::{AllocError, Global};
 
@@ -46,6 +46,14 @@ fn end_text(
     }
 }
 
+/// One size, for the code and for definitions.
+fn single_text(alloc: Global, size: i128) -> Result<(String, String), AllocError> {
+    Ok((
+        format!(in alloc; "Some((Bounded::Single({size}), false))")?,
+        format!(in alloc; "Some (Single {size}, false)")?,
+    ))
+}
+
 /// Bounds, for the code and for definitions.
 fn bounds_text(
     alloc: Global,
@@ -53,10 +61,7 @@ fn bounds_text(
     purpose: Purpose,
 ) -> Result<(String, String), AllocError> {
     if let (Some(size), Purpose::Size) = (limits.fixed(), purpose) {
-        return Ok((
-            format!(in alloc; "Some((Bounded::Single({size}), false))")?,
-            format!(in alloc; "Some (Single {size}, false)")?,
-        ));
+        return single_text(alloc, size);
     }
     let (start, defined_start) = end_text(alloc, limits.low, purpose)?;
     let (end, defined_end) = end_text(alloc, limits.high, purpose)?;
@@ -80,7 +85,7 @@ pub fn push_limits(
     out: &mut String,
     name: &str,
     limits: (Limits, Purpose),
-    first: Token<'_>,
+    first: TokenId,
 ) -> Result<(), Refusal> {
     let (limits, purpose) = limits;
     if purpose == Purpose::Size && !are_sizes(limits) {
@@ -104,10 +109,10 @@ pub fn push_limits(
 }
 
 /// The number of a default. Refused where the limits don't allow it.
-fn default_number<'m, 'a>(
-    scope: Scope<'m, 'a>,
-    spot: Spot<'m, 'a>,
-    first: Token<'a>,
+fn default_number<'m>(
+    scope: Scope<'m, '_>,
+    spot: Spot<'m>,
+    first: TokenId,
     limits: Limits,
 ) -> Result<i128, Refusal>
     ensures low { limits.is_extensible ≡ false → IfOk result (λ n. IfSome limits.low (λ l. int_le l n ≡ true)) }
@@ -123,31 +128,41 @@ fn default_number<'m, 'a>(
     }
 }
 
+/// A number of a type, for the code and for definitions.
+fn number_text(
+    alloc: Global,
+    number: i128,
+    base: &str,
+    is_limited: bool,
+) -> Result<(String, String), AllocError> {
+    let plain = if base == "Integer" {
+        format!(in alloc; "Integer::from_i128({number})")?
+    } else {
+        format!(in alloc; "{number}")?
+    };
+    let defined = defined_number(alloc, number, !base.starts_with('u'))?;
+    if !is_limited {
+        return Ok((plain, defined));
+    }
+    Ok((
+        format!(in alloc; "Limited({plain}, PhantomData)")?,
+        format!(in alloc; "record {{ 0 = {defined}; 1 = record {{}} }}")?,
+    ))
+}
+
 /// A number's default, printed as a type of its own.
-fn push_number<'m, 'a>(
-    scope: Scope<'m, 'a>,
+fn push_number<'m>(
+    scope: Scope<'m, '_>,
     out: &mut String,
-    row: Row<'m, 'a>,
-    spot: Spot<'m, 'a>,
+    row: Row<'m>,
+    spot: Spot<'m>,
     rust: &str,
     name: &str,
 ) -> Result<String, Refusal> {
     let alloc = scope.alloc;
     let (base, is_limited, limits) = number_of_octets(scope, row.link)?;
     let number = default_number(scope, spot, row.name, limits)?;
-    let plain = match base {
-        "Integer" => format!(in alloc; "Integer::from_i128({number})")?,
-        _ => format!(in alloc; "{number}")?,
-    };
-    let defined = defined_number(alloc, number, !base.starts_with('u'))?;
-    let (code, defined) = if is_limited {
-        (
-            format!(in alloc; "Limited({plain}, PhantomData)")?,
-            format!(in alloc; "record {{ 0 = {defined}; 1 = record {{}} }}")?,
-        )
-    } else {
-        (plain, defined)
-    };
+    let (code, defined) = number_text(alloc, number, base, is_limited)?;
     let number = format!(in alloc; "{number}")?;
     let mut words = Words::new(alloc);
     words.put("NAME", name)?;
@@ -160,11 +175,11 @@ fn push_number<'m, 'a>(
 }
 
 /// The type that stands for a default: printed, but where the library has one. Refused where it is neither a boolean nor a number.
-pub fn push_default<'m, 'a>(
-    scope: Scope<'m, 'a>,
+pub fn push_default<'m>(
+    scope: Scope<'m, '_>,
     out: &mut String,
-    row: Row<'m, 'a>,
-    value: &'m Value<'a>,
+    row: Row<'m>,
+    value: &'m Value,
     rust: &str,
     name: &str,
 ) -> Result<String, Refusal> {
@@ -177,7 +192,7 @@ pub fn push_default<'m, 'a>(
     match &base.of.body {
         Body::Integer(_) => push_number(scope, out, row, spot, rust, name),
         Body::Simple(Simple::Boolean) => match settled(scope, spot)?.value {
-            Value::Literal(token) if token.text == "TRUE" => {
+            Value::Literal(id) if scope.text(*id) == "TRUE" => {
                 Ok(String::from_str(scope.alloc, "IsTrue")?)
             }
             _ => Ok(String::from_str(scope.alloc, "IsFalse")?),

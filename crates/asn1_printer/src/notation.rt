@@ -2,23 +2,9 @@
 
 use asn1_modules::lexer::{Kind, Token};
 use std::alloc::{AllocError, Global};
-use std::collections::BTreeMap;
 
 /// How many characters a line of a comment has at most.
 const WIDTH: usize = 110;
-
-/// Where each token stands in the list of all tokens, by file, line and column.
-pub type Places = BTreeMap<(usize, u32, u32), usize>;
-
-/// The places of tokens.
-pub fn places_of(alloc: Global, tokens: &[Token<'_>]) -> Result<Places, AllocError> {
-    let mut places = BTreeMap::new(alloc);
-    for (at, token) in tokens.iter().enumerate() {
-        let place = token.place;
-        places.insert((place.file, place.line, place.column), at)?;
-    }
-    Ok(places)
-}
 
 /// Whether a token ends a type that no bracket is open in.
 fn ends(token: Token<'_>) -> bool {

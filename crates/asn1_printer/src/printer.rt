@@ -4,7 +4,7 @@ ghost use Rattle.std.specs.Prelude.{◌≡◌, [], Err, false, IfOk};
 use crate::choices::push_choice;
 use crate::enumerations::push_enumerated;
 use crate::items::push_limits;
-use crate::notation::{Places, notation, places_of};
+use crate::notation::notation;
 use crate::sequences::push_sequence;
 use crate::shapes::shape_of;
 use crate::templates::ALIAS;
@@ -14,7 +14,6 @@ use asn1_layouts::definitions::{Definition, definitions};
 use asn1_layouts::order::order_of_use;
 use asn1_layouts::scope::Scope;
 use asn1_modules::ast::Body;
-use asn1_modules::lexer::Token;
 use asn1_modules::refusal::Refusal;
 use std::alloc::{AllocError, Global};
 use std::collections::BTreeSet;
@@ -60,19 +59,10 @@ enum State {
     LeftOut,
 }
 
-/// What the types are printed from.
-#[derive(Clone, Copy)]
-struct Source<'s, 'm, 'a> {
-    scope: Scope<'m, 'a>,
-    all: &'s [Definition<'m, 'a>],
-    tokens: &'s [Token<'a>],
-    places: &'s Places,
-}
-
 /// Refuses a type that stands on one that isn't printed.
-fn require_targets<'m, 'a>(
-    scope: Scope<'m, 'a>,
-    definition: &Definition<'m, 'a>,
+fn require_targets<'m>(
+    scope: Scope<'m, '_>,
+    definition: &Definition<'m>,
     states: &[State],
 ) -> Result<(), Refusal> {
     for part in definition.parts.iter() {
@@ -96,41 +86,35 @@ fn require_targets<'m, 'a>(
 }
 
 /// A name for a type, or for a list or a type without parts.
-fn push_alias<'m, 'a>(
-    source: Source<'_, 'm, 'a>,
+fn push_alias<'m>(
+    scope: Scope<'m, '_>,
+    all: &[Definition<'m>],
     out: &mut String,
-    definition: &Definition<'m, 'a>,
+    definition: &Definition<'m>,
     doc: &str,
 ) -> Result<(), Refusal> {
     let Some(part) = definition.parts.first() else {
         return Ok(());
     };
     let name = definition.rust_name.as_str();
-    let shape = shape_of(source.scope, source.all, part, definition.link, name)?;
-    let mut words = Words::new(source.scope.alloc);
+    let shape = shape_of(scope, all, part, definition.link, name)?;
+    let mut words = Words::new(scope.alloc);
     words.put("DOC", doc)?;
     words.put("NAME", name)?;
     words.put("TYPE", shape.text.as_str())?;
     fill(out, ALIAS, &words)?;
     match shape.limits {
-        Some(limits) => push_limits(source.scope, out, name, limits, definition.link.of.first),
+        Some(limits) => push_limits(scope, out, name, limits, definition.link.of.first),
         None => Ok(()),
     }
 }
 
 /// A type's ASN.1 as a doc comment.
-fn doc_of(
-    source: Source<'_, '_, '_>,
-    definition: &Definition<'_, '_>,
-) -> Result<String, AllocError> {
-    let alloc = source.scope.alloc;
-    let first = definition.link.of.first.place;
-    let start = match source.places.get(&(first.file, first.line, first.column)) {
-        Some(start) => *start,
-        None => source.tokens.len(),
-    };
-    let assigns = start.checked_sub(1).and_then(|at| source.tokens.get(at));
-    let name = start.checked_sub(2).and_then(|at| source.tokens.get(at));
+fn doc_of(scope: Scope<'_, '_>, definition: &Definition<'_>) -> Result<String, AllocError> {
+    let alloc = scope.alloc;
+    let start = definition.link.of.first.index;
+    let assigns = start.checked_sub(1).and_then(|at| scope.tokens.get(at));
+    let name = start.checked_sub(2).and_then(|at| scope.tokens.get(at));
     let front = match (name, assigns) {
         (Some(name), Some(assigns)) if assigns.text == "::=" => {
             let name = name.text;
@@ -138,29 +122,28 @@ fn doc_of(
         }
         _ => String::new(alloc),
     };
-    notation(alloc, front.as_str(), source.tokens, start)
+    notation(alloc, front.as_str(), scope.tokens, start)
 }
 
 /// The text of one type.
-fn text_of<'m, 'a>(
-    source: Source<'_, 'm, 'a>,
-    definition: &Definition<'m, 'a>,
+fn text_of<'m>(
+    scope: Scope<'m, '_>,
+    all: &[Definition<'m>],
+    definition: &Definition<'m>,
     states: &[State],
 ) -> Result<String, Refusal> {
-    let scope = source.scope;
     require_targets(scope, definition, states)?;
-    let doc = doc_of(source, definition)?;
+    let doc = doc_of(scope, definition)?;
+    let doc = doc.as_str();
     let mut out = String::new(scope.alloc);
     match &definition.link.of.body {
-        Body::Sequence(_) | Body::Set(_) => {
-            push_sequence(scope, source.all, &mut out, definition, doc.as_str())?;
-        }
-        Body::Choice(_) => push_choice(scope, source.all, &mut out, definition, doc.as_str())?,
+        Body::Sequence(_) | Body::Set(_) => push_sequence(scope, all, &mut out, definition, doc)?,
+        Body::Choice(_) => push_choice(scope, all, &mut out, definition, doc)?,
         Body::Enumerated(items, root) => {
             let items = (items.as_slice(), root.unwrap_or(items.len()));
-            push_enumerated(scope, &mut out, definition, items, doc.as_str())?;
+            push_enumerated(scope, &mut out, definition, items, doc)?;
         }
-        _ => push_alias(source, &mut out, definition, doc.as_str())?,
+        _ => push_alias(scope, all, &mut out, definition, doc)?,
     }
     Ok(out)
 }
@@ -182,9 +165,9 @@ fn taken_names(alloc: Global) -> Result<BTreeSet<String>, AllocError> {
 }
 
 /// The names of a text that others may use. Refused where one, in letters of either size, is that of another.
-fn names_of_text<'m, 'a>(
-    scope: Scope<'m, 'a>,
-    definition: &Definition<'m, 'a>,
+fn names_of_text<'m>(
+    scope: Scope<'m, '_>,
+    definition: &Definition<'m>,
     text: &str,
     seen: &mut BTreeSet<String>,
 ) -> Result<Vec<String>, Refusal> {
@@ -206,20 +189,21 @@ fn names_of_text<'m, 'a>(
 }
 
 /// Prints a type, with its names.
-fn print_one<'m, 'a>(
-    source: Source<'_, 'm, 'a>,
-    definition: &Definition<'m, 'a>,
+fn print_one<'m>(
+    scope: Scope<'m, '_>,
+    all: &[Definition<'m>],
+    definition: &Definition<'m>,
     states: &[State],
     seen: &mut BTreeSet<String>,
 ) -> Result<Printed, Refusal> {
-    let text = text_of(source, definition, states)?;
-    let names = names_of_text(source.scope, definition, text.as_str(), seen)?;
+    let text = text_of(scope, all, definition, states)?;
+    let names = names_of_text(scope, definition, text.as_str(), seen)?;
     Ok(Printed { text, names })
 }
 
 /// A type that is left out; the refusal itself, where types aren't left out or memory was refused.
 fn left_out_by(
-    definition: &Definition<'_, '_>,
+    definition: &Definition<'_>,
     why: Refusal,
     leaves_out: bool,
 ) -> Result<LeftOut, Refusal>
@@ -234,23 +218,24 @@ fn left_out_by(
 }
 
 /// Prints the types in turn; what can't be printed is refused, or left out.
-fn print_in_turn(
-    source: Source<'_, '_, '_>,
+fn print_in_turn<'m>(
+    scope: Scope<'m, '_>,
+    all: &[Definition<'m>],
     order: &[usize],
     leaves_out: bool,
 ) -> Result<Outcome, Refusal>
     ensures { leaves_out ≡ false → IfOk result (λ all. all.left_out.items ≡ []) }
 {
-    let alloc = source.scope.alloc;
-    let mut states = vec![in alloc; State::New; source.all.len()]?;
+    let alloc = scope.alloc;
+    let mut states = vec![in alloc; State::New; all.len()]?;
     let mut seen = taken_names(alloc)?;
     let mut printed = Vec::new(alloc);
     let mut left_out = Vec::new(alloc);
     for at in order.iter() {
-        let Some(definition) = source.all.get(*at) else {
+        let Some(definition) = all.get(*at) else {
             continue;
         };
-        let state = match print_one(source, definition, states.as_slice(), &mut seen) {
+        let state = match print_one(scope, all, definition, states.as_slice(), &mut seen) {
             Ok(one) => {
                 printed.push(one)?;
                 State::Printed
@@ -269,21 +254,10 @@ fn print_in_turn(
 
 /// Prints the types of modules in order of use. Refused at the first that can't be printed; with `leaves_out` that one, and all
 /// that stand on it, are left out.
-pub fn print_types<'m, 'a>(
-    scope: Scope<'m, 'a>,
-    tokens: &[Token<'a>],
-    leaves_out: bool,
-) -> Result<Outcome, Refusal>
+pub fn print_types(scope: Scope<'_, '_>, leaves_out: bool) -> Result<Outcome, Refusal>
     ensures { leaves_out ≡ false → IfOk result (λ all. all.left_out.items ≡ []) }
 {
     let all = definitions(scope)?;
     let order = order_of_use(scope.alloc, all.as_slice())?;
-    let places = places_of(scope.alloc, tokens)?;
-    let source = Source {
-        scope,
-        all: all.as_slice(),
-        tokens,
-        places: &places,
-    };
-    print_in_turn(source, order.as_slice(), leaves_out)
+    print_in_turn(scope, all.as_slice(), order.as_slice(), leaves_out)
 }

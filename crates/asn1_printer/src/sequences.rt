@@ -46,6 +46,14 @@ fn push_names(names: &mut Vec<String>, cells: &[Cell]) -> Result<(), AllocError>
     Ok(())
 }
 
+/// The names of all fields of the struct of a type.
+fn names_of(alloc: Global, of: Chain<'_>) -> Result<Vec<String>, AllocError> {
+    let mut names = Vec::new(alloc);
+    push_names(&mut names, of.roots)?;
+    push_names(&mut names, of.additions)?;
+    Ok(names)
+}
+
 /// A value's fields as nested pairs.
 fn pairs_text(alloc: Global, names: &[String]) -> Result<String, AllocError> {
     let mut out = String::new(alloc);
@@ -82,6 +90,73 @@ fn additions_text(alloc: Global, of: Chain<'_>) -> Result<String, AllocError> {
     format!(in alloc; "Some({table})")
 }
 
+/// How many root components and additions a type has, in digits.
+fn counts_of(alloc: Global, of: Chain<'_>) -> Result<(String, String), AllocError> {
+    let roots = format!(in alloc; "{}", of.roots.len())?;
+    let additions = format!(in alloc; "{}", of.additions.len())?;
+    Ok((roots, additions))
+}
+
+/// Prints a type's name and its struct.
+fn push_struct(
+    alloc: Global,
+    out: &mut String,
+    doc: &str,
+    of: Chain<'_>,
+    is_set: bool,
+) -> Result<(), AllocError> {
+    let fields = fields_text(alloc, of)?;
+    let (roots, additions) = counts_of(alloc, of)?;
+    let mut words = Words::new(alloc);
+    words.put("DOC", doc)?;
+    words.put("NAME", of.owner)?;
+    words.put("KIND", if is_set { "Set" } else { "Sequence" })?;
+    words.put("FIELDS", fields.as_str())?;
+    words.put("RC", roots.as_str())?;
+    words.put("EC", additions.as_str())?;
+    fill(out, TYPE, &words)
+}
+
+/// Prints the struct as a row.
+fn push_conversions(
+    alloc: Global,
+    out: &mut String,
+    of: Chain<'_>,
+    pairs: &str,
+    list: &str,
+) -> Result<(), AllocError> {
+    let mut words = Words::new(alloc);
+    words.put("NAME", of.owner)?;
+    words.put("PAIRS", pairs)?;
+    words.put("LIST", list)?;
+    fill(out, MEMBERS, &words)
+}
+
+/// Prints the tables of a type's components, and of a SET that they are in the order of their tags.
+fn push_tables(
+    alloc: Global,
+    out: &mut String,
+    of: Chain<'_>,
+    list: &str,
+    is_set: bool,
+) -> Result<(), AllocError> {
+    let roots = table_text(alloc, of.roots)?;
+    let additions = additions_text(alloc, of)?;
+    let (root_count, addition_count) = counts_of(alloc, of)?;
+    let mut words = Words::new(alloc);
+    words.put("NAME", of.owner)?;
+    words.put("LIST", list)?;
+    words.put("ROOTS", roots.as_str())?;
+    words.put("ADDITIONS", additions.as_str())?;
+    words.put("RC", root_count.as_str())?;
+    words.put("EC", addition_count.as_str())?;
+    fill(out, TABLES, &words)?;
+    if is_set {
+        fill(out, IN_TAG_ORDER, &words)?;
+    }
+    Ok(())
+}
+
 /// Prints a type by its cells.
 fn push_members(
     alloc: Global,
@@ -90,35 +165,13 @@ fn push_members(
     of: Chain<'_>,
     is_set: bool,
 ) -> Result<(), AllocError> {
-    let fields = fields_text(alloc, of)?;
-    let mut names = Vec::new(alloc);
-    push_names(&mut names, of.roots)?;
-    push_names(&mut names, of.additions)?;
+    let names = names_of(alloc, of)?;
     let pairs = pairs_text(alloc, names.as_slice())?;
     let list = joined(alloc, names.as_slice(), "            ", ",\n")?;
-    let roots = table_text(alloc, of.roots)?;
-    let additions = additions_text(alloc, of)?;
-    let root_count = format!(in alloc; "{}", of.roots.len())?;
-    let addition_count = format!(in alloc; "{}", of.additions.len())?;
-    let mut words = Words::new(alloc);
-    words.put("DOC", doc)?;
-    words.put("NAME", of.owner)?;
-    words.put("KIND", if is_set { "Set" } else { "Sequence" })?;
-    words.put("FIELDS", fields.as_str())?;
-    words.put("PAIRS", pairs.as_str())?;
-    words.put("LIST", list.as_str())?;
-    words.put("ROOTS", roots.as_str())?;
-    words.put("ADDITIONS", additions.as_str())?;
-    words.put("RC", root_count.as_str())?;
-    words.put("EC", addition_count.as_str())?;
-    fill(out, TYPE, &words)?;
+    push_struct(alloc, out, doc, of, is_set)?;
     push_chains(alloc, out, of)?;
-    fill(out, MEMBERS, &words)?;
-    fill(out, TABLES, &words)?;
-    if is_set {
-        fill(out, IN_TAG_ORDER, &words)?;
-    }
-    Ok(())
+    push_conversions(alloc, out, of, pairs.as_str(), list.as_str())?;
+    push_tables(alloc, out, of, list.as_str(), is_set)
 }
 
 /// The place of a class in the order of tags (X.680, 8.6).
@@ -132,7 +185,7 @@ fn class_order(class: Class) -> u8 {
 }
 
 /// The root components of a SET in the order of their tags, as places among all.
-fn in_tag_order(alloc: Global, parts: &[Part<'_, '_>]) -> Result<Vec<usize>, AllocError> {
+fn in_tag_order(alloc: Global, parts: &[Part<'_>]) -> Result<Vec<usize>, AllocError> {
     let mut order = BTreeMap::new(alloc);
     for (at, part) in parts.iter().enumerate() {
         if let Some(row) = part.row {
@@ -151,7 +204,7 @@ fn in_tag_order(alloc: Global, parts: &[Part<'_, '_>]) -> Result<Vec<usize>, All
 /// The components that stand at a position, as places among all.
 fn in_text_order(
     alloc: Global,
-    parts: &[Part<'_, '_>],
+    parts: &[Part<'_>],
     position: Position,
 ) -> Result<Vec<usize>, AllocError> {
     let mut places = Vec::new(alloc);
@@ -166,11 +219,11 @@ fn in_text_order(
 }
 
 /// The rows of components by their places.
-fn rows_at<'m, 'a>(
+fn rows_at<'m>(
     alloc: Global,
-    parts: &[Part<'m, 'a>],
+    parts: &[Part<'m>],
     places: &[usize],
-) -> Result<Vec<Row<'m, 'a>>, AllocError> {
+) -> Result<Vec<Row<'m>>, AllocError> {
     let mut rows = Vec::new(alloc);
     for at in places.iter() {
         if let Some(row) = parts.get(*at).and_then(|p| p.row) {
@@ -181,12 +234,12 @@ fn rows_at<'m, 'a>(
 }
 
 /// The cells of components by their places.
-fn cells_at<'m, 'a>(
-    scope: Scope<'m, 'a>,
-    all: &[Definition<'m, 'a>],
+fn cells_at<'m>(
+    scope: Scope<'m, '_>,
+    all: &[Definition<'m>],
     out: &mut String,
     owner: &str,
-    parts: &[Part<'m, 'a>],
+    parts: &[Part<'m>],
     places: &[usize],
 ) -> Result<Vec<Cell>, Refusal> {
     let mut cells = Vec::new(scope.alloc);
@@ -201,11 +254,11 @@ fn cells_at<'m, 'a>(
 }
 
 /// Prints the sequence of an addition group, and answers its cell.
-fn push_group<'m, 'a>(
-    scope: Scope<'m, 'a>,
-    all: &[Definition<'m, 'a>],
+fn push_group<'m>(
+    scope: Scope<'m, '_>,
+    all: &[Definition<'m>],
     out: &mut String,
-    definition: &Definition<'m, 'a>,
+    definition: &Definition<'m>,
     number: usize,
 ) -> Result<Cell, Refusal> {
     let alloc = scope.alloc;
@@ -223,15 +276,15 @@ fn push_group<'m, 'a>(
         is_extensible: false,
     };
     push_members(alloc, out, doc.as_str(), of, false)?;
-    group_cell(alloc, name.as_str(), number, roots.len())
+    Ok(group_cell(alloc, name.as_str(), number, roots.len())?)
 }
 
 /// The cells of the additions; each group is printed before.
-fn addition_cells<'m, 'a>(
-    scope: Scope<'m, 'a>,
-    all: &[Definition<'m, 'a>],
+fn addition_cells<'m>(
+    scope: Scope<'m, '_>,
+    all: &[Definition<'m>],
     out: &mut String,
-    definition: &Definition<'m, 'a>,
+    definition: &Definition<'m>,
 ) -> Result<Vec<Cell>, Refusal> {
     let mut cells = Vec::new(scope.alloc);
     let owner = definition.rust_name.as_str();
@@ -254,7 +307,7 @@ fn addition_cells<'m, 'a>(
 }
 
 /// Refuses two components whose Rust names are the same.
-fn require_names<'m, 'a>(scope: Scope<'m, 'a>, parts: &[Part<'m, 'a>]) -> Result<(), Refusal> {
+fn require_names<'m>(scope: Scope<'m, '_>, parts: &[Part<'m>]) -> Result<(), Refusal> {
     let mut seen = BTreeSet::new(scope.alloc);
     for part in parts.iter() {
         if let Some(row) = part.row {
@@ -274,11 +327,11 @@ fn require_names<'m, 'a>(scope: Scope<'m, 'a>, parts: &[Part<'m, 'a>]) -> Result
 }
 
 /// Prints a SEQUENCE or a SET, behind what stands beside it.
-pub fn push_sequence<'m, 'a>(
-    scope: Scope<'m, 'a>,
-    all: &[Definition<'m, 'a>],
+pub fn push_sequence<'m>(
+    scope: Scope<'m, '_>,
+    all: &[Definition<'m>],
     out: &mut String,
-    definition: &Definition<'m, 'a>,
+    definition: &Definition<'m>,
     doc: &str,
 ) -> Result<(), Refusal> {
     let alloc = scope.alloc;

@@ -102,7 +102,7 @@ fn limited(
 }
 
 /// What the limits of a type are of; nothing where it has none.
-fn purpose_of(base: Link<'_, '_>) -> Option<Purpose> {
+fn purpose_of(base: Link<'_>) -> Option<Purpose> {
     match &base.of.body {
         Body::Integer(_) => Some(Purpose::Value),
         Body::BitString(_) => Some(Purpose::Size),
@@ -112,11 +112,7 @@ fn purpose_of(base: Link<'_, '_>) -> Option<Purpose> {
 }
 
 /// Whether a type that is named where it is used is taken by its name: nothing is said there that changes its limits.
-fn is_plain<'m, 'a>(
-    scope: Scope<'m, 'a>,
-    chain: &[Link<'m, 'a>],
-    base: Link<'m, 'a>,
-) -> Result<bool, Refusal> {
+fn is_plain<'m>(scope: Scope<'m, '_>, chain: &[Link<'m>], base: Link<'m>) -> Result<bool, Refusal> {
     let Some(purpose) = purpose_of(base) else {
         return Ok(true);
     };
@@ -127,10 +123,10 @@ fn is_plain<'m, 'a>(
 }
 
 /// The Rust type of a part without the lists around it; `name` is that of its limits, where they need one.
-fn inner_shape<'m, 'a>(
-    scope: Scope<'m, 'a>,
-    all: &[Definition<'m, 'a>],
-    part: &Part<'m, 'a>,
+fn inner_shape<'m>(
+    scope: Scope<'m, '_>,
+    all: &[Definition<'m>],
+    part: &Part<'m>,
     name: &str,
 ) -> Result<Shape, Refusal> {
     let alloc = scope.alloc;
@@ -163,9 +159,9 @@ fn inner_shape<'m, 'a>(
 }
 
 /// The Rust type of an INTEGER's numbers, whether it stands within limits, and these.
-pub fn number_of_octets<'m, 'a>(
-    scope: Scope<'m, 'a>,
-    link: Link<'m, 'a>,
+pub fn number_of_octets<'m>(
+    scope: Scope<'m, '_>,
+    link: Link<'m>,
 ) -> Result<(&'static str, bool, Limits), Refusal> {
     let chain = scope.chain_of(link)?;
     let base = chain.last().copied().unwrap_or(link);
@@ -175,7 +171,7 @@ pub fn number_of_octets<'m, 'a>(
 }
 
 /// Appends the fronts of the lists around a type, and answers how many there are.
-fn push_lists(out: &mut String, start: &Type<'_>) -> Result<usize, AllocError> {
+fn push_lists(out: &mut String, start: &Type) -> Result<usize, AllocError> {
     let mut of = start;
     for count in 0..MAX_LISTS {
         match &of.body {
@@ -194,11 +190,11 @@ fn push_lists(out: &mut String, start: &Type<'_>) -> Result<usize, AllocError> {
 }
 
 /// The Rust type of a part; `name` is that of its limits, where they need one.
-pub fn shape_of<'m, 'a>(
-    scope: Scope<'m, 'a>,
-    all: &[Definition<'m, 'a>],
-    part: &Part<'m, 'a>,
-    whole: Link<'m, 'a>,
+pub fn shape_of<'m>(
+    scope: Scope<'m, '_>,
+    all: &[Definition<'m>],
+    part: &Part<'m>,
+    whole: Link<'m>,
     name: &str,
 ) -> Result<Shape, Refusal> {
     let inner = inner_shape(scope, all, part, name)?;

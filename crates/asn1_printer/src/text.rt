@@ -89,9 +89,18 @@ pub fn repeated(alloc: Global, text: &str, times: usize) -> Result<String, Alloc
     Ok(out)
 }
 
+/// Appends a run of digits, where there is one, brought to twenty.
+fn push_run(alloc: Global, out: &mut String, run: &str) -> Result<(), AllocError> {
+    const DIGITS: usize = 20;
+    if run.is_empty() {
+        return Ok(());
+    }
+    out.push_str(repeated(alloc, "0", DIGITS.saturating_sub(run.len()))?.as_str())?;
+    out.push_str(run)
+}
+
 /// A name in capitals or none, as it stands, with each run of digits brought to twenty: so that texts sort as names do.
 pub fn sort_key(alloc: Global, name: &str) -> Result<String, AllocError> {
-    const DIGITS: usize = 20;
     let mut out = String::new(alloc);
     let mut run = String::new(alloc);
     for c in name.chars() {
@@ -99,17 +108,11 @@ pub fn sort_key(alloc: Global, name: &str) -> Result<String, AllocError> {
             run.push(c)?;
             continue;
         }
-        if !run.is_empty() {
-            out.push_str(repeated(alloc, "0", DIGITS.saturating_sub(run.len()))?.as_str())?;
-            out.push_str(run.as_str())?;
-            run.clear();
-        }
+        push_run(alloc, &mut out, run.as_str())?;
+        run.clear();
         out.push(c)?;
     }
-    if !run.is_empty() {
-        out.push_str(repeated(alloc, "0", DIGITS.saturating_sub(run.len()))?.as_str())?;
-        out.push_str(run.as_str())?;
-    }
+    push_run(alloc, &mut out, run.as_str())?;
     Ok(out)
 }
 

@@ -1,6 +1,6 @@
 //! The `use` lines of a file, from the words of its text.
 
-use crate::text::sort_key;
+use crate::text::{joined, sort_key};
 use std::alloc::{AllocError, Global};
 use std::collections::{BTreeMap, BTreeSet};
 
@@ -87,7 +87,26 @@ pub fn push_path(
     Ok(())
 }
 
-/// One line of names, or several.
+/// Names in lines, as rustfmt lays out a list that one line doesn't hold.
+fn broken(alloc: Global, names: &[String]) -> Result<String, AllocError> {
+    let mut out = String::from_str(alloc, "   ")?;
+    let mut column = 3usize;
+    let last = names.len().saturating_sub(1);
+    for (at, name) in names.iter().enumerate() {
+        column = column.saturating_add(name.len()).saturating_add(2);
+        let room = if at == last { WIDTH } else { WIDTH - 1 };
+        if column > room {
+            out.push_str("\n   ")?;
+            column = name.len().saturating_add(5);
+        }
+        out.push(' ')?;
+        out.push_str(name.as_str())?;
+        out.push(',')?;
+    }
+    Ok(out)
+}
+
+/// One line of names, or several; none where there are no names.
 fn push_line(
     alloc: Global,
     out: &mut String,
@@ -95,36 +114,20 @@ fn push_line(
     home: &str,
     names: &[String],
 ) -> Result<(), AllocError> {
-    let mut one = format!(in alloc; "{word} {home}::")?;
-    let front = one.len();
-    let mut many = String::from_str(alloc, "   ")?;
-    let mut column = 3usize;
-    let last = names.len().saturating_sub(1);
-    for (at, name) in names.iter().enumerate() {
-        if at != 0 {
-            one.push_str(", ")?;
-        }
-        one.push_str(name.as_str())?;
-        column = column.saturating_add(name.len()).saturating_add(2);
-        let room = if at == last { WIDTH } else { WIDTH - 1 };
-        if column > room {
-            many.push_str("\n   ")?;
-            column = name.len().saturating_add(5);
-        }
-        many.push(' ')?;
-        many.push_str(name.as_str())?;
-        many.push(',')?;
+    if names.is_empty() {
+        return Ok(());
     }
-    if names.len() == 1 {
-        out.push_str(one.as_str())?;
-        out.push_str(";\n")?;
+    let list = joined(alloc, names, "", ", ")?;
+    let one = format!(in alloc; "{word} {home}::{list}")?;
+    let line = if names.len() == 1 {
+        format!(in alloc; "{one};\n")?
     } else if one.len().saturating_add(3) <= WIDTH {
-        let list = one.get(front..).unwrap_or("");
-        out.push_str(format!(in alloc; "{word} {home}::{{{list}}};\n")?.as_str())?;
+        format!(in alloc; "{word} {home}::{{{list}}};\n")?
     } else {
-        out.push_str(format!(in alloc; "{word} {home}::{{\n{many}\n}};\n")?.as_str())?;
-    }
-    Ok(())
+        let many = broken(alloc, names)?;
+        format!(in alloc; "{word} {home}::{{\n{many}\n}};\n")?
+    };
+    out.push_str(line.as_str())
 }
 
 /// The lines `use home::names`, or `pub use`, for paths.
@@ -134,22 +137,34 @@ pub fn path_lines(alloc: Global, word: &str, paths: &Paths) -> Result<String, Al
     let mut names: Vec<String> = Vec::new(alloc);
     for (module, name) in paths.values() {
         if module.as_str() != home.as_str() {
-            if !names.is_empty() {
-                push_line(alloc, &mut out, word, home.as_str(), names.as_slice())?;
-            }
+            push_line(alloc, &mut out, word, home.as_str(), names.as_slice())?;
             home = module.clone()?;
             names = Vec::new(alloc);
         }
         names.push(name.clone()?)?;
     }
-    if !names.is_empty() {
-        push_line(alloc, &mut out, word, home.as_str(), names.as_slice())?;
-    }
+    push_line(alloc, &mut out, word, home.as_str(), names.as_slice())?;
     Ok(out)
 }
 
 /// The crate and the module of each printed name.
 pub type Homes = BTreeMap<String, (String, String)>;
+
+/// Puts the paths of those names from elsewhere that stand among words.
+fn push_known(
+    alloc: Global,
+    paths: &mut Paths,
+    words: &BTreeSet<String>,
+) -> Result<(), AllocError> {
+    for path in KNOWN.split(' ') {
+        if let Some((home, name)) = path.rsplit_once("::") {
+            if words.contains(name) {
+                push_path(alloc, paths, home, name)?;
+            }
+        }
+    }
+    Ok(())
+}
 
 /// The `use` lines of a text, which stands in that crate and module.
 pub fn use_lines(
@@ -162,13 +177,7 @@ pub fn use_lines(
     let words = words_of(alloc, body)?;
     let mut paths: Paths = BTreeMap::new(alloc);
     push_path(alloc, &mut paths, PRELUDE, "*")?;
-    for path in KNOWN.split(' ') {
-        if let Some((home, name)) = path.rsplit_once("::") {
-            if words.contains(name) {
-                push_path(alloc, &mut paths, home, name)?;
-            }
-        }
-    }
+    push_known(alloc, &mut paths, &words)?;
     for word in words.iter() {
         if let Some((home, file)) = homes.get(word.as_str()) {
             if home.as_str() != library {

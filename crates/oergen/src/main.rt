@@ -14,25 +14,31 @@ use std::process::ExitCode;
 use std::rt::{Env, Files};
 use std::{env, fs, io};
 
+/// A word that stands by itself, as `--list`.
+fn flag<'a>(alloc: Global, name: &'a str) -> Arg<'a> {
+    Arg::new(alloc, name).long(name).action(ArgAction::SetTrue)
+}
+
+/// A word with another behind it, as `--out FOLDER`.
+fn option<'a>(alloc: Global, word: &'a str, value: &'a str) -> Arg<'a> {
+    Arg::new(alloc, value).long(word).action(ArgAction::Set)
+}
+
+/// The files.
+fn files<'a>(alloc: Global) -> Arg<'a> {
+    Arg::new(alloc, "MODULE.asn")
+        .required(true)
+        .action(ArgAction::Append)
+}
+
 /// The words' form.
 fn command<'a>(alloc: Global) -> Result<Command<'a>, AllocError> {
-    let list = Arg::new(alloc, "list")
-        .long("list")
-        .action(ArgAction::SetTrue);
-    let out = Arg::new(alloc, "FOLDER").long("out").action(ArgAction::Set);
-    let name = Arg::new(alloc, "NAME").long("name").action(ArgAction::Set);
-    let leave_out = Arg::new(alloc, "leave-out")
-        .long("leave-out")
-        .action(ArgAction::SetTrue);
-    let files = Arg::new(alloc, "MODULE.asn")
-        .required(true)
-        .action(ArgAction::Append);
     Command::new(alloc, "oergen")
-        .arg(list)?
-        .arg(out)?
-        .arg(name)?
-        .arg(leave_out)?
-        .arg(files)
+        .arg(flag(alloc, "list"))?
+        .arg(option(alloc, "out", "FOLDER"))?
+        .arg(option(alloc, "name", "NAME"))?
+        .arg(flag(alloc, "leave-out"))?
+        .arg(files(alloc))
 }
 
 /// The program's words, its own name first.
@@ -53,12 +59,18 @@ fn texts_of<R: Files + AllocGlobal>(rt: &R, names: &[&str]) -> io::Result<Vec<St
     Ok(texts)
 }
 
-/// The table of the modules in the texts.
-fn table_of(alloc: Global, texts: &[String]) -> Result<String, Refusal> {
+/// The texts, lent.
+fn strs_of<'t>(alloc: Global, texts: &'t [String]) -> Result<Vec<&'t str>, AllocError> {
     let mut all = Vec::new(alloc);
     for text in texts.iter() {
         all.push(text.as_str())?;
     }
+    Ok(all)
+}
+
+/// The table of the modules in the texts.
+fn table_of(alloc: Global, texts: &[String]) -> Result<String, Refusal> {
+    let all = strs_of(alloc, texts)?;
     list(alloc, all.as_slice())
 }
 
@@ -92,10 +104,7 @@ fn list_files<R: Files + Print + Eprint + AllocGlobal>(rt: &R, names: &[&str]) -
 
 /// The crates of the modules in the texts.
 fn output_of(alloc: Global, texts: &[String], wish: Wish<'_>) -> Result<Output, Refusal> {
-    let mut all = Vec::new(alloc);
-    for text in texts.iter() {
-        all.push(text.as_str())?;
-    }
+    let all = strs_of(alloc, texts)?;
     crates_of(alloc, all.as_slice(), wish)
 }
 
