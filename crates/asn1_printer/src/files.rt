@@ -3,6 +3,7 @@
 use crate::printer::{LeftOut, Outcome, Printed, print_types};
 use crate::text::replaced;
 use crate::uses::{Homes, Paths, path_lines, push_path, use_lines};
+use asn1_layouts::definitions::definitions;
 use asn1_layouts::scope::{Scope, all_tokens};
 use asn1_modules::lexer::Token;
 use asn1_modules::modules::read_modules;
@@ -268,7 +269,8 @@ fn push_left_out(
 /// The crates of modules that were resolved.
 fn crates_of_scope(scope: Scope<'_, '_>, wish: Wish<'_>) -> Result<Output, Refusal> {
     let alloc = scope.alloc;
-    let Outcome { printed, left_out } = print_types(scope, wish.leaves_out)?;
+    let all = definitions(scope)?;
+    let Outcome { printed, left_out } = print_types(scope, all.as_slice(), wish.leaves_out)?;
     let (files, mut lines) = crate_files(alloc, wish.name, printed.as_slice())?;
     push_left_out(alloc, &mut lines, left_out.as_slice(), wish.files)?;
     Ok(Output { files, lines })

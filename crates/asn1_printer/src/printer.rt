@@ -1,5 +1,5 @@
 //! All types in order of use, each printed or left out.
-ghost use Rattle.std.specs.Prelude.{◌≡◌, [], Err, false, IfOk};
+ghost use Rattle.std.specs.Prelude.{◌≡◌, ◌+◌, [], Err, false, IfOk, length};
 
 use crate::choices::push_choice;
 use crate::enumerations::push_enumerated;
@@ -10,7 +10,7 @@ use crate::shapes::shape_of;
 use crate::templates::ALIAS;
 use crate::text::{Words, fill, lower};
 use crate::uses::{KNOWN, declared_names};
-use asn1_layouts::definitions::{Definition, definitions};
+use asn1_layouts::definitions::Definition;
 use asn1_layouts::order::order_of_use;
 use asn1_layouts::scope::Scope;
 use asn1_modules::ast::Body;
@@ -217,24 +217,24 @@ fn left_out_by(
     Ok(LeftOut { name, why })
 }
 
-/// Prints the types in turn; what can't be printed is refused, or left out.
+/// Prints the types in turn, by `order`, which has each place once; what can't be printed is refused, or left out.
 fn print_in_turn<'m>(
     scope: Scope<'m, '_>,
     all: &[Definition<'m>],
     order: &[usize],
     leaves_out: bool,
 ) -> Result<Outcome, Refusal>
-    ensures { leaves_out ≡ false → IfOk result (λ all. all.left_out.items ≡ []) }
+    ensures unasked { leaves_out ≡ false → IfOk result (λ it. it.left_out.items ≡ []) }
+    ensures each { IfOk result (λ it. length it.printed.items + length it.left_out.items ≡ length all.now) }
 {
     let alloc = scope.alloc;
     let mut states = vec![in alloc; State::New; all.len()]?;
     let mut seen = taken_names(alloc)?;
     let mut printed = Vec::new(alloc);
     let mut left_out = Vec::new(alloc);
-    for at in order.iter() {
-        let Some(definition) = all.get(*at) else {
-            continue;
-        };
+    for turn in 0..all.len() {
+        let at = order.get(turn).copied().unwrap_or(turn);
+        let definition = all.get(at).unwrap_or(&all[turn]);
         let state = match print_one(scope, all, definition, states.as_slice(), &mut seen) {
             Ok(one) => {
                 printed.push(one)?;
@@ -245,19 +245,23 @@ fn print_in_turn<'m>(
                 State::LeftOut
             }
         };
-        if let Some(place) = states.get_mut(*at) {
+        if let Some(place) = states.get_mut(at) {
             *place = state;
         }
     }
     Ok(Outcome { printed, left_out })
 }
 
-/// Prints the types of modules in order of use. Refused at the first that can't be printed; with `leaves_out` that one, and all
-/// that stand on it, are left out.
-pub fn print_types(scope: Scope<'_, '_>, leaves_out: bool) -> Result<Outcome, Refusal>
-    ensures { leaves_out ≡ false → IfOk result (λ all. all.left_out.items ≡ []) }
+/// Prints types in order of use: as many are printed and left out together as are handed in. Refused at the first that can't be
+/// printed; with `leaves_out` that one, and all that stand on it, are left out.
+pub fn print_types<'m>(
+    scope: Scope<'m, '_>,
+    all: &[Definition<'m>],
+    leaves_out: bool,
+) -> Result<Outcome, Refusal>
+    ensures unasked { leaves_out ≡ false → IfOk result (λ it. it.left_out.items ≡ []) }
+    ensures each { IfOk result (λ it. length it.printed.items + length it.left_out.items ≡ length all.now) }
 {
-    let all = definitions(scope)?;
-    let order = order_of_use(scope.alloc, all.as_slice())?;
-    print_in_turn(scope, all.as_slice(), order.as_slice(), leaves_out)
+    let order = order_of_use(scope.alloc, all)?;
+    print_in_turn(scope, all, order.as_slice(), leaves_out)
 }

@@ -1,5 +1,8 @@
-use Rattle.std.proofs.Common.{◌≡◌, [], false}
+use Rattle.std.proofs.Common.{◌≡◌, ◌+◌, [], false, length}
 use Rattle.asn1_printer.proofs.printer.print_in_turn.Given as goal
 
-abbrev pub invariant-loop-at : goal.invariant-loop-at
-invariant-loop-at l = l.leaves_out ≡ false → l.left_out.items ≡ []
+abbrev pub invariant-loop-turn : goal.invariant-loop-turn
+invariant-loop-turn l = record {
+  unasked : l.leaves_out ≡ false → l.left_out.items ≡ [];
+  each : length l.printed.items + length l.left_out.items ≡ l.turn;
+}
