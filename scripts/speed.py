@@ -21,7 +21,7 @@ import run  # noqa: E402  the library that counts
 SECONDS = 0.5
 ROWS = [("ints", 1000), ("ints", 10000), ("ints", 100000), ("octets", 1048576), ("nest", 32), ("nest", 64), ("nest", 127)]
 ROWS += [("link", 16), ("link", 64), ("link", 1000), ("link", 8000), ("linked", 1048576), ("added", 1048576)]
-ROWS += [("seq2", 1), ("extopt", 1), ("foo", 1), ("seqs", 1000), ("seqs", 100000)]
+ROWS += [("seq2", 1), ("outer", 1), ("extopt", 1), ("foo", 1), ("seqs", 1000), ("seqs", 100000)]
 ROWS += [("intset", 1000), ("intset", 10000), ("intset", 100000), ("mixed", 1000), ("mixed", 10000), ("mixed", 100000)]
 ROWS += [("text", 1048576), ("bits", 8388608), ("great", 1048576), ("times", 1000), ("colors", 1000)]
 # past the levels that are read

@@ -27,8 +27,8 @@ numericstring objectidentifier octetstring printablestring sequenceof setof tag 
 visiblestring constrainedinteger integer integerrange alternating alternativeviews alternatives either enumeration \
 numbered offers oneof decode decodechoice decoder decoderoptions adddefaults additionviews additions adds application \
 compared components context defaults extensible intagorder isfalse isnumber istrue limited limits listof mayadd \
-mayaddgroup mayhave needs nomore place private rowed schemed sequence set standard tabled universal views writes \
-equalasspelled spelled encode encoder built fields from_row pairs tags to_row";
+mayaddgroup mayhave needs nomore place private reads readsadditions rowed schemed sequence set standard tabled takes \
+takesalternative universal views writes equalasspelled spelled encode encoder built fields from_row pairs tags to_row";
 
 /// A type that was printed: its text, and the names that others may use.
 #[derive(Drop)]

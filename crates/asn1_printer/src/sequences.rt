@@ -129,6 +129,7 @@ fn push_conversions(
     words.put("NAME", of.owner)?;
     words.put("PAIRS", pairs)?;
     words.put("LIST", list)?;
+    words.put("EXT", if of.is_extensible { "true" } else { "false" })?;
     fill(out, MEMBERS, &words)
 }
 

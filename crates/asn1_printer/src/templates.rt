@@ -11,14 +11,28 @@ pub struct @NAME@Components {@FIELDS@}
 
 /// The components of a struct as a row.
 pub const MEMBERS: &str = r#"impl Rowed for @NAME@Components {
-    type Row = @NAME@Row;
+    type Values = <@NAME@Row as Components>::Values;
+
+    ghost EXTENSIBLE = { ⟦<@NAME@Row as Components>⟧.EXTENSIBLE };
+
+    const EXTENSIBLE: bool = @EXT@;
+
+    ghost row_schema = { ⟦<@NAME@Row as Components>⟧.schema };
+
+    ghost row_is_schema = { ⟦<@NAME@Row as Components>⟧.is_schema };
 
     ghost components = { λ v. @PAIRS@ };
 
-    fn from_row(row: <Self::Row as Components>::Values) -> Self {
+    fn from_row(row: Self::Values) -> Self {
         built![@NAME@Components from row:
 @LIST@
         ]
+    }
+}
+
+impl Takes for @NAME@Components {
+    fn take(alloc: Global, decoder: &mut Decoder<'_>) -> Result<Self, DecodeError> {
+        read_row::<Self, @NAME@Row>(alloc, decoder)
     }
 }
 
@@ -83,9 +97,29 @@ pub const COMPONENTS_CUT: &str = r#"impl Components for @NAME@ {
     ghost schema = { ⟦<@NAME@Row as Components>⟧.schema };
 
     ghost is_schema = { ⟦<@NAME@Row as Components>⟧.is_schema };
+}
 
-    fn read(alloc: Global, decoder: &mut Decoder<'_>) -> Result<Self::Values, DecodeError> {
-        @NAME@Row::read(alloc, decoder)
+impl Reads for @NAME@ {
+    type Slots = <@NAME@Row as Reads>::Slots;
+
+    ghost filled = { ⟦<@NAME@Row as Reads>⟧.filled };
+
+    ghost filled_once = { ⟦<@NAME@Row as Reads>⟧.filled_once };
+
+    fn empty() -> Self::Slots {
+        @NAME@Row::empty()
+    }
+
+    fn read(
+        alloc: Global,
+        decoder: &mut Decoder<'_>,
+        slots: &mut Self::Slots,
+    ) -> Result<(), DecodeError> {
+        @NAME@Row::read(alloc, decoder, slots)
+    }
+
+    fn taken(slots: Self::Slots) -> Self::Values {
+        @NAME@Row::taken(slots)
     }
 }
 
@@ -111,9 +145,29 @@ pub const ADDITIONS_CUT: &str = r#"impl Additions for @NAME@ {
     ghost table = { ⟦<@NAME@Row as Additions>⟧.table };
 
     ghost is_table = { ⟦<@NAME@Row as Additions>⟧.is_table };
+}
 
-    fn read_additions(alloc: Global, decoder: &mut Decoder<'_>) -> Result<Self::More, DecodeError> {
-        @NAME@Row::read_additions(alloc, decoder)
+impl ReadsAdditions for @NAME@ {
+    type Slots = <@NAME@Row as ReadsAdditions>::Slots;
+
+    ghost filled = { ⟦<@NAME@Row as ReadsAdditions>⟧.filled };
+
+    ghost filled_once = { ⟦<@NAME@Row as ReadsAdditions>⟧.filled_once };
+
+    fn empty() -> Self::Slots {
+        @NAME@Row::empty()
+    }
+
+    fn read_additions(
+        alloc: Global,
+        decoder: &mut Decoder<'_>,
+        slots: &mut Self::Slots,
+    ) -> Result<(), DecodeError> {
+        @NAME@Row::read_additions(alloc, decoder, slots)
+    }
+
+    fn taken(slots: Self::Slots) -> Self::More {
+        @NAME@Row::taken(slots)
     }
 }
 
@@ -192,7 +246,11 @@ pub const CHOICE_IMPLS: &str = r#"@TABLES@impl Alternating for @NAME@Alternative
     ghost use Rattle.rasn_oer.specs.Alternative.{First, Rest};
     ghost use Rattle.@HOME@.@NAME@Alternatives.TheVariants.{@LIST@};
 
-    type Row = @NAME@Row;
+    type Values = <@NAME@Row as Alternatives>::Values;
+
+    ghost row_choices = { ⟦<@NAME@Row as Alternatives>⟧.choices };
+
+    ghost row_are_choices = { ⟦<@NAME@Row as Alternatives>⟧.are_choices };
 
     ghost alternative = { elim [ @CASES@ ] };
 
@@ -208,7 +266,7 @@ pub const CHOICE_IMPLS: &str = r#"@TABLES@impl Alternating for @NAME@Alternative
         Self::EXTENDED_VARIANTS
     }
 
-    fn from_alternative(value: <Self::Row as Alternatives>::Values) -> Self {
+    fn from_alternative(value: Self::Values) -> Self {
         from_row!(value => @NAME@Alternatives: @LIST@)
     }
 
@@ -222,6 +280,16 @@ pub const CHOICE_IMPLS: &str = r#"@TABLES@impl Alternating for @NAME@Alternative
     }
 
     ghost apart = { refl };
+}
+
+impl TakesAlternative for @NAME@Alternatives {
+    fn take<D: Choice>(
+        alloc: Global,
+        decoder: &mut Decoder<'_>,
+        tag: Tag,
+    ) -> Result<Self, DecodeError> {
+        read_alternative::<Self, @NAME@Row, D>(alloc, decoder, tag)
+    }
 }
 
 "#;

@@ -1,6 +1,7 @@
 //! A sequence with a component of each sort.
 
 use rasn_oer::prelude::*;
+use std::alloc::Global;
 
 /// The size of three octets: `(SIZE(3))`
 pub struct OfThree;
@@ -43,12 +44,26 @@ type FromLevel = Defaults<Context<2>, Integer, IsNumber<5>, FromKey>;
 type FromKey = Needs<Context<3>, Key, Needs<Context<4>, ListOf<OctetString>, NoMore>>;
 
 impl Rowed for MessageComponents {
-    type Row = MessageRow;
+    type Values = <MessageRow as Components>::Values;
+
+    ghost EXTENSIBLE = { ⟦<MessageRow as Components>⟧.EXTENSIBLE };
+
+    const EXTENSIBLE: bool = false;
+
+    ghost row_schema = { ⟦<MessageRow as Components>⟧.schema };
+
+    ghost row_is_schema = { ⟦<MessageRow as Components>⟧.is_schema };
 
     ghost components = { λ v. (v.version, (v.sent, (v.level, (v.key, (v.path, tt))))) };
 
     fn from_row(row: <MessageRow as Components>::Values) -> MessageComponents {
         built![MessageComponents from row: version, sent, level, key, path]
+    }
+}
+
+impl Takes for MessageComponents {
+    fn take(alloc: Global, decoder: &mut Decoder<'_>) -> Result<Self, DecodeError> {
+        read_row::<Self, MessageRow>(alloc, decoder)
     }
 }
 

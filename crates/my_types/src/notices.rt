@@ -1,6 +1,7 @@
 //! An extensible sequence: an addition, and a group.
 
 use rasn_oer::prelude::*;
+use std::alloc::Global;
 
 /// `SEQUENCE { last BOOLEAN, count INTEGER (0..65535) OPTIONAL }`, which stands as a group in `Notice`
 pub type Closing = Sequence<ClosingComponents, 2, 0>;
@@ -15,12 +16,26 @@ pub struct ClosingComponents {
 type ClosingRow = Needs<Context<2>, bool, MayHave<Context<3>, u16, NoMore>>;
 
 impl Rowed for ClosingComponents {
-    type Row = ClosingRow;
+    type Values = <ClosingRow as Components>::Values;
+
+    ghost EXTENSIBLE = { ⟦<ClosingRow as Components>⟧.EXTENSIBLE };
+
+    const EXTENSIBLE: bool = false;
+
+    ghost row_schema = { ⟦<ClosingRow as Components>⟧.schema };
+
+    ghost row_is_schema = { ⟦<ClosingRow as Components>⟧.is_schema };
 
     ghost components = { λ v. (v.last, (v.count, tt)) };
 
     fn from_row((last, (count, ())): <ClosingRow as Components>::Values) -> ClosingComponents {
         ClosingComponents { last, count }
+    }
+}
+
+impl Takes for ClosingComponents {
+    fn take(alloc: Global, decoder: &mut Decoder<'_>) -> Result<Self, DecodeError> {
+        read_row::<Self, ClosingRow>(alloc, decoder)
     }
 }
 
@@ -67,12 +82,26 @@ type NoticeRow = Needs<Context<0>, bool, Extensible<NoticeAdditions>>;
 type NoticeAdditions = MayAdd<Context<1>, Integer, MayAddGroup<2, 0, Closing, NoMore>>;
 
 impl Rowed for NoticeComponents {
-    type Row = NoticeRow;
+    type Values = <NoticeRow as Components>::Values;
+
+    ghost EXTENSIBLE = { ⟦<NoticeRow as Components>⟧.EXTENSIBLE };
+
+    const EXTENSIBLE: bool = true;
+
+    ghost row_schema = { ⟦<NoticeRow as Components>⟧.schema };
+
+    ghost row_is_schema = { ⟦<NoticeRow as Components>⟧.is_schema };
 
     ghost components = { λ v. (v.ok, (v.level, (v.closing, tt))) };
 
     fn from_row(row: <NoticeRow as Components>::Values) -> NoticeComponents {
         built![NoticeComponents from row: ok, level, closing]
+    }
+}
+
+impl Takes for NoticeComponents {
+    fn take(alloc: Global, decoder: &mut Decoder<'_>) -> Result<Self, DecodeError> {
+        read_row::<Self, NoticeRow>(alloc, decoder)
     }
 }
 

@@ -1,6 +1,7 @@
 //! A sequence of a component with a default, and an optional one.
 
 use rasn_oer::prelude::*;
+use std::alloc::Global;
 
 /// `SEQUENCE { urgent BOOLEAN DEFAULT FALSE, number INTEGER OPTIONAL }`
 pub type Report = Sequence<ReportComponents, 2, 0>;
@@ -15,12 +16,26 @@ pub struct ReportComponents {
 type ReportRow = Defaults<Context<0>, bool, IsFalse, MayHave<Context<1>, Integer, NoMore>>;
 
 impl Rowed for ReportComponents {
-    type Row = ReportRow;
+    type Values = <ReportRow as Components>::Values;
+
+    ghost EXTENSIBLE = { ⟦<ReportRow as Components>⟧.EXTENSIBLE };
+
+    const EXTENSIBLE: bool = false;
+
+    ghost row_schema = { ⟦<ReportRow as Components>⟧.schema };
+
+    ghost row_is_schema = { ⟦<ReportRow as Components>⟧.is_schema };
 
     ghost components = { λ v. (v.urgent, (v.number, tt)) };
 
     fn from_row((urgent, (number, ())): <ReportRow as Components>::Values) -> ReportComponents {
         ReportComponents { urgent, number }
+    }
+}
+
+impl Takes for ReportComponents {
+    fn take(alloc: Global, decoder: &mut Decoder<'_>) -> Result<Self, DecodeError> {
+        read_row::<Self, ReportRow>(alloc, decoder)
     }
 }
 

@@ -1,6 +1,7 @@
 //! A choice by the row of its alternatives.
 
 use rasn_oer::prelude::*;
+use std::alloc::Global;
 
 /// `CHOICE { busy BOOLEAN, level INTEGER, ..., count INTEGER (0..65535) }`
 pub type Signal = OneOf<SignalAlternatives>;
@@ -26,7 +27,11 @@ impl Alternating for SignalAlternatives {
     ghost use Rattle.rasn_oer.specs.Alternative.{First, Rest};
     ghost use Rattle.my_types.specs.declared.signals.SignalAlternatives.TheVariants.{Busy, Level, Count};
 
-    type Row = SignalRow;
+    type Values = <SignalRow as Alternatives>::Values;
+
+    ghost row_choices = { ⟦<SignalRow as Alternatives>⟧.choices };
+
+    ghost row_are_choices = { ⟦<SignalRow as Alternatives>⟧.are_choices };
 
     ghost alternative = { elim [ Busy b ↦ First b | Level n ↦ Rest (First n) | Count n ↦ Rest (Rest (First n)) ] };
 
@@ -56,4 +61,14 @@ impl Alternating for SignalAlternatives {
     }
 
     ghost apart = { refl };
+}
+
+impl TakesAlternative for SignalAlternatives {
+    fn take<D: Choice>(
+        alloc: Global,
+        decoder: &mut Decoder<'_>,
+        tag: Tag,
+    ) -> Result<Self, DecodeError> {
+        read_alternative::<Self, SignalRow, D>(alloc, decoder, tag)
+    }
 }

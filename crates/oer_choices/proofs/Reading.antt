@@ -7,6 +7,7 @@ use Rattle.oer_rows.specs.Schema.{Typed}
 use Rattle.oer_read.proofs.Alternatives.{Holds, alternative_made, alternative_refused, alternative_read, alternative_stops}
 use Rattle.oer_read.specs.Law.{Decodes}
 use Rattle.oer_read.specs.State.{State}
+use Rattle.oer_spec.specs.Tree.{Tree}
 use Rattle.oer_choices.specs.Choosing.{Choices, AreChoices, one_tag, one_child, OneValue, other_tag, are_apart, IsOneOf}
 use Rattle.oer_choices.specs.declared.alternatives.Either.{Either}
 use Rattle.oer_choices.specs.declared.alternatives.Either.TheVariants.{First, Rest}
@@ -43,6 +44,17 @@ module _ {B R : Type 0} (tag : Tag) (of : Typed B) (others : Choices R) (g : Tag
 
   pub rest_stops : (tag ≡ g → ⊥) → (s u : State) (x : DecodeError) → Decodes others.child IsThere s (Err x) u → Decodes (one_child tag of others) IsHere s (Err x) u
   rest_stops n s u x k = alternative_stops (one_child tag of others) IsHere others.child IsThere Rest (rest_holds n) (λ y. y ≡ x) s u x (Err x) k refl (λ y p. p)
+
+-- ---- of a struct around a value
+module _ {A B : Type 0} (child : A → Tree) (IsPart : A → Type 0) (of : B → A) (made : A → B) (same : (v : A) → of (made v) ≡ v) where
+  made_holds : Holds (λ w. child (of w)) (λ w. IsPart (of w)) child IsPart made
+  made_holds = record { is = λ v i. subst IsPart (sym (same v)) i; same = λ v. ap child (same v); only = λ w i. (of w, refl, i) }
+
+  pub one_read : (s u : State) (v : A) → Decodes child IsPart s (Ok v) u → Decodes (λ w. child (of w)) (λ w. IsPart (of w)) s (Ok (made v)) u
+  one_read s u v d = alternative_read (λ w. child (of w)) (λ w. IsPart (of w)) child IsPart made made_holds s u v d
+
+  pub one_stops : (s u : State) (x : DecodeError) → Decodes child IsPart s (Err x) u → Decodes (λ w. child (of w)) (λ w. IsPart (of w)) s (Err x) u
+  one_stops s u x d = alternative_stops (λ w. child (of w)) (λ w. IsPart (of w)) child IsPart made made_holds (λ y. y ≡ x) s u x (Err x) d refl (λ y p. p)
 
 -- ---- of a type that holds one of them
 module _ {A R : Type 0} (k : Choices R) (to : A → R) (g : Tag) (apart : are_apart (k.roots ++ k.additions) ≡ true) where

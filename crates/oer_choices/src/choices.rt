@@ -1,4 +1,7 @@
 //! Choices of the alternatives of a type: every impl of a codec's traits is the library's.
+ghost use Rattle.std.specs.Prelude.{◌≡◌, ◌++◌, true};
+ghost use Rattle.oer_choices.specs.Choosing.{are_apart, IsOneOf};
+ghost use Rattle.oer_read.specs.Law.{Decodes};
 
 use crate::alternatives::Alternatives;
 use asn1_core::{AsnType, Choice, Constraints, DecodeError, EncodeError, Tag};
@@ -9,18 +12,23 @@ use std::alloc::Global;
 use std::fmt;
 use std::fmt::{Debug, Formatter};
 
-/// A type whose alternatives stand in a row: what it says to be the content of a `OneOf`.
+/// A type whose alternatives stand in a row, with what the row says of them under the type's own name: what it says to be the
+/// content of a `OneOf` that is written.
 pub trait Alternating: Drop {
     ghost use Rattle.std.specs.Prelude.{◌≡◌, ◌++◌, [], true, is_some, OnOk, IfErr};
     ghost use Rattle.std.specs.Option.{option_map_or};
-    ghost use Rattle.oer_choices.specs.Choosing.{are_apart};
+    ghost use Rattle.oer_choices.specs.Choosing.{are_apart, Choices, AreChoices};
     ghost use Rattle.oer_spec.specs.Tree.{Choice};
     ghost use Rattle.oer_write.specs.Written.{Encodes, Refused};
 
-    /// The row.
-    type Row: Alternatives;
+    /// The values of the row.
+    type Values;
 
-    ghost alternative: { Self → Self.Row.Values };
+    ghost row_choices: { Choices Self.Values };
+
+    ghost row_are_choices: { AreChoices row_choices };
+
+    ghost alternative: { Self → Self.Values };
 
     /// The tags of the root alternatives, in the order of the row.
     const VARIANTS: &'static [Tag];
@@ -30,15 +38,15 @@ pub trait Alternating: Drop {
 
     /// `VARIANTS`: the row's own.
     fn root_tags() -> &'static [Tag]
-        ensures { result.now ≡ Self.Row.choices.roots };
+        ensures { result.now ≡ Self.row_choices.roots };
 
     /// `EXTENDED_VARIANTS`: the row's own.
     fn addition_tags() -> Option<&'static [Tag]>
-        ensures is { is_some result ≡ Self.Row.choices.is_extensible }
-        ensures tags { option_map_or (λ t. t.now) result [] ≡ Self.Row.choices.additions };
+        ensures is { is_some result ≡ Self.row_choices.is_extensible }
+        ensures tags { option_map_or (λ t. t.now) result [] ≡ Self.row_choices.additions };
 
     /// The value of that alternative.
-    fn from_alternative(value: <Self::Row as Alternatives>::Values) -> Self
+    fn from_alternative(value: Self::Values) -> Self
         ensures { alternative result ≡ value };
 
     /// Writes the alternative of the choice `E` that is there, by `AlternativeViews::write` of the row: `Ok` only for an
@@ -50,12 +58,44 @@ pub trait Alternating: Drop {
         encoder: &mut Encoder<'_>,
         constraints: Constraints,
     ) -> Result<(), EncodeError>
-        ensures done { OnOk result (Encodes (Choice E.root_tags E.addition_tags (Self.Row.choices.tag_of (Self.alternative self.now)) (Self.Row.choices.child (Self.alternative self.now))) encoder.old encoder.new) }
-        ensures value { OnOk result (Self.Row.choices.IsValue (Self.alternative self.now)) }
-        ensures refused { IfErr result (λ x. Refused (Choice E.root_tags E.addition_tags (Self.Row.choices.tag_of (Self.alternative self.now)) (Self.Row.choices.child (Self.alternative self.now))) x encoder.old encoder.new) };
+        ensures done { OnOk result (Encodes (Choice E.root_tags E.addition_tags (Self.row_choices.tag_of (Self.alternative self.now)) (Self.row_choices.child (Self.alternative self.now))) encoder.old encoder.new) }
+        ensures value { OnOk result (Self.row_choices.IsValue (Self.alternative self.now)) }
+        ensures refused { IfErr result (λ x. Refused (Choice E.root_tags E.addition_tags (Self.row_choices.tag_of (Self.alternative self.now)) (Self.row_choices.child (Self.alternative self.now))) x encoder.old encoder.new) };
 
     /// No tag stands twice, and each number is one of u32.
-    ghost apart: { are_apart (Self.Row.choices.roots ++ Self.Row.choices.additions) ≡ true };
+    ghost apart: { are_apart (Self.row_choices.roots ++ Self.row_choices.additions) ≡ true };
+}
+
+/// A type that is read by its row.
+pub trait TakesAlternative: Alternating {
+    ghost use Rattle.oer_choices.specs.Choosing.{IsOneOf};
+
+    /// Reads what the alternative with that tag holds (X.696, 20): `read_alternative`.
+    ///
+    /// Refused as `Alternatives::read` refuses, with the choice `D`.
+    fn take<D: Choice>(
+        alloc: Global,
+        decoder: &mut Decoder<'_>,
+        tag: Tag,
+    ) -> Result<Self, DecodeError>
+        ensures { Decodes (λ v. Self.row_choices.child (Self.alternative v)) (λ v. IsOneOf Self.row_choices (Self.alternative v) × (Self.row_choices.tag_of (Self.alternative v) ≡ tag)) decoder.old result decoder.new };
+}
+
+/// Reads what the alternative with that tag holds (X.696, 20), by the row `R` of `T`: what `TakesAlternative::take` calls.
+///
+/// Refused as `Alternatives::read` refuses.
+pub fn read_alternative<T: Alternating, R: Alternatives<Values = T::Values>, D: Choice>(
+    alloc: Global,
+    decoder: &mut Decoder<'_>,
+    tag: Tag,
+) -> Result<T, DecodeError>
+    requires apart { are_apart (R.choices.roots ++ R.choices.additions) ≡ true }
+    ensures { Decodes (λ v. R.choices.child (T.alternative v)) (λ v. IsOneOf R.choices (T.alternative v) × (R.choices.tag_of (T.alternative v) ≡ tag)) decoder.old result decoder.new }
+{
+    match R::read::<D>(alloc, decoder, tag) {
+        Ok(value) => Ok(T::from_alternative(value)),
+        Err(e) => Err(e),
+    }
 }
 
 /// The CHOICE (X.680, clause 29) of the alternatives of `T`.
@@ -91,11 +131,11 @@ impl<T: Alternating> Choice for OneOf<T> {
     ghost use Rattle.std.specs.Prelude.{◌++◌};
     ghost use Rattle.oer_choices.specs.Choosing.{distinct_tags};
 
-    ghost root_tags = { T.Row.choices.roots };
+    ghost root_tags = { T.row_choices.roots };
 
-    ghost addition_tags = { T.Row.choices.additions };
+    ghost addition_tags = { T.row_choices.additions };
 
-    ghost is_extensible = { T.Row.choices.is_extensible };
+    ghost is_extensible = { T.row_choices.is_extensible };
 
     const VARIANTS: &'static [Tag] = T::VARIANTS;
 
@@ -109,19 +149,19 @@ impl<T: Alternating> Choice for OneOf<T> {
         T::addition_tags()
     }
 
-    ghost distinct = { distinct_tags (T.Row.choices.roots ++ T.Row.choices.additions) T.apart };
+    ghost distinct = { distinct_tags (T.row_choices.roots ++ T.row_choices.additions) T.apart };
 }
 
 impl<T: Alternating> Spelled for OneOf<T> {
     ghost use Rattle.oer_choices.specs.Choosing.{tree_of, IsOneOf, choices_is, choices_alike};
 
-    ghost tree = { λ c v. tree_of T.Row.choices (T.alternative v.0) };
+    ghost tree = { λ c v. tree_of T.row_choices (T.alternative v.0) };
 
-    ghost IsValue = { λ v. IsOneOf T.Row.choices (T.alternative v.0) };
+    ghost IsValue = { λ v. IsOneOf T.row_choices (T.alternative v.0) };
 
-    ghost is_tree = { λ c k v i. choices_is T.Row.choices T.Row.Alternatives.are_choices (T.alternative v.0) i };
+    ghost is_tree = { λ c k v i. choices_is T.row_choices T.row_are_choices (T.alternative v.0) i };
 
-    ghost alike = { λ c k v w i j. choices_alike T.Row.choices T.Row.Alternatives.are_choices (T.alternative v.0) (T.alternative w.0) i j };
+    ghost alike = { λ c k v w i j. choices_alike T.row_choices T.row_are_choices (T.alternative v.0) (T.alternative w.0) i j };
 }
 
 impl<T: Alternating> Encode for OneOf<T> {
@@ -135,39 +175,39 @@ impl<T: Alternating> Encode for OneOf<T> {
     }
 }
 
-impl<T: Alternating> DecodeChoice for OneOf<T> {
+impl<T: TakesAlternative> DecodeChoice for OneOf<T> {
     ghost use Rattle.std.specs.Prelude.{⊤, refl};
     ghost use Rattle.oer_choices.specs.Choosing.{choices_small};
 
-    ghost tag_of = { λ v. T.Row.choices.tag_of (T.alternative v.0) };
+    ghost tag_of = { λ v. T.row_choices.tag_of (T.alternative v.0) };
 
-    ghost child = { λ v. T.Row.choices.child (T.alternative v.0) };
+    ghost child = { λ v. T.row_choices.child (T.alternative v.0) };
 
     ghost AnsweredFor = { λ g s r t. ⊤ };
 
     ghost is_choice = { λ c v. refl };
 
-    ghost small = { λ v i. choices_small T.Row.choices T.Row.Alternatives.are_choices (T.alternative v.0) i };
+    ghost small = { λ v i. choices_small T.row_choices T.row_are_choices (T.alternative v.0) i };
 
     fn from_tag(
         alloc: Global,
         decoder: &mut Decoder<'_>,
         tag: Tag,
     ) -> Result<OneOf<T>, DecodeError> {
-        match T::Row::read::<OneOf<T>>(alloc, decoder, tag) {
-            Ok(value) => Ok(OneOf(T::from_alternative(value))),
+        match T::take::<OneOf<T>>(alloc, decoder, tag) {
+            Ok(value) => Ok(OneOf(value)),
             Err(e) => Err(e),
         }
     }
 }
 
-impl<T: Alternating> Decode for OneOf<T> {
+impl<T: TakesAlternative> Decode for OneOf<T> {
     ghost use Rattle.std.specs.Prelude.{◌≡◌, ⊤};
     ghost use Rattle.oer_choices.specs.Choosing.{IsOneOf};
     ghost use Rattle.oer_read.specs.Choices.{ChoiceAnswers};
     ghost use Rattle.oer_read.specs.Law.{Promised};
 
-    ghost Answered = { λ c s r t. ChoiceAnswers (λ g s r t. Promised (λ v. T.Row.choices.child (T.alternative v.0)) (λ v. IsOneOf T.Row.choices (T.alternative v.0) × (T.Row.choices.tag_of (T.alternative v.0) ≡ g)) (λ s r t. ⊤) s r t) T.Row.choices.roots T.Row.choices.additions T.Row.choices.is_extensible s r t };
+    ghost Answered = { λ c s r t. ChoiceAnswers (λ g s r t. Promised (λ v. T.row_choices.child (T.alternative v.0)) (λ v. IsOneOf T.row_choices (T.alternative v.0) × (T.row_choices.tag_of (T.alternative v.0) ≡ g)) (λ s r t. ⊤) s r t) T.row_choices.roots T.row_choices.additions T.row_choices.is_extensible s r t };
 
     fn decode_with_tag_and_constraints(
         alloc: Global,

@@ -8,7 +8,7 @@ mod enumerations;
 mod views;
 
 pub use alternatives::{Alternatives, Either, Offers};
-pub use choices::{Alternating, OneOf};
+pub use choices::{Alternating, OneOf, TakesAlternative, read_alternative};
 pub use enumerations::{Enumeration, Numbered};
 pub use oer_rows::{Application, Context, Extensible, NoMore, Place, Private, Universal};
 pub use views::{AlternativeViews, put_alternative};

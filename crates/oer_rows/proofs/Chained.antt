@@ -15,6 +15,7 @@ use Rattle.oer_read.specs.Parts.{Parts, NoParts, NeededPart, OptionalPart, Admit
 use Rattle.oer_read.specs.State.{State}
 use Rattle.oer_rows.specs.Schema.{Schema, Table, IsSchema, IsOf, HasTables, tree_of}
 use Rattle.oer_read.specs.Additions.{Adds, Added, AddRefused}
+use Rattle.oer_rows.specs.Slots.{IfThere}
 use Rattle.oer_read.specs.Components.{slot_of, Asked, AskRefused}
 use Rattle.oer_read.specs.Defaults.{AsksDefault, AddsDefault, IsDefault, Defaulted, Unset, Set}
 use Rattle.oer_read.specs.Scopes.{SequenceRead, SequenceRefused}
@@ -23,28 +24,16 @@ use Rattle.oer_read.proofs.SequenceLaw.{sequence_law}
 use Rattle.oer_read.proofs.Reading.{reading}
 use Rattle.oer_read.proofs.Steps.{at_ok}
 
-pub rest_read : {R : Type 0} (ps qs : Parts) (roots additions : R → Rows) (s t : State) (answer : Result R DecodeError) (flow : _) (v : R)
-    → ReadsParts ps qs roots additions s answer t → answer ≡ result_from_control_flow flow → flow ≡ Continue v → Takes s ps qs (roots v) (additions v) t
-rest_read ps qs roots additions s t answer flow v d e f = at_ok (λ v. Takes s ps qs (roots v) (additions v) t) answer flow v e f d.read
-
-pub table_read : {R : Type 0} (k : Schema R) (s t : State) (answer : Result R DecodeError) (flow : _) (v : R)
-    → ReadsParts k.roots.parts k.additions.parts k.roots.rows k.additions.rows s answer t → answer ≡ result_from_control_flow flow → flow ≡ Continue v → Takes s k.roots.parts k.additions.parts (k.roots.rows v) (k.additions.rows v) t
-table_read k s t answer flow v d e f = rest_read k.roots.parts k.additions.parts k.roots.rows k.additions.rows s t answer flow v d e f
-
-pub additions_read : {R : Type 0} (k : Table R) (s t : State) (answer : Result R DecodeError) (flow : _) (v : R)
-    → ReadsParts NoParts k.parts (λ v. NoRows) k.rows s answer t → answer ≡ result_from_control_flow flow → flow ≡ Continue v → Takes s NoParts k.parts NoRows (k.rows v) t
-additions_read k s t answer flow v d e f = rest_read NoParts k.parts (λ v. NoRows) k.rows s t answer flow v d e f
-
 -- why a call stopped, of what it was a part
 broke : {R : Type 0} (s : State) (ps qs : Parts) (answer : Result R DecodeError) (flow : _) (x : _) → Stops s ps qs answer → answer ≡ result_from_control_flow flow → flow ≡ Break x → Stops {A = R} s ps qs (Err x.0)
 broke {R} s ps qs answer flow x k e f = subst (λ (z : Result R DecodeError). Stops s ps qs z) (e ∙ ap result_from_control_flow f) k
 
-pub rest_stops : {A R : Type 0} (Q : DecodeError → Type 0) (ps qs : Parts) (roots additions : R → Rows) (s t : State) (answer : Result R DecodeError) (flow : _) (x : _) (result : Result A DecodeError)
-    → ReadsParts ps qs roots additions s answer t → answer ≡ result_from_control_flow flow → flow ≡ Break x → IsErrAnd result Q → ((y : DecodeError) → Q y → y ≡ x.0)
+pub rest_stops : {A R : Type 0} (Q : DecodeError → Type 0) (ps qs : Parts) (s : State) (answer : Result R DecodeError) (flow : _) (x : _) (result : Result A DecodeError)
+    → Stops s ps qs answer → answer ≡ result_from_control_flow flow → flow ≡ Break x → IsErrAnd result Q → ((y : DecodeError) → Q y → y ≡ x.0)
     → Stops s ps qs result
-rest_stops Q ps qs roots additions s t answer flow x (Ok w) d e f h q = absurd h
-rest_stops Q ps qs roots additions s t answer flow x (Err y) d e f h q =
-    let k = broke s ps qs answer flow x d.stops e f in
+rest_stops Q ps qs s answer flow x (Ok w) d e f h q = absurd h
+rest_stops Q ps qs s answer flow x (Err y) d e f h q =
+    let k = broke s ps qs answer flow x d e f in
     record { mode = ap (λ (z : DecodeError). z.codec) (q y h) ∙ k.mode; none = λ m. k.none (λ k. m (ap (λ (z : DecodeError). z.kind) (q y h) ∙ k)) }
 
 -- ---- an addition, asked by a tag that is the row's
@@ -110,6 +99,19 @@ added_default_value {B} tree IsPart Says eq s u answer flow v def handed g d p i
     go (Unset _ q) = subst IsPart (sym (q ∙ p)) i
     go (Set asked _) = asked.open_type.reads.value
 
+-- ---- what is admitted of a component that may be absent
+
+pub asked_there : {B : Type 0} (tree : B → Tree) (IsPart : B → Type 0) (Says : State → Result B DecodeError → State → Type 0) (s : State) (g : Tag) (o : Option B) (t : State) → Asked tree IsPart Says s g o t → IfThere IsPart o
+asked_there tree IsPart Says s g None t k = tt
+asked_there tree IsPart Says s g (Some v) t k = k.reads.value
+
+pub added_there : {B : Type 0} (tree : B → Tree) (IsPart : B → Type 0) (Says : State → Result B DecodeError → State → Type 0) (s : State) (g : Option Tag) (o : Option B) (t : State) → Added tree IsPart Says s g o t → IfThere IsPart o
+added_there tree IsPart Says s g None t k = tt
+added_there tree IsPart Says s g (Some v) t k = k.open_type.reads.value
+
+pub added_value : {B : Type 0} (tree : B → Tree) (IsPart : B → Type 0) (Says : State → Result B DecodeError → State → Type 0) (s : State) (g : Option Tag) (o : Option B) (v : B) (t : State) → Added tree IsPart Says s g o t → o ≡ Some v → IsPart v
+added_value tree IsPart Says s g o v t k e = subst (λ (z : Option _). IfThere IsPart z) e (added_there tree IsPart Says s g o t k)
+
 -- ---- a value made of its components
 
 pub made_read : {A R : Type 0} (k : Schema R) (of : A → R) (s t : State) (row : R) (v : A) → of v ≡ row → Takes s k.roots.parts k.additions.parts (k.roots.rows row) (k.additions.rows row) t
@@ -168,4 +170,4 @@ schema_law {A} k of_row is_schema of extensible table more tables tree IsValue i
     ran (Err e) d = tt
 
 -- the components before, and the rest
-pub ruleset chained = (reading, added_read, added_passed, added_stops, needed_added_read, needed_added_passed, needed_added_absent, needed_added_stops, rest_read, rest_stops)
+pub ruleset chained = (asked_there, added_there, reading, added_read, added_passed, added_stops, needed_added_read, needed_added_passed, needed_added_absent, needed_added_stops, rest_stops)

@@ -1,5 +1,6 @@
 -- Trees of components that may be absent.
-use Rattle.std.specs.Prelude.{Option, Some, None, ⊤, refl}
+use Rattle.std.specs.Prelude.{◌≡◌, Option, Some, None, ⊤, refl}
+use Rattle.std.proofs.Common.{ap, ◌∙◌}
 use Rattle.oer_spec.specs.Encoding.{IsTree, AreSlot}
 use Rattle.oer_spec.specs.Same.{Alike, AlikeSlot}
 use Rattle.oer_spec.specs.Tree.{Tree}
@@ -26,3 +27,24 @@ module _ {A : Type 0} (tree : A → Tree) (IsValue : A → Type 0) where
   pub slot_made : (o : Option A) → IfThere IsValue o → OnPresent (Admits tree IsValue) (slot_of tree o)
   slot_made None i = tt
   slot_made (Some v) i = record { value = v; is_value = i; is = refl }
+
+-- ---- places of components, which hold their values once these are read
+
+-- what is there, or else a value handed in
+abbrev there : {A : Type 0} → A → Option A → A
+there d None = d
+there d (Some v) = v
+
+module _ {A R S : Type 0} (filled : R → S) where
+  abbrev pub with_needed : A × R → Option A × S
+  with_needed v = (Some v.0, filled v.1)
+
+  abbrev pub with_optional : Option A × R → Option A × S
+  with_optional v = (v.0, filled v.1)
+
+  -- places hold the values of one row alone, where those of the rest do
+  pub needed_once : ((v w : R) → filled v ≡ filled w → v ≡ w) → (v w : A × R) → with_needed v ≡ with_needed w → v ≡ w
+  needed_once once (v, r) (w, s) e = ap (λ z. (z, r)) (ap (λ (z : Option A × S). there v z.0) e) ∙ ap (λ z. (w, z)) (once r s (ap (λ (z : Option A × S). z.1) e))
+
+  pub optional_once : ((v w : R) → filled v ≡ filled w → v ≡ w) → (v w : Option A × R) → with_optional v ≡ with_optional w → v ≡ w
+  optional_once once (v, r) (w, s) e = ap (λ z. (z, r)) (ap (λ (z : Option A × S). z.0) e) ∙ ap (λ z. (w, z)) (once r s (ap (λ (z : Option A × S). z.1) e))

@@ -1,13 +1,14 @@
 //! Extension additions: the rows behind the mark `...`.
-ghost use Rattle.std.specs.Prelude.{Some, IfOk};
+ghost use Rattle.std.specs.Prelude.{◌≡◌, Some, OnOk};
 ghost use Rattle.oer_spec.specs.Tree.{NoRows};
 ghost use Rattle.oer_read.specs.Additions.{Adds};
-ghost use Rattle.oer_read.specs.Parts.{NoParts, ReadsParts};
+ghost use Rattle.oer_read.specs.Parts.{NoParts, Takes, Stops};
 
-use crate::components::{Components, NoMore};
+use crate::components::{Components, NoMore, Reads};
 use crate::places::Place;
 use asn1_core::{DecodeError, Tag};
 use oer_read::{Decode, Decoder};
+use oer_spec::Spelled;
 use std::alloc::Global;
 use std::marker::PhantomData;
 
@@ -21,13 +22,38 @@ pub trait Additions {
     ghost table: { Table Self.More };
 
     ghost is_table: { IsTable table };
+}
 
-    /// Reads them, in the order of the row, inside the scope of a sequence behind its root components (X.696, 16.4).
+/// Additions that are read.
+pub trait ReadsAdditions: Additions {
+    /// Where they are put as they are read.
+    type Slots: Drop;
+
+    /// What the places hold once these values are read.
+    ghost filled: { Self.More → Self.Slots };
+
+    /// They hold no other values.
+    ghost filled_once: { (v w : Self.More) → filled v ≡ filled w → v ≡ w };
+
+    /// Places that hold nothing.
+    fn empty() -> Self::Slots;
+
+    /// Reads them into their places, in the order of the row, inside the scope of a sequence behind its root components (X.696,
+    /// 16.4).
     ///
     /// Refused, the first that applies, as the calls of `Decoder` refuse that read each addition.
-    fn read_additions(alloc: Global, decoder: &mut Decoder<'_>) -> Result<Self::More, DecodeError>
-        ensures read { ReadsParts NoParts table.parts (λ v. NoRows) table.rows decoder.old result decoder.new }
-        ensures value { IfOk result table.IsValue };
+    fn read_additions(
+        alloc: Global,
+        decoder: &mut Decoder<'_>,
+        slots: &mut Self::Slots,
+    ) -> Result<(), DecodeError>
+        ensures read { OnOk result ((v : Self.More) × (slots.new ≡ filled v) × Takes decoder.old NoParts Self.table.parts NoRows (Self.table.rows v) decoder.new × Self.table.IsValue v) }
+        ensures stops { Stops decoder.old NoParts Self.table.parts result };
+
+    /// The values that the places hold.
+    fn taken(slots: Self::Slots) -> Self::More
+        requires { (v : Self.More) × (slots ≡ filled v) }
+        ensures { slots ≡ filled result };
 }
 
 /// The end of the root components of an extensible type, and its additions `R`.
@@ -56,13 +82,35 @@ impl Additions for NoMore {
     ghost table = { none };
 
     ghost is_table = { none_is };
+}
 
-    fn read_additions(_alloc: Global, _decoder: &mut Decoder<'_>) -> Result<(), DecodeError> {
+impl ReadsAdditions for NoMore {
+    ghost use Rattle.std.specs.Prelude.{refl};
+
+    type Slots = ();
+
+    ghost filled = { λ v. tt };
+
+    ghost filled_once = { λ v w e. refl };
+
+    fn empty() -> () {
+        ()
+    }
+
+    fn read_additions(
+        _alloc: Global,
+        _decoder: &mut Decoder<'_>,
+        _slots: &mut (),
+    ) -> Result<(), DecodeError> {
         Ok(())
+    }
+
+    fn taken(_slots: ()) -> () {
+        ()
     }
 }
 
-impl<G: Place, B: Decode, R: Additions> Additions for MayAdd<G, B, R> {
+impl<G: Place, B: Spelled, R: Additions> Additions for MayAdd<G, B, R> {
     ghost use Rattle.oer_rows.specs.Schema.{typed, typed_is, optional, optional_is};
 
     type More = (Option<B>, R::More);
@@ -70,11 +118,35 @@ impl<G: Place, B: Decode, R: Additions> Additions for MayAdd<G, B, R> {
     ghost table = { optional G.tag (typed B.tree B.CONSTRAINTS B.IsValue) (λ v. v.0) (λ v. v.1) R.table };
 
     ghost is_table = { optional_is G.tag (typed B.tree B.CONSTRAINTS B.IsValue) (λ v. v.0) (λ v. v.1) R.table (typed_is B.tree B.IsValue B.is_tree B.alike B.CONSTRAINTS B.consistent) R.is_table };
+}
 
-    fn read_additions(alloc: Global, decoder: &mut Decoder<'_>) -> Result<Self::More, DecodeError> {
+impl<G: Place, B: Decode, R: ReadsAdditions> ReadsAdditions for MayAdd<G, B, R> {
+    ghost use Rattle.oer_rows.specs.Slots.{with_optional, optional_once};
+
+    type Slots = (Option<B>, R::Slots);
+
+    ghost filled = { with_optional R.filled };
+
+    ghost filled_once = { optional_once R.filled R.filled_once };
+
+    fn empty() -> Self::Slots {
+        (None, R::empty())
+    }
+
+    fn read_additions(
+        alloc: Global,
+        decoder: &mut Decoder<'_>,
+        slots: &mut Self::Slots,
+    ) -> Result<(), DecodeError> {
         let value = read_addition::<B>(alloc, decoder, G::tag())?;
-        let rest = R::read_additions(alloc, decoder)?;
-        Ok((value, rest))
+        slots.0 = value;
+        R::read_additions(alloc, decoder, &mut slots.1)?;
+        Ok(())
+    }
+
+    fn taken(slots: Self::Slots) -> Self::More {
+        let (value, rest) = slots;
+        (value, R::taken(rest))
     }
 }
 
@@ -91,9 +163,29 @@ impl<R: Additions> Components for Extensible<R> {
     ghost schema = { added R.table };
 
     ghost is_schema = { added_is R.table R.is_table };
+}
 
-    fn read(alloc: Global, decoder: &mut Decoder<'_>) -> Result<R::More, DecodeError> {
-        let rest = R::read_additions(alloc, decoder)?;
-        Ok(rest)
+impl<R: ReadsAdditions> Reads for Extensible<R> {
+    type Slots = R::Slots;
+
+    ghost filled = { R.filled };
+
+    ghost filled_once = { R.filled_once };
+
+    fn empty() -> R::Slots {
+        R::empty()
+    }
+
+    fn read(
+        alloc: Global,
+        decoder: &mut Decoder<'_>,
+        slots: &mut R::Slots,
+    ) -> Result<(), DecodeError> {
+        R::read_additions(alloc, decoder, &mut *slots)?;
+        Ok(())
+    }
+
+    fn taken(slots: R::Slots) -> R::More {
+        R::taken(slots)
     }
 }

@@ -11,7 +11,7 @@ pub trait Compared<const RC: usize, const EC: usize>: Tabled<RC, EC> + PartialEq
     ghost use Rattle.oer_rows.specs.Schema.{tree_of, IsOf};
 
     /// Two values are equal exactly where the trees of their sequences are same.
-    ghost decides: { (v w : Self) → IsOf Self.Row.schema (Self.components v) → IsOf Self.Row.schema (Self.components w) → Decides (Self.eq v w) (Same (tree_of Self.Row.schema Self.Row.EXTENSIBLE (Self.components v)) (tree_of Self.Row.schema Self.Row.EXTENSIBLE (Self.components w))) };
+    ghost decides: { (v w : Self) → IsOf Self.row_schema (Self.components v) → IsOf Self.row_schema (Self.components w) → Decides (Self.eq v w) (Same (tree_of Self.row_schema Self.EXTENSIBLE (Self.components v)) (tree_of Self.row_schema Self.EXTENSIBLE (Self.components w))) };
 }
 
 impl<const RC: usize, const EC: usize, T: Compared<RC, EC>> EqualAsSpelled for Sequence<T, RC, EC> {

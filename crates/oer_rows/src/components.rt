@@ -1,11 +1,11 @@
 //! Root components: the trait of rows, and a cell for each need of a component.
-ghost use Rattle.std.specs.Prelude.{IfOk};
-ghost use Rattle.oer_read.specs.Parts.{ReadsParts};
+ghost use Rattle.std.specs.Prelude.{◌≡◌, OnOk};
+ghost use Rattle.oer_read.specs.Parts.{Takes, Stops};
 
 use crate::places::{Place, Standard};
 use asn1_core::DecodeError;
 use oer_read::{Decode, Decoder};
-use oer_spec::EqualAsSpelled;
+use oer_spec::{EqualAsSpelled, Spelled};
 use std::alloc::Global;
 use std::marker::PhantomData;
 
@@ -29,14 +29,39 @@ pub trait Components {
     ghost schema: { Schema Self.Values };
 
     ghost is_schema: { IsSchema schema EXTENSIBLE };
+}
 
-    /// Reads them, in the order of the row, inside the scope of a sequence (X.696, 16): what is read encodes rows of the
-    /// schema's parts, and the values are admitted ones.
+/// A row whose components are read.
+pub trait Reads: Components {
+    /// Where they are put as they are read: a pair of a place for the first one and of those for the others, at the end `()`. So
+    /// none is moved as those behind it are read.
+    type Slots: Drop;
+
+    /// What the places hold once these values are read.
+    ghost filled: { Self.Values → Self.Slots };
+
+    /// They hold no other values.
+    ghost filled_once: { (v w : Self.Values) → filled v ≡ filled w → v ≡ w };
+
+    /// Places that hold nothing.
+    fn empty() -> Self::Slots;
+
+    /// Reads them into their places, in the order of the row, inside the scope of a sequence (X.696, 16): what is read encodes rows
+    /// of the schema's parts, and the values are admitted ones.
     ///
     /// Refused, the first that applies, as the calls of `Decoder` refuse that read each component.
-    fn read(alloc: Global, decoder: &mut Decoder<'_>) -> Result<Self::Values, DecodeError>
-        ensures read { ReadsParts schema.roots.parts schema.additions.parts schema.roots.rows schema.additions.rows decoder.old result decoder.new }
-        ensures value { IfOk result (λ v. schema.roots.IsValue v × schema.additions.IsValue v) };
+    fn read(
+        alloc: Global,
+        decoder: &mut Decoder<'_>,
+        slots: &mut Self::Slots,
+    ) -> Result<(), DecodeError>
+        ensures read { OnOk result ((v : Self.Values) × (slots.new ≡ filled v) × Takes decoder.old Self.schema.roots.parts Self.schema.additions.parts (Self.schema.roots.rows v) (Self.schema.additions.rows v) decoder.new × Self.schema.roots.IsValue v × Self.schema.additions.IsValue v) }
+        ensures stops { Stops decoder.old Self.schema.roots.parts Self.schema.additions.parts result };
+
+    /// The values that the places hold.
+    fn taken(slots: Self::Slots) -> Self::Values
+        requires { (v : Self.Values) × (slots ≡ filled v) }
+        ensures { slots ≡ filled result };
 }
 
 /// No further component.
@@ -64,13 +89,36 @@ impl Components for NoMore {
     ghost schema = { empty };
 
     ghost is_schema = { empty_is };
+}
 
-    fn read(_alloc: Global, _decoder: &mut Decoder<'_>) -> Result<(), DecodeError> {
+impl Reads for NoMore {
+    ghost use Rattle.std.specs.Prelude.{refl};
+    ghost use Rattle.oer_rows.specs.Schema.{empty};
+
+    type Slots = ();
+
+    ghost filled = { λ v. tt };
+
+    ghost filled_once = { λ v w e. refl };
+
+    fn empty() -> () {
+        ()
+    }
+
+    fn read(
+        _alloc: Global,
+        _decoder: &mut Decoder<'_>,
+        _slots: &mut (),
+    ) -> Result<(), DecodeError> {
         Ok(())
+    }
+
+    fn taken(_slots: ()) -> () {
+        ()
     }
 }
 
-impl<G: Place, B: Decode, R: Components> Components for Needs<G, B, R> {
+impl<G: Place, B: Spelled, R: Components> Components for Needs<G, B, R> {
     ghost use Rattle.oer_rows.specs.Schema.{typed, typed_is, needed_then, needed_then_is};
 
     type Values = (B, R::Values);
@@ -82,15 +130,39 @@ impl<G: Place, B: Decode, R: Components> Components for Needs<G, B, R> {
     ghost schema = { needed_then G.tag (typed B.tree B.CONSTRAINTS B.IsValue) R.schema };
 
     ghost is_schema = { needed_then_is G.tag (typed B.tree B.CONSTRAINTS B.IsValue) R.schema R.EXTENSIBLE (typed_is B.tree B.IsValue B.is_tree B.alike B.CONSTRAINTS B.consistent) R.is_schema };
+}
 
-    fn read(alloc: Global, decoder: &mut Decoder<'_>) -> Result<Self::Values, DecodeError> {
+impl<G: Place, B: Decode, R: Reads> Reads for Needs<G, B, R> {
+    ghost use Rattle.oer_rows.specs.Slots.{with_needed, needed_once};
+
+    type Slots = (Option<B>, R::Slots);
+
+    ghost filled = { with_needed R.filled };
+
+    ghost filled_once = { needed_once R.filled R.filled_once };
+
+    fn empty() -> Self::Slots {
+        (None, R::empty())
+    }
+
+    fn read(
+        alloc: Global,
+        decoder: &mut Decoder<'_>,
+        slots: &mut Self::Slots,
+    ) -> Result<(), DecodeError> {
         let value = B::decode_with_tag(alloc, decoder, G::tag())?;
-        let rest = R::read(alloc, decoder)?;
-        Ok((value, rest))
+        slots.0 = Some(value);
+        R::read(alloc, decoder, &mut slots.1)?;
+        Ok(())
+    }
+
+    fn taken(slots: Self::Slots) -> Self::Values {
+        let (value, rest) = slots;
+        (value.unwrap(), R::taken(rest))
     }
 }
 
-impl<G: Place, B: Decode, R: Components> Components for MayHave<G, B, R> {
+impl<G: Place, B: Spelled, R: Components> Components for MayHave<G, B, R> {
     ghost use Rattle.oer_rows.specs.Schema.{typed, typed_is, optional_then, optional_then_is};
 
     type Values = (Option<B>, R::Values);
@@ -102,15 +174,39 @@ impl<G: Place, B: Decode, R: Components> Components for MayHave<G, B, R> {
     ghost schema = { optional_then G.tag (typed B.tree B.CONSTRAINTS B.IsValue) R.schema };
 
     ghost is_schema = { optional_then_is G.tag (typed B.tree B.CONSTRAINTS B.IsValue) R.schema R.EXTENSIBLE (typed_is B.tree B.IsValue B.is_tree B.alike B.CONSTRAINTS B.consistent) R.is_schema };
+}
 
-    fn read(alloc: Global, decoder: &mut Decoder<'_>) -> Result<Self::Values, DecodeError> {
+impl<G: Place, B: Decode, R: Reads> Reads for MayHave<G, B, R> {
+    ghost use Rattle.oer_rows.specs.Slots.{with_optional, optional_once};
+
+    type Slots = (Option<B>, R::Slots);
+
+    ghost filled = { with_optional R.filled };
+
+    ghost filled_once = { optional_once R.filled R.filled_once };
+
+    fn empty() -> Self::Slots {
+        (None, R::empty())
+    }
+
+    fn read(
+        alloc: Global,
+        decoder: &mut Decoder<'_>,
+        slots: &mut Self::Slots,
+    ) -> Result<(), DecodeError> {
         let value = decoder.decode_optional_with_tag::<B>(alloc, G::tag())?;
-        let rest = R::read(alloc, decoder)?;
-        Ok((value, rest))
+        slots.0 = value;
+        R::read(alloc, decoder, &mut slots.1)?;
+        Ok(())
+    }
+
+    fn taken(slots: Self::Slots) -> Self::Values {
+        let (value, rest) = slots;
+        (value, R::taken(rest))
     }
 }
 
-impl<G: Place, B: Decode + EqualAsSpelled, D: Standard<B>, R: Components> Components
+impl<G: Place, B: EqualAsSpelled, D: Standard<B>, R: Components> Components
     for Defaults<G, B, D, R> {
     ghost use Rattle.oer_rows.specs.Schema.{typed, default_then, default_then_is};
 
@@ -123,10 +219,35 @@ impl<G: Place, B: Decode + EqualAsSpelled, D: Standard<B>, R: Components> Compon
     ghost schema = { default_then G.tag (typed B.tree B.CONSTRAINTS B.IsValue) B.eq D.value R.schema };
 
     ghost is_schema = { default_then_is G.tag (typed B.tree B.CONSTRAINTS B.IsValue) B.eq D.value R.schema R.EXTENSIBLE R.is_schema };
+}
 
-    fn read(alloc: Global, decoder: &mut Decoder<'_>) -> Result<Self::Values, DecodeError> {
+impl<G: Place, B: Decode + EqualAsSpelled, D: Standard<B>, R: Reads> Reads
+    for Defaults<G, B, D, R> {
+    ghost use Rattle.oer_rows.specs.Slots.{with_needed, needed_once};
+
+    type Slots = (Option<B>, R::Slots);
+
+    ghost filled = { with_needed R.filled };
+
+    ghost filled_once = { needed_once R.filled R.filled_once };
+
+    fn empty() -> Self::Slots {
+        (None, R::empty())
+    }
+
+    fn read(
+        alloc: Global,
+        decoder: &mut Decoder<'_>,
+        slots: &mut Self::Slots,
+    ) -> Result<(), DecodeError> {
         let value = decoder.decode_default_with_tag::<B>(alloc, G::tag(), D::value())?;
-        let rest = R::read(alloc, decoder)?;
-        Ok((value, rest))
+        slots.0 = Some(value);
+        R::read(alloc, decoder, &mut slots.1)?;
+        Ok(())
+    }
+
+    fn taken(slots: Self::Slots) -> Self::Values {
+        let (value, rest) = slots;
+        (value.unwrap(), R::taken(rest))
     }
 }

@@ -16,17 +16,17 @@ mod sets;
 mod views;
 mod writing;
 
-pub use additions::{Additions, Extensible, MayAdd};
+pub use additions::{Additions, Extensible, MayAdd, ReadsAdditions};
 pub use compared::Compared;
-pub use components::{Components, Defaults, MayHave, Needs, NoMore};
+pub use components::{Components, Defaults, MayHave, Needs, NoMore, Reads};
 pub use limited::{Limited, Limits};
 pub use lists::ListOf;
 pub use more_additions::{AddDefaults, Adds, MayAddGroup};
 pub use places::{
     Application, Context, IsFalse, IsNumber, IsTrue, Place, Private, Standard, Universal,
 };
-pub use reading::decode_row;
-pub use rowed::{Rowed, Schemed};
+pub use reading::{decode_row, read_row};
+pub use rowed::{Rowed, Schemed, Takes};
 pub use sequences::{Sequence, Tabled};
 pub use sets::{InTagOrder, Set};
 pub use views::{AdditionViews, Views};

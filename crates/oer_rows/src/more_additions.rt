@@ -1,11 +1,11 @@
 //! Further extension additions: required ones, ones with a default, and addition groups.
 ghost use Rattle.oer_read.specs.Defaults.{AddsDefault};
 
-use crate::additions::{Additions, read_addition};
+use crate::additions::{Additions, ReadsAdditions, read_addition};
 use crate::places::{Place, Standard};
 use asn1_core::{Constructed, DecodeError, DecodeErrorKind, Tag};
 use oer_read::{Decode, Decoder};
-use oer_spec::EqualAsSpelled;
+use oer_spec::{EqualAsSpelled, Spelled};
 use std::alloc::Global;
 use std::marker::PhantomData;
 
@@ -33,7 +33,7 @@ fn read_default_addition<B: Decode + PartialEq>(
     decoder.decode_extension_addition_default(alloc, tag, B::CONSTRAINTS, default)
 }
 
-impl<G: Place, B: Decode, R: Additions> Additions for Adds<G, B, R> {
+impl<G: Place, B: Spelled, R: Additions> Additions for Adds<G, B, R> {
     ghost use Rattle.oer_rows.specs.Schema.{typed, typed_is, needed, needed_is};
 
     type More = (B, R::More);
@@ -41,13 +41,32 @@ impl<G: Place, B: Decode, R: Additions> Additions for Adds<G, B, R> {
     ghost table = { needed G.tag (typed B.tree B.CONSTRAINTS B.IsValue) (λ v. v.0) (λ v. v.1) R.table };
 
     ghost is_table = { needed_is G.tag (typed B.tree B.CONSTRAINTS B.IsValue) (λ v. v.0) (λ v. v.1) R.table (typed_is B.tree B.IsValue B.is_tree B.alike B.CONSTRAINTS B.consistent) R.is_table };
+}
 
-    fn read_additions(alloc: Global, decoder: &mut Decoder<'_>) -> Result<Self::More, DecodeError> {
+impl<G: Place, B: Decode, R: ReadsAdditions> ReadsAdditions for Adds<G, B, R> {
+    ghost use Rattle.oer_rows.specs.Slots.{with_needed, needed_once};
+
+    type Slots = (Option<B>, R::Slots);
+
+    ghost filled = { with_needed R.filled };
+
+    ghost filled_once = { needed_once R.filled R.filled_once };
+
+    fn empty() -> Self::Slots {
+        (None, R::empty())
+    }
+
+    fn read_additions(
+        alloc: Global,
+        decoder: &mut Decoder<'_>,
+        slots: &mut Self::Slots,
+    ) -> Result<(), DecodeError> {
         let value = read_addition::<B>(alloc, decoder, G::tag())?;
         match value {
             Some(value) => {
-                let rest = R::read_additions(alloc, decoder)?;
-                Ok((value, rest))
+                slots.0 = Some(value);
+                R::read_additions(alloc, decoder, &mut slots.1)?;
+                Ok(())
             }
             None => Err(DecodeError {
                 kind: DecodeErrorKind::RequiredExtensionNotPresent { tag: G::tag() },
@@ -55,9 +74,14 @@ impl<G: Place, B: Decode, R: Additions> Additions for Adds<G, B, R> {
             }),
         }
     }
+
+    fn taken(slots: Self::Slots) -> Self::More {
+        let (value, rest) = slots;
+        (value.unwrap(), R::taken(rest))
+    }
 }
 
-impl<G: Place, B: Decode + EqualAsSpelled, D: Standard<B>, R: Additions> Additions
+impl<G: Place, B: EqualAsSpelled, D: Standard<B>, R: Additions> Additions
     for AddDefaults<G, B, D, R> {
     ghost use Rattle.oer_rows.specs.Schema.{typed, defaulted, defaulted_is};
 
@@ -66,15 +90,40 @@ impl<G: Place, B: Decode + EqualAsSpelled, D: Standard<B>, R: Additions> Additio
     ghost table = { defaulted G.tag (typed B.tree B.CONSTRAINTS B.IsValue) B.eq D.value (λ v. v.0) (λ v. v.1) R.table };
 
     ghost is_table = { defaulted_is G.tag (typed B.tree B.CONSTRAINTS B.IsValue) B.eq D.value (λ v. v.0) (λ v. v.1) R.table R.is_table };
+}
 
-    fn read_additions(alloc: Global, decoder: &mut Decoder<'_>) -> Result<Self::More, DecodeError> {
+impl<G: Place, B: Decode + EqualAsSpelled, D: Standard<B>, R: ReadsAdditions> ReadsAdditions
+    for AddDefaults<G, B, D, R> {
+    ghost use Rattle.oer_rows.specs.Slots.{with_needed, needed_once};
+
+    type Slots = (Option<B>, R::Slots);
+
+    ghost filled = { with_needed R.filled };
+
+    ghost filled_once = { needed_once R.filled R.filled_once };
+
+    fn empty() -> Self::Slots {
+        (None, R::empty())
+    }
+
+    fn read_additions(
+        alloc: Global,
+        decoder: &mut Decoder<'_>,
+        slots: &mut Self::Slots,
+    ) -> Result<(), DecodeError> {
         let value = read_default_addition::<B>(alloc, decoder, G::tag(), D::value())?;
-        let rest = R::read_additions(alloc, decoder)?;
-        Ok((value, rest))
+        slots.0 = Some(value);
+        R::read_additions(alloc, decoder, &mut slots.1)?;
+        Ok(())
+    }
+
+    fn taken(slots: Self::Slots) -> Self::More {
+        let (value, rest) = slots;
+        (value.unwrap(), R::taken(rest))
     }
 }
 
-impl<const RC: usize, const EC: usize, B: Decode + Constructed<RC, EC>, R: Additions> Additions
+impl<const RC: usize, const EC: usize, B: Spelled + Constructed<RC, EC>, R: Additions> Additions
     for MayAddGroup<RC, EC, B, R> {
     ghost use Rattle.oer_rows.specs.Schema.{typed, typed_is, optional, optional_is};
 
@@ -83,10 +132,39 @@ impl<const RC: usize, const EC: usize, B: Decode + Constructed<RC, EC>, R: Addit
     ghost table = { optional B.TAG (typed B.tree B.CONSTRAINTS B.IsValue) (λ v. v.0) (λ v. v.1) R.table };
 
     ghost is_table = { optional_is B.TAG (typed B.tree B.CONSTRAINTS B.IsValue) (λ v. v.0) (λ v. v.1) R.table (typed_is B.tree B.IsValue B.is_tree B.alike B.CONSTRAINTS B.consistent) R.is_table };
+}
 
-    fn read_additions(alloc: Global, decoder: &mut Decoder<'_>) -> Result<Self::More, DecodeError> {
+impl<
+    const RC: usize,
+    const EC: usize,
+    B: Decode + Constructed<RC, EC>,
+    R: ReadsAdditions,
+> ReadsAdditions for MayAddGroup<RC, EC, B, R> {
+    ghost use Rattle.oer_rows.specs.Slots.{with_optional, optional_once};
+
+    type Slots = (Option<B>, R::Slots);
+
+    ghost filled = { with_optional R.filled };
+
+    ghost filled_once = { optional_once R.filled R.filled_once };
+
+    fn empty() -> Self::Slots {
+        (None, R::empty())
+    }
+
+    fn read_additions(
+        alloc: Global,
+        decoder: &mut Decoder<'_>,
+        slots: &mut Self::Slots,
+    ) -> Result<(), DecodeError> {
         let value = decoder.decode_extension_addition_group::<RC, EC, B>(alloc)?;
-        let rest = R::read_additions(alloc, decoder)?;
-        Ok((value, rest))
+        slots.0 = value;
+        R::read_additions(alloc, decoder, &mut slots.1)?;
+        Ok(())
+    }
+
+    fn taken(slots: Self::Slots) -> Self::More {
+        let (value, rest) = slots;
+        (value, R::taken(rest))
     }
 }

@@ -4,36 +4,48 @@ ghost use Rattle.oer_read.specs.Law.{Decodes};
 ghost use Rattle.oer_read.specs.Parts.{ReadsParts};
 ghost use Rattle.oer_rows.specs.Schema.{IsOf, HasTables, tree_of};
 
-use crate::components::Components;
-use crate::rowed::Rowed;
+use crate::components::Reads;
+use crate::rowed::{Rowed, Takes};
 use asn1_core::{Constraints, Constructed, DecodeError, Tag};
 use oer_read::Decoder;
 use oer_spec::Spelled;
 use std::alloc::Global;
 
+/// Reads the components of `T` in the order of its row `R`, inside the scope of a sequence (X.696, 16): what `Takes::take` calls.
+///
+/// Refused, the first that applies, as the calls of `Decoder` refuse that read each component.
+pub fn read_row<T: Rowed, R: Reads<Values = T::Values>>(
+    alloc: Global,
+    decoder: &mut Decoder<'_>,
+) -> Result<T, DecodeError>
+    ensures read { ReadsParts R.schema.roots.parts R.schema.additions.parts (λ v. R.schema.roots.rows (T.components v)) (λ v. R.schema.additions.rows (T.components v)) decoder.old result decoder.new }
+    ensures value { IfOk result (λ v. IsOf R.schema (T.components v)) }
+{
+    let mut slots = R::empty();
+    R::read(alloc, decoder, &mut slots)?;
+    Ok(T::from_row(R::taken(slots)))
+}
+
 /// Reads a SEQUENCE (X.696, 16) whose tree, admitted values and tables are its row's: by the law of reading.
 ///
 /// Refused, the first that applies, as `Decoder::decode_sequence` refuses, with what the components refuse.
-pub fn decode_row<const RC: usize, const EC: usize, T: Constructed<RC, EC> + Spelled + Rowed>(
+pub fn decode_row<const RC: usize, const EC: usize, T: Constructed<RC, EC> + Spelled + Takes>(
     alloc: Global,
     decoder: &mut Decoder<'_>,
     tag: Tag,
     _constraints: Constraints,
 ) -> Result<T, DecodeError>
-    requires tree { (v : _) → T.tree _constraints v ≡ tree_of T.Row.schema T.IS_EXTENSIBLE (T.components v) }
-    requires within { (v : _) → T.IsValue v → IsOf T.Row.schema (T.components v) }
-    requires back { (v : _) → IsOf T.Row.schema (T.components v) → T.IsValue v }
-    requires tables { HasTables T.Row.schema T.Row.EXTENSIBLE T.IS_EXTENSIBLE T.root_rows T.addition_rows }
+    requires tree { (v : _) → T.tree _constraints v ≡ tree_of T.row_schema T.IS_EXTENSIBLE (T.components v) }
+    requires within { (v : _) → T.IsValue v → IsOf T.row_schema (T.components v) }
+    requires back { (v : _) → IsOf T.row_schema (T.components v) → T.IsValue v }
+    requires tables { HasTables T.row_schema T.EXTENSIBLE T.IS_EXTENSIBLE T.root_rows T.addition_rows }
     ensures { Decodes (T.tree _constraints) T.IsValue decoder.old result decoder.new }
 {
     decoder.decode_sequence::<RC, EC, T, _>(
         tag,
         |decoder: &mut Decoder<'_>| -> Result<T, DecodeError>
-            ensures read { ReadsParts T.Row.schema.roots.parts T.Row.schema.additions.parts (λ v. T.Row.schema.roots.rows (T.components v)) (λ v. T.Row.schema.additions.rows (T.components v)) decoder.old result decoder.new }
-            ensures value { IfOk result (λ v. IsOf T.Row.schema (T.components v)) }
-        {
-            let row = T::Row::read(alloc, decoder)?;
-            Ok(T::from_row(row))
-        },
+            ensures read { ReadsParts T.row_schema.roots.parts T.row_schema.additions.parts (λ v. T.row_schema.roots.rows (T.components v)) (λ v. T.row_schema.additions.rows (T.components v)) decoder.old result decoder.new }
+            ensures value { IfOk result (λ v. IsOf T.row_schema (T.components v)) }
+        { T::take(alloc, decoder) },
     )
 }

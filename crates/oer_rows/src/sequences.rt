@@ -1,8 +1,7 @@
 //! Sequences of the components of a type: every impl of a codec's traits is the library's.
 
-use crate::components::Components;
 use crate::reading::decode_row;
-use crate::rowed::Rowed;
+use crate::rowed::{Rowed, Takes};
 use crate::writing::{Writes, encode_rows};
 use asn1_core::{AsnType, Constraints, Constructed, DecodeError, EncodeError, Field, Fields, Tag};
 use oer_read::{Decode, Decoder};
@@ -13,7 +12,7 @@ use std::fmt::{self, Debug};
 
 /// What a type says beside its row to be the content of a `Sequence`: its tables, and its components as its row writes
 /// them.
-pub trait Tabled<const RC: usize, const EC: usize>: Rowed + Drop {
+pub trait Tabled<const RC: usize, const EC: usize>: Takes {
     ghost use Rattle.std.specs.Prelude.{◌≡◌, length, map, OnOk};
     ghost use Rattle.asn1_core.specs.Rows.{row};
     ghost use Rattle.oer_write.specs.Rows.{InSequence};
@@ -27,20 +26,20 @@ pub trait Tabled<const RC: usize, const EC: usize>: Rowed + Drop {
 
     /// The rows of `FIELDS`: the row's own.
     fn root_fields() -> &'static [Field<'static>]
-        ensures { map row result.now ≡ Self.Row.schema.roots.fields 0 };
+        ensures { map row result.now ≡ Self.row_schema.roots.fields 0 };
 
     /// The rows of `EXTENDED_FIELDS`, none where it is absent: the row's own.
     fn addition_fields() -> &'static [Field<'static>]
-        ensures { map row result.now ≡ Self.Row.schema.additions.fields 0 };
+        ensures { map row result.now ≡ Self.row_schema.additions.fields 0 };
 
     /// Writes the components, by `Views::write` of the row: `Ok` only for admitted values.
     ///
     /// Refused by what a component is refused by.
     fn put(&self, encoder: &mut Encoder<'_>) -> Result<(), EncodeError>
-        ensures written { InSequence (Self.Row.schema.roots.rows (Self.components self.now)) (Self.Row.schema.additions.rows (Self.components self.now)) encoder.old result encoder.new }
-        ensures value { OnOk result (IsOf Self.Row.schema (Self.components self.now)) };
+        ensures written { InSequence (Self.row_schema.roots.rows (Self.components self.now)) (Self.row_schema.additions.rows (Self.components self.now)) encoder.old result encoder.new }
+        ensures value { OnOk result (IsOf Self.row_schema (Self.components self.now)) };
 
-    ghost counts: { (length (Self.Row.schema.roots.fields 0) ≡ RC) × (length (Self.Row.schema.additions.fields 0) ≡ EC) };
+    ghost counts: { (length (Self.row_schema.roots.fields 0) ≡ RC) × (length (Self.row_schema.additions.fields 0) ≡ EC) };
 }
 
 /// The SEQUENCE (X.680, clause 25) of the components of `T`, with `RC` root components and `EC` extension additions.
@@ -55,12 +54,26 @@ impl<T: Debug, const RC: usize, const EC: usize> Debug for Sequence<T, RC, EC> {
 }
 
 impl<const RC: usize, const EC: usize, T: Tabled<RC, EC>> Rowed for Sequence<T, RC, EC> {
-    type Row = T::Row;
+    type Values = T::Values;
+
+    ghost EXTENSIBLE = { T.EXTENSIBLE };
+
+    const EXTENSIBLE: bool = T::EXTENSIBLE;
+
+    ghost row_schema = { T.row_schema };
+
+    ghost row_is_schema = { T.row_is_schema };
 
     ghost components = { λ v. T.components v.0 };
 
-    fn from_row(row: <T::Row as Components>::Values) -> Sequence<T, RC, EC> {
+    fn from_row(row: T::Values) -> Sequence<T, RC, EC> {
         Sequence(T::from_row(row))
+    }
+}
+
+impl<const RC: usize, const EC: usize, T: Tabled<RC, EC>> Takes for Sequence<T, RC, EC> {
+    fn take(alloc: Global, decoder: &mut Decoder<'_>) -> Result<Sequence<T, RC, EC>, DecodeError> {
+        Ok(Sequence(T::take(alloc, decoder)?))
     }
 }
 
@@ -90,13 +103,13 @@ impl<const RC: usize, const EC: usize, T: Tabled<RC, EC>> Constructed<RC, EC>
 
     ghost is_set = { false };
 
-    ghost root_rows = { T.Row.schema.roots.fields 0 };
+    ghost root_rows = { T.row_schema.roots.fields 0 };
 
-    ghost addition_rows = { T.Row.schema.additions.fields 0 };
+    ghost addition_rows = { T.row_schema.additions.fields 0 };
 
-    ghost IS_EXTENSIBLE = { T.Row.EXTENSIBLE };
+    ghost IS_EXTENSIBLE = { T.EXTENSIBLE };
 
-    const IS_EXTENSIBLE: bool = T::Row::EXTENSIBLE;
+    const IS_EXTENSIBLE: bool = T::EXTENSIBLE;
 
     const FIELDS: Fields<RC> = T::FIELDS;
 
@@ -110,25 +123,25 @@ impl<const RC: usize, const EC: usize, T: Tabled<RC, EC>> Constructed<RC, EC>
         T::addition_fields()
     }
 
-    ghost tables = { schema_tables T.Row.schema T.Row.EXTENSIBLE T.Row.Components.is_schema RC EC T.counts.0 T.counts.1 };
+    ghost tables = { schema_tables T.row_schema T.EXTENSIBLE T.row_is_schema RC EC T.counts.0 T.counts.1 };
 }
 
 impl<const RC: usize, const EC: usize, T: Tabled<RC, EC>> Spelled for Sequence<T, RC, EC> {
     ghost use Rattle.oer_rows.specs.Schema.{tree_of, IsOf, schema_is, schema_like};
 
-    ghost tree = { λ c v. tree_of T.Row.schema T.Row.EXTENSIBLE (T.components v.0) };
+    ghost tree = { λ c v. tree_of T.row_schema T.EXTENSIBLE (T.components v.0) };
 
-    ghost IsValue = { λ v. IsOf T.Row.schema (T.components v.0) };
+    ghost IsValue = { λ v. IsOf T.row_schema (T.components v.0) };
 
-    ghost is_tree = { λ c k v i. schema_is T.Row.schema T.Row.EXTENSIBLE T.Row.Components.is_schema (T.components v.0) i };
+    ghost is_tree = { λ c k v i. schema_is T.row_schema T.EXTENSIBLE T.row_is_schema (T.components v.0) i };
 
-    ghost alike = { λ c k v w i j. schema_like T.Row.schema T.Row.EXTENSIBLE T.Row.Components.is_schema (T.components v.0) (T.components w.0) i j };
+    ghost alike = { λ c k v w i j. schema_like T.row_schema T.EXTENSIBLE T.row_is_schema (T.components v.0) (T.components w.0) i j };
 }
 
 impl<const RC: usize, const EC: usize, T: Tabled<RC, EC>> Writes for Sequence<T, RC, EC> {
-    ghost roots = { λ v. T.Row.schema.roots.rows (T.components v.0) };
+    ghost roots = { λ v. T.row_schema.roots.rows (T.components v.0) };
 
-    ghost additions = { λ v. T.Row.schema.additions.rows (T.components v.0) };
+    ghost additions = { λ v. T.row_schema.additions.rows (T.components v.0) };
 
     fn put(&self, encoder: &mut Encoder<'_>) -> Result<(), EncodeError> {
         self.0.put(encoder)

@@ -1,6 +1,5 @@
 //! Sets of the components of a type, which stand in its row in the order of their tags.
 
-use crate::components::Components;
 use crate::sequences::{Sequence, Tabled};
 use crate::writing::{Writes, encode_rows};
 use asn1_core::{AsnType, Constraints, Constructed, DecodeError, EncodeError, Field, Fields, Tag};
@@ -17,7 +16,7 @@ use std::fmt::{self, Debug};
 pub trait InTagOrder<const RC: usize, const EC: usize>: Tabled<RC, EC> {
     ghost use Rattle.oer_rows.specs.Sets.{IsInOrder};
 
-    ghost in_order: { IsInOrder Self.Row.schema };
+    ghost in_order: { IsInOrder Self.row_schema };
 }
 
 /// The SET (X.680, clause 27) of the components of `T`, with `RC` root components and `EC` extension additions.
@@ -57,13 +56,13 @@ impl<const RC: usize, const EC: usize, T: InTagOrder<RC, EC>> Constructed<RC, EC
 
     ghost is_set = { true };
 
-    ghost root_rows = { T.Row.schema.roots.fields 0 };
+    ghost root_rows = { T.row_schema.roots.fields 0 };
 
-    ghost addition_rows = { T.Row.schema.additions.fields 0 };
+    ghost addition_rows = { T.row_schema.additions.fields 0 };
 
-    ghost IS_EXTENSIBLE = { T.Row.EXTENSIBLE };
+    ghost IS_EXTENSIBLE = { T.EXTENSIBLE };
 
-    const IS_EXTENSIBLE: bool = T::Row::EXTENSIBLE;
+    const IS_EXTENSIBLE: bool = T::EXTENSIBLE;
 
     const FIELDS: Fields<RC> = T::FIELDS;
 
@@ -77,25 +76,25 @@ impl<const RC: usize, const EC: usize, T: InTagOrder<RC, EC>> Constructed<RC, EC
         T::addition_fields()
     }
 
-    ghost tables = { set_tables T.Row.schema T.Row.EXTENSIBLE T.Row.Components.is_schema T.in_order RC EC T.counts.0 T.counts.1 };
+    ghost tables = { set_tables T.row_schema T.EXTENSIBLE T.row_is_schema T.in_order RC EC T.counts.0 T.counts.1 };
 }
 
 impl<const RC: usize, const EC: usize, T: InTagOrder<RC, EC>> Spelled for Set<T, RC, EC> {
     ghost use Rattle.oer_rows.specs.Sets.{IsInSet, set_of, set_is, set_like};
 
-    ghost tree = { λ c v. set_of T.Row.schema T.Row.EXTENSIBLE (T.components v.0) };
+    ghost tree = { λ c v. set_of T.row_schema T.EXTENSIBLE (T.components v.0) };
 
-    ghost IsValue = { λ v. IsInSet T.Row.schema (T.components v.0) };
+    ghost IsValue = { λ v. IsInSet T.row_schema (T.components v.0) };
 
-    ghost is_tree = { λ c k v i. set_is T.Row.schema T.Row.EXTENSIBLE T.Row.Components.is_schema (T.components v.0) i };
+    ghost is_tree = { λ c k v i. set_is T.row_schema T.EXTENSIBLE T.row_is_schema (T.components v.0) i };
 
-    ghost alike = { λ c k v w i j. set_like T.Row.schema T.Row.EXTENSIBLE T.Row.Components.is_schema (T.components v.0) (T.components w.0) i j };
+    ghost alike = { λ c k v w i j. set_like T.row_schema T.EXTENSIBLE T.row_is_schema (T.components v.0) (T.components w.0) i j };
 }
 
 impl<const RC: usize, const EC: usize, T: InTagOrder<RC, EC>> Writes for Set<T, RC, EC> {
-    ghost roots = { λ v. T.Row.schema.roots.rows (T.components v.0) };
+    ghost roots = { λ v. T.row_schema.roots.rows (T.components v.0) };
 
-    ghost additions = { λ v. T.Row.schema.additions.rows (T.components v.0) };
+    ghost additions = { λ v. T.row_schema.additions.rows (T.components v.0) };
 
     fn put(&self, encoder: &mut Encoder<'_>) -> Result<(), EncodeError> {
         self.0.put(encoder)

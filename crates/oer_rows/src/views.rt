@@ -11,7 +11,6 @@ use crate::writing::{
     put_added, put_addition, put_default, put_default_addition, put_group, put_needed, put_optional,
 };
 use asn1_core::{Constructed, EncodeError};
-use oer_read::Decode;
 use oer_spec::EqualAsSpelled;
 use oer_write::{Encode, Encoder};
 
@@ -40,7 +39,7 @@ impl<'v> Views<'v> for NoMore {
     }
 }
 
-impl<'v, G: Place, B: Decode + Encode + 'v, R: Views<'v>> Views<'v> for Needs<G, B, R> {
+impl<'v, G: Place, B: Encode + 'v, R: Views<'v>> Views<'v> for Needs<G, B, R> {
     type View = (&'v B, R::View);
 
     ghost seen = { λ v. (v.0.now, R.seen v.1) };
@@ -52,7 +51,7 @@ impl<'v, G: Place, B: Decode + Encode + 'v, R: Views<'v>> Views<'v> for Needs<G,
     }
 }
 
-impl<'v, G: Place, B: Decode + Encode + 'v, R: Views<'v>> Views<'v> for MayHave<G, B, R> {
+impl<'v, G: Place, B: Encode + 'v, R: Views<'v>> Views<'v> for MayHave<G, B, R> {
     type View = (&'v Option<B>, R::View);
 
     ghost seen = { λ v. (v.0.now, R.seen v.1) };
@@ -64,7 +63,7 @@ impl<'v, G: Place, B: Decode + Encode + 'v, R: Views<'v>> Views<'v> for MayHave<
     }
 }
 
-impl<'v, G: Place, B: Decode + Encode + EqualAsSpelled + 'v, D: Standard<B>, R: Views<'v>> Views<'v>
+impl<'v, G: Place, B: Encode + EqualAsSpelled + 'v, D: Standard<B>, R: Views<'v>> Views<'v>
     for Defaults<G, B, D, R> {
     type View = (&'v B, R::View);
 
@@ -103,8 +102,7 @@ impl<'v> AdditionViews<'v> for NoMore {
     }
 }
 
-impl<'v, G: Place, B: Decode + Encode + 'v, R: AdditionViews<'v>> AdditionViews<'v>
-    for MayAdd<G, B, R> {
+impl<'v, G: Place, B: Encode + 'v, R: AdditionViews<'v>> AdditionViews<'v> for MayAdd<G, B, R> {
     type MoreView = (&'v Option<B>, R::MoreView);
 
     ghost seen = { λ v. (v.0.now, R.seen v.1) };
@@ -119,8 +117,7 @@ impl<'v, G: Place, B: Decode + Encode + 'v, R: AdditionViews<'v>> AdditionViews<
     }
 }
 
-impl<'v, G: Place, B: Decode + Encode + 'v, R: AdditionViews<'v>> AdditionViews<'v>
-    for Adds<G, B, R> {
+impl<'v, G: Place, B: Encode + 'v, R: AdditionViews<'v>> AdditionViews<'v> for Adds<G, B, R> {
     type MoreView = (&'v B, R::MoreView);
 
     ghost seen = { λ v. (v.0.now, R.seen v.1) };
@@ -138,7 +135,7 @@ impl<'v, G: Place, B: Decode + Encode + 'v, R: AdditionViews<'v>> AdditionViews<
 impl<
     'v,
     G: Place,
-    B: Decode + Encode + EqualAsSpelled + 'v,
+    B: Encode + EqualAsSpelled + 'v,
     D: Standard<B>,
     R: AdditionViews<'v>,
 > AdditionViews<'v> for AddDefaults<G, B, D, R> {
@@ -160,7 +157,7 @@ impl<
     'v,
     const RC: usize,
     const EC: usize,
-    B: Decode + Encode + Constructed<RC, EC> + 'v,
+    B: Encode + Constructed<RC, EC> + 'v,
     R: AdditionViews<'v>,
 > AdditionViews<'v> for MayAddGroup<RC, EC, B, R> {
     type MoreView = (&'v Option<B>, R::MoreView);

@@ -4,7 +4,7 @@ use anyhow::{Error, Result};
 use asn1_ints::Integer;
 use asn1_strings::{BitString, OctetString};
 use asn1_times::UtcTime;
-use oer_types::{Color, Enum3, Sequence, Sequence2, components};
+use oer_types::{Color, Enum3, Outer, Sequence, Sequence2, components};
 use rasn_oer::prelude::Enumeration;
 use std::alloc::Global;
 
@@ -66,6 +66,14 @@ pub(crate) fn sequence() -> Sequence2 {
         a: true,
         b: Some(true),
         c: Some(false),
+    })
+}
+
+/// A sequence of a boolean with such a sequence as its addition.
+pub(crate) fn outer() -> Outer {
+    Sequence(components::Outer {
+        a: true,
+        b: Some(sequence()),
     })
 }
 

@@ -1,6 +1,6 @@
 //! The values that are measured.
 
-use crate::leaves::{bits, colors, great, octets, sequence, sequences, text, times};
+use crate::leaves::{bits, colors, great, octets, outer, sequence, sequences, text, times};
 use crate::nested::{added, linked};
 use crate::{Figures, Plan, measure};
 use anyhow::Result;
@@ -86,6 +86,7 @@ fn measure_sequence<C: Clock>(
         "link" => measure(clock, alloc, plan, &linked(alloc, None, count)?),
         "seq2" => measure(clock, alloc, plan, &sequence()),
         "seqs" => measure(clock, alloc, plan, &sequences(alloc, count)?),
+        "outer" => measure(clock, alloc, plan, &outer()),
         "extopt" => measure(clock, alloc, plan, &extended(alloc)?),
         "foo" => measure(clock, alloc, plan, &foo()),
         _ => Ok(None),

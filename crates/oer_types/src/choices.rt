@@ -1,6 +1,7 @@
 //! Choices by the rows of their alternatives.
 
 use rasn_oer::prelude::*;
+use std::alloc::Global;
 
 /// `CHOICE { normal INTEGER, high INTEGER, ..., medium INTEGER }`
 pub type PriorityChoice = OneOf<PriorityAlternatives>;
@@ -58,7 +59,11 @@ impl Alternating for PriorityAlternatives {
     ghost use Rattle.oer_choices.specs.declared.alternatives.Either.TheVariants.{First, Rest};
     ghost use Rattle.oer_types.specs.declared.choices.PriorityAlternatives.TheVariants.{Normal, High, Medium};
 
-    type Row = PriorityRow;
+    type Values = <PriorityRow as Alternatives>::Values;
+
+    ghost row_choices = { ⟦<PriorityRow as Alternatives>⟧.choices };
+
+    ghost row_are_choices = { ⟦<PriorityRow as Alternatives>⟧.are_choices };
 
     ghost alternative = { elim [ Normal n ↦ First n | High n ↦ Rest (First n) | Medium n ↦ Rest (Rest (First n)) ] };
 
@@ -90,12 +95,26 @@ impl Alternating for PriorityAlternatives {
     ghost apart = { refl };
 }
 
+impl TakesAlternative for PriorityAlternatives {
+    fn take<D: Choice>(
+        alloc: Global,
+        decoder: &mut Decoder<'_>,
+        tag: Tag,
+    ) -> Result<Self, DecodeError> {
+        read_alternative::<Self, PriorityRow, D>(alloc, decoder, tag)
+    }
+}
+
 impl Alternating for OnlyAlternatives {
     ghost use Rattle.std.specs.Prelude.{refl};
     ghost use Rattle.oer_choices.specs.declared.alternatives.Either.TheVariants.{First};
     ghost use Rattle.oer_types.specs.declared.choices.OnlyAlternatives.TheVariants.{Only};
 
-    type Row = OnlyRow;
+    type Values = <OnlyRow as Alternatives>::Values;
+
+    ghost row_choices = { ⟦<OnlyRow as Alternatives>⟧.choices };
+
+    ghost row_are_choices = { ⟦<OnlyRow as Alternatives>⟧.are_choices };
 
     ghost alternative = { elim [ Only b ↦ First b ] };
 
@@ -127,12 +146,26 @@ impl Alternating for OnlyAlternatives {
     ghost apart = { refl };
 }
 
+impl TakesAlternative for OnlyAlternatives {
+    fn take<D: Choice>(
+        alloc: Global,
+        decoder: &mut Decoder<'_>,
+        tag: Tag,
+    ) -> Result<Self, DecodeError> {
+        read_alternative::<Self, OnlyRow, D>(alloc, decoder, tag)
+    }
+}
+
 impl Alternating for BoolAlternatives {
     ghost use Rattle.std.specs.Prelude.{refl};
     ghost use Rattle.oer_choices.specs.declared.alternatives.Either.TheVariants.{First, Rest};
     ghost use Rattle.oer_types.specs.declared.choices.BoolAlternatives.TheVariants.{A, C, B};
 
-    type Row = BoolRow;
+    type Values = <BoolRow as Alternatives>::Values;
+
+    ghost row_choices = { ⟦<BoolRow as Alternatives>⟧.choices };
+
+    ghost row_are_choices = { ⟦<BoolRow as Alternatives>⟧.are_choices };
 
     ghost alternative = { elim [ A b ↦ First b | C p ↦ Rest (First p) | B b ↦ Rest (Rest (First b)) ] };
 
@@ -162,4 +195,14 @@ impl Alternating for BoolAlternatives {
     }
 
     ghost apart = { refl };
+}
+
+impl TakesAlternative for BoolAlternatives {
+    fn take<D: Choice>(
+        alloc: Global,
+        decoder: &mut Decoder<'_>,
+        tag: Tag,
+    ) -> Result<Self, DecodeError> {
+        read_alternative::<Self, BoolRow, D>(alloc, decoder, tag)
+    }
 }

@@ -3,6 +3,7 @@
 use crate::components;
 use crate::wrappers::HashedId3;
 use rasn_oer::prelude::*;
+use std::alloc::Global;
 
 /// `SEQUENCE { a HashedId3 OPTIONAL }`
 pub type ConstrainedOptions = Sequence<components::ConstrainedOptions, 1, 0>;
@@ -10,7 +11,15 @@ pub type ConstrainedOptions = Sequence<components::ConstrainedOptions, 1, 0>;
 type ConstrainedOptionsRow = MayHave<Context<0>, HashedId3, NoMore>;
 
 impl Rowed for components::ConstrainedOptions {
-    type Row = ConstrainedOptionsRow;
+    type Values = <ConstrainedOptionsRow as Components>::Values;
+
+    ghost EXTENSIBLE = { ⟦<ConstrainedOptionsRow as Components>⟧.EXTENSIBLE };
+
+    const EXTENSIBLE: bool = false;
+
+    ghost row_schema = { ⟦<ConstrainedOptionsRow as Components>⟧.schema };
+
+    ghost row_is_schema = { ⟦<ConstrainedOptionsRow as Components>⟧.is_schema };
 
     ghost components = { λ v. (v.a, tt) };
 
@@ -18,6 +27,12 @@ impl Rowed for components::ConstrainedOptions {
         (a, ()): <ConstrainedOptionsRow as Components>::Values,
     ) -> components::ConstrainedOptions {
         components::ConstrainedOptions { a }
+    }
+}
+
+impl Takes for components::ConstrainedOptions {
+    fn take(alloc: Global, decoder: &mut Decoder<'_>) -> Result<Self, DecodeError> {
+        read_row::<Self, ConstrainedOptionsRow>(alloc, decoder)
     }
 }
 

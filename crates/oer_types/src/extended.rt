@@ -43,9 +43,29 @@ impl Components for FromInteger3 {
     ghost schema = { ⟦<FromInteger3Row as Components>⟧.schema };
 
     ghost is_schema = { ⟦<FromInteger3Row as Components>⟧.is_schema };
+}
 
-    fn read(alloc: Global, decoder: &mut Decoder<'_>) -> Result<Self::Values, DecodeError> {
-        FromInteger3Row::read(alloc, decoder)
+impl Reads for FromInteger3 {
+    type Slots = <FromInteger3Row as Reads>::Slots;
+
+    ghost filled = { ⟦<FromInteger3Row as Reads>⟧.filled };
+
+    ghost filled_once = { ⟦<FromInteger3Row as Reads>⟧.filled_once };
+
+    fn empty() -> Self::Slots {
+        FromInteger3Row::empty()
+    }
+
+    fn read(
+        alloc: Global,
+        decoder: &mut Decoder<'_>,
+        slots: &mut Self::Slots,
+    ) -> Result<(), DecodeError> {
+        FromInteger3Row::read(alloc, decoder, slots)
+    }
+
+    fn taken(slots: Self::Slots) -> Self::Values {
+        FromInteger3Row::taken(slots)
     }
 }
 
@@ -81,9 +101,29 @@ impl Additions for FromInteger4 {
     ghost table = { ⟦<FromInteger4Row as Additions>⟧.table };
 
     ghost is_table = { ⟦<FromInteger4Row as Additions>⟧.is_table };
+}
 
-    fn read_additions(alloc: Global, decoder: &mut Decoder<'_>) -> Result<Self::More, DecodeError> {
-        FromInteger4Row::read_additions(alloc, decoder)
+impl ReadsAdditions for FromInteger4 {
+    type Slots = <FromInteger4Row as ReadsAdditions>::Slots;
+
+    ghost filled = { ⟦<FromInteger4Row as ReadsAdditions>⟧.filled };
+
+    ghost filled_once = { ⟦<FromInteger4Row as ReadsAdditions>⟧.filled_once };
+
+    fn empty() -> Self::Slots {
+        FromInteger4Row::empty()
+    }
+
+    fn read_additions(
+        alloc: Global,
+        decoder: &mut Decoder<'_>,
+        slots: &mut Self::Slots,
+    ) -> Result<(), DecodeError> {
+        FromInteger4Row::read_additions(alloc, decoder, slots)
+    }
+
+    fn taken(slots: Self::Slots) -> Self::More {
+        FromInteger4Row::taken(slots)
     }
 }
 
@@ -101,7 +141,15 @@ impl<'v> AdditionViews<'v> for FromInteger4 {
 }
 
 impl Rowed for components::ExtendedOptional {
-    type Row = ExtendedRow;
+    type Values = <ExtendedRow as Components>::Values;
+
+    ghost EXTENSIBLE = { ⟦<ExtendedRow as Components>⟧.EXTENSIBLE };
+
+    const EXTENSIBLE: bool = true;
+
+    ghost row_schema = { ⟦<ExtendedRow as Components>⟧.schema };
+
+    ghost row_is_schema = { ⟦<ExtendedRow as Components>⟧.is_schema };
 
     ghost components = { λ v. (v.value, (v.integer1, (v.octet1, (v.integer2, (v.octet2, (v.integer3, (v.octet3, (v.integer4, (v.octet4, (v.integer5, (v.octet5, tt))))))))))) };
 
@@ -123,6 +171,12 @@ impl Rowed for components::ExtendedOptional {
             integer5,
             octet5,
         }
+    }
+}
+
+impl Takes for components::ExtendedOptional {
+    fn take(alloc: Global, decoder: &mut Decoder<'_>) -> Result<Self, DecodeError> {
+        read_row::<Self, ExtendedRow>(alloc, decoder)
     }
 }
 

@@ -10,12 +10,26 @@ pub type Sequence1 = Sequence<components::Sequence1, 1, 0>;
 type Sequence1Row = Needs<Context<0>, bool, Extensible<NoMore>>;
 
 impl Rowed for components::Sequence1 {
-    type Row = Sequence1Row;
+    type Values = <Sequence1Row as Components>::Values;
+
+    ghost EXTENSIBLE = { ⟦<Sequence1Row as Components>⟧.EXTENSIBLE };
+
+    const EXTENSIBLE: bool = true;
+
+    ghost row_schema = { ⟦<Sequence1Row as Components>⟧.schema };
+
+    ghost row_is_schema = { ⟦<Sequence1Row as Components>⟧.is_schema };
 
     ghost components = { λ v. (v.a, tt) };
 
     fn from_row((a, ()): <Sequence1Row as Components>::Values) -> components::Sequence1 {
         components::Sequence1 { a }
+    }
+}
+
+impl Takes for components::Sequence1 {
+    fn take(alloc: Global, decoder: &mut Decoder<'_>) -> Result<Self, DecodeError> {
+        read_row::<Self, Sequence1Row>(alloc, decoder)
     }
 }
 
@@ -56,12 +70,26 @@ type Sequence2Row = Needs<
 >;
 
 impl Rowed for components::Sequence2 {
-    type Row = Sequence2Row;
+    type Values = <Sequence2Row as Components>::Values;
+
+    ghost EXTENSIBLE = { ⟦<Sequence2Row as Components>⟧.EXTENSIBLE };
+
+    const EXTENSIBLE: bool = true;
+
+    ghost row_schema = { ⟦<Sequence2Row as Components>⟧.schema };
+
+    ghost row_is_schema = { ⟦<Sequence2Row as Components>⟧.is_schema };
 
     ghost components = { λ v. (v.a, (v.b, (v.c, tt))) };
 
     fn from_row((a, (b, (c, ()))): <Sequence2Row as Components>::Values) -> components::Sequence2 {
         components::Sequence2 { a, b, c }
+    }
+}
+
+impl Takes for components::Sequence2 {
+    fn take(alloc: Global, decoder: &mut Decoder<'_>) -> Result<Self, DecodeError> {
+        read_row::<Self, Sequence2Row>(alloc, decoder)
     }
 }
 
@@ -100,12 +128,26 @@ pub type Sequence5 = Sequence<components::Sequence5, 1, 1>;
 type Sequence5Row = Needs<Context<0>, bool, Extensible<MayAdd<Context<1>, bool, NoMore>>>;
 
 impl Rowed for components::Sequence5 {
-    type Row = Sequence5Row;
+    type Values = <Sequence5Row as Components>::Values;
+
+    ghost EXTENSIBLE = { ⟦<Sequence5Row as Components>⟧.EXTENSIBLE };
+
+    const EXTENSIBLE: bool = true;
+
+    ghost row_schema = { ⟦<Sequence5Row as Components>⟧.schema };
+
+    ghost row_is_schema = { ⟦<Sequence5Row as Components>⟧.is_schema };
 
     ghost components = { λ v. (v.a, (v.b, tt)) };
 
     fn from_row((a, (b, ())): <Sequence5Row as Components>::Values) -> components::Sequence5 {
         components::Sequence5 { a, b }
+    }
+}
+
+impl Takes for components::Sequence5 {
+    fn take(alloc: Global, decoder: &mut Decoder<'_>) -> Result<Self, DecodeError> {
+        read_row::<Self, Sequence5Row>(alloc, decoder)
     }
 }
 
@@ -154,9 +196,29 @@ impl Additions for OuterAdditions {
     ghost table = { ⟦<OuterAdditionsRow as Additions>⟧.table };
 
     ghost is_table = { ⟦<OuterAdditionsRow as Additions>⟧.is_table };
+}
 
-    fn read_additions(alloc: Global, decoder: &mut Decoder<'_>) -> Result<Self::More, DecodeError> {
-        OuterAdditionsRow::read_additions(alloc, decoder)
+impl ReadsAdditions for OuterAdditions {
+    type Slots = <OuterAdditionsRow as ReadsAdditions>::Slots;
+
+    ghost filled = { ⟦<OuterAdditionsRow as ReadsAdditions>⟧.filled };
+
+    ghost filled_once = { ⟦<OuterAdditionsRow as ReadsAdditions>⟧.filled_once };
+
+    fn empty() -> Self::Slots {
+        OuterAdditionsRow::empty()
+    }
+
+    fn read_additions(
+        alloc: Global,
+        decoder: &mut Decoder<'_>,
+        slots: &mut Self::Slots,
+    ) -> Result<(), DecodeError> {
+        OuterAdditionsRow::read_additions(alloc, decoder, slots)
+    }
+
+    fn taken(slots: Self::Slots) -> Self::More {
+        OuterAdditionsRow::taken(slots)
     }
 }
 
@@ -174,12 +236,26 @@ impl<'v> AdditionViews<'v> for OuterAdditions {
 }
 
 impl Rowed for components::Outer {
-    type Row = OuterRow;
+    type Values = <OuterRow as Components>::Values;
+
+    ghost EXTENSIBLE = { ⟦<OuterRow as Components>⟧.EXTENSIBLE };
+
+    const EXTENSIBLE: bool = true;
+
+    ghost row_schema = { ⟦<OuterRow as Components>⟧.schema };
+
+    ghost row_is_schema = { ⟦<OuterRow as Components>⟧.is_schema };
 
     ghost components = { λ v. (v.a, (v.b, tt)) };
 
     fn from_row((a, (b, ())): <OuterRow as Components>::Values) -> components::Outer {
         components::Outer { a, b }
+    }
+}
+
+impl Takes for components::Outer {
+    fn take(alloc: Global, decoder: &mut Decoder<'_>) -> Result<Self, DecodeError> {
+        read_row::<Self, OuterRow>(alloc, decoder)
     }
 }
 
@@ -218,12 +294,26 @@ pub type EmptyExtensible = Sequence<components::EmptyExtensible, 0, 0>;
 type EmptyExtensibleRow = Extensible<NoMore>;
 
 impl Rowed for components::EmptyExtensible {
-    type Row = EmptyExtensibleRow;
+    type Values = <EmptyExtensibleRow as Components>::Values;
+
+    ghost EXTENSIBLE = { ⟦<EmptyExtensibleRow as Components>⟧.EXTENSIBLE };
+
+    const EXTENSIBLE: bool = true;
+
+    ghost row_schema = { ⟦<EmptyExtensibleRow as Components>⟧.schema };
+
+    ghost row_is_schema = { ⟦<EmptyExtensibleRow as Components>⟧.is_schema };
 
     ghost components = { λ v. tt };
 
     fn from_row((): <EmptyExtensibleRow as Components>::Values) -> components::EmptyExtensible {
         components::EmptyExtensible
+    }
+}
+
+impl Takes for components::EmptyExtensible {
+    fn take(alloc: Global, decoder: &mut Decoder<'_>) -> Result<Self, DecodeError> {
+        read_row::<Self, EmptyExtensibleRow>(alloc, decoder)
     }
 }
 

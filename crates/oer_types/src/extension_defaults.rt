@@ -3,6 +3,7 @@
 use crate::components;
 use crate::extensible::{Sequence1, Sequence5};
 use rasn_oer::prelude::*;
+use std::alloc::Global;
 
 /// `SEQUENCE { a BOOLEAN, ..., b INTEGER DEFAULT 7 }`
 pub type AddDef = Sequence<components::AddDef, 1, 1>;
@@ -14,12 +15,26 @@ type AddDefRow = Needs<
 >;
 
 impl Rowed for components::AddDef {
-    type Row = AddDefRow;
+    type Values = <AddDefRow as Components>::Values;
+
+    ghost EXTENSIBLE = { ⟦<AddDefRow as Components>⟧.EXTENSIBLE };
+
+    const EXTENSIBLE: bool = true;
+
+    ghost row_schema = { ⟦<AddDefRow as Components>⟧.schema };
+
+    ghost row_is_schema = { ⟦<AddDefRow as Components>⟧.is_schema };
 
     ghost components = { λ v. (v.a, (v.b, tt)) };
 
     fn from_row((a, (b, ())): <AddDefRow as Components>::Values) -> components::AddDef {
         components::AddDef { a, b }
+    }
+}
+
+impl Takes for components::AddDef {
+    fn take(alloc: Global, decoder: &mut Decoder<'_>) -> Result<Self, DecodeError> {
+        read_row::<Self, AddDefRow>(alloc, decoder)
     }
 }
 
@@ -81,12 +96,26 @@ impl Compared<1, 0> for components::Sequence1 {
 }
 
 impl Rowed for components::Holder1 {
-    type Row = Holder1Row;
+    type Values = <Holder1Row as Components>::Values;
+
+    ghost EXTENSIBLE = { ⟦<Holder1Row as Components>⟧.EXTENSIBLE };
+
+    const EXTENSIBLE: bool = false;
+
+    ghost row_schema = { ⟦<Holder1Row as Components>⟧.schema };
+
+    ghost row_is_schema = { ⟦<Holder1Row as Components>⟧.is_schema };
 
     ghost components = { λ v. (v.a, tt) };
 
     fn from_row((a, ()): <Holder1Row as Components>::Values) -> components::Holder1 {
         components::Holder1 { a }
+    }
+}
+
+impl Takes for components::Holder1 {
+    fn take(alloc: Global, decoder: &mut Decoder<'_>) -> Result<Self, DecodeError> {
+        read_row::<Self, Holder1Row>(alloc, decoder)
     }
 }
 
@@ -147,12 +176,26 @@ impl Compared<1, 1> for components::Sequence5 {
 }
 
 impl Rowed for components::Holder2 {
-    type Row = Holder2Row;
+    type Values = <Holder2Row as Components>::Values;
+
+    ghost EXTENSIBLE = { ⟦<Holder2Row as Components>⟧.EXTENSIBLE };
+
+    const EXTENSIBLE: bool = false;
+
+    ghost row_schema = { ⟦<Holder2Row as Components>⟧.schema };
+
+    ghost row_is_schema = { ⟦<Holder2Row as Components>⟧.is_schema };
 
     ghost components = { λ v. (v.a, tt) };
 
     fn from_row((a, ()): <Holder2Row as Components>::Values) -> components::Holder2 {
         components::Holder2 { a }
+    }
+}
+
+impl Takes for components::Holder2 {
+    fn take(alloc: Global, decoder: &mut Decoder<'_>) -> Result<Self, DecodeError> {
+        read_row::<Self, Holder2Row>(alloc, decoder)
     }
 }
 

@@ -2,6 +2,7 @@
 
 use crate::components;
 use rasn_oer::prelude::*;
+use std::alloc::Global;
 
 /// `SEQUENCE { a BOOLEAN }`, which stands as a group in `Sequence3`
 pub type Sequence4 = Sequence<components::Sequence4, 1, 0>;
@@ -9,12 +10,26 @@ pub type Sequence4 = Sequence<components::Sequence4, 1, 0>;
 type Sequence4Row = Needs<Context<0>, bool, NoMore>;
 
 impl Rowed for components::Sequence4 {
-    type Row = Sequence4Row;
+    type Values = <Sequence4Row as Components>::Values;
+
+    ghost EXTENSIBLE = { ⟦<Sequence4Row as Components>⟧.EXTENSIBLE };
+
+    const EXTENSIBLE: bool = false;
+
+    ghost row_schema = { ⟦<Sequence4Row as Components>⟧.schema };
+
+    ghost row_is_schema = { ⟦<Sequence4Row as Components>⟧.is_schema };
 
     ghost components = { λ v. (v.a, tt) };
 
     fn from_row((a, ()): <Sequence4Row as Components>::Values) -> components::Sequence4 {
         components::Sequence4 { a }
+    }
+}
+
+impl Takes for components::Sequence4 {
+    fn take(alloc: Global, decoder: &mut Decoder<'_>) -> Result<Self, DecodeError> {
+        read_row::<Self, Sequence4Row>(alloc, decoder)
     }
 }
 
@@ -51,12 +66,26 @@ pub type Sequence3 = Sequence<components::Sequence3, 1, 1>;
 type Sequence3Row = Needs<Context<0>, bool, Extensible<MayAddGroup<1, 0, Sequence4, NoMore>>>;
 
 impl Rowed for components::Sequence3 {
-    type Row = Sequence3Row;
+    type Values = <Sequence3Row as Components>::Values;
+
+    ghost EXTENSIBLE = { ⟦<Sequence3Row as Components>⟧.EXTENSIBLE };
+
+    const EXTENSIBLE: bool = true;
+
+    ghost row_schema = { ⟦<Sequence3Row as Components>⟧.schema };
+
+    ghost row_is_schema = { ⟦<Sequence3Row as Components>⟧.is_schema };
 
     ghost components = { λ v. (v.a, (v.b, tt)) };
 
     fn from_row((a, (b, ())): <Sequence3Row as Components>::Values) -> components::Sequence3 {
         components::Sequence3 { a, b }
+    }
+}
+
+impl Takes for components::Sequence3 {
+    fn take(alloc: Global, decoder: &mut Decoder<'_>) -> Result<Self, DecodeError> {
+        read_row::<Self, Sequence3Row>(alloc, decoder)
     }
 }
 
@@ -95,12 +124,26 @@ pub type Group6 = Sequence<components::Group6, 1, 0>;
 type Group6Row = MayHave<Context<0>, bool, NoMore>;
 
 impl Rowed for components::Group6 {
-    type Row = Group6Row;
+    type Values = <Group6Row as Components>::Values;
+
+    ghost EXTENSIBLE = { ⟦<Group6Row as Components>⟧.EXTENSIBLE };
+
+    const EXTENSIBLE: bool = false;
+
+    ghost row_schema = { ⟦<Group6Row as Components>⟧.schema };
+
+    ghost row_is_schema = { ⟦<Group6Row as Components>⟧.is_schema };
 
     ghost components = { λ v. (v.a, tt) };
 
     fn from_row((a, ()): <Group6Row as Components>::Values) -> components::Group6 {
         components::Group6 { a }
+    }
+}
+
+impl Takes for components::Group6 {
+    fn take(alloc: Global, decoder: &mut Decoder<'_>) -> Result<Self, DecodeError> {
+        read_row::<Self, Group6Row>(alloc, decoder)
     }
 }
 
@@ -137,12 +180,26 @@ pub type Sequence6 = Sequence<components::Sequence6, 1, 1>;
 type Sequence6Row = Needs<Context<0>, bool, Extensible<MayAddGroup<1, 0, Group6, NoMore>>>;
 
 impl Rowed for components::Sequence6 {
-    type Row = Sequence6Row;
+    type Values = <Sequence6Row as Components>::Values;
+
+    ghost EXTENSIBLE = { ⟦<Sequence6Row as Components>⟧.EXTENSIBLE };
+
+    const EXTENSIBLE: bool = true;
+
+    ghost row_schema = { ⟦<Sequence6Row as Components>⟧.schema };
+
+    ghost row_is_schema = { ⟦<Sequence6Row as Components>⟧.is_schema };
 
     ghost components = { λ v. (v.a, (v.b, tt)) };
 
     fn from_row((a, (b, ())): <Sequence6Row as Components>::Values) -> components::Sequence6 {
         components::Sequence6 { a, b }
+    }
+}
+
+impl Takes for components::Sequence6 {
+    fn take(alloc: Global, decoder: &mut Decoder<'_>) -> Result<Self, DecodeError> {
+        read_row::<Self, Sequence6Row>(alloc, decoder)
     }
 }
 

@@ -1,6 +1,7 @@
 //! Types that hold a value of any other: a sequence, and a sequence that holds it as an addition.
 
 use rasn_oer::prelude::*;
+use std::alloc::Global;
 
 /// `SEQUENCE { inner T }`
 pub type Holding<T> = Sequence<HoldingComponents<T>, 1, 0>;
@@ -16,12 +17,26 @@ type HoldingRow<T> = Needs<Context<0>, T, NoMore>;
 const INNER_FIELDS: &'static [Field<'static>] = fields![0 Required Context 0 "inner"];
 
 impl<T: Decode + Encode> Rowed for HoldingComponents<T> {
-    type Row = HoldingRow<T>;
+    type Values = <HoldingRow<T> as Components>::Values;
+
+    ghost EXTENSIBLE = { ⟦<HoldingRow<T> as Components>⟧.EXTENSIBLE };
+
+    const EXTENSIBLE: bool = false;
+
+    ghost row_schema = { ⟦<HoldingRow<T> as Components>⟧.schema };
+
+    ghost row_is_schema = { ⟦<HoldingRow<T> as Components>⟧.is_schema };
 
     ghost components = { λ v. (v.inner, tt) };
 
     fn from_row((inner, ()): <HoldingRow<T> as Components>::Values) -> HoldingComponents<T> {
         HoldingComponents { inner }
+    }
+}
+
+impl<T: Decode + Encode> Takes for HoldingComponents<T> {
+    fn take(alloc: Global, decoder: &mut Decoder<'_>) -> Result<Self, DecodeError> {
+        read_row::<Self, HoldingRow<T>>(alloc, decoder)
     }
 }
 
@@ -66,12 +81,26 @@ const OK_FIELDS: &'static [Field<'static>] = fields![0 Required Context 0 "ok"];
 const INNER_ADDITIONS: &'static [Field<'static>] = fields![0 Optional Context 1 "inner"];
 
 impl<T: Decode + Encode> Rowed for AddingComponents<T> {
-    type Row = AddingRow<T>;
+    type Values = <AddingRow<T> as Components>::Values;
+
+    ghost EXTENSIBLE = { ⟦<AddingRow<T> as Components>⟧.EXTENSIBLE };
+
+    const EXTENSIBLE: bool = true;
+
+    ghost row_schema = { ⟦<AddingRow<T> as Components>⟧.schema };
+
+    ghost row_is_schema = { ⟦<AddingRow<T> as Components>⟧.is_schema };
 
     ghost components = { λ v. (v.ok, (v.inner, tt)) };
 
     fn from_row((ok, (inner, ())): <AddingRow<T> as Components>::Values) -> AddingComponents<T> {
         AddingComponents { ok, inner }
+    }
+}
+
+impl<T: Decode + Encode> Takes for AddingComponents<T> {
+    fn take(alloc: Global, decoder: &mut Decoder<'_>) -> Result<Self, DecodeError> {
+        read_row::<Self, AddingRow<T>>(alloc, decoder)
     }
 }
 

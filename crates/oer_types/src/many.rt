@@ -1,4 +1,4 @@
-//! A sequence of many optional components: its row is cut, at names, into parts of five.
+//! A sequence of many optional components: its row is cut, at names, into parts of three and four.
 
 use crate::components;
 use rasn_oer::prelude::*;
@@ -13,59 +13,127 @@ type ManyRow = Needs<
     MayHave<
         Context<1>,
         Integer,
-        MayHave<
-            Context<2>,
-            OctetString,
-            MayHave<Context<3>, Integer, MayHave<Context<4>, OctetString, FromInteger3>>,
-        >,
+        MayHave<Context<2>, OctetString, MayHave<Context<3>, Integer, FromOctet2>>,
     >,
 >;
 
-/// The components from `integer3` on.
-pub struct FromInteger3;
+/// The components from `octet2` on.
+pub struct FromOctet2;
 
-type FromInteger3Row = MayHave<
-    Context<5>,
-    Integer,
-    MayHave<
-        Context<6>,
-        OctetString,
-        MayHave<
-            Context<7>,
-            Integer,
-            MayHave<Context<8>, Integer, MayHave<Context<9>, Integer, FromInteger7>>,
-        >,
-    >,
+type FromOctet2Row = MayHave<
+    Context<4>,
+    OctetString,
+    MayHave<Context<5>, Integer, MayHave<Context<6>, OctetString, FromInteger4>>,
 >;
 
-impl Components for FromInteger3 {
+impl Components for FromOctet2 {
     ghost use Rattle.std.specs.Prelude.{false};
 
-    type Values = <FromInteger3Row as Components>::Values;
+    type Values = <FromOctet2Row as Components>::Values;
 
     ghost EXTENSIBLE = { false };
 
     const EXTENSIBLE: bool = false;
 
-    ghost schema = { ⟦<FromInteger3Row as Components>⟧.schema };
+    ghost schema = { ⟦<FromOctet2Row as Components>⟧.schema };
 
-    ghost is_schema = { ⟦<FromInteger3Row as Components>⟧.is_schema };
+    ghost is_schema = { ⟦<FromOctet2Row as Components>⟧.is_schema };
+}
 
-    fn read(alloc: Global, decoder: &mut Decoder<'_>) -> Result<Self::Values, DecodeError> {
-        FromInteger3Row::read(alloc, decoder)
+impl Reads for FromOctet2 {
+    type Slots = <FromOctet2Row as Reads>::Slots;
+
+    ghost filled = { ⟦<FromOctet2Row as Reads>⟧.filled };
+
+    ghost filled_once = { ⟦<FromOctet2Row as Reads>⟧.filled_once };
+
+    fn empty() -> Self::Slots {
+        FromOctet2Row::empty()
+    }
+
+    fn read(
+        alloc: Global,
+        decoder: &mut Decoder<'_>,
+        slots: &mut Self::Slots,
+    ) -> Result<(), DecodeError> {
+        FromOctet2Row::read(alloc, decoder, slots)
+    }
+
+    fn taken(slots: Self::Slots) -> Self::Values {
+        FromOctet2Row::taken(slots)
     }
 }
 
-impl<'v> Views<'v> for FromInteger3 {
-    type View = <FromInteger3Row as Views<'v>>::View;
+impl<'v> Views<'v> for FromOctet2 {
+    type View = <FromOctet2Row as Views<'v>>::View;
 
-    ghost seen = { ⟦<FromInteger3Row as Views<'v>>⟧.seen };
+    ghost seen = { ⟦<FromOctet2Row as Views<'v>>⟧.seen };
 
     fn write(
-        view: <FromInteger3Row as Views<'v>>::View,
+        view: <FromOctet2Row as Views<'v>>::View,
         encoder: &mut Encoder<'_>,
     ) -> Result<(), EncodeError> {
-        FromInteger3Row::write(view, encoder)
+        FromOctet2Row::write(view, encoder)
+    }
+}
+
+/// The components from `integer4` on.
+pub struct FromInteger4;
+
+type FromInteger4Row = MayHave<
+    Context<7>,
+    Integer,
+    MayHave<Context<8>, Integer, MayHave<Context<9>, Integer, FromInteger7>>,
+>;
+
+impl Components for FromInteger4 {
+    ghost use Rattle.std.specs.Prelude.{false};
+
+    type Values = <FromInteger4Row as Components>::Values;
+
+    ghost EXTENSIBLE = { false };
+
+    const EXTENSIBLE: bool = false;
+
+    ghost schema = { ⟦<FromInteger4Row as Components>⟧.schema };
+
+    ghost is_schema = { ⟦<FromInteger4Row as Components>⟧.is_schema };
+}
+
+impl Reads for FromInteger4 {
+    type Slots = <FromInteger4Row as Reads>::Slots;
+
+    ghost filled = { ⟦<FromInteger4Row as Reads>⟧.filled };
+
+    ghost filled_once = { ⟦<FromInteger4Row as Reads>⟧.filled_once };
+
+    fn empty() -> Self::Slots {
+        FromInteger4Row::empty()
+    }
+
+    fn read(
+        alloc: Global,
+        decoder: &mut Decoder<'_>,
+        slots: &mut Self::Slots,
+    ) -> Result<(), DecodeError> {
+        FromInteger4Row::read(alloc, decoder, slots)
+    }
+
+    fn taken(slots: Self::Slots) -> Self::Values {
+        FromInteger4Row::taken(slots)
+    }
+}
+
+impl<'v> Views<'v> for FromInteger4 {
+    type View = <FromInteger4Row as Views<'v>>::View;
+
+    ghost seen = { ⟦<FromInteger4Row as Views<'v>>⟧.seen };
+
+    fn write(
+        view: <FromInteger4Row as Views<'v>>::View,
+        encoder: &mut Encoder<'_>,
+    ) -> Result<(), EncodeError> {
+        FromInteger4Row::write(view, encoder)
     }
 }
 
@@ -90,9 +158,29 @@ impl Components for FromInteger7 {
     ghost schema = { ⟦<FromInteger7Row as Components>⟧.schema };
 
     ghost is_schema = { ⟦<FromInteger7Row as Components>⟧.is_schema };
+}
 
-    fn read(alloc: Global, decoder: &mut Decoder<'_>) -> Result<Self::Values, DecodeError> {
-        FromInteger7Row::read(alloc, decoder)
+impl Reads for FromInteger7 {
+    type Slots = <FromInteger7Row as Reads>::Slots;
+
+    ghost filled = { ⟦<FromInteger7Row as Reads>⟧.filled };
+
+    ghost filled_once = { ⟦<FromInteger7Row as Reads>⟧.filled_once };
+
+    fn empty() -> Self::Slots {
+        FromInteger7Row::empty()
+    }
+
+    fn read(
+        alloc: Global,
+        decoder: &mut Decoder<'_>,
+        slots: &mut Self::Slots,
+    ) -> Result<(), DecodeError> {
+        FromInteger7Row::read(alloc, decoder, slots)
+    }
+
+    fn taken(slots: Self::Slots) -> Self::Values {
+        FromInteger7Row::taken(slots)
     }
 }
 
@@ -110,7 +198,15 @@ impl<'v> Views<'v> for FromInteger7 {
 }
 
 impl Rowed for components::ManyOptional {
-    type Row = ManyRow;
+    type Values = <ManyRow as Components>::Values;
+
+    ghost EXTENSIBLE = { ⟦<ManyRow as Components>⟧.EXTENSIBLE };
+
+    const EXTENSIBLE: bool = false;
+
+    ghost row_schema = { ⟦<ManyRow as Components>⟧.schema };
+
+    ghost row_is_schema = { ⟦<ManyRow as Components>⟧.is_schema };
 
     ghost components = { λ v. (v.value, (v.integer1, (v.octet1, (v.integer2, (v.octet2, (v.integer3, (v.octet3, (v.integer4, (v.integer5, (v.integer6, (v.integer7, (v.integer8, (v.integer9, tt))))))))))))) };
 
@@ -134,6 +230,12 @@ impl Rowed for components::ManyOptional {
             integer8,
             integer9,
         }
+    }
+}
+
+impl Takes for components::ManyOptional {
+    fn take(alloc: Global, decoder: &mut Decoder<'_>) -> Result<Self, DecodeError> {
+        read_row::<Self, ManyRow>(alloc, decoder)
     }
 }
 

@@ -2,6 +2,7 @@
 
 use crate::PriorityChoice;
 use rasn_oer::prelude::*;
+use std::alloc::Global;
 
 /// `SEQUENCE { priority PriorityChoice, names SEQUENCE OF OCTET STRING }`
 pub type Mixed = Sequence<MixedComponents, 2, 0>;
@@ -16,12 +17,26 @@ pub struct MixedComponents {
 type MixedRow = Needs<Context<0>, PriorityChoice, Needs<Context<1>, ListOf<OctetString>, NoMore>>;
 
 impl Rowed for MixedComponents {
-    type Row = MixedRow;
+    type Values = <MixedRow as Components>::Values;
+
+    ghost EXTENSIBLE = { ⟦<MixedRow as Components>⟧.EXTENSIBLE };
+
+    const EXTENSIBLE: bool = false;
+
+    ghost row_schema = { ⟦<MixedRow as Components>⟧.schema };
+
+    ghost row_is_schema = { ⟦<MixedRow as Components>⟧.is_schema };
 
     ghost components = { λ v. (v.priority, (v.names, tt)) };
 
     fn from_row((priority, (names, ())): <MixedRow as Components>::Values) -> MixedComponents {
         MixedComponents { priority, names }
+    }
+}
+
+impl Takes for MixedComponents {
+    fn take(alloc: Global, decoder: &mut Decoder<'_>) -> Result<Self, DecodeError> {
+        read_row::<Self, MixedRow>(alloc, decoder)
     }
 }
 

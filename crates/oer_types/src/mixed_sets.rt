@@ -2,6 +2,7 @@
 
 use crate::components;
 use rasn_oer::prelude::*;
+use std::alloc::Global;
 
 /// `SET { z [APPLICATION 1] INTEGER DEFAULT 0, y [1] INTEGER OPTIONAL, x [2] BOOLEAN, ..., n [0] BOOLEAN OPTIONAL }`
 pub type MixedSet = Set<components::MixedSet, 3, 1>;
@@ -24,7 +25,15 @@ const MIXED_SET_FIELDS: &'static [Field<'static>] = fields![
 const MIXED_SET_ADDITIONS: &'static [Field<'static>] = fields![0 Optional Context 0 "n"];
 
 impl Rowed for components::MixedSet {
-    type Row = MixedSetRow;
+    type Values = <MixedSetRow as Components>::Values;
+
+    ghost EXTENSIBLE = { ⟦<MixedSetRow as Components>⟧.EXTENSIBLE };
+
+    const EXTENSIBLE: bool = true;
+
+    ghost row_schema = { ⟦<MixedSetRow as Components>⟧.schema };
+
+    ghost row_is_schema = { ⟦<MixedSetRow as Components>⟧.is_schema };
 
     ghost components = { λ v. (v.z, (v.y, (v.x, (v.n, tt)))) };
 
@@ -32,6 +41,12 @@ impl Rowed for components::MixedSet {
         (z, (y, (x, (n, ())))): <MixedSetRow as Components>::Values,
     ) -> components::MixedSet {
         components::MixedSet { x, y, z, n }
+    }
+}
+
+impl Takes for components::MixedSet {
+    fn take(alloc: Global, decoder: &mut Decoder<'_>) -> Result<Self, DecodeError> {
+        read_row::<Self, MixedSetRow>(alloc, decoder)
     }
 }
 
@@ -87,7 +102,15 @@ const MIXED_SET2_ADDITIONS: &'static [Field<'static>] =
     fields![0 Optional Context 0 "n", 1 Optional Context 3 "m"];
 
 impl Rowed for components::MixedSet2 {
-    type Row = MixedSet2Row;
+    type Values = <MixedSet2Row as Components>::Values;
+
+    ghost EXTENSIBLE = { ⟦<MixedSet2Row as Components>⟧.EXTENSIBLE };
+
+    const EXTENSIBLE: bool = true;
+
+    ghost row_schema = { ⟦<MixedSet2Row as Components>⟧.schema };
+
+    ghost row_is_schema = { ⟦<MixedSet2Row as Components>⟧.is_schema };
 
     ghost components = { λ v. (v.z, (v.y, (v.x, (v.n, (v.m, tt))))) };
 
@@ -95,6 +118,12 @@ impl Rowed for components::MixedSet2 {
         (z, (y, (x, (n, (m, ()))))): <MixedSet2Row as Components>::Values,
     ) -> components::MixedSet2 {
         components::MixedSet2 { x, y, z, n, m }
+    }
+}
+
+impl Takes for components::MixedSet2 {
+    fn take(alloc: Global, decoder: &mut Decoder<'_>) -> Result<Self, DecodeError> {
+        read_row::<Self, MixedSet2Row>(alloc, decoder)
     }
 }
 

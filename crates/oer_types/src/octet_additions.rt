@@ -2,6 +2,7 @@
 
 use crate::components;
 use rasn_oer::prelude::*;
+use std::alloc::Global;
 
 /// `SEQUENCE { a OCTET STRING OPTIONAL, ..., omitted NULL OPTIONAL }`
 pub type Omitted = Sequence<components::Omitted, 1, 1>;
@@ -9,12 +10,26 @@ pub type Omitted = Sequence<components::Omitted, 1, 1>;
 type OmittedRow = MayHave<Context<0>, OctetString, Extensible<MayAdd<Context<1>, (), NoMore>>>;
 
 impl Rowed for components::Omitted {
-    type Row = OmittedRow;
+    type Values = <OmittedRow as Components>::Values;
+
+    ghost EXTENSIBLE = { ⟦<OmittedRow as Components>⟧.EXTENSIBLE };
+
+    const EXTENSIBLE: bool = true;
+
+    ghost row_schema = { ⟦<OmittedRow as Components>⟧.schema };
+
+    ghost row_is_schema = { ⟦<OmittedRow as Components>⟧.is_schema };
 
     ghost components = { λ v. (v.a, (v.omitted, tt)) };
 
     fn from_row((a, (omitted, ())): <OmittedRow as Components>::Values) -> components::Omitted {
         components::Omitted { a, omitted }
+    }
+}
+
+impl Takes for components::Omitted {
+    fn take(alloc: Global, decoder: &mut Decoder<'_>) -> Result<Self, DecodeError> {
+        read_row::<Self, OmittedRow>(alloc, decoder)
     }
 }
 
@@ -62,7 +77,15 @@ type SequenceDuplicatesExtendedRow = Needs<
 >;
 
 impl Rowed for components::SequenceDuplicatesExtended {
-    type Row = SequenceDuplicatesExtendedRow;
+    type Values = <SequenceDuplicatesExtendedRow as Components>::Values;
+
+    ghost EXTENSIBLE = { ⟦<SequenceDuplicatesExtendedRow as Components>⟧.EXTENSIBLE };
+
+    const EXTENSIBLE: bool = true;
+
+    ghost row_schema = { ⟦<SequenceDuplicatesExtendedRow as Components>⟧.schema };
+
+    ghost row_is_schema = { ⟦<SequenceDuplicatesExtendedRow as Components>⟧.is_schema };
 
     ghost components = { λ v. (v.it, (v.is, (v.late, (v.today, tt)))) };
 
@@ -75,6 +98,12 @@ impl Rowed for components::SequenceDuplicatesExtended {
             late,
             today,
         }
+    }
+}
+
+impl Takes for components::SequenceDuplicatesExtended {
+    fn take(alloc: Global, decoder: &mut Decoder<'_>) -> Result<Self, DecodeError> {
+        read_row::<Self, SequenceDuplicatesExtendedRow>(alloc, decoder)
     }
 }
 

@@ -1,6 +1,7 @@
 //! An extensible sequence with an addition that newer versions always have.
 
 use rasn_oer::prelude::*;
+use std::alloc::Global;
 
 /// `SEQUENCE { ok BOOLEAN, ..., sure BOOLEAN }`
 pub type Sure = Sequence<SureComponents, 1, 1>;
@@ -15,12 +16,26 @@ pub struct SureComponents {
 type SureRow = Needs<Context<0>, bool, Extensible<Adds<Context<1>, bool, NoMore>>>;
 
 impl Rowed for SureComponents {
-    type Row = SureRow;
+    type Values = <SureRow as Components>::Values;
+
+    ghost EXTENSIBLE = { ⟦<SureRow as Components>⟧.EXTENSIBLE };
+
+    const EXTENSIBLE: bool = true;
+
+    ghost row_schema = { ⟦<SureRow as Components>⟧.schema };
+
+    ghost row_is_schema = { ⟦<SureRow as Components>⟧.is_schema };
 
     ghost components = { λ v. (v.ok, (v.sure, tt)) };
 
     fn from_row((ok, (sure, ())): <SureRow as Components>::Values) -> SureComponents {
         SureComponents { ok, sure }
+    }
+}
+
+impl Takes for SureComponents {
+    fn take(alloc: Global, decoder: &mut Decoder<'_>) -> Result<Self, DecodeError> {
+        read_row::<Self, SureRow>(alloc, decoder)
     }
 }
 

@@ -3,6 +3,7 @@
 use crate::components;
 use crate::pairs::Pair;
 use rasn_oer::prelude::*;
+use std::alloc::Global;
 
 /// `SEQUENCE { a BOOLEAN, b Pair }`
 pub type Nested = Sequence<components::Nested, 2, 0>;
@@ -10,12 +11,26 @@ pub type Nested = Sequence<components::Nested, 2, 0>;
 type NestedRow = Needs<Context<0>, bool, Needs<Context<1>, Pair, NoMore>>;
 
 impl Rowed for components::Nested {
-    type Row = NestedRow;
+    type Values = <NestedRow as Components>::Values;
+
+    ghost EXTENSIBLE = { ⟦<NestedRow as Components>⟧.EXTENSIBLE };
+
+    const EXTENSIBLE: bool = false;
+
+    ghost row_schema = { ⟦<NestedRow as Components>⟧.schema };
+
+    ghost row_is_schema = { ⟦<NestedRow as Components>⟧.is_schema };
 
     ghost components = { λ v. (v.a, (v.b, tt)) };
 
     fn from_row((a, (b, ())): <NestedRow as Components>::Values) -> components::Nested {
         components::Nested { a, b }
+    }
+}
+
+impl Takes for components::Nested {
+    fn take(alloc: Global, decoder: &mut Decoder<'_>) -> Result<Self, DecodeError> {
+        read_row::<Self, NestedRow>(alloc, decoder)
     }
 }
 
@@ -52,12 +67,26 @@ pub type Empty = Sequence<components::Empty, 0, 0>;
 type EmptyRow = NoMore;
 
 impl Rowed for components::Empty {
-    type Row = EmptyRow;
+    type Values = <EmptyRow as Components>::Values;
+
+    ghost EXTENSIBLE = { ⟦<EmptyRow as Components>⟧.EXTENSIBLE };
+
+    const EXTENSIBLE: bool = false;
+
+    ghost row_schema = { ⟦<EmptyRow as Components>⟧.schema };
+
+    ghost row_is_schema = { ⟦<EmptyRow as Components>⟧.is_schema };
 
     ghost components = { λ v. tt };
 
     fn from_row((): <EmptyRow as Components>::Values) -> components::Empty {
         components::Empty {}
+    }
+}
+
+impl Takes for components::Empty {
+    fn take(alloc: Global, decoder: &mut Decoder<'_>) -> Result<Self, DecodeError> {
+        read_row::<Self, EmptyRow>(alloc, decoder)
     }
 }
 
@@ -92,12 +121,26 @@ pub type DefaultInteger = Sequence<components::DefaultInteger, 1, 0>;
 type DefaultIntegerRow = Defaults<Context<0>, Integer, IsNumber<0>, NoMore>;
 
 impl Rowed for components::DefaultInteger {
-    type Row = DefaultIntegerRow;
+    type Values = <DefaultIntegerRow as Components>::Values;
+
+    ghost EXTENSIBLE = { ⟦<DefaultIntegerRow as Components>⟧.EXTENSIBLE };
+
+    const EXTENSIBLE: bool = false;
+
+    ghost row_schema = { ⟦<DefaultIntegerRow as Components>⟧.schema };
+
+    ghost row_is_schema = { ⟦<DefaultIntegerRow as Components>⟧.is_schema };
 
     ghost components = { λ v. (v.a, tt) };
 
     fn from_row((a, ()): <DefaultIntegerRow as Components>::Values) -> components::DefaultInteger {
         components::DefaultInteger { a }
+    }
+}
+
+impl Takes for components::DefaultInteger {
+    fn take(alloc: Global, decoder: &mut Decoder<'_>) -> Result<Self, DecodeError> {
+        read_row::<Self, DefaultIntegerRow>(alloc, decoder)
     }
 }
 
@@ -139,7 +182,15 @@ type DefaultAndOptionalRow = Defaults<
 >;
 
 impl Rowed for components::DefaultAndOptional {
-    type Row = DefaultAndOptionalRow;
+    type Values = <DefaultAndOptionalRow as Components>::Values;
+
+    ghost EXTENSIBLE = { ⟦<DefaultAndOptionalRow as Components>⟧.EXTENSIBLE };
+
+    const EXTENSIBLE: bool = false;
+
+    ghost row_schema = { ⟦<DefaultAndOptionalRow as Components>⟧.schema };
+
+    ghost row_is_schema = { ⟦<DefaultAndOptionalRow as Components>⟧.is_schema };
 
     ghost components = { λ v. (v.a, (v.b, tt)) };
 
@@ -147,6 +198,12 @@ impl Rowed for components::DefaultAndOptional {
         (a, (b, ())): <DefaultAndOptionalRow as Components>::Values,
     ) -> components::DefaultAndOptional {
         components::DefaultAndOptional { a, b }
+    }
+}
+
+impl Takes for components::DefaultAndOptional {
+    fn take(alloc: Global, decoder: &mut Decoder<'_>) -> Result<Self, DecodeError> {
+        read_row::<Self, DefaultAndOptionalRow>(alloc, decoder)
     }
 }
 
@@ -188,12 +245,26 @@ type AllDefaultRow = Defaults<
 >;
 
 impl Rowed for components::AllDefault {
-    type Row = AllDefaultRow;
+    type Values = <AllDefaultRow as Components>::Values;
+
+    ghost EXTENSIBLE = { ⟦<AllDefaultRow as Components>⟧.EXTENSIBLE };
+
+    const EXTENSIBLE: bool = false;
+
+    ghost row_schema = { ⟦<AllDefaultRow as Components>⟧.schema };
+
+    ghost row_is_schema = { ⟦<AllDefaultRow as Components>⟧.is_schema };
 
     ghost components = { λ v. (v.a, (v.b, tt)) };
 
     fn from_row((a, (b, ())): <AllDefaultRow as Components>::Values) -> components::AllDefault {
         components::AllDefault { a, b }
+    }
+}
+
+impl Takes for components::AllDefault {
+    fn take(alloc: Global, decoder: &mut Decoder<'_>) -> Result<Self, DecodeError> {
+        read_row::<Self, AllDefaultRow>(alloc, decoder)
     }
 }
 
@@ -230,12 +301,26 @@ pub type AllOptional = Sequence<components::AllOptional, 2, 0>;
 type AllOptionalRow = MayHave<Context<0>, Integer, MayHave<Context<1>, Integer, NoMore>>;
 
 impl Rowed for components::AllOptional {
-    type Row = AllOptionalRow;
+    type Values = <AllOptionalRow as Components>::Values;
+
+    ghost EXTENSIBLE = { ⟦<AllOptionalRow as Components>⟧.EXTENSIBLE };
+
+    const EXTENSIBLE: bool = false;
+
+    ghost row_schema = { ⟦<AllOptionalRow as Components>⟧.schema };
+
+    ghost row_is_schema = { ⟦<AllOptionalRow as Components>⟧.is_schema };
 
     ghost components = { λ v. (v.a, (v.b, tt)) };
 
     fn from_row((a, (b, ())): <AllOptionalRow as Components>::Values) -> components::AllOptional {
         components::AllOptional { a, b }
+    }
+}
+
+impl Takes for components::AllOptional {
+    fn take(alloc: Global, decoder: &mut Decoder<'_>) -> Result<Self, DecodeError> {
+        read_row::<Self, AllOptionalRow>(alloc, decoder)
     }
 }
 

@@ -19,12 +19,26 @@ const ADDITION7_FIELDS: &'static [Field<'static>] =
     fields![0 Optional Context 0 "e", 1 Default Context 1 "f"];
 
 impl Rowed for Addition7Components {
-    type Row = Addition7Row;
+    type Values = <Addition7Row as Components>::Values;
+
+    ghost EXTENSIBLE = { ⟦<Addition7Row as Components>⟧.EXTENSIBLE };
+
+    const EXTENSIBLE: bool = false;
+
+    ghost row_schema = { ⟦<Addition7Row as Components>⟧.schema };
+
+    ghost row_is_schema = { ⟦<Addition7Row as Components>⟧.is_schema };
 
     ghost components = { λ v. (v.e, (v.f, tt)) };
 
     fn from_row((e, (f, ())): <Addition7Row as Components>::Values) -> Addition7Components {
         Addition7Components { e, f }
+    }
+}
+
+impl Takes for Addition7Components {
+    fn take(alloc: Global, decoder: &mut Decoder<'_>) -> Result<Self, DecodeError> {
+        read_row::<Self, Addition7Row>(alloc, decoder)
     }
 }
 
@@ -86,9 +100,29 @@ impl Additions for FromD {
     ghost table = { ⟦<FromDRow as Additions>⟧.table };
 
     ghost is_table = { ⟦<FromDRow as Additions>⟧.is_table };
+}
 
-    fn read_additions(alloc: Global, decoder: &mut Decoder<'_>) -> Result<Self::More, DecodeError> {
-        FromDRow::read_additions(alloc, decoder)
+impl ReadsAdditions for FromD {
+    type Slots = <FromDRow as ReadsAdditions>::Slots;
+
+    ghost filled = { ⟦<FromDRow as ReadsAdditions>⟧.filled };
+
+    ghost filled_once = { ⟦<FromDRow as ReadsAdditions>⟧.filled_once };
+
+    fn empty() -> Self::Slots {
+        FromDRow::empty()
+    }
+
+    fn read_additions(
+        alloc: Global,
+        decoder: &mut Decoder<'_>,
+        slots: &mut Self::Slots,
+    ) -> Result<(), DecodeError> {
+        FromDRow::read_additions(alloc, decoder, slots)
+    }
+
+    fn taken(slots: Self::Slots) -> Self::More {
+        FromDRow::taken(slots)
     }
 }
 
@@ -112,7 +146,15 @@ const SEQUENCE7_ADDITIONS: &'static [Field<'static>] = fields![
 ];
 
 impl Rowed for Sequence7Components {
-    type Row = Sequence7Row;
+    type Values = <Sequence7Row as Components>::Values;
+
+    ghost EXTENSIBLE = { ⟦<Sequence7Row as Components>⟧.EXTENSIBLE };
+
+    const EXTENSIBLE: bool = true;
+
+    ghost row_schema = { ⟦<Sequence7Row as Components>⟧.schema };
+
+    ghost row_is_schema = { ⟦<Sequence7Row as Components>⟧.is_schema };
 
     ghost components = { λ v. (v.a, (v.b, (v.c, (v.d, (v.group, tt))))) };
 
@@ -120,6 +162,12 @@ impl Rowed for Sequence7Components {
         (a, (b, (c, (d, (group, ()))))): <Sequence7Row as Components>::Values,
     ) -> Sequence7Components {
         Sequence7Components { a, b, c, d, group }
+    }
+}
+
+impl Takes for Sequence7Components {
+    fn take(alloc: Global, decoder: &mut Decoder<'_>) -> Result<Self, DecodeError> {
+        read_row::<Self, Sequence7Row>(alloc, decoder)
     }
 }
 

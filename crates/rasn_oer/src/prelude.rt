@@ -1,24 +1,104 @@
 //! What a type of messages names, by its row or by closures: `use rasn_oer::prelude::*;`.
 
-pub use crate::{built, fields, from_row, pairs, tags, to_row, views};
-pub use asn1_base::{
-    Any, AsnType, BitString, BmpString, Bounded, Choice, Class, Codec, Constraints, Constructed,
-    Date, DecodeError, DecodeErrorKind, EncodeError, EncodeErrorKind, Enumerated, Field,
-    FieldPresence, Fields, GeneralString, GeneralizedTime, GraphicString, Ia5String, NumericString,
-    ObjectIdentifier, OctetString, PrintableString, SequenceOf, SetOf, Tag, TeletexString, UtcTime,
-    Utf8String, VisibleString,
-};
-pub use asn1_ints::{ConstrainedInteger, Integer, IntegerRange};
-pub use oer_choices::{
-    Alternating, AlternativeViews, Alternatives, Either, Enumeration, Numbered, Offers, OneOf,
-    put_alternative,
-};
-pub use oer_read::{Decode, DecodeChoice, Decoder, DecoderOptions};
-pub use oer_rows::{
-    AddDefaults, AdditionViews, Additions, Adds, Application, Compared, Components, Context,
-    Defaults, Extensible, InTagOrder, IsFalse, IsNumber, IsTrue, Limited, Limits, ListOf, MayAdd,
-    MayAddGroup, MayHave, Needs, NoMore, Place, Private, Rowed, Schemed, Sequence, Set, Standard,
-    Tabled, Universal, Views, Writes, decode_row, encode_rows,
-};
-pub use oer_spec::{EqualAsSpelled, Spelled};
-pub use oer_write::{Encode, Encoder};
+pub use crate::built;
+pub use crate::fields;
+pub use crate::from_row;
+pub use crate::pairs;
+pub use crate::tags;
+pub use crate::to_row;
+pub use crate::views;
+pub use asn1_base::Any;
+pub use asn1_base::AsnType;
+pub use asn1_base::BitString;
+pub use asn1_base::BmpString;
+pub use asn1_base::Bounded;
+pub use asn1_base::Choice;
+pub use asn1_base::Class;
+pub use asn1_base::Codec;
+pub use asn1_base::Constraints;
+pub use asn1_base::Constructed;
+pub use asn1_base::Date;
+pub use asn1_base::DecodeError;
+pub use asn1_base::DecodeErrorKind;
+pub use asn1_base::EncodeError;
+pub use asn1_base::EncodeErrorKind;
+pub use asn1_base::Enumerated;
+pub use asn1_base::Field;
+pub use asn1_base::FieldPresence;
+pub use asn1_base::Fields;
+pub use asn1_base::GeneralString;
+pub use asn1_base::GeneralizedTime;
+pub use asn1_base::GraphicString;
+pub use asn1_base::Ia5String;
+pub use asn1_base::NumericString;
+pub use asn1_base::ObjectIdentifier;
+pub use asn1_base::OctetString;
+pub use asn1_base::PrintableString;
+pub use asn1_base::SequenceOf;
+pub use asn1_base::SetOf;
+pub use asn1_base::Tag;
+pub use asn1_base::TeletexString;
+pub use asn1_base::UtcTime;
+pub use asn1_base::Utf8String;
+pub use asn1_base::VisibleString;
+pub use asn1_ints::ConstrainedInteger;
+pub use asn1_ints::Integer;
+pub use asn1_ints::IntegerRange;
+pub use oer_choices::Alternating;
+pub use oer_choices::AlternativeViews;
+pub use oer_choices::Alternatives;
+pub use oer_choices::Either;
+pub use oer_choices::Enumeration;
+pub use oer_choices::Numbered;
+pub use oer_choices::Offers;
+pub use oer_choices::OneOf;
+pub use oer_choices::TakesAlternative;
+pub use oer_choices::put_alternative;
+pub use oer_choices::read_alternative;
+pub use oer_read::Decode;
+pub use oer_read::DecodeChoice;
+pub use oer_read::Decoder;
+pub use oer_read::DecoderOptions;
+pub use oer_rows::AddDefaults;
+pub use oer_rows::AdditionViews;
+pub use oer_rows::Additions;
+pub use oer_rows::Adds;
+pub use oer_rows::Application;
+pub use oer_rows::Compared;
+pub use oer_rows::Components;
+pub use oer_rows::Context;
+pub use oer_rows::Defaults;
+pub use oer_rows::Extensible;
+pub use oer_rows::InTagOrder;
+pub use oer_rows::IsFalse;
+pub use oer_rows::IsNumber;
+pub use oer_rows::IsTrue;
+pub use oer_rows::Limited;
+pub use oer_rows::Limits;
+pub use oer_rows::ListOf;
+pub use oer_rows::MayAdd;
+pub use oer_rows::MayAddGroup;
+pub use oer_rows::MayHave;
+pub use oer_rows::Needs;
+pub use oer_rows::NoMore;
+pub use oer_rows::Place;
+pub use oer_rows::Private;
+pub use oer_rows::Reads;
+pub use oer_rows::ReadsAdditions;
+pub use oer_rows::Rowed;
+pub use oer_rows::Schemed;
+pub use oer_rows::Sequence;
+pub use oer_rows::Set;
+pub use oer_rows::Standard;
+pub use oer_rows::Tabled;
+pub use oer_rows::Takes;
+pub use oer_rows::Universal;
+pub use oer_rows::Views;
+pub use oer_rows::Writes;
+pub use oer_rows::decode_row;
+pub use oer_rows::encode_rows;
+pub use oer_rows::read_row;
+pub use oer_spec::EqualAsSpelled;
+pub use oer_spec::Spelled;
+pub use oer_write::Encode;
+pub use oer_write::Encoder;

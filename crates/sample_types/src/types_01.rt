@@ -209,15 +209,29 @@ pub struct RowInnerComponents {
 type RowInnerRow = Needs<Context<0>, u8, MayHave<Context<1>, Colour, NoMore>>;
 
 impl Rowed for RowInnerComponents {
-    type Row = RowInnerRow;
+    type Values = <RowInnerRow as Components>::Values;
+
+    ghost EXTENSIBLE = { ⟦<RowInnerRow as Components>⟧.EXTENSIBLE };
+
+    const EXTENSIBLE: bool = false;
+
+    ghost row_schema = { ⟦<RowInnerRow as Components>⟧.schema };
+
+    ghost row_is_schema = { ⟦<RowInnerRow as Components>⟧.is_schema };
 
     ghost components = { λ v. (v.x, (v.colour, tt)) };
 
-    fn from_row(row: <Self::Row as Components>::Values) -> Self {
+    fn from_row(row: Self::Values) -> Self {
         built![RowInnerComponents from row:
             x,
             colour
         ]
+    }
+}
+
+impl Takes for RowInnerComponents {
+    fn take(alloc: Global, decoder: &mut Decoder<'_>) -> Result<Self, DecodeError> {
+        read_row::<Self, RowInnerRow>(alloc, decoder)
     }
 }
 
@@ -298,15 +312,29 @@ pub struct RowGroup1Components {
 type RowGroup1Row = Needs<Context<7>, Bits, MayHave<Context<8>, u16, NoMore>>;
 
 impl Rowed for RowGroup1Components {
-    type Row = RowGroup1Row;
+    type Values = <RowGroup1Row as Components>::Values;
+
+    ghost EXTENSIBLE = { ⟦<RowGroup1Row as Components>⟧.EXTENSIBLE };
+
+    const EXTENSIBLE: bool = false;
+
+    ghost row_schema = { ⟦<RowGroup1Row as Components>⟧.schema };
+
+    ghost row_is_schema = { ⟦<RowGroup1Row as Components>⟧.is_schema };
 
     ghost components = { λ v. (v.bits, (v.level, tt)) };
 
-    fn from_row(row: <Self::Row as Components>::Values) -> Self {
+    fn from_row(row: Self::Values) -> Self {
         built![RowGroup1Components from row:
             bits,
             level
         ]
+    }
+}
+
+impl Takes for RowGroup1Components {
+    fn take(alloc: Global, decoder: &mut Decoder<'_>) -> Result<Self, DecodeError> {
+        read_row::<Self, RowGroup1Row>(alloc, decoder)
     }
 }
 
@@ -387,9 +415,29 @@ impl Components for RowFromNames {
     ghost schema = { ⟦<RowFromNamesRow as Components>⟧.schema };
 
     ghost is_schema = { ⟦<RowFromNamesRow as Components>⟧.is_schema };
+}
 
-    fn read(alloc: Global, decoder: &mut Decoder<'_>) -> Result<Self::Values, DecodeError> {
-        RowFromNamesRow::read(alloc, decoder)
+impl Reads for RowFromNames {
+    type Slots = <RowFromNamesRow as Reads>::Slots;
+
+    ghost filled = { ⟦<RowFromNamesRow as Reads>⟧.filled };
+
+    ghost filled_once = { ⟦<RowFromNamesRow as Reads>⟧.filled_once };
+
+    fn empty() -> Self::Slots {
+        RowFromNamesRow::empty()
+    }
+
+    fn read(
+        alloc: Global,
+        decoder: &mut Decoder<'_>,
+        slots: &mut Self::Slots,
+    ) -> Result<(), DecodeError> {
+        RowFromNamesRow::read(alloc, decoder, slots)
+    }
+
+    fn taken(slots: Self::Slots) -> Self::Values {
+        RowFromNamesRow::taken(slots)
     }
 }
 
@@ -423,9 +471,29 @@ impl Components for RowFromInner {
     ghost schema = { ⟦<RowFromInnerRow as Components>⟧.schema };
 
     ghost is_schema = { ⟦<RowFromInnerRow as Components>⟧.is_schema };
+}
 
-    fn read(alloc: Global, decoder: &mut Decoder<'_>) -> Result<Self::Values, DecodeError> {
-        RowFromInnerRow::read(alloc, decoder)
+impl Reads for RowFromInner {
+    type Slots = <RowFromInnerRow as Reads>::Slots;
+
+    ghost filled = { ⟦<RowFromInnerRow as Reads>⟧.filled };
+
+    ghost filled_once = { ⟦<RowFromInnerRow as Reads>⟧.filled_once };
+
+    fn empty() -> Self::Slots {
+        RowFromInnerRow::empty()
+    }
+
+    fn read(
+        alloc: Global,
+        decoder: &mut Decoder<'_>,
+        slots: &mut Self::Slots,
+    ) -> Result<(), DecodeError> {
+        RowFromInnerRow::read(alloc, decoder, slots)
+    }
+
+    fn taken(slots: Self::Slots) -> Self::Values {
+        RowFromInnerRow::taken(slots)
     }
 }
 
@@ -459,9 +527,29 @@ impl Components for RowFromType {
     ghost schema = { ⟦<RowFromTypeRow as Components>⟧.schema };
 
     ghost is_schema = { ⟦<RowFromTypeRow as Components>⟧.is_schema };
+}
 
-    fn read(alloc: Global, decoder: &mut Decoder<'_>) -> Result<Self::Values, DecodeError> {
-        RowFromTypeRow::read(alloc, decoder)
+impl Reads for RowFromType {
+    type Slots = <RowFromTypeRow as Reads>::Slots;
+
+    ghost filled = { ⟦<RowFromTypeRow as Reads>⟧.filled };
+
+    ghost filled_once = { ⟦<RowFromTypeRow as Reads>⟧.filled_once };
+
+    fn empty() -> Self::Slots {
+        RowFromTypeRow::empty()
+    }
+
+    fn read(
+        alloc: Global,
+        decoder: &mut Decoder<'_>,
+        slots: &mut Self::Slots,
+    ) -> Result<(), DecodeError> {
+        RowFromTypeRow::read(alloc, decoder, slots)
+    }
+
+    fn taken(slots: Self::Slots) -> Self::Values {
+        RowFromTypeRow::taken(slots)
     }
 }
 
@@ -489,9 +577,29 @@ impl Additions for RowAdditions {
     ghost table = { ⟦<RowAdditionsRow as Additions>⟧.table };
 
     ghost is_table = { ⟦<RowAdditionsRow as Additions>⟧.is_table };
+}
 
-    fn read_additions(alloc: Global, decoder: &mut Decoder<'_>) -> Result<Self::More, DecodeError> {
-        RowAdditionsRow::read_additions(alloc, decoder)
+impl ReadsAdditions for RowAdditions {
+    type Slots = <RowAdditionsRow as ReadsAdditions>::Slots;
+
+    ghost filled = { ⟦<RowAdditionsRow as ReadsAdditions>⟧.filled };
+
+    ghost filled_once = { ⟦<RowAdditionsRow as ReadsAdditions>⟧.filled_once };
+
+    fn empty() -> Self::Slots {
+        RowAdditionsRow::empty()
+    }
+
+    fn read_additions(
+        alloc: Global,
+        decoder: &mut Decoder<'_>,
+        slots: &mut Self::Slots,
+    ) -> Result<(), DecodeError> {
+        RowAdditionsRow::read_additions(alloc, decoder, slots)
+    }
+
+    fn taken(slots: Self::Slots) -> Self::More {
+        RowAdditionsRow::taken(slots)
     }
 }
 
@@ -519,9 +627,29 @@ impl Additions for RowFromSure {
     ghost table = { ⟦<RowFromSureRow as Additions>⟧.table };
 
     ghost is_table = { ⟦<RowFromSureRow as Additions>⟧.is_table };
+}
 
-    fn read_additions(alloc: Global, decoder: &mut Decoder<'_>) -> Result<Self::More, DecodeError> {
-        RowFromSureRow::read_additions(alloc, decoder)
+impl ReadsAdditions for RowFromSure {
+    type Slots = <RowFromSureRow as ReadsAdditions>::Slots;
+
+    ghost filled = { ⟦<RowFromSureRow as ReadsAdditions>⟧.filled };
+
+    ghost filled_once = { ⟦<RowFromSureRow as ReadsAdditions>⟧.filled_once };
+
+    fn empty() -> Self::Slots {
+        RowFromSureRow::empty()
+    }
+
+    fn read_additions(
+        alloc: Global,
+        decoder: &mut Decoder<'_>,
+        slots: &mut Self::Slots,
+    ) -> Result<(), DecodeError> {
+        RowFromSureRow::read_additions(alloc, decoder, slots)
+    }
+
+    fn taken(slots: Self::Slots) -> Self::More {
+        RowFromSureRow::taken(slots)
     }
 }
 
@@ -539,11 +667,19 @@ impl<'v> AdditionViews<'v> for RowFromSure {
 }
 
 impl Rowed for RowComponents {
-    type Row = RowRow;
+    type Values = <RowRow as Components>::Values;
+
+    ghost EXTENSIBLE = { ⟦<RowRow as Components>⟧.EXTENSIBLE };
+
+    const EXTENSIBLE: bool = true;
+
+    ghost row_schema = { ⟦<RowRow as Components>⟧.schema };
+
+    ghost row_is_schema = { ⟦<RowRow as Components>⟧.is_schema };
 
     ghost components = { λ v. (v.ok, (v.percent, (v.key, (v.names, (v.inner, (v.r_type, (v.next, (v.group_1, (v.sure, tt))))))))) };
 
-    fn from_row(row: <Self::Row as Components>::Values) -> Self {
+    fn from_row(row: Self::Values) -> Self {
         built![RowComponents from row:
             ok,
             percent,
@@ -555,6 +691,12 @@ impl Rowed for RowComponents {
             group_1,
             sure
         ]
+    }
+}
+
+impl Takes for RowComponents {
+    fn take(alloc: Global, decoder: &mut Decoder<'_>) -> Result<Self, DecodeError> {
+        read_row::<Self, RowRow>(alloc, decoder)
     }
 }
 

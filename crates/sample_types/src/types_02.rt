@@ -34,9 +34,29 @@ impl Additions for BagAdditions {
     ghost table = { ⟦<BagAdditionsRow as Additions>⟧.table };
 
     ghost is_table = { ⟦<BagAdditionsRow as Additions>⟧.is_table };
+}
 
-    fn read_additions(alloc: Global, decoder: &mut Decoder<'_>) -> Result<Self::More, DecodeError> {
-        BagAdditionsRow::read_additions(alloc, decoder)
+impl ReadsAdditions for BagAdditions {
+    type Slots = <BagAdditionsRow as ReadsAdditions>::Slots;
+
+    ghost filled = { ⟦<BagAdditionsRow as ReadsAdditions>⟧.filled };
+
+    ghost filled_once = { ⟦<BagAdditionsRow as ReadsAdditions>⟧.filled_once };
+
+    fn empty() -> Self::Slots {
+        BagAdditionsRow::empty()
+    }
+
+    fn read_additions(
+        alloc: Global,
+        decoder: &mut Decoder<'_>,
+        slots: &mut Self::Slots,
+    ) -> Result<(), DecodeError> {
+        BagAdditionsRow::read_additions(alloc, decoder, slots)
+    }
+
+    fn taken(slots: Self::Slots) -> Self::More {
+        BagAdditionsRow::taken(slots)
     }
 }
 
@@ -54,17 +74,31 @@ impl<'v> AdditionViews<'v> for BagAdditions {
 }
 
 impl Rowed for BagComponents {
-    type Row = BagRow;
+    type Values = <BagRow as Components>::Values;
+
+    ghost EXTENSIBLE = { ⟦<BagRow as Components>⟧.EXTENSIBLE };
+
+    const EXTENSIBLE: bool = true;
+
+    ghost row_schema = { ⟦<BagRow as Components>⟧.schema };
+
+    ghost row_is_schema = { ⟦<BagRow as Components>⟧.is_schema };
 
     ghost components = { λ v. (v.a, (v.c, (v.b, (v.more, tt)))) };
 
-    fn from_row(row: <Self::Row as Components>::Values) -> Self {
+    fn from_row(row: Self::Values) -> Self {
         built![BagComponents from row:
             a,
             c,
             b,
             more
         ]
+    }
+}
+
+impl Takes for BagComponents {
+    fn take(alloc: Global, decoder: &mut Decoder<'_>) -> Result<Self, DecodeError> {
+        read_row::<Self, BagRow>(alloc, decoder)
     }
 }
 
@@ -139,7 +173,11 @@ impl Alternating for SignalAlternatives {
     ghost use Rattle.rasn_oer.specs.Alternative.{First, Rest};
     ghost use Rattle.sample_types.specs.declared.types_02.SignalAlternatives.TheVariants.{Busy, Level, NewKey};
 
-    type Row = SignalRow;
+    type Values = <SignalRow as Alternatives>::Values;
+
+    ghost row_choices = { ⟦<SignalRow as Alternatives>⟧.choices };
+
+    ghost row_are_choices = { ⟦<SignalRow as Alternatives>⟧.are_choices };
 
     ghost alternative = { elim [ Busy held ↦ First held | Level held ↦ Rest (First held) | NewKey held ↦ Rest (Rest (First held)) ] };
 
@@ -155,7 +193,7 @@ impl Alternating for SignalAlternatives {
         Self::EXTENDED_VARIANTS
     }
 
-    fn from_alternative(value: <Self::Row as Alternatives>::Values) -> Self {
+    fn from_alternative(value: Self::Values) -> Self {
         from_row!(value => SignalAlternatives: Busy, Level, NewKey)
     }
 
@@ -169,4 +207,14 @@ impl Alternating for SignalAlternatives {
     }
 
     ghost apart = { refl };
+}
+
+impl TakesAlternative for SignalAlternatives {
+    fn take<D: Choice>(
+        alloc: Global,
+        decoder: &mut Decoder<'_>,
+        tag: Tag,
+    ) -> Result<Self, DecodeError> {
+        read_alternative::<Self, SignalRow, D>(alloc, decoder, tag)
+    }
 }

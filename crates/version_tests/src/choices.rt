@@ -3,6 +3,7 @@
 use crate::pairs::{OnPair, with_pair};
 use rasn_oer::Decode;
 use rasn_oer::prelude::*;
+use std::alloc::Global;
 
 /// `CHOICE { inner [0] T, ... }`
 pub type Choice1<T> = OneOf<Choice1Alternatives<T>>;
@@ -38,7 +39,11 @@ impl<T: Decode + Encode> Alternating for Choice1Alternatives<T> {
     ghost use Rattle.oer_choices.specs.declared.alternatives.Either.TheVariants.{First};
     ghost use Rattle.version_tests.specs.declared.choices.Choice1Alternatives.TheVariants.{Inner};
 
-    type Row = Choice1Row<T>;
+    type Values = <Choice1Row<T> as Alternatives>::Values;
+
+    ghost row_choices = { ⟦<Choice1Row<T> as Alternatives>⟧.choices };
+
+    ghost row_are_choices = { ⟦<Choice1Row<T> as Alternatives>⟧.are_choices };
 
     ghost alternative = { elim [ Inner v ↦ First v ] };
 
@@ -70,12 +75,26 @@ impl<T: Decode + Encode> Alternating for Choice1Alternatives<T> {
     ghost apart = { refl };
 }
 
+impl<T: Decode + Encode> TakesAlternative for Choice1Alternatives<T> {
+    fn take<D: Choice>(
+        alloc: Global,
+        decoder: &mut Decoder<'_>,
+        tag: Tag,
+    ) -> Result<Self, DecodeError> {
+        read_alternative::<Self, Choice1Row<T>, D>(alloc, decoder, tag)
+    }
+}
+
 impl<T: Decode + Encode> Alternating for Choice2Alternatives<T> {
     ghost use Rattle.std.specs.Prelude.{refl};
     ghost use Rattle.oer_choices.specs.declared.alternatives.Either.TheVariants.{First, Rest};
     ghost use Rattle.version_tests.specs.declared.choices.Choice2Alternatives.TheVariants.{Inner, Added};
 
-    type Row = Choice2Row<T>;
+    type Values = <Choice2Row<T> as Alternatives>::Values;
+
+    ghost row_choices = { ⟦<Choice2Row<T> as Alternatives>⟧.choices };
+
+    ghost row_are_choices = { ⟦<Choice2Row<T> as Alternatives>⟧.are_choices };
 
     ghost alternative = { elim [ Inner v ↦ First v | Added v ↦ Rest (First v) ] };
 
@@ -105,6 +124,16 @@ impl<T: Decode + Encode> Alternating for Choice2Alternatives<T> {
     }
 
     ghost apart = { refl };
+}
+
+impl<T: Decode + Encode> TakesAlternative for Choice2Alternatives<T> {
+    fn take<D: Choice>(
+        alloc: Global,
+        decoder: &mut Decoder<'_>,
+        tag: Tag,
+    ) -> Result<Self, DecodeError> {
+        read_alternative::<Self, Choice2Row<T>, D>(alloc, decoder, tag)
+    }
 }
 
 /// The work on two versions, within one version of a choice.

@@ -2,4 +2,4 @@ use Rattle.oer_rows.proofs.TagOrder.{set_value}
 use Rattle.oer_rows.proofs.sets.SetWrites.put.Goals as goal
 
 pub returns-clause-value : goal.returns-clause-value
-returns-clause-value g c = set_value g.T.Row.Components.schema _ _ g.met.T.InTagOrder.in_order c.put.ensures.value
+returns-clause-value g c = set_value g.T.Rowed.row_schema _ _ g.met.T.InTagOrder.in_order c.put.ensures.value

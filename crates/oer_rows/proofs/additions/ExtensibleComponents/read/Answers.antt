@@ -1,9 +1,0 @@
-use Rattle.oer_read.proofs.Steps.{ends}
-use Rattle.oer_rows.proofs.Chained.{chained, additions_read}
-use Rattle.oer_rows.proofs.additions.ExtensibleComponents.read.Goals as goal
-
-pub returns-in_err-rest-clause-read : goal.returns-in_err-rest-clause-read
-returns-in_err-rest-clause-read g c = search chained
-
-pub returns-clause-read : goal.returns-clause-read
-returns-clause-read g c = ends _ _ _ _ _ _ _ (search (chained, additions_read g.R.Additions.table))
