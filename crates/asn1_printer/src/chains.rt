@@ -2,12 +2,18 @@
 ghost use Rattle.std.specs.Prelude.{◌≡◌, ◌≤◌, ◌+◌, length, true};
 
 use crate::cells::Cell;
-use crate::templates::{ADDITIONS_CUT, COMPONENTS_CUT, CUT};
+use crate::templates::{ADDITIONS_CUT, ALTERNATIVES_CUT, COMPONENTS_CUT, CUT};
 use crate::text::{Words, fill, repeated};
 use std::alloc::{AllocError, Global};
 
 /// How many cells stand in a chain: what the check writes out of one grows with it.
 const CELLS: usize = 3;
+
+/// How many alternatives stand in one chain, where a CHOICE has no more.
+const ALTERNATIVES: usize = 8;
+
+/// How many stand in each chain, where it has more.
+const CUT_ALTERNATIVES: usize = 4;
 
 /// How many characters a line has at most.
 const WIDTH: usize = 100;
@@ -19,6 +25,7 @@ pub struct Chain<'c> {
     pub roots: &'c [Cell],
     pub additions: &'c [Cell],
     pub is_extensible: bool,
+    pub is_choice: bool,
 }
 
 /// Cells in one line, with what stands behind them.
@@ -66,7 +73,7 @@ fn push_closing(alloc: Global, out: &mut String, broken: usize) -> Result<(), Al
 }
 
 /// The alias of a chain, laid out as rustfmt does.
-pub fn push_alias(
+fn push_alias(
     alloc: Global,
     out: &mut String,
     name: &str,
@@ -139,6 +146,14 @@ fn push_cut(
     words.put("NAME", name)?;
     words.put("OWNER", of.owner)?;
     words.put("FIELD", field)?;
+    words.put(
+        "PARTS",
+        if of.is_choice {
+            "alternatives"
+        } else {
+            "components"
+        },
+    )?;
     words.put("EXT", if of.is_extensible { "true" } else { "false" })?;
     fill(out, CUT, &words)?;
     let alias = format!(in alloc; "{name}Row")?;
@@ -147,7 +162,7 @@ fn push_cut(
 }
 
 /// What stands behind the last root component.
-pub fn end_of_roots(alloc: Global, of: Chain<'_>) -> Result<String, AllocError> {
+fn end_of_roots(alloc: Global, of: Chain<'_>) -> Result<String, AllocError> {
     let owner = of.owner;
     if !of.is_extensible {
         String::from_str(alloc, "NoMore")
@@ -267,4 +282,68 @@ fn push_additions(alloc: Global, out: &mut String, of: Chain<'_>) -> Result<(), 
 pub fn push_chains(alloc: Global, out: &mut String, of: Chain<'_>) -> Result<(), AllocError> {
     push_roots(alloc, out, of)?;
     push_additions(alloc, out, of)
+}
+
+/// Prints alternatives in chains of so many; the first is named, and has impls of its own where the others have.
+fn push_alternative_chains(
+    alloc: Global,
+    out: &mut String,
+    of: Chain<'_>,
+    cells: &[Cell],
+    named: (&str, bool),
+    end: &str,
+) -> Result<(), AllocError> {
+    let (first, is_cut) = named;
+    let count = of.roots.len().saturating_add(of.additions.len());
+    let size = if count > ALTERNATIVES {
+        CUT_ALTERNATIVES
+    } else {
+        ALTERNATIVES
+    };
+    for (chain, part) in cells.chunks(size).enumerate() {
+        let start = chain.saturating_mul(size);
+        let Some(name) = cut_name(alloc, of.owner, cells, start)? else {
+            break;
+        };
+        let name = if start == 0 { first } else { name.as_str() };
+        let end = match cut_name(alloc, of.owner, cells, start.saturating_add(size))? {
+            Some(next) => next,
+            None => String::from_str(alloc, end)?,
+        };
+        if start != 0 || is_cut {
+            let part = (part, end.as_str());
+            push_cut(alloc, out, ALTERNATIVES_CUT, of, name, part)?;
+        } else {
+            push_alias(alloc, out, name, part, end.as_str())?;
+        }
+    }
+    Ok(())
+}
+
+/// Prints the row of a CHOICE, `OWNERRow`: the root alternatives, and behind them the additions.
+pub fn push_alternatives(alloc: Global, out: &mut String, of: Chain<'_>) -> Result<(), AllocError> {
+    let owner = of.owner;
+    let end = end_of_roots(alloc, of)?;
+    let row = format!(in alloc; "{owner}Row")?;
+    if of.roots.is_empty() {
+        push_alias(alloc, out, row.as_str(), &[], end.as_str())?;
+    }
+    push_alternative_chains(
+        alloc,
+        out,
+        of,
+        of.roots,
+        (row.as_str(), false),
+        end.as_str(),
+    )?;
+    let row = format!(in alloc; "{owner}Additions")?;
+    let is_cut = of.roots.len().saturating_add(of.additions.len()) > ALTERNATIVES;
+    push_alternative_chains(
+        alloc,
+        out,
+        of,
+        of.additions,
+        (row.as_str(), is_cut),
+        "NoMore",
+    )
 }

@@ -1,7 +1,7 @@
 //! A CHOICE: its enum, its row, its tags and its conversions.
 
 use crate::cells::{Cell, alternative_of};
-use crate::chains::{Chain, end_of_roots, push_alias};
+use crate::chains::{Chain, push_alternatives};
 use crate::templates::{CHOICE, CHOICE_IMPLS, TAGS};
 use crate::text::{Words, fill, joined, repeated, upper};
 use asn1_layouts::definitions::{Definition, Part};
@@ -13,7 +13,7 @@ use std::alloc::{AllocError, Global};
 use std::collections::BTreeSet;
 
 /// How many alternatives a printed CHOICE has at most.
-const MAX_ALTERNATIVES: usize = 8;
+const MAX_ALTERNATIVES: usize = 16;
 
 /// Prints tags as a table, and answers its name.
 fn push_table(
@@ -91,19 +91,6 @@ fn names_text(alloc: Global, of: Chain<'_>) -> Result<(String, String), AllocErr
     push_names(alloc, &mut names, &mut cases, of.additions)?;
     let list = joined(alloc, names.as_slice(), "", ", ")?;
     Ok((list, joined(alloc, cases.as_slice(), "", " | ")?))
-}
-
-/// Prints the row: the root alternatives, and behind them the additions.
-fn push_row(alloc: Global, out: &mut String, of: Chain<'_>) -> Result<(), AllocError> {
-    let owner = of.owner;
-    let end = end_of_roots(alloc, of)?;
-    let row = format!(in alloc; "{owner}Row")?;
-    push_alias(alloc, out, row.as_str(), of.roots, end.as_str())?;
-    if of.additions.is_empty() {
-        return Ok(());
-    }
-    let row = format!(in alloc; "{owner}Additions")?;
-    push_alias(alloc, out, row.as_str(), of.additions, "NoMore")
 }
 
 /// Prints the tags of the additions, and answers what names them.
@@ -188,7 +175,7 @@ pub fn push_choice<'m>(
     if parts.is_empty() || parts.len() > MAX_ALTERNATIVES {
         return Err(scope.refused(
             definition.link.of.first,
-            "a CHOICE of 1 to 8 alternatives: others aren't printed yet",
+            "a CHOICE of 1 to 16 alternatives: others aren't printed yet",
         ));
     }
     let roots = cells_at(scope, all, out, owner, parts, true)?;
@@ -201,9 +188,10 @@ pub fn push_choice<'m>(
         roots: roots.as_slice(),
         additions: additions.as_slice(),
         is_extensible: is_extensible(definition.link.of),
+        is_choice: true,
     };
     push_enum(alloc, out, doc, of)?;
-    push_row(alloc, out, of)?;
+    push_alternatives(alloc, out, of)?;
     push_impls(alloc, out, of)?;
     Ok(())
 }

@@ -28,7 +28,8 @@ visiblestring constrainedinteger integer integerrange alternating alternativevie
 numbered offers oneof decode decodechoice decoder decoderoptions adddefaults additionviews additions adds application \
 compared components context defaults extensible intagorder isfalse isnumber istrue limited limits listof mayadd \
 mayaddgroup mayhave needs nomore place private reads readsadditions rowed schemed sequence set standard tabled takes \
-takesalternative universal views writes equalasspelled spelled encode encoder built fields from_row pairs tags to_row";
+takesalternative universal views writes octets openoctets bmptext generaltext graphictext ia5text numerictext printabletext teletextext \
+utf8text visibletext equalasspelled spelled encode encoder built fields from_row pairs tags to_row";
 
 /// A type that was printed: its text, and the names that others may use.
 #[derive(Drop)]

@@ -2,13 +2,12 @@
 
 use crate::cells::{Cell, cell_of, group_cell};
 use crate::chains::{Chain, push_chains};
-use crate::inner::require_stated;
 use crate::templates::{IN_TAG_ORDER, MEMBERS, TABLES, TYPE};
 use crate::text::{Words, fill, joined, repeated};
 use asn1_core::Class;
 use asn1_layouts::definitions::{Definition, Part};
 use asn1_layouts::layouts::is_extensible;
-use asn1_layouts::rows::{Position, Row};
+use asn1_layouts::rows::Position;
 use asn1_layouts::scope::Scope;
 use asn1_modules::ast::Body;
 use asn1_modules::refusal::Refusal;
@@ -219,21 +218,6 @@ fn in_text_order(
     Ok(places)
 }
 
-/// The rows of components by their places.
-fn rows_at<'m>(
-    alloc: Global,
-    parts: &[Part<'m>],
-    places: &[usize],
-) -> Result<Vec<Row<'m>>, AllocError> {
-    let mut rows = Vec::new(alloc);
-    for at in places.iter() {
-        if let Some(row) = parts.get(*at).and_then(|p| p.row) {
-            rows.push(row)?;
-        }
-    }
-    Ok(rows)
-}
-
 /// The cells of components by their places.
 fn cells_at<'m>(
     scope: Scope<'m, '_>,
@@ -267,7 +251,6 @@ fn push_group<'m>(
     let name = format!(in alloc; "{owner}Group{number}")?;
     let parts = definition.parts.as_slice();
     let places = in_text_order(alloc, parts, Position::Group(number))?;
-    require_stated(scope, rows_at(alloc, parts, places.as_slice())?.as_slice())?;
     let roots = cells_at(scope, all, out, name.as_str(), parts, places.as_slice())?;
     let doc = format!(in alloc; "/// The addition group {number} of `{owner}`.\n")?;
     let of = Chain {
@@ -275,6 +258,7 @@ fn push_group<'m>(
         roots: roots.as_slice(),
         additions: &[],
         is_extensible: false,
+        is_choice: false,
     };
     push_members(alloc, out, doc.as_str(), of, false)?;
     Ok(group_cell(alloc, name.as_str(), number, roots.len())?)
@@ -352,6 +336,7 @@ pub fn push_sequence<'m>(
         roots: roots.as_slice(),
         additions: additions.as_slice(),
         is_extensible: is_extensible(definition.link.of),
+        is_choice: false,
     };
     push_members(alloc, out, doc, of, is_set)?;
     Ok(())

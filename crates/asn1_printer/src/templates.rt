@@ -79,7 +79,7 @@ pub const IN_TAG_ORDER: &str = r#"impl InTagOrder<@RC@, @EC@> for @NAME@Componen
 "#;
 
 /// What stands for the cells of a row from one on.
-pub const CUT: &str = r#"/// The components of `@OWNER@` from `@FIELD@` on.
+pub const CUT: &str = r#"/// The @PARTS@ of `@OWNER@` from `@FIELD@` on.
 pub struct @NAME@;
 
 "#;
@@ -181,6 +181,39 @@ impl<'v> AdditionViews<'v> for @NAME@ {
         encoder: &mut Encoder<'_>,
     ) -> Result<(), EncodeError> {
         @NAME@Row::write_additions(view, encoder)
+    }
+}
+
+"#;
+
+/// Its impls, where these are alternatives.
+pub const ALTERNATIVES_CUT: &str = r#"impl Alternatives for @NAME@ {
+    type Values = <@NAME@Row as Alternatives>::Values;
+
+    ghost choices = { ⟦<@NAME@Row as Alternatives>⟧.choices };
+
+    ghost are_choices = { ⟦<@NAME@Row as Alternatives>⟧.are_choices };
+
+    fn read<D: Choice>(
+        alloc: Global,
+        decoder: &mut Decoder<'_>,
+        tag: Tag,
+    ) -> Result<Self::Values, DecodeError> {
+        @NAME@Row::read::<D>(alloc, decoder, tag)
+    }
+}
+
+impl<'v> AlternativeViews<'v> for @NAME@ {
+    type View = <@NAME@Row as AlternativeViews<'v>>::View;
+
+    ghost SeesOne = { ⟦<@NAME@Row as AlternativeViews<'v>>⟧.SeesOne };
+
+    fn write_alternative<E: Choice>(
+        view: <@NAME@Row as AlternativeViews<'v>>::View,
+        encoder: &mut Encoder<'_>,
+        constraints: Constraints,
+    ) -> Result<(), EncodeError> {
+        @NAME@Row::write_alternative::<E>(view, encoder, constraints)
     }
 }
 

@@ -5,9 +5,12 @@
 mod additions;
 mod compared;
 mod components;
+mod held_octets;
+mod held_texts;
 mod limited;
 mod lists;
 mod more_additions;
+mod more_texts;
 mod places;
 mod reading;
 mod rowed;
@@ -19,9 +22,12 @@ mod writing;
 pub use additions::{Additions, Extensible, MayAdd, ReadsAdditions};
 pub use compared::Compared;
 pub use components::{Components, Defaults, MayHave, Needs, NoMore, Reads};
+pub use held_octets::{Octets, OpenOctets};
+pub use held_texts::{Ia5Text, NumericText, PrintableText, Utf8Text, VisibleText};
 pub use limited::{Limited, Limits};
 pub use lists::ListOf;
 pub use more_additions::{AddDefaults, Adds, MayAddGroup};
+pub use more_texts::{BmpText, GeneralText, GraphicText, TeletexText};
 pub use places::{
     Application, Context, IsFalse, IsNumber, IsTrue, Place, Private, Standard, Universal,
 };

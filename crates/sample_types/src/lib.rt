@@ -8,4 +8,7 @@ pub use types_01::{
     Again, Below, Bits, Colour, ColourValues, Key, Name, Names, Narrow, Percent, Row,
     RowComponents, RowGroup1, RowGroup1Components, RowInner, RowInnerComponents,
 };
-pub use types_02::{Bag, BagComponents, Signal, SignalAlternatives};
+pub use types_02::{
+    Bag, BagComponents, Letter, LetterComponents, LetterGroup1, LetterGroup1Components, LetterHead,
+    LetterHeadComponents, Signal, SignalAlternatives,
+};

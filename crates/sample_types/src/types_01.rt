@@ -89,7 +89,7 @@ impl Limits for NarrowLimits {
 }
 
 /// `Key ::= OCTET STRING (SIZE(4))`
-pub type Key = Limited<OctetString, KeyLimits>;
+pub type Key = Limited<Octets, KeyLimits>;
 
 /// The limits of `Key`.
 #[derive(Drop)]
@@ -131,7 +131,7 @@ impl Limits for BitsLimits {
 }
 
 /// `Name ::= IA5String (SIZE(1..8))`
-pub type Name = Limited<Ia5String, NameLimits>;
+pub type Name = Limited<Ia5Text, NameLimits>;
 
 /// The limits of `Name`.
 #[derive(Drop)]

@@ -5,7 +5,8 @@ use anyhow::{Error, Result};
 use rasn_oer::coer;
 use rasn_oer::prelude::*;
 use sample_types::{
-    Bag, BagComponents, Colour, ColourValues, Key, Name, Row, RowComponents, RowGroup1,
+    Bag, BagComponents, Colour, ColourValues, Key, Letter, LetterComponents, LetterGroup1,
+    LetterGroup1Components, LetterHead, LetterHeadComponents, Name, Row, RowComponents, RowGroup1,
     RowGroup1Components, RowInner, RowInnerComponents, Signal, SignalAlternatives,
 };
 use std::alloc::Global;
@@ -29,13 +30,17 @@ fn show<R: Print + AllocGlobal, T: Encode + Decode + PartialEq>(rt: &R, value: &
 
 /// A name of these letters.
 fn name(alloc: Global, letters: &[u8]) -> Result<Name> {
-    Ok(Limited::new(Ia5String::from_bytes(alloc, letters)?))
+    Ok(Limited::new(Ia5Text(Ia5String::from_bytes(alloc, letters)?)))
+}
+
+/// A value of OCTET STRING.
+fn octets(alloc: Global, octets: &[u8]) -> Result<Octets> {
+    Ok(Octets(OctetString::from_slice(alloc, octets)?))
 }
 
 /// A key of four octets.
 fn key(alloc: Global) -> Result<Key> {
-    let octets = OctetString::from_slice(alloc, &[0xAA, 0xBB, 0xCC, 0xDD])?;
-    Ok(Limited::new(octets))
+    Ok(Limited::new(octets(alloc, &[0xAA, 0xBB, 0xCC, 0xDD])?))
 }
 
 /// The group of a row: its first and its last bit, and a level.
@@ -103,6 +108,24 @@ fn bag(alloc: Global, more: Option<()>) -> Result<Bag> {
     }))
 }
 
+/// A letter of octets and characters, with an addition.
+fn letter(alloc: Global) -> Result<Letter> {
+    let head: LetterHead = Sequence(LetterHeadComponents {
+        from: name(alloc, b"ab")?,
+        key: Some(key(alloc)?),
+        signal: OneOf(SignalAlternatives::Level(Limited::new(99))),
+    });
+    let group: LetterGroup1 = Sequence(LetterGroup1Components {
+        stamp: Limited::new(octets(alloc, &[10, 11])?),
+        note: Some(Utf8Text(String::from_str(alloc, "hé")?)),
+    });
+    Ok(Sequence(LetterComponents {
+        head,
+        body: octets(alloc, &[1, 2, 3])?,
+        group_1: Some(group),
+    }))
+}
+
 fn main(rt: HostRuntime) -> Result<()> {
     let alloc = rt.alloc();
     show(&rt, &full_row(alloc)?)?;
@@ -116,5 +139,6 @@ fn main(rt: HostRuntime) -> Result<()> {
     let new_key: Signal = OneOf(SignalAlternatives::NewKey(key(alloc)?));
     show(&rt, &new_key)?;
     let colour: Colour = Enumeration(ColourValues::DarkGrey);
-    show(&rt, &colour)
+    show(&rt, &colour)?;
+    show(&rt, &letter(alloc)?)
 }

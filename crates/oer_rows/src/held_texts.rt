@@ -1,0 +1,347 @@
+//! Character strings whose characters are UTF-8's or ASCII's, as components.
+//!
+//! No bound is stated yet that leads to a type whose struct has a bound itself, as `Ia5String` has; a struct of it without
+//! parameters can stand there. So a row that stands in another has these, and not the types within.
+
+use asn1_core::{AsnType, Constraints, DecodeError, EncodeError, Tag, Utf8String};
+use asn1_strings::{Ia5String, NumericString, PrintableString, VisibleString};
+use oer_read::{Decode, Decoder};
+use oer_spec::{EqualAsSpelled, Spelled};
+use oer_write::{Encode, Encoder};
+use std::alloc::Global;
+
+/// `UTF8String`
+#[derive(Debug, PartialEq, Eq, Drop)]
+pub struct Utf8Text(pub Utf8String);
+
+impl AsnType for Utf8Text {
+    ghost use Rattle.std.specs.Prelude.{refl};
+    ghost use Rattle.asn1_core.specs.declared.tag.TheConstants.Tag.{UTF8_STRING};
+    ghost use Rattle.asn1_core.specs.declared.constraints.TheConstants.Constraints.{NONE};
+
+    ghost TAG = { UTF8_STRING };
+
+    const TAG: Tag = Tag::UTF8_STRING;
+
+    ghost CONSTRAINTS = { NONE };
+
+    const CONSTRAINTS: Constraints = Constraints::NONE;
+
+    ghost consistent = { refl };
+}
+
+impl Spelled for Utf8Text {
+    ghost tree = { λ c v. ⟦<Utf8String as Spelled>⟧.tree c v.0 };
+
+    ghost IsValue = { λ v. ⟦<Utf8String as Spelled>⟧.IsValue v.0 };
+
+    ghost is_tree = { λ c k v i. ⟦<Utf8String as Spelled>⟧.is_tree c k v.0 i };
+
+    ghost alike = { λ c k v w i j. ⟦<Utf8String as Spelled>⟧.alike c k v.0 w.0 i j };
+}
+
+impl EqualAsSpelled for Utf8Text {
+    ghost use Rattle.std.specs.Prelude.{string_bytes};
+    ghost use Rattle.asn1_core.specs.Texts.{Utf8};
+    ghost use Rattle.oer_spec.specs.Spelled.{texts_same};
+
+    ghost eq_is_same = { λ c k v w i j. texts_same Utf8 c (string_bytes v.0) (string_bytes w.0) };
+}
+
+impl Encode for Utf8Text {
+    fn encode_with_tag_and_constraints(
+        &self,
+        encoder: &mut Encoder<'_>,
+        tag: Tag,
+        constraints: Constraints,
+    ) -> Result<(), EncodeError> {
+        self.0
+            .encode_with_tag_and_constraints(encoder, tag, constraints)
+    }
+}
+
+impl Decode for Utf8Text {
+    ghost use Rattle.std.specs.Result.{result_map_both};
+
+    ghost Answered = { λ c s r t. ⟦<Utf8String as Decode>⟧.Answered c s (result_map_both (λ v. v.0) (λ e. e) r) t };
+
+    fn decode_with_tag_and_constraints(
+        alloc: Global,
+        decoder: &mut Decoder<'_>,
+        tag: Tag,
+        constraints: Constraints,
+    ) -> Result<Utf8Text, DecodeError> {
+        match Utf8String::decode_with_tag_and_constraints(alloc, decoder, tag, constraints) {
+            Ok(content) => Ok(Utf8Text(content)),
+            Err(e) => Err(e),
+        }
+    }
+}
+
+/// `NumericString`
+#[derive(Debug, PartialEq, Eq, Drop)]
+pub struct NumericText(pub NumericString);
+
+impl AsnType for NumericText {
+    ghost use Rattle.std.specs.Prelude.{refl};
+    ghost use Rattle.asn1_core.specs.declared.tag.TheConstants.Tag.{NUMERIC_STRING};
+    ghost use Rattle.asn1_core.specs.declared.constraints.TheConstants.Constraints.{NONE};
+
+    ghost TAG = { NUMERIC_STRING };
+
+    const TAG: Tag = Tag::NUMERIC_STRING;
+
+    ghost CONSTRAINTS = { NONE };
+
+    const CONSTRAINTS: Constraints = Constraints::NONE;
+
+    ghost consistent = { refl };
+}
+
+impl Spelled for NumericText {
+    ghost tree = { λ c v. ⟦<NumericString as Spelled>⟧.tree c v.0 };
+
+    ghost IsValue = { λ v. ⟦<NumericString as Spelled>⟧.IsValue v.0 };
+
+    ghost is_tree = { λ c k v i. ⟦<NumericString as Spelled>⟧.is_tree c k v.0 i };
+
+    ghost alike = { λ c k v w i j. ⟦<NumericString as Spelled>⟧.alike c k v.0 w.0 i j };
+}
+
+impl EqualAsSpelled for NumericText {
+    ghost use Rattle.asn1_core.specs.Texts.{Numeric};
+    ghost use Rattle.oer_spec.specs.Spelled.{texts_same};
+
+    ghost eq_is_same = { λ c k v w i j. texts_same Numeric c v.0 w.0 };
+}
+
+impl Encode for NumericText {
+    fn encode_with_tag_and_constraints(
+        &self,
+        encoder: &mut Encoder<'_>,
+        tag: Tag,
+        constraints: Constraints,
+    ) -> Result<(), EncodeError> {
+        self.0
+            .encode_with_tag_and_constraints(encoder, tag, constraints)
+    }
+}
+
+impl Decode for NumericText {
+    ghost use Rattle.std.specs.Result.{result_map_both};
+
+    ghost Answered = { λ c s r t. ⟦<NumericString as Decode>⟧.Answered c s (result_map_both (λ v. v.0) (λ e. e) r) t };
+
+    fn decode_with_tag_and_constraints(
+        alloc: Global,
+        decoder: &mut Decoder<'_>,
+        tag: Tag,
+        constraints: Constraints,
+    ) -> Result<NumericText, DecodeError> {
+        match NumericString::decode_with_tag_and_constraints(alloc, decoder, tag, constraints) {
+            Ok(content) => Ok(NumericText(content)),
+            Err(e) => Err(e),
+        }
+    }
+}
+
+/// `PrintableString`
+#[derive(Debug, PartialEq, Eq, Drop)]
+pub struct PrintableText(pub PrintableString);
+
+impl AsnType for PrintableText {
+    ghost use Rattle.std.specs.Prelude.{refl};
+    ghost use Rattle.asn1_core.specs.declared.tag.TheConstants.Tag.{PRINTABLE_STRING};
+    ghost use Rattle.asn1_core.specs.declared.constraints.TheConstants.Constraints.{NONE};
+
+    ghost TAG = { PRINTABLE_STRING };
+
+    const TAG: Tag = Tag::PRINTABLE_STRING;
+
+    ghost CONSTRAINTS = { NONE };
+
+    const CONSTRAINTS: Constraints = Constraints::NONE;
+
+    ghost consistent = { refl };
+}
+
+impl Spelled for PrintableText {
+    ghost tree = { λ c v. ⟦<PrintableString as Spelled>⟧.tree c v.0 };
+
+    ghost IsValue = { λ v. ⟦<PrintableString as Spelled>⟧.IsValue v.0 };
+
+    ghost is_tree = { λ c k v i. ⟦<PrintableString as Spelled>⟧.is_tree c k v.0 i };
+
+    ghost alike = { λ c k v w i j. ⟦<PrintableString as Spelled>⟧.alike c k v.0 w.0 i j };
+}
+
+impl EqualAsSpelled for PrintableText {
+    ghost use Rattle.asn1_core.specs.Texts.{Printable};
+    ghost use Rattle.oer_spec.specs.Spelled.{texts_same};
+
+    ghost eq_is_same = { λ c k v w i j. texts_same Printable c v.0 w.0 };
+}
+
+impl Encode for PrintableText {
+    fn encode_with_tag_and_constraints(
+        &self,
+        encoder: &mut Encoder<'_>,
+        tag: Tag,
+        constraints: Constraints,
+    ) -> Result<(), EncodeError> {
+        self.0
+            .encode_with_tag_and_constraints(encoder, tag, constraints)
+    }
+}
+
+impl Decode for PrintableText {
+    ghost use Rattle.std.specs.Result.{result_map_both};
+
+    ghost Answered = { λ c s r t. ⟦<PrintableString as Decode>⟧.Answered c s (result_map_both (λ v. v.0) (λ e. e) r) t };
+
+    fn decode_with_tag_and_constraints(
+        alloc: Global,
+        decoder: &mut Decoder<'_>,
+        tag: Tag,
+        constraints: Constraints,
+    ) -> Result<PrintableText, DecodeError> {
+        match PrintableString::decode_with_tag_and_constraints(alloc, decoder, tag, constraints) {
+            Ok(content) => Ok(PrintableText(content)),
+            Err(e) => Err(e),
+        }
+    }
+}
+
+/// `VisibleString`
+#[derive(Debug, PartialEq, Eq, Drop)]
+pub struct VisibleText(pub VisibleString);
+
+impl AsnType for VisibleText {
+    ghost use Rattle.std.specs.Prelude.{refl};
+    ghost use Rattle.asn1_core.specs.declared.tag.TheConstants.Tag.{VISIBLE_STRING};
+    ghost use Rattle.asn1_core.specs.declared.constraints.TheConstants.Constraints.{NONE};
+
+    ghost TAG = { VISIBLE_STRING };
+
+    const TAG: Tag = Tag::VISIBLE_STRING;
+
+    ghost CONSTRAINTS = { NONE };
+
+    const CONSTRAINTS: Constraints = Constraints::NONE;
+
+    ghost consistent = { refl };
+}
+
+impl Spelled for VisibleText {
+    ghost tree = { λ c v. ⟦<VisibleString as Spelled>⟧.tree c v.0 };
+
+    ghost IsValue = { λ v. ⟦<VisibleString as Spelled>⟧.IsValue v.0 };
+
+    ghost is_tree = { λ c k v i. ⟦<VisibleString as Spelled>⟧.is_tree c k v.0 i };
+
+    ghost alike = { λ c k v w i j. ⟦<VisibleString as Spelled>⟧.alike c k v.0 w.0 i j };
+}
+
+impl EqualAsSpelled for VisibleText {
+    ghost use Rattle.asn1_core.specs.Texts.{Visible};
+    ghost use Rattle.oer_spec.specs.Spelled.{texts_same};
+
+    ghost eq_is_same = { λ c k v w i j. texts_same Visible c v.0 w.0 };
+}
+
+impl Encode for VisibleText {
+    fn encode_with_tag_and_constraints(
+        &self,
+        encoder: &mut Encoder<'_>,
+        tag: Tag,
+        constraints: Constraints,
+    ) -> Result<(), EncodeError> {
+        self.0
+            .encode_with_tag_and_constraints(encoder, tag, constraints)
+    }
+}
+
+impl Decode for VisibleText {
+    ghost use Rattle.std.specs.Result.{result_map_both};
+
+    ghost Answered = { λ c s r t. ⟦<VisibleString as Decode>⟧.Answered c s (result_map_both (λ v. v.0) (λ e. e) r) t };
+
+    fn decode_with_tag_and_constraints(
+        alloc: Global,
+        decoder: &mut Decoder<'_>,
+        tag: Tag,
+        constraints: Constraints,
+    ) -> Result<VisibleText, DecodeError> {
+        match VisibleString::decode_with_tag_and_constraints(alloc, decoder, tag, constraints) {
+            Ok(content) => Ok(VisibleText(content)),
+            Err(e) => Err(e),
+        }
+    }
+}
+
+/// `IA5String`
+#[derive(Debug, PartialEq, Eq, Drop)]
+pub struct Ia5Text(pub Ia5String);
+
+impl AsnType for Ia5Text {
+    ghost use Rattle.std.specs.Prelude.{refl};
+    ghost use Rattle.asn1_core.specs.declared.tag.TheConstants.Tag.{IA5_STRING};
+    ghost use Rattle.asn1_core.specs.declared.constraints.TheConstants.Constraints.{NONE};
+
+    ghost TAG = { IA5_STRING };
+
+    const TAG: Tag = Tag::IA5_STRING;
+
+    ghost CONSTRAINTS = { NONE };
+
+    const CONSTRAINTS: Constraints = Constraints::NONE;
+
+    ghost consistent = { refl };
+}
+
+impl Spelled for Ia5Text {
+    ghost tree = { λ c v. ⟦<Ia5String as Spelled>⟧.tree c v.0 };
+
+    ghost IsValue = { λ v. ⟦<Ia5String as Spelled>⟧.IsValue v.0 };
+
+    ghost is_tree = { λ c k v i. ⟦<Ia5String as Spelled>⟧.is_tree c k v.0 i };
+
+    ghost alike = { λ c k v w i j. ⟦<Ia5String as Spelled>⟧.alike c k v.0 w.0 i j };
+}
+
+impl EqualAsSpelled for Ia5Text {
+    ghost use Rattle.asn1_core.specs.Texts.{Ia5};
+    ghost use Rattle.oer_spec.specs.Spelled.{texts_same};
+
+    ghost eq_is_same = { λ c k v w i j. texts_same Ia5 c v.0 w.0 };
+}
+
+impl Encode for Ia5Text {
+    fn encode_with_tag_and_constraints(
+        &self,
+        encoder: &mut Encoder<'_>,
+        tag: Tag,
+        constraints: Constraints,
+    ) -> Result<(), EncodeError> {
+        self.0
+            .encode_with_tag_and_constraints(encoder, tag, constraints)
+    }
+}
+
+impl Decode for Ia5Text {
+    ghost use Rattle.std.specs.Result.{result_map_both};
+
+    ghost Answered = { λ c s r t. ⟦<Ia5String as Decode>⟧.Answered c s (result_map_both (λ v. v.0) (λ e. e) r) t };
+
+    fn decode_with_tag_and_constraints(
+        alloc: Global,
+        decoder: &mut Decoder<'_>,
+        tag: Tag,
+        constraints: Constraints,
+    ) -> Result<Ia5Text, DecodeError> {
+        match Ia5String::decode_with_tag_and_constraints(alloc, decoder, tag, constraints) {
+            Ok(content) => Ok(Ia5Text(content)),
+            Err(e) => Err(e),
+        }
+    }
+}
