@@ -349,3 +349,8 @@ module _ {A : Type 0} (Ran Says : Tag → State → Result A DecodeError → Sta
   pub choice_answers : (result : Result A DecodeError) (new : State) → IfOk result (λ v. ChoiceRead Ran roots additions extensible old v new) → IfErr result (λ e. ChoiceRefused Ran roots additions extensible old e) → ChoiceAnswers Says roots additions extensible old result new
   choice_answers (Ok v) new k e = record { read = read_of v new k; refused = tt }
   choice_answers (Err x) new k e = record { read = tt; refused = refused_of x e }
+
+-- what is lent, by the steps before the alternative
+pub chosen_by : (s : State) (roots additions : List Tag) (extensible : Bool) (levels : ℕ) (tag : Tag) (rest : Octets) (is_root : Bool) (r : Result Chosen DecodeErrorKind) → level_at s.levels ≡ Ok levels → tag_at s.codec s.input ≡ Ok (tag, rest) → place_at roots additions extensible tag ≡ Ok is_root → alternative_at s levels tag rest is_root ≡ r → chosen_at s roots additions extensible ≡ r
+unfolding chosen_at
+chosen_by s roots additions extensible levels tag rest is_root r l t p a = rw (l, t, p) a

@@ -173,3 +173,21 @@ open_short old free all content h e = omega (arith, ap length e, length-append (
 -- what was written behind is cut off
 pub cut_begun : (old new cut : Octets) (start : ℕ) → start ≡ length old → BeginsWith old new → cut ≡ take start new → cut ≡ old
 cut_begun old new cut start s b e = e ∙ ap (take start) b.1 ∙ take_at old b.0 start (sym s)
+
+-- what begins with octets and those behind them begins with the octets
+pub begins_on : (old more mid new : Octets) → mid ≡ old ++ more → BeginsWith mid new → BeginsWith old new
+begins_on old more mid new e b = (more ++ b.0, b.1 ∙ ap (λ (o : Octets). o ++ b.0) e ∙ append_assoc old more b.0)
+
+-- what begins with the front of octets begins with what these begin with
+pub begins_again : (old all new : Octets) (start : ℕ) → start ≡ length old → BeginsWith old all → BeginsWith (take start all) new → BeginsWith old new
+begins_again old all new start s b n = (n.0, n.1 ∙ ap (λ (o : Octets). o ++ n.0) (ap (take start) b.1 ∙ take_at old b.0 start (sym s)))
+
+pub begins_then : (old mid more new : Octets) → BeginsWith old mid → new ≡ mid ++ more → BeginsWith old new
+begins_then old mid more new b e = (b.0 ++ more, e ∙ ap (λ (o : Octets). o ++ more) b.1 ∙ append_assoc old b.0 more)
+
+-- a sequence, of which the preamble's octets were free
+pub sequence_written : (old free mid all new components : Octets) (start size : ℕ) (f : Frame) → start ≡ length old → length free ≡ size → mid ≡ old ++ free → all ≡ mid ++ components → new ≡ take start all ++ sequence_octets f (drop (start + size) all) → new ≡ old ++ sequence_octets f components
+sequence_written old free mid all new components start size f s n m e g =
+    let p = behind_free old free components start size s n in
+    let laid : all ≡ (old ++ free) ++ components = e ∙ ap (λ (o : Octets). o ++ components) m in
+    g ∙ ap (λ (o : Octets). take start o ++ sequence_octets f (drop (start + size) o)) laid ∙ ap₂ (λ (x y : Octets). x ++ sequence_octets f y) p.0 p.1

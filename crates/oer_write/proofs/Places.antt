@@ -1,6 +1,6 @@
 -- The places of a set's components, as the octets of more are written behind.
-use Rattle.std.proofs.Common.{◌≡◌, ℕ, ◌+◌, ◌-◌, ◌≤◌, Bool, cond, List, [], ◌∷◌, ◌++◌, length, take, drop, map, refl, ap, ap₂, sym, ◌∙◌, arith, append_assoc, length-append, length-drop, Ok, Err, Result}
-use Rattle.std.proofs.lemmas.List.{take-append-le, drop-append-le, drop_at, take_all, map-append}
+use Rattle.std.proofs.Common.{◌≡◌, ℕ, ◌+◌, ◌-◌, ◌<◌, ◌≤◌, get_or, Bool, cond, List, [], ◌∷◌, ◌++◌, length, take, drop, map, refl, ap, ap₂, sym, ◌∙◌, arith, append_assoc, length-append, length-drop, Ok, Err, Result}
+use Rattle.std.proofs.lemmas.List.{take-append-le, drop-append-le, drop_at, take_all, drop_more, map-append}
 use Rattle.asn1_core.specs.Octets.{Octets, pack}
 use Rattle.asn1_core.specs.declared.error.EncodeErrorKind.{EncodeErrorKind}
 use Rattle.asn1_core.specs.declared.tag.Tag.{Tag}
@@ -64,3 +64,11 @@ set_written {T} r f places arranged octets bits out one two new own sorted b p q
     go : (r : Result T EncodeErrorKind) → Appends r (extension_of f.bitmap f.opens) two new → Appends r (set_octets f) out new
     go (Ok u) a = a ∙ ap (λ (o : Octets). o ++ extension_of f.bitmap f.opens) laid ∙ append_assoc (out ++ pack (extension_bit f.extensible (any_true f.bitmap) ++ presence (by_tag f.components))) (bodies (by_tag f.components)) _ ∙ append_assoc out _ _
     go (Err k) a = (a.0, (pack (extension_bit f.extensible (any_true f.bitmap) ++ presence (by_tag f.components)) ++ (bodies (by_tag f.components) ++ a.1.0), a.1.1 ∙ ap (λ (o : Octets). o ++ a.1.0) laid ∙ append_assoc (out ++ pack (extension_bit f.extensible (any_true f.bitmap) ++ presence (by_tag f.components))) (bodies (by_tag f.components)) _ ∙ append_assoc out _ _))
+
+-- one more component is appended, in turn
+pub bodies_more : (o : Octets) (cs : List Component) (i : ℕ) (c : Component) (out new whole : Octets) → i < length cs → c ≡ get_or cs i c → new ≡ out ++ take c.size (drop c.start o)
+    → out ++ bodies (map (item o) (drop i cs)) ≡ whole → new ++ bodies (map (item o) (drop (i + 1) cs)) ≡ whole
+bodies_more o cs i c out new whole short there e h =
+    let rest : Octets = bodies (map (item o) (drop (i + 1) cs)) in
+    let split : drop i cs ≡ c ∷ drop (i + 1) cs = drop_more cs i c short ∙ ap (λ (x : Component). x ∷ drop (i + 1) cs) (sym there) in
+    ap (λ (x : Octets). x ++ rest) e ∙ append_assoc out _ rest ∙ ap (λ (x : List Component). out ++ bodies (map (item o) x)) (sym split) ∙ h

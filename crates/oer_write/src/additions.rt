@@ -18,7 +18,6 @@ use asn1_core::{Constraints, EncodeError, EncodeErrorKind, Tag};
 use std::alloc::Global;
 
 /// Appends an open type (X.696, 30): the value behind its length, for which an octet is kept free.
-#[tactic(auto, unfolding(crate::specs::Rows::open_type), using(crate::proofs::Filling::open_written, crate::proofs::Filling::open_short))]
 fn write_open<E: Encode>(
     alloc: Global,
     tag: Tag,

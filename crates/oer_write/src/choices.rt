@@ -80,7 +80,6 @@ fn pick_into<F: FnOnce(&mut Encoder<'_>) -> Result<Tag, EncodeError>>(
 }
 
 /// Appends an open type: what a closure writes behind its length, for which an octet is kept free (X.696, 30).
-#[tactic(auto, using(crate::proofs::Chosen::open_picked))]
 fn pick_open<F: FnOnce(&mut Encoder<'_>) -> Result<Tag, EncodeError>>(
     alloc: Global,
     tag: Tag,

@@ -14,7 +14,6 @@ impl<'buffer> Encoder<'buffer> {
     ///
     /// Refused, the first that applies: arcs that are no identifier, by `InvalidObjectIdentifier`; more than
     /// `usize::MAX / 8` octets, by `LengthExceedsPlatformSize`.
-    #[tactic(auto, using(crate::proofs::Refusals::identifier_by_law))]
     pub fn encode_object_identifier(&mut self, _tag: Tag, value: &[u32]) -> Result<(), EncodeError>
         ensures done { OnOk result (Encodes (identifier value.now) self.old self.new) }
         ensures value { OnOk result (IsIdentifier value.now) }

@@ -58,7 +58,6 @@ impl<'buffer> Encoder<'buffer> {
     ///
     /// A number outside a range that isn't extensible, or outside i128 under one, is refused by
     /// `ValueConstraintNotSatisfied`.
-    #[tactic(auto, using(crate::proofs::Refusals::integer_by_law))]
     #[inline]
     pub fn encode_integer<I: IntegerType>(
         &mut self,

@@ -59,7 +59,6 @@ pub(crate) fn run<F: FnOnce(&mut Encoder<'_>) -> Result<(), EncodeError>>(
 }
 
 /// Writes a sequence with `size` octets kept free for its preamble.
-#[tactic(auto, using(crate::proofs::Filling::behind_free, crate::proofs::Filling::begins_taken))]
 fn write_sequence<F: FnOnce(&mut Encoder<'_>) -> Result<(), EncodeError>>(
     alloc: Global,
     extensible: bool,

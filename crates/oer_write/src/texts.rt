@@ -22,7 +22,6 @@ impl<'buffer> Encoder<'buffer> {
     /// Refused, the first that applies: a size that a constraint that isn't extensible doesn't allow, by
     /// `SizeConstraintNotSatisfied` with the size; more than `usize::MAX / 8` octets behind a length, by
     /// `LengthExceedsPlatformSize`.
-    #[tactic(auto, using(crate::proofs::Refusals::bit_string_by_law))]
     pub fn encode_bit_string(
         &mut self,
         _tag: Tag,
@@ -50,7 +49,6 @@ impl<'buffer> Encoder<'buffer> {
     /// Refused, the first that applies: a size that a constraint that isn't extensible doesn't allow, by
     /// `SizeConstraintNotSatisfied` with the size; more than `usize::MAX / 8` octets behind a length, by
     /// `LengthExceedsPlatformSize`.
-    #[tactic(auto, using(crate::proofs::Refusals::text_by_law))]
     pub fn encode_octet_string(
         &mut self,
         _tag: Tag,
@@ -76,7 +74,6 @@ impl<'buffer> Encoder<'buffer> {
     /// Writes octets as an open type (X.696, 30): a length, and the octets.
     ///
     /// More than `usize::MAX / 8` octets are refused by `LengthExceedsPlatformSize`.
-    #[tactic(auto, using(crate::proofs::Refusals::unsized_by_law))]
     pub fn encode_any(&mut self, _tag: Tag, value: &Any) -> Result<(), EncodeError>
         ensures done { OnOk result (Encodes (unsized_text AnyOctets value.now) self.old self.new) }
         ensures refused { IfErr result (λ x. RefusedLeaf (Text AnyOctets None (Written value.now)) x self.old self.new) }
@@ -99,7 +96,6 @@ impl<'buffer> Encoder<'buffer> {
     /// Refused, the first that applies: a size that a constraint that isn't extensible doesn't allow, by
     /// `SizeConstraintNotSatisfied` with the size; more than `usize::MAX / 8` octets behind a length, by
     /// `LengthExceedsPlatformSize`.
-    #[tactic(auto, using(crate::proofs::Refusals::text_by_law))]
     pub fn encode_utf8_string(
         &mut self,
         _tag: Tag,
@@ -127,7 +123,6 @@ impl<'buffer> Encoder<'buffer> {
     /// Refused, the first that applies: a size that a constraint that isn't extensible doesn't allow, by
     /// `SizeConstraintNotSatisfied` with the size; more than `usize::MAX / 8` octets behind a length, by
     /// `LengthExceedsPlatformSize`.
-    #[tactic(auto, using(crate::proofs::Refusals::text_by_law))]
     pub fn encode_visible_string(
         &mut self,
         _tag: Tag,
@@ -146,7 +141,6 @@ impl<'buffer> Encoder<'buffer> {
     /// Refused, the first that applies: a size that a constraint that isn't extensible doesn't allow, by
     /// `SizeConstraintNotSatisfied` with the size; more than `usize::MAX / 8` octets behind a length, by
     /// `LengthExceedsPlatformSize`.
-    #[tactic(auto, using(crate::proofs::Refusals::text_by_law))]
     pub fn encode_general_string(
         &mut self,
         _tag: Tag,
@@ -165,7 +159,6 @@ impl<'buffer> Encoder<'buffer> {
     /// Refused, the first that applies: a size that a constraint that isn't extensible doesn't allow, by
     /// `SizeConstraintNotSatisfied` with the size; more than `usize::MAX / 8` octets behind a length, by
     /// `LengthExceedsPlatformSize`.
-    #[tactic(auto, using(crate::proofs::Refusals::text_by_law))]
     pub fn encode_graphic_string(
         &mut self,
         _tag: Tag,
@@ -184,7 +177,6 @@ impl<'buffer> Encoder<'buffer> {
     /// Refused, the first that applies: a size that a constraint that isn't extensible doesn't allow, by
     /// `SizeConstraintNotSatisfied` with the size; more than `usize::MAX / 8` octets behind a length, by
     /// `LengthExceedsPlatformSize`.
-    #[tactic(auto, using(crate::proofs::Refusals::text_by_law))]
     pub fn encode_ia5_string(
         &mut self,
         _tag: Tag,
@@ -203,7 +195,6 @@ impl<'buffer> Encoder<'buffer> {
     /// Refused, the first that applies: a size that a constraint that isn't extensible doesn't allow, by
     /// `SizeConstraintNotSatisfied` with the size; more than `usize::MAX / 8` octets behind a length, by
     /// `LengthExceedsPlatformSize`.
-    #[tactic(auto, using(crate::proofs::Refusals::text_by_law))]
     pub fn encode_printable_string(
         &mut self,
         _tag: Tag,
@@ -222,7 +213,6 @@ impl<'buffer> Encoder<'buffer> {
     /// Refused, the first that applies: a size that a constraint that isn't extensible doesn't allow, by
     /// `SizeConstraintNotSatisfied` with the size; more than `usize::MAX / 8` octets behind a length, by
     /// `LengthExceedsPlatformSize`.
-    #[tactic(auto, using(crate::proofs::Refusals::text_by_law))]
     pub fn encode_numeric_string(
         &mut self,
         _tag: Tag,
@@ -241,7 +231,6 @@ impl<'buffer> Encoder<'buffer> {
     /// Refused, the first that applies: a size that a constraint that isn't extensible doesn't allow, by
     /// `SizeConstraintNotSatisfied` with the size; more than `usize::MAX / 8` octets behind a length, by
     /// `LengthExceedsPlatformSize`.
-    #[tactic(auto, using(crate::proofs::Refusals::text_by_law))]
     pub fn encode_teletex_string(
         &mut self,
         _tag: Tag,
@@ -260,7 +249,6 @@ impl<'buffer> Encoder<'buffer> {
     /// Refused, the first that applies: a size that a constraint that isn't extensible doesn't allow, by
     /// `SizeConstraintNotSatisfied` with the size; more than `usize::MAX / 8` octets behind a length, by
     /// `LengthExceedsPlatformSize`.
-    #[tactic(auto, using(crate::proofs::Refusals::text_by_law))]
     pub fn encode_bmp_string(
         &mut self,
         _tag: Tag,

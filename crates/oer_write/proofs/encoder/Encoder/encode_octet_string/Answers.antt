@@ -1,0 +1,6 @@
+use Rattle.asn1_core.specs.Texts.{AnyOctets}
+use Rattle.oer_write.proofs.Refusals.{text_by_law}
+use Rattle.oer_write.proofs.encoder.Encoder.encode_octet_string.Goals as goal
+
+pub returns-clause-law : goal.returns-clause-law
+returns-clause-law c = text_by_law c.put_octets.result AnyOctets c.args.constraints c.args.value.now c.args.self.now c.put_octets.new.self c.put_octets.ensures.refused
