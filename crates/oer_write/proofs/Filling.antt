@@ -178,9 +178,11 @@ cut_begun old new cut start s b e = e ∙ ap (take start) b.1 ∙ take_at old b.
 pub begins_on : (old more mid new : Octets) → mid ≡ old ++ more → BeginsWith mid new → BeginsWith old new
 begins_on old more mid new e b = (more ++ b.0, b.1 ∙ ap (λ (o : Octets). o ++ b.0) e ∙ append_assoc old more b.0)
 
--- what begins with the front of octets begins with what these begin with
-pub begins_again : (old all new : Octets) (start : ℕ) → start ≡ length old → BeginsWith old all → BeginsWith (take start all) new → BeginsWith old new
-begins_again old all new start s b n = (n.0, n.1 ∙ ap (λ (o : Octets). o ++ n.0) (ap (take start) b.1 ∙ take_at old b.0 start (sym s)))
+-- what begins with the front of octets, behind which some were free, begins with what stood in front of these
+pub begins_closed : (old free mid all new : Octets) (start : ℕ) → start ≡ length old → mid ≡ old ++ free → BeginsWith mid all → BeginsWith (take start all) new → BeginsWith old new
+begins_closed old free mid all new start s e b n =
+    let whole = begins_on old free mid all e b in
+    (n.0, n.1 ∙ ap (λ (o : Octets). o ++ n.0) (ap (take start) whole.1 ∙ take_at old whole.0 start (sym s)))
 
 pub begins_then : (old mid more new : Octets) → BeginsWith old mid → new ≡ mid ++ more → BeginsWith old new
 begins_then old mid more new b e = (b.0 ++ more, e ∙ ap (λ (o : Octets). o ++ more) b.1 ∙ append_assoc old b.0 more)

@@ -1,17 +1,14 @@
 use Rattle.std.proofs.Common.{◌≡◌, length, ◌∙◌}
 use Rattle.oer_write.specs.Scopes.{sequence_octets}
 use Rattle.oer_write.specs.Seen.{frame_of}
-use Rattle.oer_write.proofs.Filling.{begins_again, begins_on, sequence_written}
+use Rattle.oer_write.proofs.Filling.{begins_closed, begins_on, sequence_written}
 use Rattle.oer_write.proofs.scopes.write_sequence.Goals as goal
 
 pub returns-in_err-scope-clause-begins : goal.returns-in_err-scope-clause-begins
-returns-in_err-scope-clause-begins g c = begins_on c.args.output.now.items c.in_ok-keep_free.ensures.done.0 c.keep_free.new.out.items c.run.new.output.items c.in_ok-keep_free.ensures.done.2 c.run.ensures.begins
+returns-in_err-scope-clause-begins g c = begins_on _ _ _ _ c.in_ok-keep_free.ensures.done.2 c.run.ensures.begins
 
 pub returns-in_err-close_sequence-clause-begins : goal.returns-in_err-close_sequence-clause-begins
-returns-in_err-close_sequence-clause-begins g c =
-    let start : c.len-start.result ≡ length c.args.output.now.items = c.len-start.ensures ∙ c.args.output.now.ok.0 in
-    let whole = begins_on c.args.output.now.items c.in_ok-keep_free.ensures.done.0 c.keep_free.new.out.items c.run.new.output.items c.in_ok-keep_free.ensures.done.2 c.run.ensures.begins in
-    begins_again c.args.output.now.items c.run.new.output.items c.close_sequence.new.out.items c.len-start.result start whole c.in_err-close_sequence.ensures.refused.1
+returns-in_err-close_sequence-clause-begins g c = begins_closed _ _ _ _ _ _ (c.len-start.ensures ∙ c.args.output.now.ok.0) c.in_ok-keep_free.ensures.done.2 c.run.ensures.begins c.in_err-close_sequence.ensures.refused.1
 
 pub returns-clause-done : goal.returns-clause-done
 returns-clause-done g c =

@@ -1,4 +1,4 @@
-use Rattle.std.proofs.Common.{◌≡◌, ◌-◌, true, false, length, rules}
+use Rattle.std.proofs.Common.{true, false, rules}
 use Rattle.oer_write.proofs.Places.{laid_more, laid_written, items_written}
 use Rattle.oer_write.proofs.component.Components.push_by.Goals as goal
 
@@ -9,13 +9,7 @@ pub invariant_of-self-in_err-push_place : goal.invariant_of-self-in_err-push_pla
 invariant_of-self-in_err-push_place g c = rw c.in_err-push_place.ensures.unchanged (laid_more c.self.inside.octets.items c.put_into.new.out.items c.self.inside.places.items c.in_ok-put_into.ensures.begins c.self.invariant)
 
 pub invariant_of-self-2 : goal.invariant_of-self-2
-invariant_of-self-2 g c =
-    let start : c.new.result.start ≡ length c.self.inside.octets.items = search rules in
-    let size : c.new.result.size ≡ length c.put_into.new.out.items - length c.self.inside.octets.items = search rules in
-    laid_written c.self.inside.octets.items c.put_into.new.out.items c.in_ok-put_into.ensures.done.content c.self.inside.places.items c.push_place.new.places.items c.new.result c.in_ok-put_into.ensures.done.appended c.in_ok-push_place.ensures.done start size c.self.invariant
+invariant_of-self-2 g c = laid_written c.self.inside.octets.items c.put_into.new.out.items c.in_ok-put_into.ensures.done.content c.self.inside.places.items c.push_place.new.places.items c.new.result c.in_ok-put_into.ensures.done.appended c.in_ok-push_place.ensures.done (search rules) (search rules) c.self.invariant
 
 pub returns-clause-done : goal.returns-clause-done
-returns-clause-done g c =
-    let start : c.new.result.start ≡ length c.self.inside.octets.items = search rules in
-    let size : c.new.result.size ≡ length c.put_into.new.out.items - length c.self.inside.octets.items = search rules in
-    (c.in_ok-put_into.ensures.done.content, c.in_ok-put_into.ensures.done.wrote, rw (← c.self.view_is) (items_written c.self.inside.octets.items c.put_into.new.out.items c.in_ok-put_into.ensures.done.content c.self.inside.places.items c.push_place.new.places.items c.new.result c.args.tag false true c.in_ok-put_into.ensures.done.appended c.in_ok-push_place.ensures.done start size c.new.ensures.tag c.new.ensures.marked c.new.ensures.bit c.self.invariant))
+returns-clause-done g c = (c.in_ok-put_into.ensures.done.content, c.in_ok-put_into.ensures.done.wrote, rw (← c.self.view_is) (items_written c.self.inside.octets.items c.put_into.new.out.items c.in_ok-put_into.ensures.done.content c.self.inside.places.items c.push_place.new.places.items c.new.result c.args.tag false true c.in_ok-put_into.ensures.done.appended c.in_ok-push_place.ensures.done (search rules) (search rules) c.new.ensures.tag c.new.ensures.marked c.new.ensures.bit c.self.invariant))
