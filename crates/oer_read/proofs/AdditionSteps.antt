@@ -83,14 +83,14 @@ module _ {B : Type 0} (tree : B → Tree) (IsPart : B → Type 0) (Says : State 
   SpellsPart : State → Item → Type 0
   SpellsPart s i = i.bit ≡ true → (w : B) × IsPart w × IsEncoding (mode_of s.codec) s.levels i.octets (tree w)
 
-  weaker : (s : State) (q : Option Tag) (a : Rows) (rest : Octets) (P Q : Item → Type 0) → ((i : Item) → P i → Q i) → NextAddition s q a rest P → NextAddition s q a rest Q
-  weaker s q a rest P Q to n = record { item = n.item; holds = to n.item n.holds; content = n.content; held = n.held; behind = n.behind; next = n.next; comes = n.comes }
-
   -- rows of that part first give an item of it, and then come rows of the others
   record Splits (s : State) (q : Option Tag) (qs : Parts) (rest : Octets) : Type 0 where
     pub more : Rows
     pub fit : AreOf qs more
     pub next : NextAddition s q more rest (SpellsPart s)
+
+  split_by : (s : State) (q : Option Tag) (qs : Parts) (a : Rows) (rest : Octets) (P : Item → Type 0) → AreOf qs a → ((i : Item) → P i → SpellsPart s i) → NextAddition s q a rest P → Splits s q qs rest
+  split_by s q qs a rest P f to n = record { more = a; fit = f; next = record { item = n.item; holds = to n.item n.holds; content = n.content; held = n.held; behind = n.behind; next = n.next; comes = n.comes } }
 
   AreSplit : State → Option Tag → Parts → Parts → Type 0
   AreSplit s q part qs = (a : Rows) (rest : Octets) → AreOf part a → Comes s NoRows a rest → Splits s q qs rest
@@ -166,11 +166,8 @@ module _ {B : Type 0} (tree : B → Tree) (IsPart : B → Type 0) (Says : State 
 
   optional_split : (s : State) (q : Option Tag) (g : Tag) (qs : Parts) → IsAskedBy q g → AreSplit s q (OptionalPart g (Admits tree IsPart) qs) qs
   unfolding AreSplit
-  optional_split s q g qs asked (Optional h sl a) rest (e, p, f) c = record {
-    more = a;
-    fit = f;
-    next = weaker s q a rest (OptionalItem s h sl) (SpellsPart s) (λ i x. slot_spells s h sl i p x) (next_addition s h false (λ a. Optional h sl a) (OptionalItem s h sl) q a rest (optional_row s h sl) (asked_as q g h e asked) c);
-  }
+  optional_split s q g qs asked (Optional h sl a) rest (e, p, f) c =
+      split_by s q qs a rest (OptionalItem s h sl) f (λ i x. slot_spells s h sl i p x) (next_addition s h false (λ a. Optional h sl a) (OptionalItem s h sl) q a rest (optional_row s h sl) (asked_as q g h e asked) c)
   optional_split s q g qs asked NoRows rest f c = absurd f
   optional_split s q g qs asked (Required _ _ _) rest f c = absurd f
   optional_split s q g qs asked (Default _ _ _ _) rest f c = absurd f
@@ -181,11 +178,8 @@ module _ {B : Type 0} (tree : B → Tree) (IsPart : B → Type 0) (Says : State 
 
   needed_split : (s : State) (q : Option Tag) (g : Tag) (qs : Parts) → IsAskedBy q g → AreSplit s q (NeededPart g (Admits tree IsPart) qs) qs
   unfolding AreSplit
-  needed_split s q g qs asked (Required h t a) rest (e, p, f) c = record {
-    more = a;
-    fit = f;
-    next = weaker s q a rest (NeededItem s h t) (SpellsPart s) (λ i x. needed_spells s h t i p x) (next_addition s h true (λ a. Required h t a) (NeededItem s h t) q a rest (needed_row s h t) (asked_as q g h e asked) c);
-  }
+  needed_split s q g qs asked (Required h t a) rest (e, p, f) c =
+      split_by s q qs a rest (NeededItem s h t) f (λ i x. needed_spells s h t i p x) (next_addition s h true (λ a. Required h t a) (NeededItem s h t) q a rest (needed_row s h t) (asked_as q g h e asked) c)
   needed_split s q g qs asked NoRows rest f c = absurd f
   needed_split s q g qs asked (Optional _ _ _) rest f c = absurd f
   needed_split s q g qs asked (Default _ _ _ _) rest f c = absurd f
@@ -343,12 +337,9 @@ module _ {B : Type 0} (tree : B → Tree) (IsPart : B → Type 0) (Says : State 
 
   default_split : (s : State) (q : Option Tag) (g : Tag) (qs : Parts) → IsAskedBy q g → AreSplit tree IsPart Says s q (ThePart g qs) qs
   unfolding AreSplit SpellsPart
-  default_split s q g qs asked (Default h w sl a) rest (e, z, p, x, f) c = record {
-    more = a;
-    fit = f;
-    next = weaker tree IsPart Says s q a rest (DefaultItem s h w sl) (SpellsPart tree IsPart Says s) (λ i y b. spelled_value tree IsPart Says eq def known s h w sl i z p y b)
-        (next_addition s h false (λ a. Default h w sl a) (DefaultItem s h w sl) q a rest (default_row s h w sl) (asked_as tree IsPart Says q g h e asked) c);
-  }
+  default_split s q g qs asked (Default h w sl a) rest (e, z, p, x, f) c =
+      split_by tree IsPart Says s q qs a rest (DefaultItem s h w sl) f (λ i y b. spelled_value tree IsPart Says eq def known s h w sl i z p y b)
+      (next_addition s h false (λ a. Default h w sl a) (DefaultItem s h w sl) q a rest (default_row s h w sl) (asked_as tree IsPart Says q g h e asked) c)
   default_split s q g qs asked NoRows rest f c = absurd f
   default_split s q g qs asked (Required _ _ _) rest f c = absurd f
   default_split s q g qs asked (Optional _ _ _) rest f c = absurd f

@@ -7,7 +7,6 @@ ghost use Rattle.asn1_core.specs.Rows.{row};
 ghost use Rattle.oer_spec.specs.Reading.{Gives};
 ghost use Rattle.oer_spec.specs.ReadingBits.{skipped_at};
 ghost use Rattle.oer_leaf_read.specs.Views.{bits_left};
-ghost use Rattle.oer_read.specs.Answers.{Refuses};
 ghost use Rattle.oer_read.specs.Law.{IsRear};
 ghost use Rattle.oer_read.specs.Scopes.{level_at, bits_for, extension_of, presence_of, opened_at, closed_at, all_asked, unknown_at, missing, SequenceRead, SequenceRefused};
 ghost use Rattle.oer_read.specs.State.{State, asks_of, marked_count, places_of};
@@ -44,22 +43,6 @@ pub(crate) fn next_marked<'a>(rows: &'a [Field<'a>]) -> Option<(&'a Field<'a>, &
     None
 }
 
-/// How many rows there are whose component may be absent.
-#[inline(always)]
-fn marked_count(rows: &[Field<'_>]) -> usize
-    ensures count { result ≡ marked_count (map row rows.now) }
-    ensures few { result ≤ length rows.now }
-{
-    let mut count = 0;
-    for row in rows {
-        match row.presence {
-            FieldPresence::Required => {}
-            FieldPresence::Optional | FieldPresence::Default => count += 1,
-        }
-    }
-    count
-}
-
 /// One level less, where one is left.
 #[inline(always)]
 pub(crate) fn one_level_less(levels: usize) -> Result<usize, DecodeErrorKind>
@@ -77,7 +60,13 @@ pub(crate) fn bits_for(extensible: bool, roots: &[Field<'_>]) -> usize
     ensures { result ≡ bits_for extensible (map row roots.now) }
 {
     let _size = roots.len();
-    let count = marked_count(roots);
+    let mut count = 0;
+    for row in roots {
+        match row.presence {
+            FieldPresence::Required => {}
+            FieldPresence::Optional | FieldPresence::Default => count += 1,
+        }
+    }
     if extensible { count + 1 } else { count }
 }
 
@@ -139,23 +128,6 @@ impl<'input> Decoder<'input> {
                 bitmap: None,
             },
         })
-    }
-
-    /// The same, or the refusal in the decoder's mode.
-    #[inline(always)]
-    fn opened(
-        &self,
-        roots: &'input [Field<'input>],
-        extensible: bool,
-        additions: &'input [Field<'input>],
-    ) -> Result<Decoder<'input>, DecodeError>
-        ensures state { Refuses (λ d. d) self.now.codec result (opened_at self.now extensible (map row roots.entry.now) (map row additions.entry.now)) }
-        ensures octets { AreOctets self.now.input }
-    {
-        match self.open(roots, extensible, additions) {
-            Ok(inner) => Ok(inner),
-            Err(kind) => Err(self.refusal(kind)),
-        }
     }
 
     /// Every row was asked, else the first that was not is missing.
@@ -228,15 +200,17 @@ impl<'input> Decoder<'input> {
     {
         let roots: &'input [Field<'input>] = D::root_fields();
         let additions: &'input [Field<'input>] = D::addition_fields();
-        let mut inner: Decoder<'input> = self.opened(roots, D::IS_EXTENSIBLE, additions)?;
-        match f(&mut inner) {
-            Err(e) => Err(e),
-            Ok(value) => match inner.close() {
-                Err(kind) => Err(self.refusal(kind)),
-                Ok(rest) => {
-                    self.set_remaining(rest);
-                    Ok(value)
-                }
+        match self.open(roots, D::IS_EXTENSIBLE, additions) {
+            Err(kind) => Err(self.refusal(kind)),
+            Ok(mut inner) => match f(&mut inner) {
+                Err(e) => Err(e),
+                Ok(value) => match inner.close() {
+                    Err(kind) => Err(self.refusal(kind)),
+                    Ok(rest) => {
+                        self.input = rest;
+                        Ok(value)
+                    }
+                },
             },
         }
     }
