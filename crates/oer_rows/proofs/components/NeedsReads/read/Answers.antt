@@ -9,7 +9,4 @@ pub returns-in_err-read-clause-stops : goal.returns-in_err-read-clause-stops
 returns-in_err-read-clause-stops g c = search chained
 
 pub returns-clause-read : goal.returns-clause-read
-returns-clause-read g c =
-    let rest = c.in_ok-read.ensures.read in
-    let took = rest.2 in
-    ((c.in_ok-value.value, rest.0), ap (λ z. (Some c.in_ok-value.value, z)) rest.1, search (chained, took), (c.in_ok-value.ensures.law.read.value, rest.3), rest.4)
+returns-clause-read g c = let rest = c.in_ok-read.ensures.read in ((c.in_ok-value.value, rest.0), ap (λ z. (Some c.in_ok-value.value, z)) rest.1, search (chained, rest.2), (c.in_ok-value.ensures.law.read.value, rest.3), rest.4)

@@ -9,7 +9,4 @@ pub returns-in_err-read_additions-clause-stops : goal.returns-in_err-read_additi
 returns-in_err-read_additions-clause-stops g c = search chained
 
 pub returns-clause-read : goal.returns-clause-read
-returns-clause-read g c =
-    let rest = c.in_ok-read_additions.ensures.read in
-    let took = rest.2 in
-    ((c.in_ok-value.value, rest.0), ap (λ z. (c.in_ok-value.value, z)) rest.1, search (chained, took), (added_there _ _ _ _ _ _ _ c.in_ok-value.ensures.read, rest.3))
+returns-clause-read g c = let rest = c.in_ok-read_additions.ensures.read in ((c.in_ok-value.value, rest.0), ap (λ z. (c.in_ok-value.value, z)) rest.1, search (chained, rest.2), (added_there _ _ _ _ _ _ _ c.in_ok-value.ensures.read, rest.3))
