@@ -22,7 +22,7 @@ pub(crate) fn encode_value<T: Encode>(
     let mut output = Vec::new(alloc);
     let mut worker = Vec::new(alloc);
     let mut encoder = Encoder::from_buffer(alloc, EncoderOptions::coer(), &mut output, &mut worker);
-    value.encode_with_constraints(&mut encoder, constraints)?;
+    value.encode_with_tag_and_constraints(&mut encoder, T::TAG, constraints)?;
     Ok(encoder.output())
 }
 
@@ -38,7 +38,7 @@ pub(crate) fn decode_value<'a, T: Decode>(
     ensures says { Says (T.tree constraints) T.IsValue (T.Answered constraints) options.codec options.levels input.entry.now result }
 {
     let mut decoder = Decoder::new(input, options);
-    match T::decode_with_constraints(alloc, &mut decoder, constraints) {
+    match T::decode_with_tag_and_constraints(alloc, &mut decoder, T::TAG, constraints) {
         Ok(value) => Ok((value, decoder.remaining())),
         Err(e) => Err(e),
     }
@@ -62,7 +62,7 @@ pub(crate) fn append_value<T: Encode>(
         &mut *buffer,
         &mut worker,
     );
-    let answer = value.encode_with_constraints(&mut encoder, constraints);
+    let answer = value.encode_with_tag_and_constraints(&mut encoder, T::TAG, constraints);
     let octets = encoder.output();
     drop(encoder);
     *buffer = octets;
