@@ -2,7 +2,8 @@
 use Rattle.std.proofs.Common.{◌≡◌, Result, Ok, Err, true, refl}
 use Rattle.asn1_core.specs.declared.error.DecodeError.{DecodeError}
 use Rattle.oer_spec.specs.Spelled.{EachValue, IsAny, list_of}
-use Rattle.oer_types.specs.Nests.{nest_tree, nest_of, nest_items, nest_is, each_any}
+use Rattle.oer_types.specs.Nests.{nest_tree, nest_of, nest_items, nest_is}
+use Rattle.oer_types.specs.OwnLists.{each_any}
 use Rattle.oer_types.specs.declared.nests.Nest.{Nest}
 use Rattle.oer_types.specs.declared.nests.Nest.TheOpen.{Nest-F}
 use Rattle.oer_types.specs.declared.nests.Nest.TheViews.{out-Nest, roll-Nest}

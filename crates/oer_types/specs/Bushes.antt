@@ -1,5 +1,5 @@
 -- The tree of a set that holds a list of itself, and its components.
-use Rattle.std.specs.Prelude.{◌≡◌, ◌⊎◌, ℕ, zero, suc, ℤ, true, false, Some, None, List, [], ◌∷◌, Result, Ok, Err, Vec, map, refl}
+use Rattle.std.specs.Prelude.{◌≡◌, ◌⊎◌, ℕ, zero, suc, ℤ, true, false, Some, None, List, [], ◌∷◌, Result, Ok, Err, Vec, refl}
 use Rattle.std.proofs.Common.{ap, sym, subst, ◌∙◌}
 use Rattle.std.specs.Option.{option_map}
 use Rattle.std.specs.declared.alloc.Global.{Global}
@@ -8,12 +8,13 @@ use Rattle.asn1_core.specs.declared.constraints.TheConstants.Constraints.{NONE}
 use Rattle.asn1_core.specs.declared.error.DecodeError.{DecodeError}
 use Rattle.asn1_core.specs.declared.fields.FieldPresence.TheVariants as presence
 use Rattle.oer_spec.specs.Encoding.{IsTree, AreTrees}
-use Rattle.oer_spec.specs.Same.{Alike, AlikeTrees, EachTree}
+use Rattle.oer_spec.specs.Same.{Alike, AlikeTrees}
 use Rattle.oer_spec.specs.Spelled.{EachValue, IsAny, trees_of, list_of, integer_is, integers_alike}
-use Rattle.oer_spec.specs.Tree.{Tree, Struct, Rows, NoRows, Required, Trees, More, ListOf, Slot, Present}
+use Rattle.oer_spec.specs.Tree.{Tree, Struct, Rows, NoRows, Required, Trees, ListOf, Slot, Present}
 use Rattle.oer_read.specs.SetRows.{found}
 use Rattle.oer_rows.specs.Integers.{plain_integer}
 use Rattle.oer_rows.specs.Schema.{universal}
+use Rattle.oer_types.specs.OwnLists.{each_any, trees_of_map, HasTree, have_trees, IsAlikeAll, items_alike}
 use Rattle.oer_types.specs.declared.bushes.Bush.{Bush}
 use Rattle.oer_types.specs.declared.bushes.Bush.TheOpen.{Bush-F}
 use Rattle.oer_types.specs.declared.bushes.Bush.TheViews.{out-Bush, roll-Bush}
@@ -48,10 +49,6 @@ list_tree v = bushes_tree (out-Bush v).b
 abbrev pub bush_rows : Bush → Rows
 bush_rows v = rows_with (out-Bush v).a (list_tree v)
 
-trees_of_map : (tree : Bush → Tree) (vs : List Bush) → trees_of (λ t. t) (map tree vs) ≡ trees_of tree vs
-trees_of_map tree [] = refl
-trees_of_map tree (v ∷ vs) = ap (λ (r : Trees). More (tree v) r) (trees_of_map tree vs)
-
 -- a bush of its components, and the components of a bush
 pub bush_made : (x : Bush-F Bush) → bush_tree (roll-Bush x) ≡ tree_of x
 unfolding bush_tree list_of
@@ -64,50 +61,26 @@ bush_holds v = fold_out-Bush Tree bush_step v ∙ ap (λ (ts : Trees). Struct tr
 abbrev pub AreAny : Vec Bush Global → Type 0
 AreAny v = EachValue IsAny v.items
 
-each_any : (vs : List Bush) → EachValue IsAny vs
-each_any [] = tt
-each_any (v ∷ vs) = (tt, each_any vs)
-
 pub are_any : (v : Vec Bush Global) → AreAny v
 are_any v = each_any v.items
 
 -- ---- every bush has a tree
-abbrev HasTree : Bush → Type 0
-HasTree v = IsTree (bush_tree v)
-
-have_trees : (vs : List ((f : Bush) × HasTree f)) → AreTrees (trees_of bush_tree (map (λ e. e.0) vs))
-unfolding IsTree
-have_trees [] = tt
-have_trees (v ∷ vs) = (v.1, have_trees vs)
-
 struct_has_tree : (a : ℤ) (vs : List Bush) → AreTrees (trees_of bush_tree vs) → IsTree (Struct true false (rows_with a (list_of true bush_tree vs)) NoRows)
 unfolding IsTree list_of
 struct_has_tree a vs h = ((integer_is NONE a, (h, tt)), tt, (λ e. refl), (λ e. (refl, (refl, tt))))
 
 pub bush_is : (v : Bush) → IsTree (bush_tree v)
-bush_is = ind-Bush HasTree (λ x y is.
-    subst IsTree (sym (bush_made x)) (struct_has_tree x.a x.b.items (subst (λ (z : Bush-F Bush). AreTrees (trees_of bush_tree z.b.items)) is (have_trees y.b.items))))
+bush_is = ind-Bush (HasTree bush_tree) (λ x y is.
+    subst IsTree (sym (bush_made x)) (struct_has_tree x.a x.b.items (subst (λ (z : Bush-F Bush). AreTrees (trees_of bush_tree z.b.items)) is (have_trees bush_tree y.b.items))))
 
 -- ---- any two are alike
-abbrev IsAlikeAll : Bush → Type 0
-IsAlikeAll v = (w : Bush) → Alike (bush_tree v) (bush_tree w)
-
-item_alike : (v : (f : Bush) × IsAlikeAll f) (ws : List Bush) → EachTree (λ u. Alike (bush_tree v.0) u) (trees_of bush_tree ws)
-item_alike v [] = tt
-item_alike v (w ∷ ws) = (v.1 w, item_alike v ws)
-
-items_alike : (vs : List ((f : Bush) × IsAlikeAll f)) (ws : List Bush) → AlikeTrees (trees_of bush_tree (map (λ e. e.0) vs)) (trees_of bush_tree ws)
-unfolding Alike
-items_alike [] ws = tt
-items_alike (v ∷ vs) ws = (item_alike v ws, items_alike vs ws)
-
 structs_alike : (a b : ℤ) (vs ws : List Bush) → AlikeTrees (trees_of bush_tree vs) (trees_of bush_tree ws) → Alike (Struct true false (rows_with a (list_of true bush_tree vs)) NoRows) (Struct true false (rows_with b (list_of true bush_tree ws)) NoRows)
 unfolding Alike list_of
 structs_alike a b vs ws h = (refl, refl, (refl, integers_alike NONE a b, (refl, (refl, h), tt)), tt)
 
 pub bushes_alike : (v w : Bush) → Alike (bush_tree v) (bush_tree w)
-bushes_alike = ind-Bush IsAlikeAll (λ x y is w.
-    let items = subst (λ (z : Bush-F Bush). AlikeTrees (trees_of bush_tree z.b.items) (trees_of bush_tree (out-Bush w).b.items)) is (items_alike y.b.items (out-Bush w).b.items) in
+bushes_alike = ind-Bush (IsAlikeAll bush_tree) (λ x y is w.
+    let items = subst (λ (z : Bush-F Bush). AlikeTrees (trees_of bush_tree z.b.items) (trees_of bush_tree (out-Bush w).b.items)) is (items_alike bush_tree y.b.items (out-Bush w).b.items) in
     subst (λ (t : Tree). Alike t (bush_tree w)) (sym (bush_made x)) (subst (λ (t : Tree). Alike (tree_of x) t) (sym (bush_holds w)) (structs_alike x.a (out-Bush w).a x.b.items (out-Bush w).b.items items)))
 
 -- ---- its components

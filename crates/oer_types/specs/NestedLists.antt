@@ -4,10 +4,11 @@ use Rattle.std.specs.Bool.{Decides}
 use Rattle.std.proofs.Common.{sym, subst}
 use Rattle.std.proofs.lemmas.Bool.Decides.{same_from_decides}
 use Rattle.oer_spec.specs.Encoding.{IsTree}
-use Rattle.oer_spec.specs.Same.{Same, Alike, AlikeTrees, EachTree}
+use Rattle.oer_spec.specs.Same.{Same, Alike, AlikeTrees}
 use Rattle.oer_spec.specs.Spelled.{trees_of, list_of}
 use Rattle.oer_spec.specs.Tree.{Tree, ListOf, NoTrees, More}
 use Rattle.oer_types.specs.Nests.{nest_tree, nest_items}
+use Rattle.oer_types.specs.OwnLists.{each_alike}
 use Rattle.oer_types.specs.SameNests.{nest_eq, nests_same}
 use Rattle.oer_types.specs.declared.nests.Nest.{Nest}
 use Rattle.oer_types.specs.declared.nests.Nest.TheViews.{out-Nest}
@@ -91,17 +92,13 @@ pub nest_like_nested : (n : ℕ) (v : Nest) → Alike (nest_tree v) (nested_list
 nest_like_nested zero v = subst (λ (t : Tree). Alike t (nested_lists zero)) (sym (nest_items v)) (list_like_none (out-Nest v).items.items)
 nest_like_nested (suc n) v = subst (λ (t : Tree). Alike t (nested_lists (suc n))) (sym (nest_items v)) (lists_like n (nest_like_nested n) (out-Nest v).items.items)
 
-each_like : (n : ℕ) → ((w : Nest) → Alike (nested_lists n) (nest_tree w)) → (ws : List Nest) → EachTree (λ u. Alike (nested_lists n) u) (trees_of nest_tree ws)
-each_like n a [] = tt
-each_like n a (w ∷ ws) = (a w, each_like n a ws)
-
 none_like_list : (ws : List Nest) → Alike (nested_lists zero) (list_of true nest_tree ws)
 unfolding Alike list_of nested_lists
 none_like_list ws = (refl, tt)
 
 one_like_list : (n : ℕ) → ((w : Nest) → Alike (nested_lists n) (nest_tree w)) → (ws : List Nest) → Alike (nested_lists (suc n)) (list_of true nest_tree ws)
 unfolding Alike list_of nested_lists
-one_like_list n a ws = (refl, (each_like n a ws, tt))
+one_like_list n a ws = (refl, (each_alike nest_tree (nested_lists n) a ws, tt))
 
 pub nested_like_nest : (n : ℕ) (w : Nest) → Alike (nested_lists n) (nest_tree w)
 nested_like_nest zero w = subst (λ (t : Tree). Alike (nested_lists zero) t) (sym (nest_items w)) (none_like_list (out-Nest w).items.items)
