@@ -128,6 +128,22 @@ impl<'buffer> Encoder<'buffer> {
     {
         let extensible = C::IS_EXTENSIBLE;
         let size = preamble_size(extensible, C::FIELDS.fields);
+        self.sequence(extensible, size, f)
+    }
+
+    fn sequence<F: FnOnce(&mut Encoder<'_>) -> Result<(), EncodeError>>(
+        &mut self,
+        extensible: bool,
+        size: usize,
+        f: F,
+    ) -> Result<(), EncodeError>
+        requires callable { F.IsAlwaysCallable f }
+        requires orderly { IsOrderly false (Promise F.FnOnce f) }
+        requires few { size ≤ 16 }
+        ensures done { OnOk result (Closed (Promise F.FnOnce f) extensible self.old self.new) }
+        ensures refused { IfErr result (λ x. Broken (Promise F.FnOnce f) false extensible x self.old self.new) }
+        ensures unchanged { OnErr result (self.new ≡ self.old) }
+    {
         put_sequence(self.alloc, extensible, size, &mut *self.output, f)?;
         Ok(())
     }
