@@ -1,6 +1,6 @@
 //! Sequences: a closure reads the components on a decoder of its own, whose frame holds the rows that are to be asked.
 
-ghost use Rattle.std.specs.Prelude.{◌≡◌, ◌≤◌, ℕ, false, get_or, drop, map, length, suc, List, Bool, ◌∷◌, [], IfOk, IfErr, OnErr, OnOk, Ok, Err, IfNone, IfSome};
+ghost use Rattle.std.specs.Prelude.{◌≡◌, ℕ, false, get_or, drop, map, suc, List, Bool, ◌∷◌, [], IfOk, IfErr, OnErr, OnOk, Ok, Err, IfNone, IfSome};
 ghost use Rattle.std.specs.Fn.{FnOnceReturnsAtMut, FnOnceTakesAtMut};
 ghost use Rattle.asn1_core.specs.Octets.{AreOctets};
 ghost use Rattle.asn1_core.specs.Rows.{row};
@@ -9,7 +9,7 @@ ghost use Rattle.oer_spec.specs.ReadingBits.{skipped_at};
 ghost use Rattle.oer_leaf_read.specs.Views.{bits_left};
 ghost use Rattle.oer_read.specs.Law.{IsRear};
 ghost use Rattle.oer_read.specs.Scopes.{level_at, bits_for, extension_of, presence_of, opened_at, closed_at, all_asked, unknown_at, missing, SequenceRead, SequenceRefused};
-ghost use Rattle.oer_read.specs.State.{State, asks_of, marked_count, places_of};
+ghost use Rattle.oer_read.specs.State.{State, asks_of, places_of};
 
 use crate::decoder::{Decoder, OpenScope};
 use asn1_core::{Constructed, DecodeError, DecodeErrorKind, Field, FieldPresence, Tag};
