@@ -17,6 +17,7 @@ use Rattle.oer_spec.specs.Writing.{Appends, BeginsWith}
 use Rattle.oer_write.specs.Bits.{ArePacked}
 use Rattle.oer_write.specs.Scopes.{any_true, extension_of, sequence_octets}
 use Rattle.oer_write.specs.Written.{Frame}
+use Rattle.oer_write.proofs.Keeping.{begins_then}
 
 -- octets in four parts
 pub parts : (start size end : ℕ) (all : Octets) → start + size ≤ end → end ≤ length all → all ≡ take start all ++ (take size (drop start all) ++ (drop (start + size) (take end all) ++ drop end all))
@@ -174,18 +175,11 @@ open_short old free all content h e = omega (arith, ap length e, length-append (
 pub cut_begun : (old new cut : Octets) (start : ℕ) → start ≡ length old → BeginsWith old new → cut ≡ take start new → cut ≡ old
 cut_begun old new cut start s b e = e ∙ ap (take start) b.1 ∙ take_at old b.0 start (sym s)
 
--- what begins with octets and those behind them begins with the octets
-pub begins_on : (old more mid new : Octets) → mid ≡ old ++ more → BeginsWith mid new → BeginsWith old new
-begins_on old more mid new e b = (more ++ b.0, b.1 ∙ ap (λ (o : Octets). o ++ b.0) e ∙ append_assoc old more b.0)
-
 -- what begins with the front of octets, behind which some were free, begins with what stood in front of these
 pub begins_closed : (old free mid all new : Octets) (start : ℕ) → start ≡ length old → mid ≡ old ++ free → BeginsWith mid all → BeginsWith (take start all) new → BeginsWith old new
 begins_closed old free mid all new start s e b n =
-    let whole = begins_on old free mid all e b in
+    let whole = begins_then old mid all (free, e) b in
     (n.0, n.1 ∙ ap (λ (o : Octets). o ++ n.0) (ap (take start) whole.1 ∙ take_at old whole.0 start (sym s)))
-
-pub begins_then : (old mid more new : Octets) → BeginsWith old mid → new ≡ mid ++ more → BeginsWith old new
-begins_then old mid more new b e = (b.0 ++ more, e ∙ ap (λ (o : Octets). o ++ more) b.1 ∙ append_assoc old b.0 more)
 
 -- a sequence, of which the preamble's octets were free
 pub sequence_written : (old free mid all new components : Octets) (start size : ℕ) (f : Frame) → start ≡ length old → length free ≡ size → mid ≡ old ++ free → all ≡ mid ++ components → new ≡ take start all ++ sequence_octets f (drop (start + size) all) → new ≡ old ++ sequence_octets f components

@@ -4,7 +4,7 @@ use Rattle.asn1_core.specs.Octets.{Octets}
 use Rattle.oer_spec.specs.Writing.{BeginsWith}
 use Rattle.oer_write.specs.Written.{Written, Keeps}
 
-begins_then : (a b c : Octets) → BeginsWith a b → BeginsWith b c → BeginsWith a c
+pub begins_then : (a b c : Octets) → BeginsWith a b → BeginsWith b c → BeginsWith a c
 begins_then a b c h i = (h.0 ++ i.0, i.1 ∙ ap (λ (o : Octets). o ++ i.0) h.1 ∙ append_assoc a _ _)
 
 pub keeps_then : (e e1 e' : Written) → Keeps e e1 → Keeps e1 e' → Keeps e e'

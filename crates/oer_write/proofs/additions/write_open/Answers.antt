@@ -2,11 +2,12 @@ use Rattle.std.proofs.Common.{◌≡◌, ◌^◌, ◌<◌, ◌++◌, length, ap,
 use Rattle.asn1_core.specs.Octets.{Octets}
 use Rattle.oer_spec.specs.Encoding.{canonical_octets}
 use Rattle.oer_write.specs.Rows.{open_type}
-use Rattle.oer_write.proofs.Filling.{begins_closed, begins_on, open_short, open_written}
+use Rattle.oer_write.proofs.Filling.{begins_closed, open_short, open_written}
+use Rattle.oer_write.proofs.Keeping.{begins_then}
 use Rattle.oer_write.proofs.additions.write_open.Goals as goal
 
 pub returns-in_err-append_value-clause-begins : goal.returns-in_err-append_value-clause-begins
-returns-in_err-append_value-clause-begins g c = begins_on _ _ _ _ c.in_ok-keep_free.ensures.done.2 c.append_value.ensures.begins
+returns-in_err-append_value-clause-begins g c = begins_then _ _ _ (c.in_ok-keep_free.ensures.done.0, c.in_ok-keep_free.ensures.done.2) c.append_value.ensures.begins
 
 pub returns-in_err-close_open-clause-begins : goal.returns-in_err-close_open-clause-begins
 returns-in_err-close_open-clause-begins g c = begins_closed _ _ _ _ _ _ (c.len-start.ensures ∙ c.args.out.now.ok.0) c.in_ok-keep_free.ensures.done.2 c.append_value.ensures.begins c.in_err-close_open.ensures.refused.1

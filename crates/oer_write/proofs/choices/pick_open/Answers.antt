@@ -2,11 +2,12 @@ use Rattle.std.proofs.Common.{◌≡◌, ◌^◌, ◌<◌, length, ◌∙◌, ru
 use Rattle.oer_spec.specs.Lengths.{behind_length}
 use Rattle.oer_write.specs.Choices.{AppendedOpen, PromisePick}
 use Rattle.oer_write.proofs.Chosen.{open_picked}
-use Rattle.oer_write.proofs.Filling.{begins_closed, begins_on}
+use Rattle.oer_write.proofs.Filling.{begins_closed}
+use Rattle.oer_write.proofs.Keeping.{begins_then}
 use Rattle.oer_write.proofs.choices.pick_open.Goals as goal
 
 pub returns-in_err-pick_into-clause-begins : goal.returns-in_err-pick_into-clause-begins
-returns-in_err-pick_into-clause-begins g c = begins_on _ _ _ _ c.in_ok-keep_free.ensures.done.2 c.pick_into.ensures.begins
+returns-in_err-pick_into-clause-begins g c = begins_then _ _ _ (c.in_ok-keep_free.ensures.done.0, c.in_ok-keep_free.ensures.done.2) c.pick_into.ensures.begins
 
 pub returns-in_err-close_open-clause-begins : goal.returns-in_err-close_open-clause-begins
 returns-in_err-close_open-clause-begins g c = begins_closed _ _ _ _ _ _ (c.len-start.ensures ∙ c.args.out.now.ok.0) c.in_ok-keep_free.ensures.done.2 c.pick_into.ensures.begins c.in_err-close_open.ensures.refused.1

@@ -1,11 +1,12 @@
 use Rattle.std.proofs.Common.{◌≡◌, length, ◌∙◌}
 use Rattle.oer_write.specs.Scopes.{sequence_octets}
 use Rattle.oer_write.specs.Seen.{frame_of}
-use Rattle.oer_write.proofs.Filling.{begins_closed, begins_on, sequence_written}
+use Rattle.oer_write.proofs.Filling.{begins_closed, sequence_written}
+use Rattle.oer_write.proofs.Keeping.{begins_then}
 use Rattle.oer_write.proofs.scopes.write_sequence.Goals as goal
 
 pub returns-in_err-scope-clause-begins : goal.returns-in_err-scope-clause-begins
-returns-in_err-scope-clause-begins g c = begins_on _ _ _ _ c.in_ok-keep_free.ensures.done.2 c.run.ensures.begins
+returns-in_err-scope-clause-begins g c = begins_then _ _ _ (c.in_ok-keep_free.ensures.done.0, c.in_ok-keep_free.ensures.done.2) c.run.ensures.begins
 
 pub returns-in_err-close_sequence-clause-begins : goal.returns-in_err-close_sequence-clause-begins
 returns-in_err-close_sequence-clause-begins g c = begins_closed _ _ _ _ _ _ (c.len-start.ensures ∙ c.args.output.now.ok.0) c.in_ok-keep_free.ensures.done.2 c.run.ensures.begins c.in_err-close_sequence.ensures.refused.1

@@ -1,5 +1,5 @@
 use Rattle.std.proofs.Common.{◌≡◌, ◌<◌, ◌++◌, length, take, drop, get_or, rules}
-use Rattle.oer_write.proofs.Filling.{begins_then}
+use Rattle.oer_write.proofs.Keeping.{begins_then}
 use Rattle.oer_write.proofs.Places.{bodies_more}
 use Rattle.oer_write.proofs.sets.put_bodies.Goals as goal
 
@@ -11,5 +11,5 @@ loop-component-preserved c =
     let written : c.extend_from_slice.new.self.items ≡ c.loop-component.out.items ++ take place.size (drop place.start c.args.octets.now) = search rules in
     record {
       rest = bodies_more c.args.octets.now c.args.components.now c.loop-component.component-index place c.loop-component.out.items c.extend_from_slice.new.self.items _ short there written c.loop-component.invariant.rest;
-      begins = begins_then c.args.out.now.items c.loop-component.out.items _ c.extend_from_slice.new.self.items c.loop-component.invariant.begins written;
+      begins = begins_then _ _ _ c.loop-component.invariant.begins (take place.size (drop place.start c.args.octets.now), written);
     }
