@@ -276,8 +276,8 @@ def asking():
             yield on_decoder(mode, "decode_optional" + way, "-", "80" + great, f"OneOptional {{ n: Some({number(GREAT)}) }}", "")
         for way in ways:
             yield on_decoder(mode, "decode_default" + way, "-", "80" + great, f"OneDefault {{ n: {number(GREAT)} }}", "")
-        for way in ("with_tag", "with_explicit_tag"):
-            yield on_decoder(mode, f"decode_extension_addition_{way}_and_constraints", "-", "800207808182" + great,
+        for way in ("with_tag_and_constraints", "with_explicit_tag_and_constraints", "default"):
+            yield on_decoder(mode, f"decode_extension_addition_{way}", "-", "800207808182" + great,
                              f"OneAddition {{ n: Some({number(GREAT)}) }}", "")  # fmt: skip
         yield on_decoder(mode, "decode_sequence_of", "int", "01020101" + great, elements, "")
         yield on_decoder(mode, "decode_set_of", "int", "01020101" + great, f"SetOf {{ items: {elements} }}", "")
@@ -388,7 +388,6 @@ THROUGH = {
     "decode_choice_with": ("Link", f"80 {G} 81 80 01 02 80 ff"),
     "decode_sequence_of_with": ("Bush", f"{G} 01 01 01 ff 01 00"),
     "decode_extension_addition_group": ("seq7", f"80 ff 02 04 30 {OPEN_G} 81 83 40 {G}"),
-    "decode_extension_addition_default": ("AddDef", f"80 ff 02 07 80 {OPEN_G}"),
 }
 # calls of tables, rules and options, which have no allocator
 WITHOUT = {"is_among", "is_oer", "is_coer", "oer", "coer", "with_depth"}

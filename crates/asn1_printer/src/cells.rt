@@ -1,7 +1,7 @@
 //! A component as a cell of a row.
 
-use crate::inner::leads_on;
-use crate::items::{push_default, push_limits};
+use crate::defaults::push_default;
+use crate::items::push_limits;
 use crate::shapes::shape_of;
 use asn1_core::{Class, Tag};
 use asn1_layouts::definitions::{Definition, Part};
@@ -26,9 +26,6 @@ pub struct Cell {
     pub arguments: Vec<String>,
     /// Its line in the table, less the index.
     pub entry: String,
-    /// Whether its type has a row itself.
-    pub leads: bool,
-    pub is_group: bool,
 }
 
 /// The class of a tag, as a table and a row write it.
@@ -125,6 +122,7 @@ fn push_shape<'m>(
 /// A component's arguments before the row behind it. Its default is printed, under the name `own`.
 fn push_arguments<'m>(
     scope: Scope<'m, '_>,
+    all: &[Definition<'m>],
     out: &mut String,
     own: &str,
     row: Row<'m>,
@@ -132,7 +130,7 @@ fn push_arguments<'m>(
 ) -> Result<Vec<String>, Refusal> {
     let mut arguments = arguments_of(scope.alloc, row.tag.unwrap_or(Tag::EOC), rust)?;
     if let Need::Default(value) = row.need {
-        arguments.push(push_default(scope, out, row, value, rust, own)?)?;
+        arguments.push(push_default(scope, all, out, row, value, (own, rust))?)?;
     }
     Ok(arguments)
 }
@@ -152,7 +150,7 @@ pub fn cell_of<'m>(
     let own = camel_of(alloc, owner, name)?;
     let rust = push_shape(scope, all, out, own.as_str(), part, row)?;
     let (head, presence, is_option) = need_of(row.need, is_addition);
-    let arguments = push_arguments(scope, out, own.as_str(), row, rust.as_str())?;
+    let arguments = push_arguments(scope, all, out, own.as_str(), row, rust.as_str())?;
     Ok(Cell {
         field: part.rust_name.clone()?,
         field_type: field_type(alloc, rust.as_str(), is_option)?,
@@ -160,8 +158,6 @@ pub fn cell_of<'m>(
         head,
         arguments,
         entry: component_entry(alloc, presence, row.tag.unwrap_or(Tag::EOC), name)?,
-        leads: leads_on(scope, row)?,
-        is_group: false,
     })
 }
 
@@ -188,8 +184,6 @@ pub fn group_cell(
         head: "MayAddGroup",
         arguments: group_arguments(alloc, group, roots)?,
         entry: format!(in alloc; "Optional Universal 16 \"group {number}\"")?,
-        leads: true,
-        is_group: true,
     })
 }
 
@@ -214,7 +208,5 @@ pub fn alternative_of<'m>(
         camel: variant_name(alloc, name, "Self First Rest")?,
         head: "Offers",
         entry: tag_entry(alloc, tag)?,
-        leads: leads_on(scope, row)?,
-        is_group: false,
     })
 }

@@ -1,7 +1,7 @@
 //! A CHOICE: its enum, its row, its tags and its conversions.
 
 use crate::cells::{Cell, alternative_of};
-use crate::chains::{Chain, push_alternatives};
+use crate::chains::{Chain, push_row};
 use crate::templates::{CHOICE, CHOICE_IMPLS, TAGS};
 use crate::text::{Words, fill, joined, repeated, upper};
 use asn1_layouts::definitions::{Definition, Part};
@@ -191,7 +191,7 @@ pub fn push_choice<'m>(
         is_choice: true,
     };
     push_enum(alloc, out, doc, of)?;
-    push_alternatives(alloc, out, of)?;
+    push_row(alloc, out, of)?;
     push_impls(alloc, out, of)?;
     Ok(())
 }

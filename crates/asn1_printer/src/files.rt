@@ -141,6 +141,23 @@ fn body_of(alloc: Global, types: &[Printed]) -> Result<String, AllocError> {
     Ok(body)
 }
 
+/// A text with the homes of names in the place of their marks: `@HOME:NAME@`.
+fn with_homes(alloc: Global, text: &str, homes: &Homes) -> Result<String, AllocError> {
+    let mut out = String::new(alloc);
+    for (at, piece) in text.split("@HOME:").enumerate() {
+        match piece.split_once('@') {
+            Some((name, rest)) if at != 0 => {
+                if let Some((library, module)) = homes.get(name) {
+                    out.push_str(format!(in alloc; "{library}.specs.declared.{module}")?.as_str())?;
+                }
+                out.push_str(rest)?;
+            }
+            _ => out.push_str(piece)?,
+        }
+    }
+    Ok(out)
+}
+
 /// A section's file.
 fn section_file(
     alloc: Global,
@@ -154,6 +171,7 @@ fn section_file(
     let uses = use_lines(alloc, body.as_str(), homes, library, module)?;
     let home = format!(in alloc; "{library}.specs.declared.{module}")?;
     let body = replaced(alloc, body.as_str().trim_end(), "@HOME@", home.as_str())?;
+    let body = with_homes(alloc, body.as_str(), homes)?;
     Ok(File {
         path: format!(in alloc; "{library}/src/{module}.rt")?,
         text: format!(in alloc;

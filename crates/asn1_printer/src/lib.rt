@@ -4,10 +4,11 @@
 pub mod cells;
 pub mod chains;
 pub mod choices;
+pub mod defaults;
 pub mod enumerations;
 pub mod files;
-pub mod inner;
 pub mod items;
+pub mod literals;
 pub mod notation;
 pub mod printer;
 pub mod sequences;

@@ -26,10 +26,10 @@ encodeerror encodeerrorkind enumerated field fieldpresence fields generalstring 
 numericstring objectidentifier octetstring printablestring sequenceof setof tag teletexstring utctime utf8string \
 visiblestring constrainedinteger integer integerrange alternating alternativeviews alternatives either enumeration \
 numbered offers oneof decode decodechoice decoder decoderoptions adddefaults additionviews additions adds application \
-compared components context defaults extensible intagorder isfalse isnumber istrue limited limits listof mayadd \
+compared components context defaults extensible intagorder isfalse isnull isnumber istrue limited limits listof mayadd \
 mayaddgroup mayhave needs nomore place private reads readsadditions rowed schemed sequence set standard tabled takes \
 takesalternative universal views writes octets openoctets bmptext generaltext graphictext ia5text numerictext printabletext teletextext \
-utf8text visibletext equalasspelled spelled encode encoder built fields from_row pairs tags to_row";
+utf8text visibletext within equalasspelled spelled encode encoder are_bits bits_from bmp_from built fields from_row pairs tags to_row";
 
 /// A type that was printed: its text, and the names that others may use.
 #[derive(Drop)]

@@ -1,8 +1,8 @@
 //! A SEQUENCE or a SET: its struct, its row, its tables and its conversions.
 
 use crate::cells::{Cell, cell_of, group_cell};
-use crate::chains::{Chain, push_chains};
-use crate::templates::{IN_TAG_ORDER, MEMBERS, TABLES, TYPE};
+use crate::chains::{Chain, push_row};
+use crate::templates::{IN_TAG_ORDER, MEMBERS, TABLES, TYPE, USES_BOTH};
 use crate::text::{Words, fill, joined, repeated};
 use asn1_core::Class;
 use asn1_layouts::definitions::{Definition, Part};
@@ -53,16 +53,17 @@ fn names_of(alloc: Global, of: Chain<'_>) -> Result<Vec<String>, AllocError> {
     Ok(names)
 }
 
-/// A value's fields as nested pairs.
+/// A value's fields, one behind another as a row has them.
 fn pairs_text(alloc: Global, names: &[String]) -> Result<String, AllocError> {
     let mut out = String::new(alloc);
-    for name in names.iter() {
-        out.push_str("(v.")?;
+    for (index, name) in names.iter().enumerate() {
+        out.push_str(if index == 0 { "both v." } else { "(both v." })?;
         out.push_str(name.as_str())?;
-        out.push_str(", ")?;
+        out.push_str(" ")?;
     }
     out.push_str("tt")?;
-    out.push_str(repeated(alloc, ")", names.len())?.as_str())?;
+    let open = names.len().saturating_sub(1);
+    out.push_str(repeated(alloc, ")", open)?.as_str())?;
     Ok(out)
 }
 
@@ -126,6 +127,7 @@ fn push_conversions(
 ) -> Result<(), AllocError> {
     let mut words = Words::new(alloc);
     words.put("NAME", of.owner)?;
+    words.put("USES", if pairs == "tt" { "" } else { USES_BOTH })?;
     words.put("PAIRS", pairs)?;
     words.put("LIST", list)?;
     words.put("EXT", if of.is_extensible { "true" } else { "false" })?;
@@ -169,7 +171,7 @@ fn push_members(
     let pairs = pairs_text(alloc, names.as_slice())?;
     let list = joined(alloc, names.as_slice(), "            ", ",\n")?;
     push_struct(alloc, out, doc, of, is_set)?;
-    push_chains(alloc, out, of)?;
+    push_row(alloc, out, of)?;
     push_conversions(alloc, out, of, pairs.as_str(), list.as_str())?;
     push_tables(alloc, out, of, list.as_str(), is_set)
 }

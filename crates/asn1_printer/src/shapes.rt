@@ -170,6 +170,17 @@ pub fn number_of_octets<'m>(
     Ok((rust, !limits.is_extensible && limits != own, limits))
 }
 
+/// Whether the Rust type of a string stands within sizes, and these.
+pub fn sizes_of<'m>(scope: Scope<'m, '_>, link: Link<'m>) -> Result<(bool, Limits), Refusal> {
+    let chain = scope.chain_of(link)?;
+    let base = chain.last().copied().unwrap_or(link);
+    if purpose_of(base) != Some(Purpose::Size) {
+        return Ok((false, UNLIMITED));
+    }
+    let limits = limits_of(scope, chain.as_slice(), names_of(base), Purpose::Size)?;
+    Ok((!limits.is_extensible && limits != UNLIMITED, limits))
+}
+
 /// Appends the fronts of the lists around a type, and answers how many there are.
 fn push_lists(out: &mut String, start: &Type) -> Result<usize, AllocError> {
     let mut of = start;

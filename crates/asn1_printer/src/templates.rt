@@ -9,9 +9,14 @@ pub struct @NAME@Components {@FIELDS@}
 
 "#;
 
+/// What the components of a struct as a row name, but for none.
+pub const USES_BOTH: &str = r#"    ghost use Rattle.rasn_oer.specs.Values.{both};
+
+"#;
+
 /// The components of a struct as a row.
 pub const MEMBERS: &str = r#"impl Rowed for @NAME@Components {
-    type Values = <@NAME@Row as Components>::Values;
+@USES@    type Values = <@NAME@Row as Components>::Values;
 
     ghost EXTENSIBLE = { ⟦<@NAME@Row as Components>⟧.EXTENSIBLE };
 
@@ -61,7 +66,7 @@ pub const TABLES: &str = r#"impl Tabled<@RC@, @EC@> for @NAME@Components {
         let view = views![self:
 @LIST@
         ];
-        @NAME@Row::write(view, encoder)
+        @NAME@Row::write(&view, encoder)
     }
 
     ghost counts = { (refl, refl) };
@@ -74,147 +79,6 @@ pub const IN_TAG_ORDER: &str = r#"impl InTagOrder<@RC@, @EC@> for @NAME@Componen
     ghost use Rattle.std.specs.Prelude.{refl};
 
     ghost in_order = { refl };
-}
-
-"#;
-
-/// What stands for the cells of a row from one on.
-pub const CUT: &str = r#"/// The @PARTS@ of `@OWNER@` from `@FIELD@` on.
-pub struct @NAME@;
-
-"#;
-
-/// Its impls, where these are root components.
-pub const COMPONENTS_CUT: &str = r#"impl Components for @NAME@ {
-    ghost use Rattle.std.specs.Prelude.{@EXT@};
-
-    type Values = <@NAME@Row as Components>::Values;
-
-    ghost EXTENSIBLE = { @EXT@ };
-
-    const EXTENSIBLE: bool = @EXT@;
-
-    ghost schema = { ⟦<@NAME@Row as Components>⟧.schema };
-
-    ghost is_schema = { ⟦<@NAME@Row as Components>⟧.is_schema };
-}
-
-impl Reads for @NAME@ {
-    type Slots = <@NAME@Row as Reads>::Slots;
-
-    ghost filled = { ⟦<@NAME@Row as Reads>⟧.filled };
-
-    ghost filled_once = { ⟦<@NAME@Row as Reads>⟧.filled_once };
-
-    fn empty() -> Self::Slots {
-        @NAME@Row::empty()
-    }
-
-    fn read(
-        alloc: Global,
-        decoder: &mut Decoder<'_>,
-        slots: &mut Self::Slots,
-    ) -> Result<(), DecodeError> {
-        @NAME@Row::read(alloc, decoder, slots)
-    }
-
-    fn taken(slots: Self::Slots) -> Self::Values {
-        @NAME@Row::taken(slots)
-    }
-}
-
-impl<'v> Views<'v> for @NAME@ {
-    type View = <@NAME@Row as Views<'v>>::View;
-
-    ghost seen = { ⟦<@NAME@Row as Views<'v>>⟧.seen };
-
-    fn write(
-        view: <@NAME@Row as Views<'v>>::View,
-        encoder: &mut Encoder<'_>,
-    ) -> Result<(), EncodeError> {
-        @NAME@Row::write(view, encoder)
-    }
-}
-
-"#;
-
-/// Its impls, where these are additions.
-pub const ADDITIONS_CUT: &str = r#"impl Additions for @NAME@ {
-    type More = <@NAME@Row as Additions>::More;
-
-    ghost table = { ⟦<@NAME@Row as Additions>⟧.table };
-
-    ghost is_table = { ⟦<@NAME@Row as Additions>⟧.is_table };
-}
-
-impl ReadsAdditions for @NAME@ {
-    type Slots = <@NAME@Row as ReadsAdditions>::Slots;
-
-    ghost filled = { ⟦<@NAME@Row as ReadsAdditions>⟧.filled };
-
-    ghost filled_once = { ⟦<@NAME@Row as ReadsAdditions>⟧.filled_once };
-
-    fn empty() -> Self::Slots {
-        @NAME@Row::empty()
-    }
-
-    fn read_additions(
-        alloc: Global,
-        decoder: &mut Decoder<'_>,
-        slots: &mut Self::Slots,
-    ) -> Result<(), DecodeError> {
-        @NAME@Row::read_additions(alloc, decoder, slots)
-    }
-
-    fn taken(slots: Self::Slots) -> Self::More {
-        @NAME@Row::taken(slots)
-    }
-}
-
-impl<'v> AdditionViews<'v> for @NAME@ {
-    type MoreView = <@NAME@Row as AdditionViews<'v>>::MoreView;
-
-    ghost seen = { ⟦<@NAME@Row as AdditionViews<'v>>⟧.seen };
-
-    fn write_additions(
-        view: <@NAME@Row as AdditionViews<'v>>::MoreView,
-        encoder: &mut Encoder<'_>,
-    ) -> Result<(), EncodeError> {
-        @NAME@Row::write_additions(view, encoder)
-    }
-}
-
-"#;
-
-/// Its impls, where these are alternatives.
-pub const ALTERNATIVES_CUT: &str = r#"impl Alternatives for @NAME@ {
-    type Values = <@NAME@Row as Alternatives>::Values;
-
-    ghost choices = { ⟦<@NAME@Row as Alternatives>⟧.choices };
-
-    ghost are_choices = { ⟦<@NAME@Row as Alternatives>⟧.are_choices };
-
-    fn read<D: Choice>(
-        alloc: Global,
-        decoder: &mut Decoder<'_>,
-        tag: Tag,
-    ) -> Result<Self::Values, DecodeError> {
-        @NAME@Row::read::<D>(alloc, decoder, tag)
-    }
-}
-
-impl<'v> AlternativeViews<'v> for @NAME@ {
-    type View = <@NAME@Row as AlternativeViews<'v>>::View;
-
-    ghost SeesOne = { ⟦<@NAME@Row as AlternativeViews<'v>>⟧.SeesOne };
-
-    fn write_alternative<E: Choice>(
-        view: <@NAME@Row as AlternativeViews<'v>>::View,
-        encoder: &mut Encoder<'_>,
-        constraints: Constraints,
-    ) -> Result<(), EncodeError> {
-        @NAME@Row::write_alternative::<E>(view, encoder, constraints)
-    }
 }
 
 "#;
@@ -240,20 +104,24 @@ impl Limits for @NAME@Limits {
 
 "#;
 
-/// A number's default.
-pub const DEFAULT: &str = r#"/// The default @NUMBER@ of `@NAME@`.
+/// The default of a component, as a type.
+pub const DEFAULT: &str = r#"/// The default @TEXT@ of `@NAME@`.
 pub struct @NAME@Default;
 
 impl Standard<@TYPE@> for @NAME@Default {
-    ghost use Rattle.std.specs.Prelude.{negsuc, pos, refl};
+    @USES@
 
     ghost value = { @GHOST@ };
 
-    fn value() -> @TYPE@ {
+    fn value(@ALLOC@: Global) -> Result<@TYPE@, AllocError> {
         @CODE@
     }
 
-    ghost admitted = { refl };
+    fn is_value(other: &@TYPE@) -> bool {
+        @TEST@
+    }
+
+    ghost admitted = { @ADMITTED@ };
 }
 
 "#;
@@ -309,7 +177,7 @@ pub const CHOICE_IMPLS: &str = r#"@TABLES@impl Alternating for @NAME@Alternative
         constraints: Constraints,
     ) -> Result<(), EncodeError> {
         let view = to_row!(self => @NAME@Alternatives: @LIST@);
-        @NAME@Row::write_alternative::<E>(view, encoder, constraints)
+        @NAME@Row::write_alternative::<E>(&view, encoder, constraints)
     }
 
     ghost apart = { refl };

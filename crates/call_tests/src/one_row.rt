@@ -199,6 +199,17 @@ fn prefixed_addition(
     )
 }
 
+fn default_addition(alloc: Global, decoder: &mut Decoder<'_>) -> Result<Integer, DecodeError>
+    ensures { OnOk result (IsRear decoder.old.input decoder.new.input) }
+{
+    decoder.decode_extension_addition_default(
+        alloc,
+        Tag::INTEGER,
+        Integer::CONSTRAINTS,
+        Integer::from_i128(7),
+    )
+}
+
 fn addition(
     alloc: Global,
     decoder: &mut Decoder<'_>,
@@ -276,6 +287,27 @@ pub fn read_addition(
         {
             let n = addition(alloc, inner, has_prefix)?;
             Ok(OneAddition { n })
+        },
+    )
+}
+
+/// Reads a sequence of an extension addition, for which 7 stands where it is absent, as `decode_sequence` does.
+///
+/// A refusal leaves the decoder as it was.
+pub fn read_default_addition(
+    alloc: Global,
+    outer: &mut Decoder<'_>,
+) -> Result<OneAddition, DecodeError>
+    ensures unchanged { OnErr result (outer.new ≡ outer.old) }
+    ensures rear { OnOk result (IsRear outer.old.input outer.new.input) }
+{
+    outer.decode_sequence::<0, 1, OneAddition, _>(
+        Tag::SEQUENCE,
+        |inner: &mut Decoder<'_>| -> Result<OneAddition, DecodeError>
+            ensures { OnOk result (IsRear inner.old.input inner.new.input) }
+        {
+            let n = default_addition(alloc, inner)?;
+            Ok(OneAddition { n: Some(n) })
         },
     )
 }

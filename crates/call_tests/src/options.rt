@@ -1,5 +1,5 @@
 //! Optional and default components and an addition, each by the methods that hand in less or more than a tag.
-use crate::one_row::{Way, read_addition, read_default, read_optional};
+use crate::one_row::{Way, read_addition, read_default, read_default_addition, read_optional};
 use asn1_core::{Codec, DecodeErrorKind};
 use asn1_ints::Integer;
 use rasn_oer::{Decoder, DecoderOptions};
@@ -74,6 +74,20 @@ fn an_addition_is_read_with_a_prefix_and_without(rt: HostRuntime) -> Result<(), 
                 assert!(rt; read.n == number.map(Integer::from_i128));
                 assert!(rt; decoder.remaining().is_empty());
             }
+        }
+    }
+    Ok(())
+}
+
+#[test]
+fn an_addition_with_a_default_is_read(rt: HostRuntime) -> Result<(), Fail> {
+    let rows: [(&[u8], i128); 2] = [(&[0x80, 2, 7, 0x80, 2, 1, 5], 5), (&[0x00], 7)];
+    for (octets, number) in rows {
+        for options in [DecoderOptions::oer(), DecoderOptions::coer()] {
+            let mut decoder = Decoder::new(octets, options);
+            let read = read_default_addition(rt.alloc(), &mut decoder)?;
+            assert!(rt; read.n == Some(Integer::from_i128(number)));
+            assert!(rt; decoder.remaining().is_empty());
         }
     }
     Ok(())

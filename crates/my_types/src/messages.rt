@@ -44,6 +44,8 @@ type FromLevel = Defaults<Context<2>, Integer, IsNumber<5>, FromKey>;
 type FromKey = Needs<Context<3>, Key, Needs<Context<4>, ListOf<OctetString>, NoMore>>;
 
 impl Rowed for MessageComponents {
+    ghost use Rattle.rasn_oer.specs.Values.{both};
+
     type Values = <MessageRow as Components>::Values;
 
     ghost EXTENSIBLE = { ⟦<MessageRow as Components>⟧.EXTENSIBLE };
@@ -54,7 +56,7 @@ impl Rowed for MessageComponents {
 
     ghost row_is_schema = { ⟦<MessageRow as Components>⟧.is_schema };
 
-    ghost components = { λ v. (v.version, (v.sent, (v.level, (v.key, (v.path, tt))))) };
+    ghost components = { λ v. both v.version (both v.sent (both v.level (both v.key (both v.path tt)))) };
 
     fn from_row(row: <MessageRow as Components>::Values) -> MessageComponents {
         built![MessageComponents from row: version, sent, level, key, path]
@@ -91,7 +93,7 @@ impl Tabled<5, 0> for MessageComponents {
     }
 
     fn put(&self, encoder: &mut Encoder<'_>) -> Result<(), EncodeError> {
-        MessageRow::write(views![self: version, sent, level, key, path], encoder)
+        MessageRow::write(&views![self: version, sent, level, key, path], encoder)
     }
 
     ghost counts = { (refl, refl) };

@@ -16,6 +16,8 @@ pub struct ClosingComponents {
 type ClosingRow = Needs<Context<2>, bool, MayHave<Context<3>, u16, NoMore>>;
 
 impl Rowed for ClosingComponents {
+    ghost use Rattle.rasn_oer.specs.Values.{both};
+
     type Values = <ClosingRow as Components>::Values;
 
     ghost EXTENSIBLE = { ⟦<ClosingRow as Components>⟧.EXTENSIBLE };
@@ -26,9 +28,11 @@ impl Rowed for ClosingComponents {
 
     ghost row_is_schema = { ⟦<ClosingRow as Components>⟧.is_schema };
 
-    ghost components = { λ v. (v.last, (v.count, tt)) };
+    ghost components = { λ v. both v.last (both v.count tt) };
 
-    fn from_row((last, (count, ())): <ClosingRow as Components>::Values) -> ClosingComponents {
+    fn from_row(
+        Both(last, Both(count, ())): <ClosingRow as Components>::Values,
+    ) -> ClosingComponents {
         ClosingComponents { last, count }
     }
 }
@@ -60,7 +64,7 @@ impl Tabled<2, 0> for ClosingComponents {
     }
 
     fn put(&self, encoder: &mut Encoder<'_>) -> Result<(), EncodeError> {
-        ClosingRow::write((&self.last, (&self.count, ())), encoder)
+        ClosingRow::write(&Both(&self.last, Both(&self.count, ())), encoder)
     }
 
     ghost counts = { (refl, refl) };
@@ -82,6 +86,8 @@ type NoticeRow = Needs<Context<0>, bool, Extensible<NoticeAdditions>>;
 type NoticeAdditions = MayAdd<Context<1>, Integer, MayAddGroup<2, 0, Closing, NoMore>>;
 
 impl Rowed for NoticeComponents {
+    ghost use Rattle.rasn_oer.specs.Values.{both};
+
     type Values = <NoticeRow as Components>::Values;
 
     ghost EXTENSIBLE = { ⟦<NoticeRow as Components>⟧.EXTENSIBLE };
@@ -92,7 +98,7 @@ impl Rowed for NoticeComponents {
 
     ghost row_is_schema = { ⟦<NoticeRow as Components>⟧.is_schema };
 
-    ghost components = { λ v. (v.ok, (v.level, (v.closing, tt))) };
+    ghost components = { λ v. both v.ok (both v.level (both v.closing tt)) };
 
     fn from_row(row: <NoticeRow as Components>::Values) -> NoticeComponents {
         built![NoticeComponents from row: ok, level, closing]
@@ -128,7 +134,7 @@ impl Tabled<1, 2> for NoticeComponents {
     }
 
     fn put(&self, encoder: &mut Encoder<'_>) -> Result<(), EncodeError> {
-        NoticeRow::write(views![self: ok, level, closing], encoder)
+        NoticeRow::write(&views![self: ok, level, closing], encoder)
     }
 
     ghost counts = { (refl, refl) };

@@ -16,6 +16,8 @@ pub struct ReportComponents {
 type ReportRow = Defaults<Context<0>, bool, IsFalse, MayHave<Context<1>, Integer, NoMore>>;
 
 impl Rowed for ReportComponents {
+    ghost use Rattle.rasn_oer.specs.Values.{both};
+
     type Values = <ReportRow as Components>::Values;
 
     ghost EXTENSIBLE = { ⟦<ReportRow as Components>⟧.EXTENSIBLE };
@@ -26,9 +28,11 @@ impl Rowed for ReportComponents {
 
     ghost row_is_schema = { ⟦<ReportRow as Components>⟧.is_schema };
 
-    ghost components = { λ v. (v.urgent, (v.number, tt)) };
+    ghost components = { λ v. both v.urgent (both v.number tt) };
 
-    fn from_row((urgent, (number, ())): <ReportRow as Components>::Values) -> ReportComponents {
+    fn from_row(
+        Both(urgent, Both(number, ())): <ReportRow as Components>::Values,
+    ) -> ReportComponents {
         ReportComponents { urgent, number }
     }
 }
@@ -60,7 +64,7 @@ impl Tabled<2, 0> for ReportComponents {
     }
 
     fn put(&self, encoder: &mut Encoder<'_>) -> Result<(), EncodeError> {
-        ReportRow::write((&self.urgent, (&self.number, ())), encoder)
+        ReportRow::write(&Both(&self.urgent, Both(&self.number, ())), encoder)
     }
 
     ghost counts = { (refl, refl) };

@@ -57,7 +57,7 @@ impl Alternating for SignalAlternatives {
         constraints: Constraints,
     ) -> Result<(), EncodeError> {
         let view = to_row!(self => SignalAlternatives: Busy, Level, Count);
-        SignalRow::write_alternative::<E>(view, encoder, constraints)
+        SignalRow::write_alternative::<E>(&view, encoder, constraints)
     }
 
     ghost apart = { refl };

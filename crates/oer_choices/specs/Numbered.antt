@@ -1,9 +1,13 @@
 -- Enumerated types, by a list of their values.
 use Rattle.std.specs.Prelude.{◌≡◌, ℤ, Bool, true, false, cond, List, [], ◌∷◌, Option, Some, None, option_map, refl}
-use Rattle.std.specs.Cmp.{signed_Decides}
+use Rattle.std.specs.Bool.{Decides}
+use Rattle.std.specs.Cmp.{IsEquivalence, int_eq_equiv, on_equiv, signed_Decides}
 use Rattle.std.specs.Ordering.{int_eq}
 use Rattle.std.proofs.Common.{sym, ap, ◌∙◌}
 use Rattle.asn1_core.specs.Numbers.{in_isize}
+use Rattle.oer_spec.specs.Same.{Same}
+use Rattle.oer_spec.specs.Spelled.{enumerated}
+use Rattle.oer_spec.specs.Tree.{Enum}
 
 module _ {E : Type 0} (number : E → ℤ) where
   -- the first of the values that has the number
@@ -39,3 +43,17 @@ module _ {E W : Type 0} (hold : E → W) (number : E → ℤ) (values : List E) 
 
   pub value_among_as-number : (held : W → E) → ((v : E) → held (hold v) ≡ v) → (n : ℤ) (w : W) → value_among_as n ≡ Some w → number (held w) ≡ n
   value_among_as-number held same n w e = held_number held same (value_among number values n) n (λ v f. value_among-number number values n v f) w e
+
+-- ---- equality by numbers
+
+-- whether both have one number
+abbrev pub same_number : {W : Type 0} → (W → ℤ) → W → W → Bool
+same_number number v w = int_eq (number v) (number w)
+
+pub same_number_equiv : {W : Type 0} (number : W → ℤ) → IsEquivalence (same_number number)
+same_number_equiv number = on_equiv number int_eq_equiv
+
+-- numbers are the same exactly where their trees are
+pub numbers_same : (m n : ℤ) → Decides (int_eq m n) (Same (enumerated m) (enumerated n))
+unfolding enumerated Rattle.oer_spec.specs.Same.Same
+numbers_same m n = (λ e. ap Enum ((signed_Decides m n).0 e), λ s. (signed_Decides m n).1 (cc s))

@@ -28,7 +28,7 @@ pub trait Alternatives {
     ghost use Rattle.oer_choices.specs.Choosing.{Choices, AreChoices};
 
     /// Their values: of the first one, or of the others.
-    type Values: Drop;
+    type Values;
 
     ghost choices: { Choices Self.Values };
 

@@ -4,7 +4,7 @@ ghost use Rattle.oer_choices.specs.Numbered.{value_among};
 
 use asn1_core::{AsnType, Constraints, DecodeError, EncodeError, Enumerated, Tag};
 use oer_read::{Decode, Decoder};
-use oer_spec::Spelled;
+use oer_spec::{EqualAsSpelled, Spelled};
 use oer_write::{Encode, Encoder};
 use std::alloc::Global;
 use std::fmt;
@@ -32,8 +32,28 @@ pub trait Numbered: Copy + 'static {
 }
 
 /// The ENUMERATED type (X.680, clause 20) of the values of `T`.
-#[derive(Clone, Copy, PartialEq, Eq)]
+#[derive(Clone, Copy)]
 pub struct Enumeration<T>(pub T);
+
+/// Equal where the numbers are.
+impl<T: Numbered> PartialEq for Enumeration<T> {
+    ghost use Rattle.std.specs.Cmp.{partial_equiv_from_equiv};
+    ghost use Rattle.oer_choices.specs.Numbered.{same_number, same_number_equiv};
+
+    ghost eq = { same_number (λ v. T.number v.0) };
+
+    ghost laws = { partial_equiv_from_equiv (same_number_equiv (λ v. T.number v.0)) };
+
+    fn eq(&self, other: &Enumeration<T>) -> bool {
+        self.0.number() == other.0.number()
+    }
+}
+
+impl<T: Numbered> Eq for Enumeration<T> {
+    ghost use Rattle.oer_choices.specs.Numbered.{same_number_equiv};
+
+    ghost laws = { same_number_equiv (λ v. T.number v.0) };
+}
 
 /// As the value's.
 impl<T: Debug> Debug for Enumeration<T> {
@@ -110,6 +130,12 @@ impl<T: Numbered> Spelled for Enumeration<T> {
     ghost is_tree = { λ c k v i. enumerated_is (T.number v.0) (T.listed v.0).0 };
 
     ghost alike = { λ c k v w i j. enumerated_alike (T.number v.0) (T.number w.0) };
+}
+
+impl<T: Numbered> EqualAsSpelled for Enumeration<T> {
+    ghost use Rattle.oer_choices.specs.Numbered.{numbers_same};
+
+    ghost eq_is_same = { λ c k v w i j. numbers_same (T.number v.0) (T.number w.0) };
 }
 
 impl<T: Numbered> Encode for Enumeration<T> {

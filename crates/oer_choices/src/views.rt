@@ -40,7 +40,7 @@ pub fn put_alternative<E: Choice, T: Encode>(
 /// A row whose alternatives are written from references to what they hold.
 pub trait AlternativeViews<'v>: Alternatives {
     /// A reference to a value: in the place of that value. The end of a row is none.
-    type View: Drop;
+    type View;
 
     /// Whether the value that is referred to is such a one; of the end of a row nothing is asked.
     ghost SeesOne: { Self.View → (Self.Values → Type 0) → Type 0 };
@@ -50,13 +50,13 @@ pub trait AlternativeViews<'v>: Alternatives {
     ///
     /// Refused by what the value is refused by, or for want of memory.
     fn write_alternative<E: Choice>(
-        view: Self::View,
+        view: &Self::View,
         encoder: &mut Encoder<'_>,
         constraints: Constraints,
     ) -> Result<(), EncodeError>
-        ensures done { SeesOne view (λ v. OnOk result (Encodes (Choice E.root_tags E.addition_tags (Self.choices.tag_of v) (Self.choices.child v)) encoder.old encoder.new)) }
-        ensures value { SeesOne view (λ v. OnOk result (Self.choices.IsValue v)) }
-        ensures refused { SeesOne view (λ v. IfErr result (λ x. Refused (Choice E.root_tags E.addition_tags (Self.choices.tag_of v) (Self.choices.child v)) x encoder.old encoder.new)) };
+        ensures done { SeesOne view.now (λ v. OnOk result (Encodes (Choice E.root_tags E.addition_tags (Self.choices.tag_of v) (Self.choices.child v)) encoder.old encoder.new)) }
+        ensures value { SeesOne view.now (λ v. OnOk result (Self.choices.IsValue v)) }
+        ensures refused { SeesOne view.now (λ v. IfErr result (λ x. Refused (Choice E.root_tags E.addition_tags (Self.choices.tag_of v) (Self.choices.child v)) x encoder.old encoder.new)) };
 }
 
 impl<'v> AlternativeViews<'v> for NoMore {
@@ -67,7 +67,7 @@ impl<'v> AlternativeViews<'v> for NoMore {
     ghost SeesOne = { λ v P. ⊤ };
 
     fn write_alternative<E: Choice>(
-        _view: (),
+        _view: &(),
         _encoder: &mut Encoder<'_>,
         _constraints: Constraints,
     ) -> Result<(), EncodeError> {
@@ -84,13 +84,13 @@ impl<'v, G: Place, B: Decode + Encode + 'v, R: AlternativeViews<'v>> Alternative
     ghost SeesOne = { elim [ First b ↦ λ P. P (First b.now) | Rest r ↦ λ P. R.SeesOne r (λ v. P (Rest v)) ] };
 
     fn write_alternative<E: Choice>(
-        view: Either<&'v B, R::View>,
+        view: &Either<&'v B, R::View>,
         encoder: &mut Encoder<'_>,
         constraints: Constraints,
     ) -> Result<(), EncodeError> {
         match view {
             Either::First(value) => {
-                put_alternative::<E, B>(encoder, constraints, G::tag(), value)
+                put_alternative::<E, B>(encoder, constraints, G::tag(), *value)
             }
             Either::Rest(rest) => R::write_alternative::<E>(rest, encoder, constraints),
         }
@@ -103,7 +103,7 @@ impl<'v, R: AlternativeViews<'v>> AlternativeViews<'v> for Extensible<R> {
     ghost SeesOne = { λ v P. R.SeesOne v P };
 
     fn write_alternative<E: Choice>(
-        view: R::View,
+        view: &R::View,
         encoder: &mut Encoder<'_>,
         constraints: Constraints,
     ) -> Result<(), EncodeError> {

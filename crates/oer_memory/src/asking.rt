@@ -3,7 +3,7 @@ use crate::answers::left;
 use crate::entry::{Call, options_of};
 use crate::marks::begin;
 use anyhow::Result;
-use call_tests::one_row::{Way, read_addition, read_default, read_optional};
+use call_tests::one_row::{Way, read_addition, read_default, read_default_addition, read_optional};
 use rasn_oer::{Decode, Decoder};
 
 /// Which component is asked, and how.
@@ -13,6 +13,7 @@ enum Asked {
     Default(Way),
     /// Whether it has an explicit prefix.
     Addition(bool),
+    DefaultAddition,
 }
 
 /// How a method asks, by the end of its word.
@@ -37,6 +38,7 @@ fn asked_by(word: &str) -> Option<Asked> {
     }
     match word {
         "decode_extension_addition_with_tag_and_constraints" => Some(Asked::Addition(false)),
+        "decode_extension_addition_default" => Some(Asked::DefaultAddition),
         "decode_extension_addition_with_explicit_tag_and_constraints" => Some(Asked::Addition(
             true,
         )),
@@ -64,6 +66,10 @@ pub fn component_method(call: Call<'_>) -> Result<Option<String>> {
         }
         Asked::Addition(has_prefix) => {
             let answer = read_addition(alloc, &mut decoder, has_prefix);
+            left(alloc, &decoder, &answer)?
+        }
+        Asked::DefaultAddition => {
+            let answer = read_default_addition(alloc, &mut decoder);
             left(alloc, &decoder, &answer)?
         }
     };

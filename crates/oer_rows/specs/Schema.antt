@@ -13,6 +13,7 @@ use Rattle.oer_write.specs.Rows.{present_unless}
 use Rattle.oer_read.specs.Components.{slot_of}
 use Rattle.oer_read.specs.Defaults.{IsDefault}
 use Rattle.oer_read.specs.Parts.{Parts, NoParts, NeededPart, OptionalPart, DefaultPart, Admits, AreOf, IsTableOf}
+use Rattle.oer_rows.specs.declared.both.Both.{Both}
 use Rattle.oer_rows.specs.Slots.{IfThere, slot_is, slots_alike, slot_made}
 use Rattle.oer_rows.specs.DefaultSlots.{default_slot_is, default_slot_differs, default_slot_admitted, default_slots_alike}
 
@@ -198,14 +199,14 @@ added t = record { roots = none; additions = t }
 pub added_is : {A : Type 0} (t : Table A) → IsTable t → IsSchema (added t) true
 added_is t k = record { roots = none_is; additions = k; no_additions = λ e v. absurd (cc e); no_fields = λ e. absurd (cc e) }
 
--- a root component before others, as their pair
-abbrev pub needed_then : {B R : Type 0} → Tag → Typed B → Schema R → Schema (B × R)
+-- a root component before others
+abbrev pub needed_then : {B R : Type 0} → Tag → Typed B → Schema R → Schema (Both B R)
 needed_then tag of s = record { roots = needed tag of (λ v. v.0) (λ v. v.1) s.roots; additions = under (λ v. v.1) s.additions }
 
-abbrev pub optional_then : {B R : Type 0} → Tag → Typed B → Schema R → Schema (Option B × R)
+abbrev pub optional_then : {B R : Type 0} → Tag → Typed B → Schema R → Schema (Both (Option B) R)
 optional_then tag of s = record { roots = optional tag of (λ v. v.0) (λ v. v.1) s.roots; additions = under (λ v. v.1) s.additions }
 
-abbrev pub default_then : {B R : Type 0} → Tag → Typed B → (B → B → Bool) → B → Schema R → Schema (B × R)
+abbrev pub default_then : {B R : Type 0} → Tag → Typed B → (B → B → Bool) → B → Schema R → Schema (Both B R)
 default_then tag of eq default s = record { roots = defaulted tag of eq default (λ v. v.0) (λ v. v.1) s.roots; additions = under (λ v. v.1) s.additions }
 
 pub needed_then_is : {B R : Type 0} (tag : Tag) (of : Typed B) (s : Schema R) (extensible : Bool) → IsTyped of → IsSchema s extensible → IsSchema (needed_then tag of s) extensible

@@ -4,6 +4,7 @@ ghost use Rattle.oer_spec.specs.Tree.{NoRows};
 ghost use Rattle.oer_read.specs.Additions.{Adds};
 ghost use Rattle.oer_read.specs.Parts.{NoParts, Takes, Stops};
 
+use crate::both::Both;
 use crate::components::{Components, NoMore, Reads};
 use crate::places::Place;
 use asn1_core::{DecodeError, Tag};
@@ -16,8 +17,8 @@ use std::marker::PhantomData;
 pub trait Additions {
     ghost use Rattle.oer_rows.specs.Schema.{Table, IsTable};
 
-    /// Their values: a pair of the first one and of the others, at the end `()`.
-    type More: Drop;
+    /// Their values: that of the first one and those of the others, at the end `()`.
+    type More;
 
     ghost table: { Table Self.More };
 
@@ -27,7 +28,7 @@ pub trait Additions {
 /// Additions that are read.
 pub trait ReadsAdditions: Additions {
     /// Where they are put as they are read.
-    type Slots: Drop;
+    type Slots;
 
     /// What the places hold once these values are read.
     ghost filled: { Self.More → Self.Slots };
@@ -113,7 +114,7 @@ impl ReadsAdditions for NoMore {
 impl<G: Place, B: Spelled, R: Additions> Additions for MayAdd<G, B, R> {
     ghost use Rattle.oer_rows.specs.Schema.{typed, typed_is, optional, optional_is};
 
-    type More = (Option<B>, R::More);
+    type More = Both<Option<B>, R::More>;
 
     ghost table = { optional G.tag (typed B.tree B.CONSTRAINTS B.IsValue) (λ v. v.0) (λ v. v.1) R.table };
 
@@ -123,14 +124,14 @@ impl<G: Place, B: Spelled, R: Additions> Additions for MayAdd<G, B, R> {
 impl<G: Place, B: Decode, R: ReadsAdditions> ReadsAdditions for MayAdd<G, B, R> {
     ghost use Rattle.oer_rows.specs.Slots.{with_optional, optional_once};
 
-    type Slots = (Option<B>, R::Slots);
+    type Slots = Both<Option<B>, R::Slots>;
 
     ghost filled = { with_optional R.filled };
 
     ghost filled_once = { optional_once R.filled R.filled_once };
 
     fn empty() -> Self::Slots {
-        (None, R::empty())
+        Both(None, R::empty())
     }
 
     fn read_additions(
@@ -145,8 +146,8 @@ impl<G: Place, B: Decode, R: ReadsAdditions> ReadsAdditions for MayAdd<G, B, R> 
     }
 
     fn taken(slots: Self::Slots) -> Self::More {
-        let (value, rest) = slots;
-        (value, R::taken(rest))
+        let Both(value, rest) = slots;
+        Both(value, R::taken(rest))
     }
 }
 

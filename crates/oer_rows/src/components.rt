@@ -2,6 +2,8 @@
 ghost use Rattle.std.specs.Prelude.{◌≡◌, OnOk};
 ghost use Rattle.oer_read.specs.Parts.{Takes, Stops};
 
+use crate::both::Both;
+use crate::defaults::read_default;
 use crate::places::{Place, Standard};
 use asn1_core::DecodeError;
 use oer_read::{Decode, Decoder};
@@ -18,8 +20,8 @@ pub trait Components {
     ghost use Rattle.std.specs.Prelude.{Bool};
     ghost use Rattle.oer_rows.specs.Schema.{Schema, IsSchema};
 
-    /// Their values: a pair of the first one and of the others, at the end `()`.
-    type Values: Drop;
+    /// Their values: that of the first one and those of the others, at the end `()`.
+    type Values;
 
     ghost EXTENSIBLE: { Bool };
 
@@ -33,9 +35,9 @@ pub trait Components {
 
 /// A row whose components are read.
 pub trait Reads: Components {
-    /// Where they are put as they are read: a pair of a place for the first one and of those for the others, at the end `()`. So
+    /// Where they are put as they are read: a place for the first one and those for the others, at the end `()`. So
     /// none is moved as those behind it are read.
-    type Slots: Drop;
+    type Slots;
 
     /// What the places hold once these values are read.
     ghost filled: { Self.Values → Self.Slots };
@@ -121,7 +123,7 @@ impl Reads for NoMore {
 impl<G: Place, B: Spelled, R: Components> Components for Needs<G, B, R> {
     ghost use Rattle.oer_rows.specs.Schema.{typed, typed_is, needed_then, needed_then_is};
 
-    type Values = (B, R::Values);
+    type Values = Both<B, R::Values>;
 
     ghost EXTENSIBLE = { R.EXTENSIBLE };
 
@@ -135,14 +137,14 @@ impl<G: Place, B: Spelled, R: Components> Components for Needs<G, B, R> {
 impl<G: Place, B: Decode, R: Reads> Reads for Needs<G, B, R> {
     ghost use Rattle.oer_rows.specs.Slots.{with_needed, needed_once};
 
-    type Slots = (Option<B>, R::Slots);
+    type Slots = Both<Option<B>, R::Slots>;
 
     ghost filled = { with_needed R.filled };
 
     ghost filled_once = { needed_once R.filled R.filled_once };
 
     fn empty() -> Self::Slots {
-        (None, R::empty())
+        Both(None, R::empty())
     }
 
     fn read(
@@ -157,15 +159,15 @@ impl<G: Place, B: Decode, R: Reads> Reads for Needs<G, B, R> {
     }
 
     fn taken(slots: Self::Slots) -> Self::Values {
-        let (value, rest) = slots;
-        (value.unwrap(), R::taken(rest))
+        let Both(value, rest) = slots;
+        Both(value.unwrap(), R::taken(rest))
     }
 }
 
 impl<G: Place, B: Spelled, R: Components> Components for MayHave<G, B, R> {
     ghost use Rattle.oer_rows.specs.Schema.{typed, typed_is, optional_then, optional_then_is};
 
-    type Values = (Option<B>, R::Values);
+    type Values = Both<Option<B>, R::Values>;
 
     ghost EXTENSIBLE = { R.EXTENSIBLE };
 
@@ -179,14 +181,14 @@ impl<G: Place, B: Spelled, R: Components> Components for MayHave<G, B, R> {
 impl<G: Place, B: Decode, R: Reads> Reads for MayHave<G, B, R> {
     ghost use Rattle.oer_rows.specs.Slots.{with_optional, optional_once};
 
-    type Slots = (Option<B>, R::Slots);
+    type Slots = Both<Option<B>, R::Slots>;
 
     ghost filled = { with_optional R.filled };
 
     ghost filled_once = { optional_once R.filled R.filled_once };
 
     fn empty() -> Self::Slots {
-        (None, R::empty())
+        Both(None, R::empty())
     }
 
     fn read(
@@ -201,8 +203,8 @@ impl<G: Place, B: Decode, R: Reads> Reads for MayHave<G, B, R> {
     }
 
     fn taken(slots: Self::Slots) -> Self::Values {
-        let (value, rest) = slots;
-        (value, R::taken(rest))
+        let Both(value, rest) = slots;
+        Both(value, R::taken(rest))
     }
 }
 
@@ -210,7 +212,7 @@ impl<G: Place, B: EqualAsSpelled, D: Standard<B>, R: Components> Components
     for Defaults<G, B, D, R> {
     ghost use Rattle.oer_rows.specs.Schema.{typed, default_then, default_then_is};
 
-    type Values = (B, R::Values);
+    type Values = Both<B, R::Values>;
 
     ghost EXTENSIBLE = { R.EXTENSIBLE };
 
@@ -225,14 +227,14 @@ impl<G: Place, B: Decode + EqualAsSpelled, D: Standard<B>, R: Reads> Reads
     for Defaults<G, B, D, R> {
     ghost use Rattle.oer_rows.specs.Slots.{with_needed, needed_once};
 
-    type Slots = (Option<B>, R::Slots);
+    type Slots = Both<Option<B>, R::Slots>;
 
     ghost filled = { with_needed R.filled };
 
     ghost filled_once = { needed_once R.filled R.filled_once };
 
     fn empty() -> Self::Slots {
-        (None, R::empty())
+        Both(None, R::empty())
     }
 
     fn read(
@@ -240,14 +242,14 @@ impl<G: Place, B: Decode + EqualAsSpelled, D: Standard<B>, R: Reads> Reads
         decoder: &mut Decoder<'_>,
         slots: &mut Self::Slots,
     ) -> Result<(), DecodeError> {
-        let value = decoder.decode_default_with_tag::<B>(alloc, G::tag(), D::value())?;
+        let value = read_default::<D, B>(alloc, decoder, G::tag())?;
         slots.0 = Some(value);
         R::read(alloc, decoder, &mut slots.1)?;
         Ok(())
     }
 
     fn taken(slots: Self::Slots) -> Self::Values {
-        let (value, rest) = slots;
-        (value.unwrap(), R::taken(rest))
+        let Both(value, rest) = slots;
+        Both(value.unwrap(), R::taken(rest))
     }
 }

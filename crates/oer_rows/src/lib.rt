@@ -3,12 +3,15 @@
 #![tactic(auto)]
 
 mod additions;
+mod both;
 mod compared;
 mod components;
+mod defaults;
 mod held_octets;
 mod held_texts;
 mod limited;
 mod lists;
+mod literals;
 mod more_additions;
 mod more_texts;
 mod places;
@@ -20,16 +23,19 @@ mod views;
 mod writing;
 
 pub use additions::{Additions, Extensible, MayAdd, ReadsAdditions};
+pub use both::Both;
 pub use compared::Compared;
 pub use components::{Components, Defaults, MayHave, Needs, NoMore, Reads};
 pub use held_octets::{Octets, OpenOctets};
 pub use held_texts::{Ia5Text, NumericText, PrintableText, Utf8Text, VisibleText};
 pub use limited::{Limited, Limits};
 pub use lists::ListOf;
+pub use literals::{are_bits, bits_from, bmp_from};
 pub use more_additions::{AddDefaults, Adds, MayAddGroup};
 pub use more_texts::{BmpText, GeneralText, GraphicText, TeletexText};
 pub use places::{
-    Application, Context, IsFalse, IsNumber, IsTrue, Place, Private, Standard, Universal,
+    Application, Context, IsFalse, IsNull, IsNumber, IsTrue, Place, Private, Standard, Universal,
+    Within,
 };
 pub use reading::{decode_row, read_row};
 pub use rowed::{Rowed, Schemed, Takes};

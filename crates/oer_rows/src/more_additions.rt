@@ -1,9 +1,9 @@
 //! Further extension additions: required ones, ones with a default, and addition groups.
-ghost use Rattle.oer_read.specs.Defaults.{AddsDefault};
-
 use crate::additions::{Additions, ReadsAdditions, read_addition};
+use crate::both::Both;
+use crate::defaults::read_default_addition;
 use crate::places::{Place, Standard};
-use asn1_core::{Constructed, DecodeError, DecodeErrorKind, Tag};
+use asn1_core::{Constructed, DecodeError, DecodeErrorKind};
 use oer_read::{Decode, Decoder};
 use oer_spec::{EqualAsSpelled, Spelled};
 use std::alloc::Global;
@@ -21,22 +21,10 @@ pub struct AddDefaults<G, B, D, R>(PhantomData<(G, B, D, R)>);
 /// components and `EC` additions; the group is there as a whole or not at all.
 pub struct MayAddGroup<const RC: usize, const EC: usize, B, R>(PhantomData<(B, R)>);
 
-/// Reads an addition with a default under its type's constraints.
-fn read_default_addition<B: Decode + PartialEq>(
-    alloc: Global,
-    decoder: &mut Decoder<'_>,
-    tag: Tag,
-    default: B,
-) -> Result<B, DecodeError>
-    ensures { AddsDefault (B.tree B.CONSTRAINTS) B.IsValue (B.Answered B.CONSTRAINTS) B.eq decoder.old tag default result decoder.new }
-{
-    decoder.decode_extension_addition_default(alloc, tag, B::CONSTRAINTS, default)
-}
-
 impl<G: Place, B: Spelled, R: Additions> Additions for Adds<G, B, R> {
     ghost use Rattle.oer_rows.specs.Schema.{typed, typed_is, needed, needed_is};
 
-    type More = (B, R::More);
+    type More = Both<B, R::More>;
 
     ghost table = { needed G.tag (typed B.tree B.CONSTRAINTS B.IsValue) (λ v. v.0) (λ v. v.1) R.table };
 
@@ -46,14 +34,14 @@ impl<G: Place, B: Spelled, R: Additions> Additions for Adds<G, B, R> {
 impl<G: Place, B: Decode, R: ReadsAdditions> ReadsAdditions for Adds<G, B, R> {
     ghost use Rattle.oer_rows.specs.Slots.{with_needed, needed_once};
 
-    type Slots = (Option<B>, R::Slots);
+    type Slots = Both<Option<B>, R::Slots>;
 
     ghost filled = { with_needed R.filled };
 
     ghost filled_once = { needed_once R.filled R.filled_once };
 
     fn empty() -> Self::Slots {
-        (None, R::empty())
+        Both(None, R::empty())
     }
 
     fn read_additions(
@@ -76,8 +64,8 @@ impl<G: Place, B: Decode, R: ReadsAdditions> ReadsAdditions for Adds<G, B, R> {
     }
 
     fn taken(slots: Self::Slots) -> Self::More {
-        let (value, rest) = slots;
-        (value.unwrap(), R::taken(rest))
+        let Both(value, rest) = slots;
+        Both(value.unwrap(), R::taken(rest))
     }
 }
 
@@ -85,7 +73,7 @@ impl<G: Place, B: EqualAsSpelled, D: Standard<B>, R: Additions> Additions
     for AddDefaults<G, B, D, R> {
     ghost use Rattle.oer_rows.specs.Schema.{typed, defaulted, defaulted_is};
 
-    type More = (B, R::More);
+    type More = Both<B, R::More>;
 
     ghost table = { defaulted G.tag (typed B.tree B.CONSTRAINTS B.IsValue) B.eq D.value (λ v. v.0) (λ v. v.1) R.table };
 
@@ -96,14 +84,14 @@ impl<G: Place, B: Decode + EqualAsSpelled, D: Standard<B>, R: ReadsAdditions> Re
     for AddDefaults<G, B, D, R> {
     ghost use Rattle.oer_rows.specs.Slots.{with_needed, needed_once};
 
-    type Slots = (Option<B>, R::Slots);
+    type Slots = Both<Option<B>, R::Slots>;
 
     ghost filled = { with_needed R.filled };
 
     ghost filled_once = { needed_once R.filled R.filled_once };
 
     fn empty() -> Self::Slots {
-        (None, R::empty())
+        Both(None, R::empty())
     }
 
     fn read_additions(
@@ -111,15 +99,15 @@ impl<G: Place, B: Decode + EqualAsSpelled, D: Standard<B>, R: ReadsAdditions> Re
         decoder: &mut Decoder<'_>,
         slots: &mut Self::Slots,
     ) -> Result<(), DecodeError> {
-        let value = read_default_addition::<B>(alloc, decoder, G::tag(), D::value())?;
+        let value = read_default_addition::<D, B>(alloc, decoder, G::tag())?;
         slots.0 = Some(value);
         R::read_additions(alloc, decoder, &mut slots.1)?;
         Ok(())
     }
 
     fn taken(slots: Self::Slots) -> Self::More {
-        let (value, rest) = slots;
-        (value.unwrap(), R::taken(rest))
+        let Both(value, rest) = slots;
+        Both(value.unwrap(), R::taken(rest))
     }
 }
 
@@ -127,7 +115,7 @@ impl<const RC: usize, const EC: usize, B: Spelled + Constructed<RC, EC>, R: Addi
     for MayAddGroup<RC, EC, B, R> {
     ghost use Rattle.oer_rows.specs.Schema.{typed, typed_is, optional, optional_is};
 
-    type More = (Option<B>, R::More);
+    type More = Both<Option<B>, R::More>;
 
     ghost table = { optional B.TAG (typed B.tree B.CONSTRAINTS B.IsValue) (λ v. v.0) (λ v. v.1) R.table };
 
@@ -142,14 +130,14 @@ impl<
 > ReadsAdditions for MayAddGroup<RC, EC, B, R> {
     ghost use Rattle.oer_rows.specs.Slots.{with_optional, optional_once};
 
-    type Slots = (Option<B>, R::Slots);
+    type Slots = Both<Option<B>, R::Slots>;
 
     ghost filled = { with_optional R.filled };
 
     ghost filled_once = { optional_once R.filled R.filled_once };
 
     fn empty() -> Self::Slots {
-        (None, R::empty())
+        Both(None, R::empty())
     }
 
     fn read_additions(
@@ -164,7 +152,7 @@ impl<
     }
 
     fn taken(slots: Self::Slots) -> Self::More {
-        let (value, rest) = slots;
-        (value, R::taken(rest))
+        let Both(value, rest) = slots;
+        Both(value, R::taken(rest))
     }
 }

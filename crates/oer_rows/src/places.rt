@@ -1,9 +1,12 @@
 //! Tags and defaults, as types.
-ghost use Rattle.std.specs.Prelude.{◌≡◌};
+ghost use Rattle.std.specs.Prelude.{◌≡◌, IfOk};
 
+use crate::limited::{Limited, Limits};
 use asn1_core::{Class, Tag};
 use asn1_ints::Integer;
 use oer_spec::EqualAsSpelled;
+use std::alloc::{AllocError, Global};
+use std::marker::PhantomData;
 
 /// A component's tag, as a type.
 pub trait Place {
@@ -72,9 +75,13 @@ impl<const N: u32> Place for Private<N> {
 pub trait Standard<B: EqualAsSpelled> {
     ghost value: { B };
 
-    /// The default.
-    fn value() -> B
-        ensures { result ≡ value };
+    /// The default. Refused for want of memory alone; a boolean, NULL and a number of 64 bits take none.
+    fn value(alloc: Global) -> Result<B, AllocError>
+        ensures { IfOk result (λ v. v ≡ value) };
+
+    /// Whether a value is equal to the default: so that who writes or compares makes none. Takes no memory.
+    fn is_value(other: &B) -> bool
+        ensures { result ≡ B.eq other.now value };
 
     ghost admitted: { B.IsValue value };
 }
@@ -85,16 +92,26 @@ pub struct IsFalse;
 /// The default TRUE.
 pub struct IsTrue;
 
+/// The default NULL.
+pub struct IsNull;
+
 /// The default `N` of an INTEGER.
 pub struct IsNumber<const N: i64>;
+
+/// The default `D` of a type, for a component whose type is that one within limits.
+pub struct Within<D>(PhantomData<D>);
 
 impl Standard<bool> for IsFalse {
     ghost use Rattle.std.specs.Prelude.{false};
 
     ghost value = { false };
 
-    fn value() -> bool {
-        false
+    fn value(_alloc: Global) -> Result<bool, AllocError> {
+        Ok(false)
+    }
+
+    fn is_value(other: &bool) -> bool {
+        *other == false
     }
 
     ghost admitted = { tt };
@@ -105,8 +122,26 @@ impl Standard<bool> for IsTrue {
 
     ghost value = { true };
 
-    fn value() -> bool {
-        true
+    fn value(_alloc: Global) -> Result<bool, AllocError> {
+        Ok(true)
+    }
+
+    fn is_value(other: &bool) -> bool {
+        *other == true
+    }
+
+    ghost admitted = { tt };
+}
+
+impl Standard<()> for IsNull {
+    ghost value = { tt };
+
+    fn value(_alloc: Global) -> Result<(), AllocError> {
+        Ok(())
+    }
+
+    fn is_value(other: &()) -> bool {
+        *other == ()
     }
 
     ghost admitted = { tt };
@@ -117,9 +152,27 @@ impl<const N: i64> Standard<Integer> for IsNumber<N> {
 
     ghost value = { N };
 
-    fn value() -> Integer {
-        Integer::from_i128(N as i128)
+    fn value(_alloc: Global) -> Result<Integer, AllocError> {
+        Ok(Integer::from_i128(N as i128))
+    }
+
+    fn is_value(other: &Integer) -> bool {
+        *other == Integer::from_i128(N as i128)
     }
 
     ghost admitted = { refl };
+}
+
+impl<T: EqualAsSpelled, L: Limits, D: Standard<T>> Standard<Limited<T, L>> for Within<D> {
+    ghost value = { record { 0 = D.value; 1 = record {} } };
+
+    fn value(alloc: Global) -> Result<Limited<T, L>, AllocError> {
+        Ok(Limited(D::value(alloc)?, PhantomData))
+    }
+
+    fn is_value(other: &Limited<T, L>) -> bool {
+        D::is_value(&other.0)
+    }
+
+    ghost admitted = { D.admitted };
 }

@@ -18,6 +18,8 @@ pub fn read_row<T: Rowed, R: Reads<Values = T::Values>>(
     alloc: Global,
     decoder: &mut Decoder<'_>,
 ) -> Result<T, DecodeError>
+where
+    R::Slots: Drop,
     ensures read { ReadsParts R.schema.roots.parts R.schema.additions.parts (λ v. R.schema.roots.rows (T.components v)) (λ v. R.schema.additions.rows (T.components v)) decoder.old result decoder.new }
     ensures value { IfOk result (λ v. IsOf R.schema (T.components v)) }
 {

@@ -2,8 +2,10 @@
 ghost use Rattle.std.specs.Prelude.{OnOk};
 ghost use Rattle.oer_spec.specs.Tree.{NoRows};
 ghost use Rattle.oer_write.specs.Rows.{InSequence};
+ghost use Rattle.oer_rows.specs.Values.{both};
 
 use crate::additions::{Additions, Extensible, MayAdd};
+use crate::both::Both;
 use crate::components::{Components, Defaults, MayHave, Needs, NoMore};
 use crate::more_additions::{AddDefaults, Adds, MayAddGroup};
 use crate::places::{Place, Standard};
@@ -16,17 +18,17 @@ use oer_write::{Encode, Encoder};
 
 /// A row whose components are written from references to their values.
 pub trait Views<'v>: Components {
-    /// References to the values, nested as these are.
-    type View: Drop;
+    /// References to the values, one behind another as these are.
+    type View;
 
     ghost seen: { Self.View → Self.Values };
 
     /// Writes them, in the order of the row, inside the scope of a sequence (X.696, 16): `Ok` only for admitted values.
     ///
     /// Refused by what a component is refused by.
-    fn write(view: Self::View, encoder: &mut Encoder<'_>) -> Result<(), EncodeError>
-        ensures written { InSequence (Self.schema.roots.rows (seen view)) (Self.schema.additions.rows (seen view)) encoder.old result encoder.new }
-        ensures value { OnOk result (Self.schema.roots.IsValue (seen view) × Self.schema.additions.IsValue (seen view)) };
+    fn write(view: &Self::View, encoder: &mut Encoder<'_>) -> Result<(), EncodeError>
+        ensures written { InSequence (Self.schema.roots.rows (seen view.now)) (Self.schema.additions.rows (seen view.now)) encoder.old result encoder.new }
+        ensures value { OnOk result (Self.schema.roots.IsValue (seen view.now) × Self.schema.additions.IsValue (seen view.now)) };
 }
 
 impl<'v> Views<'v> for NoMore {
@@ -34,52 +36,52 @@ impl<'v> Views<'v> for NoMore {
 
     ghost seen = { λ v. v };
 
-    fn write(_view: (), _encoder: &mut Encoder<'_>) -> Result<(), EncodeError> {
+    fn write(_view: &(), _encoder: &mut Encoder<'_>) -> Result<(), EncodeError> {
         Ok(())
     }
 }
 
 impl<'v, G: Place, B: Encode + 'v, R: Views<'v>> Views<'v> for Needs<G, B, R> {
-    type View = (&'v B, R::View);
+    type View = Both<&'v B, R::View>;
 
-    ghost seen = { λ v. (v.0.now, R.seen v.1) };
+    ghost seen = { λ v. both v.0.now (R.seen v.1) };
 
-    fn write(view: (&'v B, R::View), encoder: &mut Encoder<'_>) -> Result<(), EncodeError> {
-        let (value, rest) = view;
-        put_needed(encoder, G::tag(), value)?;
-        R::write(rest, encoder)
+    fn write(view: &Both<&'v B, R::View>, encoder: &mut Encoder<'_>) -> Result<(), EncodeError> {
+        put_needed(encoder, G::tag(), view.0)?;
+        R::write(&view.1, encoder)
     }
 }
 
 impl<'v, G: Place, B: Encode + 'v, R: Views<'v>> Views<'v> for MayHave<G, B, R> {
-    type View = (&'v Option<B>, R::View);
+    type View = Both<&'v Option<B>, R::View>;
 
-    ghost seen = { λ v. (v.0.now, R.seen v.1) };
+    ghost seen = { λ v. both v.0.now (R.seen v.1) };
 
-    fn write(view: (&'v Option<B>, R::View), encoder: &mut Encoder<'_>) -> Result<(), EncodeError> {
-        let (value, rest) = view;
-        put_optional(encoder, G::tag(), value)?;
-        R::write(rest, encoder)
+    fn write(
+        view: &Both<&'v Option<B>, R::View>,
+        encoder: &mut Encoder<'_>,
+    ) -> Result<(), EncodeError> {
+        put_optional(encoder, G::tag(), view.0)?;
+        R::write(&view.1, encoder)
     }
 }
 
 impl<'v, G: Place, B: Encode + EqualAsSpelled + 'v, D: Standard<B>, R: Views<'v>> Views<'v>
     for Defaults<G, B, D, R> {
-    type View = (&'v B, R::View);
+    type View = Both<&'v B, R::View>;
 
-    ghost seen = { λ v. (v.0.now, R.seen v.1) };
+    ghost seen = { λ v. both v.0.now (R.seen v.1) };
 
-    fn write(view: (&'v B, R::View), encoder: &mut Encoder<'_>) -> Result<(), EncodeError> {
-        let (value, rest) = view;
-        put_default::<D, B>(encoder, G::tag(), value)?;
-        R::write(rest, encoder)
+    fn write(view: &Both<&'v B, R::View>, encoder: &mut Encoder<'_>) -> Result<(), EncodeError> {
+        put_default::<D, B>(encoder, G::tag(), view.0)?;
+        R::write(&view.1, encoder)
     }
 }
 
 /// Additions that are written from references to their values.
 pub trait AdditionViews<'v>: Additions {
-    /// References to the values, nested as these are.
-    type MoreView: Drop;
+    /// References to the values, one behind another as these are.
+    type MoreView;
 
     ghost seen: { Self.MoreView → Self.More };
 
@@ -87,9 +89,9 @@ pub trait AdditionViews<'v>: Additions {
     /// `Ok` only for admitted values.
     ///
     /// Refused by what an addition is refused by.
-    fn write_additions(view: Self::MoreView, encoder: &mut Encoder<'_>) -> Result<(), EncodeError>
-        ensures written { InSequence NoRows (Self.table.rows (seen view)) encoder.old result encoder.new }
-        ensures value { OnOk result (Self.table.IsValue (seen view)) };
+    fn write_additions(view: &Self::MoreView, encoder: &mut Encoder<'_>) -> Result<(), EncodeError>
+        ensures written { InSequence NoRows (Self.table.rows (seen view.now)) encoder.old result encoder.new }
+        ensures value { OnOk result (Self.table.IsValue (seen view.now)) };
 }
 
 impl<'v> AdditionViews<'v> for NoMore {
@@ -97,38 +99,36 @@ impl<'v> AdditionViews<'v> for NoMore {
 
     ghost seen = { λ v. v };
 
-    fn write_additions(_view: (), _encoder: &mut Encoder<'_>) -> Result<(), EncodeError> {
+    fn write_additions(_view: &(), _encoder: &mut Encoder<'_>) -> Result<(), EncodeError> {
         Ok(())
     }
 }
 
 impl<'v, G: Place, B: Encode + 'v, R: AdditionViews<'v>> AdditionViews<'v> for MayAdd<G, B, R> {
-    type MoreView = (&'v Option<B>, R::MoreView);
+    type MoreView = Both<&'v Option<B>, R::MoreView>;
 
-    ghost seen = { λ v. (v.0.now, R.seen v.1) };
+    ghost seen = { λ v. both v.0.now (R.seen v.1) };
 
     fn write_additions(
-        view: (&'v Option<B>, R::MoreView),
+        view: &Both<&'v Option<B>, R::MoreView>,
         encoder: &mut Encoder<'_>,
     ) -> Result<(), EncodeError> {
-        let (value, rest) = view;
-        put_addition(encoder, G::tag(), value)?;
-        R::write_additions(rest, encoder)
+        put_addition(encoder, G::tag(), view.0)?;
+        R::write_additions(&view.1, encoder)
     }
 }
 
 impl<'v, G: Place, B: Encode + 'v, R: AdditionViews<'v>> AdditionViews<'v> for Adds<G, B, R> {
-    type MoreView = (&'v B, R::MoreView);
+    type MoreView = Both<&'v B, R::MoreView>;
 
-    ghost seen = { λ v. (v.0.now, R.seen v.1) };
+    ghost seen = { λ v. both v.0.now (R.seen v.1) };
 
     fn write_additions(
-        view: (&'v B, R::MoreView),
+        view: &Both<&'v B, R::MoreView>,
         encoder: &mut Encoder<'_>,
     ) -> Result<(), EncodeError> {
-        let (value, rest) = view;
-        put_added(encoder, G::tag(), value)?;
-        R::write_additions(rest, encoder)
+        put_added(encoder, G::tag(), view.0)?;
+        R::write_additions(&view.1, encoder)
     }
 }
 
@@ -139,17 +139,16 @@ impl<
     D: Standard<B>,
     R: AdditionViews<'v>,
 > AdditionViews<'v> for AddDefaults<G, B, D, R> {
-    type MoreView = (&'v B, R::MoreView);
+    type MoreView = Both<&'v B, R::MoreView>;
 
-    ghost seen = { λ v. (v.0.now, R.seen v.1) };
+    ghost seen = { λ v. both v.0.now (R.seen v.1) };
 
     fn write_additions(
-        view: (&'v B, R::MoreView),
+        view: &Both<&'v B, R::MoreView>,
         encoder: &mut Encoder<'_>,
     ) -> Result<(), EncodeError> {
-        let (value, rest) = view;
-        put_default_addition::<D, B>(encoder, G::tag(), value)?;
-        R::write_additions(rest, encoder)
+        put_default_addition::<D, B>(encoder, G::tag(), view.0)?;
+        R::write_additions(&view.1, encoder)
     }
 }
 
@@ -160,17 +159,16 @@ impl<
     B: Encode + Constructed<RC, EC> + 'v,
     R: AdditionViews<'v>,
 > AdditionViews<'v> for MayAddGroup<RC, EC, B, R> {
-    type MoreView = (&'v Option<B>, R::MoreView);
+    type MoreView = Both<&'v Option<B>, R::MoreView>;
 
-    ghost seen = { λ v. (v.0.now, R.seen v.1) };
+    ghost seen = { λ v. both v.0.now (R.seen v.1) };
 
     fn write_additions(
-        view: (&'v Option<B>, R::MoreView),
+        view: &Both<&'v Option<B>, R::MoreView>,
         encoder: &mut Encoder<'_>,
     ) -> Result<(), EncodeError> {
-        let (value, rest) = view;
-        put_group(encoder, value)?;
-        R::write_additions(rest, encoder)
+        put_group(encoder, view.0)?;
+        R::write_additions(&view.1, encoder)
     }
 }
 
@@ -179,7 +177,7 @@ impl<'v, R: AdditionViews<'v>> Views<'v> for Extensible<R> {
 
     ghost seen = { λ v. R.seen v };
 
-    fn write(view: R::MoreView, encoder: &mut Encoder<'_>) -> Result<(), EncodeError> {
+    fn write(view: &R::MoreView, encoder: &mut Encoder<'_>) -> Result<(), EncodeError> {
         R::write_additions(view, encoder)
     }
 }

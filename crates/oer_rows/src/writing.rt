@@ -62,8 +62,11 @@ pub fn put_default<D: Standard<E>, E: Encode + EqualAsSpelled>(
     ensures known { IsDefault (E.tree E.CONSTRAINTS) E.IsValue E.eq D.value }
     ensures refused { IfErr result (λ x. RowsRefused (defaulted tag (E.tree E.CONSTRAINTS D.value) (present_unless (E.eq value.now D.value) (E.tree E.CONSTRAINTS value.now))) NoRows x encoder.old encoder.new) }
 {
-    let default = D::value();
-    encoder.encode_default_with_tag_and_constraints(tag, E::CONSTRAINTS, value, &default)
+    if D::is_value(value) {
+        encoder.encode_none_with_tag(tag)
+    } else {
+        encoder.encode_some_with_tag_and_constraints(tag, E::CONSTRAINTS, value)
+    }
 }
 
 /// Writes an OPTIONAL extension addition, one that is there as an open type (X.696, 16.4 and 30).
@@ -113,8 +116,12 @@ pub fn put_default_addition<D: Standard<E>, E: Encode + EqualAsSpelled>(
     ensures known { IsDefault (E.tree E.CONSTRAINTS) E.IsValue E.eq D.value }
     ensures refused { IfErr result (λ x. RowsRefused NoRows (defaulted tag (E.tree E.CONSTRAINTS D.value) (present_unless (E.eq value.now D.value) (E.tree E.CONSTRAINTS value.now))) x encoder.old encoder.new) }
 {
-    let default = D::value();
-    encoder.encode_extension_addition_default(tag, E::CONSTRAINTS, value, &default)
+    let spelled = if D::is_value(value) {
+        None
+    } else {
+        Some(value)
+    };
+    encoder.encode_extension_addition(tag, E::CONSTRAINTS, spelled)
 }
 
 /// Writes an addition group that is there as an open type (X.696, 16.4 and 30).

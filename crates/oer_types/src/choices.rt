@@ -89,7 +89,7 @@ impl Alternating for PriorityAlternatives {
         constraints: Constraints,
     ) -> Result<(), EncodeError> {
         let view = to_row!(self => PriorityAlternatives: Normal, High, Medium);
-        PriorityRow::write_alternative::<E>(view, encoder, constraints)
+        PriorityRow::write_alternative::<E>(&view, encoder, constraints)
     }
 
     ghost apart = { refl };
@@ -140,7 +140,7 @@ impl Alternating for OnlyAlternatives {
         constraints: Constraints,
     ) -> Result<(), EncodeError> {
         let view = to_row!(self => OnlyAlternatives: Only);
-        OnlyRow::write_alternative::<E>(view, encoder, constraints)
+        OnlyRow::write_alternative::<E>(&view, encoder, constraints)
     }
 
     ghost apart = { refl };
@@ -191,7 +191,7 @@ impl Alternating for BoolAlternatives {
         constraints: Constraints,
     ) -> Result<(), EncodeError> {
         let view = to_row!(self => BoolAlternatives: A, C, B);
-        BoolRow::write_alternative::<E>(view, encoder, constraints)
+        BoolRow::write_alternative::<E>(&view, encoder, constraints)
     }
 
     ghost apart = { refl };

@@ -11,6 +11,8 @@ pub type ConstrainedOptions = Sequence<components::ConstrainedOptions, 1, 0>;
 type ConstrainedOptionsRow = MayHave<Context<0>, HashedId3, NoMore>;
 
 impl Rowed for components::ConstrainedOptions {
+    ghost use Rattle.rasn_oer.specs.Values.{both};
+
     type Values = <ConstrainedOptionsRow as Components>::Values;
 
     ghost EXTENSIBLE = { ⟦<ConstrainedOptionsRow as Components>⟧.EXTENSIBLE };
@@ -21,10 +23,10 @@ impl Rowed for components::ConstrainedOptions {
 
     ghost row_is_schema = { ⟦<ConstrainedOptionsRow as Components>⟧.is_schema };
 
-    ghost components = { λ v. (v.a, tt) };
+    ghost components = { λ v. both v.a tt };
 
     fn from_row(
-        (a, ()): <ConstrainedOptionsRow as Components>::Values,
+        Both(a, ()): <ConstrainedOptionsRow as Components>::Values,
     ) -> components::ConstrainedOptions {
         components::ConstrainedOptions { a }
     }
@@ -57,7 +59,7 @@ impl Tabled<1, 0> for components::ConstrainedOptions {
     }
 
     fn put(&self, encoder: &mut Encoder<'_>) -> Result<(), EncodeError> {
-        ConstrainedOptionsRow::write((&self.a, ()), encoder)
+        ConstrainedOptionsRow::write(&Both(&self.a, ()), encoder)
     }
 
     ghost counts = { (refl, refl) };

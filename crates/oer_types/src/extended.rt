@@ -1,4 +1,4 @@
-//! An extensible sequence of many optional components and additions: its row is cut, at names, into parts of five.
+//! An extensible sequence of many optional components and additions.
 
 use crate::components;
 use rasn_oer::prelude::*;
@@ -23,69 +23,14 @@ type ExtendedRow = Needs<
 >;
 
 /// The components from `integer3` on.
-pub struct FromInteger3;
-
-type FromInteger3Row = MayHave<
+type FromInteger3 = MayHave<
     Context<5>,
     Integer,
     MayHave<Context<6>, OctetString, Extensible<FromInteger4>>,
 >;
 
-impl Components for FromInteger3 {
-    ghost use Rattle.std.specs.Prelude.{true};
-
-    type Values = <FromInteger3Row as Components>::Values;
-
-    ghost EXTENSIBLE = { true };
-
-    const EXTENSIBLE: bool = true;
-
-    ghost schema = { ⟦<FromInteger3Row as Components>⟧.schema };
-
-    ghost is_schema = { ⟦<FromInteger3Row as Components>⟧.is_schema };
-}
-
-impl Reads for FromInteger3 {
-    type Slots = <FromInteger3Row as Reads>::Slots;
-
-    ghost filled = { ⟦<FromInteger3Row as Reads>⟧.filled };
-
-    ghost filled_once = { ⟦<FromInteger3Row as Reads>⟧.filled_once };
-
-    fn empty() -> Self::Slots {
-        FromInteger3Row::empty()
-    }
-
-    fn read(
-        alloc: Global,
-        decoder: &mut Decoder<'_>,
-        slots: &mut Self::Slots,
-    ) -> Result<(), DecodeError> {
-        FromInteger3Row::read(alloc, decoder, slots)
-    }
-
-    fn taken(slots: Self::Slots) -> Self::Values {
-        FromInteger3Row::taken(slots)
-    }
-}
-
-impl<'v> Views<'v> for FromInteger3 {
-    type View = <FromInteger3Row as Views<'v>>::View;
-
-    ghost seen = { ⟦<FromInteger3Row as Views<'v>>⟧.seen };
-
-    fn write(
-        view: <FromInteger3Row as Views<'v>>::View,
-        encoder: &mut Encoder<'_>,
-    ) -> Result<(), EncodeError> {
-        FromInteger3Row::write(view, encoder)
-    }
-}
-
 /// The additions, from `integer4` on.
-pub struct FromInteger4;
-
-type FromInteger4Row = MayAdd<
+type FromInteger4 = MayAdd<
     Context<7>,
     Integer,
     MayAdd<
@@ -95,52 +40,9 @@ type FromInteger4Row = MayAdd<
     >,
 >;
 
-impl Additions for FromInteger4 {
-    type More = <FromInteger4Row as Additions>::More;
-
-    ghost table = { ⟦<FromInteger4Row as Additions>⟧.table };
-
-    ghost is_table = { ⟦<FromInteger4Row as Additions>⟧.is_table };
-}
-
-impl ReadsAdditions for FromInteger4 {
-    type Slots = <FromInteger4Row as ReadsAdditions>::Slots;
-
-    ghost filled = { ⟦<FromInteger4Row as ReadsAdditions>⟧.filled };
-
-    ghost filled_once = { ⟦<FromInteger4Row as ReadsAdditions>⟧.filled_once };
-
-    fn empty() -> Self::Slots {
-        FromInteger4Row::empty()
-    }
-
-    fn read_additions(
-        alloc: Global,
-        decoder: &mut Decoder<'_>,
-        slots: &mut Self::Slots,
-    ) -> Result<(), DecodeError> {
-        FromInteger4Row::read_additions(alloc, decoder, slots)
-    }
-
-    fn taken(slots: Self::Slots) -> Self::More {
-        FromInteger4Row::taken(slots)
-    }
-}
-
-impl<'v> AdditionViews<'v> for FromInteger4 {
-    type MoreView = <FromInteger4Row as AdditionViews<'v>>::MoreView;
-
-    ghost seen = { ⟦<FromInteger4Row as AdditionViews<'v>>⟧.seen };
-
-    fn write_additions(
-        view: <FromInteger4Row as AdditionViews<'v>>::MoreView,
-        encoder: &mut Encoder<'_>,
-    ) -> Result<(), EncodeError> {
-        FromInteger4Row::write_additions(view, encoder)
-    }
-}
-
 impl Rowed for components::ExtendedOptional {
+    ghost use Rattle.rasn_oer.specs.Values.{both};
+
     type Values = <ExtendedRow as Components>::Values;
 
     ghost EXTENSIBLE = { ⟦<ExtendedRow as Components>⟧.EXTENSIBLE };
@@ -151,7 +53,7 @@ impl Rowed for components::ExtendedOptional {
 
     ghost row_is_schema = { ⟦<ExtendedRow as Components>⟧.is_schema };
 
-    ghost components = { λ v. (v.value, (v.integer1, (v.octet1, (v.integer2, (v.octet2, (v.integer3, (v.octet3, (v.integer4, (v.octet4, (v.integer5, (v.octet5, tt))))))))))) };
+    ghost components = { λ v. both v.value (both v.integer1 (both v.octet1 (both v.integer2 (both v.octet2 (both v.integer3 (both v.octet3 (both v.integer4 (both v.octet4 (both v.integer5 (both v.octet5 tt)))))))))) };
 
     fn from_row(row: <ExtendedRow as Components>::Values) -> components::ExtendedOptional {
         let pairs![
@@ -209,7 +111,7 @@ impl Tabled<7, 4> for components::ExtendedOptional {
 
     fn put(&self, encoder: &mut Encoder<'_>) -> Result<(), EncodeError> {
         ExtendedRow::write(
-            views![self: value, integer1, octet1, integer2, octet2, integer3, octet3, integer4, octet4, integer5, octet5],
+            &views![self: value, integer1, octet1, integer2, octet2, integer3, octet3, integer4, octet4, integer5, octet5],
             encoder,
         )
     }

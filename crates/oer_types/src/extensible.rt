@@ -10,6 +10,8 @@ pub type Sequence1 = Sequence<components::Sequence1, 1, 0>;
 type Sequence1Row = Needs<Context<0>, bool, Extensible<NoMore>>;
 
 impl Rowed for components::Sequence1 {
+    ghost use Rattle.rasn_oer.specs.Values.{both};
+
     type Values = <Sequence1Row as Components>::Values;
 
     ghost EXTENSIBLE = { ⟦<Sequence1Row as Components>⟧.EXTENSIBLE };
@@ -20,9 +22,9 @@ impl Rowed for components::Sequence1 {
 
     ghost row_is_schema = { ⟦<Sequence1Row as Components>⟧.is_schema };
 
-    ghost components = { λ v. (v.a, tt) };
+    ghost components = { λ v. both v.a tt };
 
-    fn from_row((a, ()): <Sequence1Row as Components>::Values) -> components::Sequence1 {
+    fn from_row(Both(a, ()): <Sequence1Row as Components>::Values) -> components::Sequence1 {
         components::Sequence1 { a }
     }
 }
@@ -54,7 +56,7 @@ impl Tabled<1, 0> for components::Sequence1 {
     }
 
     fn put(&self, encoder: &mut Encoder<'_>) -> Result<(), EncodeError> {
-        Sequence1Row::write((&self.a, ()), encoder)
+        Sequence1Row::write(&Both(&self.a, ()), encoder)
     }
 
     ghost counts = { (refl, refl) };
@@ -70,6 +72,8 @@ type Sequence2Row = Needs<
 >;
 
 impl Rowed for components::Sequence2 {
+    ghost use Rattle.rasn_oer.specs.Values.{both};
+
     type Values = <Sequence2Row as Components>::Values;
 
     ghost EXTENSIBLE = { ⟦<Sequence2Row as Components>⟧.EXTENSIBLE };
@@ -80,9 +84,11 @@ impl Rowed for components::Sequence2 {
 
     ghost row_is_schema = { ⟦<Sequence2Row as Components>⟧.is_schema };
 
-    ghost components = { λ v. (v.a, (v.b, (v.c, tt))) };
+    ghost components = { λ v. both v.a (both v.b (both v.c tt)) };
 
-    fn from_row((a, (b, (c, ()))): <Sequence2Row as Components>::Values) -> components::Sequence2 {
+    fn from_row(
+        Both(a, Both(b, Both(c, ()))): <Sequence2Row as Components>::Values,
+    ) -> components::Sequence2 {
         components::Sequence2 { a, b, c }
     }
 }
@@ -116,7 +122,7 @@ impl Tabled<1, 2> for components::Sequence2 {
     }
 
     fn put(&self, encoder: &mut Encoder<'_>) -> Result<(), EncodeError> {
-        Sequence2Row::write((&self.a, (&self.b, (&self.c, ()))), encoder)
+        Sequence2Row::write(&Both(&self.a, Both(&self.b, Both(&self.c, ()))), encoder)
     }
 
     ghost counts = { (refl, refl) };
@@ -128,6 +134,8 @@ pub type Sequence5 = Sequence<components::Sequence5, 1, 1>;
 type Sequence5Row = Needs<Context<0>, bool, Extensible<MayAdd<Context<1>, bool, NoMore>>>;
 
 impl Rowed for components::Sequence5 {
+    ghost use Rattle.rasn_oer.specs.Values.{both};
+
     type Values = <Sequence5Row as Components>::Values;
 
     ghost EXTENSIBLE = { ⟦<Sequence5Row as Components>⟧.EXTENSIBLE };
@@ -138,9 +146,11 @@ impl Rowed for components::Sequence5 {
 
     ghost row_is_schema = { ⟦<Sequence5Row as Components>⟧.is_schema };
 
-    ghost components = { λ v. (v.a, (v.b, tt)) };
+    ghost components = { λ v. both v.a (both v.b tt) };
 
-    fn from_row((a, (b, ())): <Sequence5Row as Components>::Values) -> components::Sequence5 {
+    fn from_row(
+        Both(a, Both(b, ())): <Sequence5Row as Components>::Values,
+    ) -> components::Sequence5 {
         components::Sequence5 { a, b }
     }
 }
@@ -174,7 +184,7 @@ impl Tabled<1, 1> for components::Sequence5 {
     }
 
     fn put(&self, encoder: &mut Encoder<'_>) -> Result<(), EncodeError> {
-        Sequence5Row::write((&self.a, (&self.b, ())), encoder)
+        Sequence5Row::write(&Both(&self.a, Both(&self.b, ())), encoder)
     }
 
     ghost counts = { (refl, refl) };
@@ -186,56 +196,11 @@ pub type Outer = Sequence<components::Outer, 1, 1>;
 type OuterRow = Needs<Context<0>, bool, Extensible<OuterAdditions>>;
 
 /// The additions of an `Outer`.
-pub struct OuterAdditions;
-
-type OuterAdditionsRow = MayAdd<Context<1>, Sequence2, NoMore>;
-
-impl Additions for OuterAdditions {
-    type More = <OuterAdditionsRow as Additions>::More;
-
-    ghost table = { ⟦<OuterAdditionsRow as Additions>⟧.table };
-
-    ghost is_table = { ⟦<OuterAdditionsRow as Additions>⟧.is_table };
-}
-
-impl ReadsAdditions for OuterAdditions {
-    type Slots = <OuterAdditionsRow as ReadsAdditions>::Slots;
-
-    ghost filled = { ⟦<OuterAdditionsRow as ReadsAdditions>⟧.filled };
-
-    ghost filled_once = { ⟦<OuterAdditionsRow as ReadsAdditions>⟧.filled_once };
-
-    fn empty() -> Self::Slots {
-        OuterAdditionsRow::empty()
-    }
-
-    fn read_additions(
-        alloc: Global,
-        decoder: &mut Decoder<'_>,
-        slots: &mut Self::Slots,
-    ) -> Result<(), DecodeError> {
-        OuterAdditionsRow::read_additions(alloc, decoder, slots)
-    }
-
-    fn taken(slots: Self::Slots) -> Self::More {
-        OuterAdditionsRow::taken(slots)
-    }
-}
-
-impl<'v> AdditionViews<'v> for OuterAdditions {
-    type MoreView = <OuterAdditionsRow as AdditionViews<'v>>::MoreView;
-
-    ghost seen = { ⟦<OuterAdditionsRow as AdditionViews<'v>>⟧.seen };
-
-    fn write_additions(
-        view: <OuterAdditionsRow as AdditionViews<'v>>::MoreView,
-        encoder: &mut Encoder<'_>,
-    ) -> Result<(), EncodeError> {
-        OuterAdditionsRow::write_additions(view, encoder)
-    }
-}
+type OuterAdditions = MayAdd<Context<1>, Sequence2, NoMore>;
 
 impl Rowed for components::Outer {
+    ghost use Rattle.rasn_oer.specs.Values.{both};
+
     type Values = <OuterRow as Components>::Values;
 
     ghost EXTENSIBLE = { ⟦<OuterRow as Components>⟧.EXTENSIBLE };
@@ -246,9 +211,9 @@ impl Rowed for components::Outer {
 
     ghost row_is_schema = { ⟦<OuterRow as Components>⟧.is_schema };
 
-    ghost components = { λ v. (v.a, (v.b, tt)) };
+    ghost components = { λ v. both v.a (both v.b tt) };
 
-    fn from_row((a, (b, ())): <OuterRow as Components>::Values) -> components::Outer {
+    fn from_row(Both(a, Both(b, ())): <OuterRow as Components>::Values) -> components::Outer {
         components::Outer { a, b }
     }
 }
@@ -282,7 +247,7 @@ impl Tabled<1, 1> for components::Outer {
     }
 
     fn put(&self, encoder: &mut Encoder<'_>) -> Result<(), EncodeError> {
-        OuterRow::write((&self.a, (&self.b, ())), encoder)
+        OuterRow::write(&Both(&self.a, Both(&self.b, ())), encoder)
     }
 
     ghost counts = { (refl, refl) };
@@ -336,7 +301,7 @@ impl Tabled<0, 0> for components::EmptyExtensible {
     }
 
     fn put(&self, encoder: &mut Encoder<'_>) -> Result<(), EncodeError> {
-        EmptyExtensibleRow::write((), encoder)
+        EmptyExtensibleRow::write(&(), encoder)
     }
 
     ghost counts = { (refl, refl) };

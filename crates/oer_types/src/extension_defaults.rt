@@ -3,7 +3,7 @@
 use crate::components;
 use crate::extensible::{Sequence1, Sequence5};
 use rasn_oer::prelude::*;
-use std::alloc::Global;
+use std::alloc::{AllocError, Global};
 
 /// `SEQUENCE { a BOOLEAN, ..., b INTEGER DEFAULT 7 }`
 pub type AddDef = Sequence<components::AddDef, 1, 1>;
@@ -15,6 +15,8 @@ type AddDefRow = Needs<
 >;
 
 impl Rowed for components::AddDef {
+    ghost use Rattle.rasn_oer.specs.Values.{both};
+
     type Values = <AddDefRow as Components>::Values;
 
     ghost EXTENSIBLE = { ⟦<AddDefRow as Components>⟧.EXTENSIBLE };
@@ -25,9 +27,9 @@ impl Rowed for components::AddDef {
 
     ghost row_is_schema = { ⟦<AddDefRow as Components>⟧.is_schema };
 
-    ghost components = { λ v. (v.a, (v.b, tt)) };
+    ghost components = { λ v. both v.a (both v.b tt) };
 
-    fn from_row((a, (b, ())): <AddDefRow as Components>::Values) -> components::AddDef {
+    fn from_row(Both(a, Both(b, ())): <AddDefRow as Components>::Values) -> components::AddDef {
         components::AddDef { a, b }
     }
 }
@@ -61,7 +63,7 @@ impl Tabled<1, 1> for components::AddDef {
     }
 
     fn put(&self, encoder: &mut Encoder<'_>) -> Result<(), EncodeError> {
-        AddDefRow::write((&self.a, (&self.b, ())), encoder)
+        AddDefRow::write(&Both(&self.a, Both(&self.b, ())), encoder)
     }
 
     ghost counts = { (refl, refl) };
@@ -80,8 +82,12 @@ impl Standard<Sequence1> for IsTrueSequence1 {
 
     ghost value = { record { 0 = record { a = true } } };
 
-    fn value() -> Sequence1 {
-        Sequence(components::Sequence1 { a: true })
+    fn value(_alloc: Global) -> Result<Sequence1, AllocError> {
+        Ok(Sequence(components::Sequence1 { a: true }))
+    }
+
+    fn is_value(other: &Sequence1) -> bool {
+        other.0.a == true
     }
 
     ghost admitted = { ((tt, tt), tt) };
@@ -96,6 +102,8 @@ impl Compared<1, 0> for components::Sequence1 {
 }
 
 impl Rowed for components::Holder1 {
+    ghost use Rattle.rasn_oer.specs.Values.{both};
+
     type Values = <Holder1Row as Components>::Values;
 
     ghost EXTENSIBLE = { ⟦<Holder1Row as Components>⟧.EXTENSIBLE };
@@ -106,9 +114,9 @@ impl Rowed for components::Holder1 {
 
     ghost row_is_schema = { ⟦<Holder1Row as Components>⟧.is_schema };
 
-    ghost components = { λ v. (v.a, tt) };
+    ghost components = { λ v. both v.a tt };
 
-    fn from_row((a, ()): <Holder1Row as Components>::Values) -> components::Holder1 {
+    fn from_row(Both(a, ()): <Holder1Row as Components>::Values) -> components::Holder1 {
         components::Holder1 { a }
     }
 }
@@ -140,7 +148,7 @@ impl Tabled<1, 0> for components::Holder1 {
     }
 
     fn put(&self, encoder: &mut Encoder<'_>) -> Result<(), EncodeError> {
-        Holder1Row::write((&self.a, ()), encoder)
+        Holder1Row::write(&Both(&self.a, ()), encoder)
     }
 
     ghost counts = { (refl, refl) };
@@ -159,8 +167,12 @@ impl Standard<Sequence5> for IsTrueSequence5 {
 
     ghost value = { record { 0 = record { a = true; b = None } } };
 
-    fn value() -> Sequence5 {
-        Sequence(components::Sequence5 { a: true, b: None })
+    fn value(_alloc: Global) -> Result<Sequence5, AllocError> {
+        Ok(Sequence(components::Sequence5 { a: true, b: None }))
+    }
+
+    fn is_value(other: &Sequence5) -> bool {
+        *other == Sequence(components::Sequence5 { a: true, b: None })
     }
 
     ghost admitted = { ((tt, tt), (tt, tt)) };
@@ -176,6 +188,8 @@ impl Compared<1, 1> for components::Sequence5 {
 }
 
 impl Rowed for components::Holder2 {
+    ghost use Rattle.rasn_oer.specs.Values.{both};
+
     type Values = <Holder2Row as Components>::Values;
 
     ghost EXTENSIBLE = { ⟦<Holder2Row as Components>⟧.EXTENSIBLE };
@@ -186,9 +200,9 @@ impl Rowed for components::Holder2 {
 
     ghost row_is_schema = { ⟦<Holder2Row as Components>⟧.is_schema };
 
-    ghost components = { λ v. (v.a, tt) };
+    ghost components = { λ v. both v.a tt };
 
-    fn from_row((a, ()): <Holder2Row as Components>::Values) -> components::Holder2 {
+    fn from_row(Both(a, ()): <Holder2Row as Components>::Values) -> components::Holder2 {
         components::Holder2 { a }
     }
 }
@@ -220,7 +234,7 @@ impl Tabled<1, 0> for components::Holder2 {
     }
 
     fn put(&self, encoder: &mut Encoder<'_>) -> Result<(), EncodeError> {
-        Holder2Row::write((&self.a, ()), encoder)
+        Holder2Row::write(&Both(&self.a, ()), encoder)
     }
 
     ghost counts = { (refl, refl) };

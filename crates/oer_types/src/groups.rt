@@ -10,6 +10,8 @@ pub type Sequence4 = Sequence<components::Sequence4, 1, 0>;
 type Sequence4Row = Needs<Context<0>, bool, NoMore>;
 
 impl Rowed for components::Sequence4 {
+    ghost use Rattle.rasn_oer.specs.Values.{both};
+
     type Values = <Sequence4Row as Components>::Values;
 
     ghost EXTENSIBLE = { ⟦<Sequence4Row as Components>⟧.EXTENSIBLE };
@@ -20,9 +22,9 @@ impl Rowed for components::Sequence4 {
 
     ghost row_is_schema = { ⟦<Sequence4Row as Components>⟧.is_schema };
 
-    ghost components = { λ v. (v.a, tt) };
+    ghost components = { λ v. both v.a tt };
 
-    fn from_row((a, ()): <Sequence4Row as Components>::Values) -> components::Sequence4 {
+    fn from_row(Both(a, ()): <Sequence4Row as Components>::Values) -> components::Sequence4 {
         components::Sequence4 { a }
     }
 }
@@ -54,7 +56,7 @@ impl Tabled<1, 0> for components::Sequence4 {
     }
 
     fn put(&self, encoder: &mut Encoder<'_>) -> Result<(), EncodeError> {
-        Sequence4Row::write((&self.a, ()), encoder)
+        Sequence4Row::write(&Both(&self.a, ()), encoder)
     }
 
     ghost counts = { (refl, refl) };
@@ -66,6 +68,8 @@ pub type Sequence3 = Sequence<components::Sequence3, 1, 1>;
 type Sequence3Row = Needs<Context<0>, bool, Extensible<MayAddGroup<1, 0, Sequence4, NoMore>>>;
 
 impl Rowed for components::Sequence3 {
+    ghost use Rattle.rasn_oer.specs.Values.{both};
+
     type Values = <Sequence3Row as Components>::Values;
 
     ghost EXTENSIBLE = { ⟦<Sequence3Row as Components>⟧.EXTENSIBLE };
@@ -76,9 +80,11 @@ impl Rowed for components::Sequence3 {
 
     ghost row_is_schema = { ⟦<Sequence3Row as Components>⟧.is_schema };
 
-    ghost components = { λ v. (v.a, (v.b, tt)) };
+    ghost components = { λ v. both v.a (both v.b tt) };
 
-    fn from_row((a, (b, ())): <Sequence3Row as Components>::Values) -> components::Sequence3 {
+    fn from_row(
+        Both(a, Both(b, ())): <Sequence3Row as Components>::Values,
+    ) -> components::Sequence3 {
         components::Sequence3 { a, b }
     }
 }
@@ -112,7 +118,7 @@ impl Tabled<1, 1> for components::Sequence3 {
     }
 
     fn put(&self, encoder: &mut Encoder<'_>) -> Result<(), EncodeError> {
-        Sequence3Row::write((&self.a, (&self.b, ())), encoder)
+        Sequence3Row::write(&Both(&self.a, Both(&self.b, ())), encoder)
     }
 
     ghost counts = { (refl, refl) };
@@ -124,6 +130,8 @@ pub type Group6 = Sequence<components::Group6, 1, 0>;
 type Group6Row = MayHave<Context<0>, bool, NoMore>;
 
 impl Rowed for components::Group6 {
+    ghost use Rattle.rasn_oer.specs.Values.{both};
+
     type Values = <Group6Row as Components>::Values;
 
     ghost EXTENSIBLE = { ⟦<Group6Row as Components>⟧.EXTENSIBLE };
@@ -134,9 +142,9 @@ impl Rowed for components::Group6 {
 
     ghost row_is_schema = { ⟦<Group6Row as Components>⟧.is_schema };
 
-    ghost components = { λ v. (v.a, tt) };
+    ghost components = { λ v. both v.a tt };
 
-    fn from_row((a, ()): <Group6Row as Components>::Values) -> components::Group6 {
+    fn from_row(Both(a, ()): <Group6Row as Components>::Values) -> components::Group6 {
         components::Group6 { a }
     }
 }
@@ -168,7 +176,7 @@ impl Tabled<1, 0> for components::Group6 {
     }
 
     fn put(&self, encoder: &mut Encoder<'_>) -> Result<(), EncodeError> {
-        Group6Row::write((&self.a, ()), encoder)
+        Group6Row::write(&Both(&self.a, ()), encoder)
     }
 
     ghost counts = { (refl, refl) };
@@ -180,6 +188,8 @@ pub type Sequence6 = Sequence<components::Sequence6, 1, 1>;
 type Sequence6Row = Needs<Context<0>, bool, Extensible<MayAddGroup<1, 0, Group6, NoMore>>>;
 
 impl Rowed for components::Sequence6 {
+    ghost use Rattle.rasn_oer.specs.Values.{both};
+
     type Values = <Sequence6Row as Components>::Values;
 
     ghost EXTENSIBLE = { ⟦<Sequence6Row as Components>⟧.EXTENSIBLE };
@@ -190,9 +200,11 @@ impl Rowed for components::Sequence6 {
 
     ghost row_is_schema = { ⟦<Sequence6Row as Components>⟧.is_schema };
 
-    ghost components = { λ v. (v.a, (v.b, tt)) };
+    ghost components = { λ v. both v.a (both v.b tt) };
 
-    fn from_row((a, (b, ())): <Sequence6Row as Components>::Values) -> components::Sequence6 {
+    fn from_row(
+        Both(a, Both(b, ())): <Sequence6Row as Components>::Values,
+    ) -> components::Sequence6 {
         components::Sequence6 { a, b }
     }
 }
@@ -226,7 +238,7 @@ impl Tabled<1, 1> for components::Sequence6 {
     }
 
     fn put(&self, encoder: &mut Encoder<'_>) -> Result<(), EncodeError> {
-        Sequence6Row::write((&self.a, (&self.b, ())), encoder)
+        Sequence6Row::write(&Both(&self.a, Both(&self.b, ())), encoder)
     }
 
     ghost counts = { (refl, refl) };

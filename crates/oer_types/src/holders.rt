@@ -17,6 +17,8 @@ type HoldingRow<T> = Needs<Context<0>, T, NoMore>;
 const INNER_FIELDS: &'static [Field<'static>] = fields![0 Required Context 0 "inner"];
 
 impl<T: Decode + Encode> Rowed for HoldingComponents<T> {
+    ghost use Rattle.rasn_oer.specs.Values.{both};
+
     type Values = <HoldingRow<T> as Components>::Values;
 
     ghost EXTENSIBLE = { ⟦<HoldingRow<T> as Components>⟧.EXTENSIBLE };
@@ -27,9 +29,9 @@ impl<T: Decode + Encode> Rowed for HoldingComponents<T> {
 
     ghost row_is_schema = { ⟦<HoldingRow<T> as Components>⟧.is_schema };
 
-    ghost components = { λ v. (v.inner, tt) };
+    ghost components = { λ v. both v.inner tt };
 
-    fn from_row((inner, ()): <HoldingRow<T> as Components>::Values) -> HoldingComponents<T> {
+    fn from_row(Both(inner, ()): <HoldingRow<T> as Components>::Values) -> HoldingComponents<T> {
         HoldingComponents { inner }
     }
 }
@@ -58,7 +60,7 @@ impl<T: Decode + Encode> Tabled<1, 0> for HoldingComponents<T> {
     }
 
     fn put(&self, encoder: &mut Encoder<'_>) -> Result<(), EncodeError> {
-        <HoldingRow<T>>::write((&self.inner, ()), encoder)
+        <HoldingRow<T>>::write(&Both(&self.inner, ()), encoder)
     }
 
     ghost counts = { (refl, refl) };
@@ -81,6 +83,8 @@ const OK_FIELDS: &'static [Field<'static>] = fields![0 Required Context 0 "ok"];
 const INNER_ADDITIONS: &'static [Field<'static>] = fields![0 Optional Context 1 "inner"];
 
 impl<T: Decode + Encode> Rowed for AddingComponents<T> {
+    ghost use Rattle.rasn_oer.specs.Values.{both};
+
     type Values = <AddingRow<T> as Components>::Values;
 
     ghost EXTENSIBLE = { ⟦<AddingRow<T> as Components>⟧.EXTENSIBLE };
@@ -91,9 +95,11 @@ impl<T: Decode + Encode> Rowed for AddingComponents<T> {
 
     ghost row_is_schema = { ⟦<AddingRow<T> as Components>⟧.is_schema };
 
-    ghost components = { λ v. (v.ok, (v.inner, tt)) };
+    ghost components = { λ v. both v.ok (both v.inner tt) };
 
-    fn from_row((ok, (inner, ())): <AddingRow<T> as Components>::Values) -> AddingComponents<T> {
+    fn from_row(
+        Both(ok, Both(inner, ())): <AddingRow<T> as Components>::Values,
+    ) -> AddingComponents<T> {
         AddingComponents { ok, inner }
     }
 }
@@ -122,7 +128,7 @@ impl<T: Decode + Encode> Tabled<1, 1> for AddingComponents<T> {
     }
 
     fn put(&self, encoder: &mut Encoder<'_>) -> Result<(), EncodeError> {
-        <AddingRow<T>>::write((&self.ok, (&self.inner, ())), encoder)
+        <AddingRow<T>>::write(&Both(&self.ok, Both(&self.inner, ())), encoder)
     }
 
     ghost counts = { (refl, refl) };

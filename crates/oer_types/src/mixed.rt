@@ -17,6 +17,8 @@ pub struct MixedComponents {
 type MixedRow = Needs<Context<0>, PriorityChoice, Needs<Context<1>, ListOf<OctetString>, NoMore>>;
 
 impl Rowed for MixedComponents {
+    ghost use Rattle.rasn_oer.specs.Values.{both};
+
     type Values = <MixedRow as Components>::Values;
 
     ghost EXTENSIBLE = { ⟦<MixedRow as Components>⟧.EXTENSIBLE };
@@ -27,9 +29,11 @@ impl Rowed for MixedComponents {
 
     ghost row_is_schema = { ⟦<MixedRow as Components>⟧.is_schema };
 
-    ghost components = { λ v. (v.priority, (v.names, tt)) };
+    ghost components = { λ v. both v.priority (both v.names tt) };
 
-    fn from_row((priority, (names, ())): <MixedRow as Components>::Values) -> MixedComponents {
+    fn from_row(
+        Both(priority, Both(names, ())): <MixedRow as Components>::Values,
+    ) -> MixedComponents {
         MixedComponents { priority, names }
     }
 }
@@ -61,7 +65,7 @@ impl Tabled<2, 0> for MixedComponents {
     }
 
     fn put(&self, encoder: &mut Encoder<'_>) -> Result<(), EncodeError> {
-        MixedRow::write((&self.priority, (&self.names, ())), encoder)
+        MixedRow::write(&Both(&self.priority, Both(&self.names, ())), encoder)
     }
 
     ghost counts = { (refl, refl) };

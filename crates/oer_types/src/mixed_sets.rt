@@ -25,6 +25,8 @@ const MIXED_SET_FIELDS: &'static [Field<'static>] = fields![
 const MIXED_SET_ADDITIONS: &'static [Field<'static>] = fields![0 Optional Context 0 "n"];
 
 impl Rowed for components::MixedSet {
+    ghost use Rattle.rasn_oer.specs.Values.{both};
+
     type Values = <MixedSetRow as Components>::Values;
 
     ghost EXTENSIBLE = { ⟦<MixedSetRow as Components>⟧.EXTENSIBLE };
@@ -35,10 +37,10 @@ impl Rowed for components::MixedSet {
 
     ghost row_is_schema = { ⟦<MixedSetRow as Components>⟧.is_schema };
 
-    ghost components = { λ v. (v.z, (v.y, (v.x, (v.n, tt)))) };
+    ghost components = { λ v. both v.z (both v.y (both v.x (both v.n tt))) };
 
     fn from_row(
-        (z, (y, (x, (n, ())))): <MixedSetRow as Components>::Values,
+        Both(z, Both(y, Both(x, Both(n, ())))): <MixedSetRow as Components>::Values,
     ) -> components::MixedSet {
         components::MixedSet { x, y, z, n }
     }
@@ -73,7 +75,10 @@ impl Tabled<3, 1> for components::MixedSet {
     }
 
     fn put(&self, encoder: &mut Encoder<'_>) -> Result<(), EncodeError> {
-        MixedSetRow::write((&self.z, (&self.y, (&self.x, (&self.n, ())))), encoder)
+        MixedSetRow::write(
+            &Both(&self.z, Both(&self.y, Both(&self.x, Both(&self.n, ())))),
+            encoder,
+        )
     }
 
     ghost counts = { (refl, refl) };
@@ -102,6 +107,8 @@ const MIXED_SET2_ADDITIONS: &'static [Field<'static>] =
     fields![0 Optional Context 0 "n", 1 Optional Context 3 "m"];
 
 impl Rowed for components::MixedSet2 {
+    ghost use Rattle.rasn_oer.specs.Values.{both};
+
     type Values = <MixedSet2Row as Components>::Values;
 
     ghost EXTENSIBLE = { ⟦<MixedSet2Row as Components>⟧.EXTENSIBLE };
@@ -112,10 +119,10 @@ impl Rowed for components::MixedSet2 {
 
     ghost row_is_schema = { ⟦<MixedSet2Row as Components>⟧.is_schema };
 
-    ghost components = { λ v. (v.z, (v.y, (v.x, (v.n, (v.m, tt))))) };
+    ghost components = { λ v. both v.z (both v.y (both v.x (both v.n (both v.m tt)))) };
 
     fn from_row(
-        (z, (y, (x, (n, (m, ()))))): <MixedSet2Row as Components>::Values,
+        Both(z, Both(y, Both(x, Both(n, Both(m, ()))))): <MixedSet2Row as Components>::Values,
     ) -> components::MixedSet2 {
         components::MixedSet2 { x, y, z, n, m }
     }
@@ -151,7 +158,10 @@ impl Tabled<3, 2> for components::MixedSet2 {
 
     fn put(&self, encoder: &mut Encoder<'_>) -> Result<(), EncodeError> {
         MixedSet2Row::write(
-            (&self.z, (&self.y, (&self.x, (&self.n, (&self.m, ()))))),
+            &Both(
+                &self.z,
+                Both(&self.y, Both(&self.x, Both(&self.n, Both(&self.m, ())))),
+            ),
             encoder,
         )
     }

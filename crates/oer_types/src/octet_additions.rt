@@ -10,6 +10,8 @@ pub type Omitted = Sequence<components::Omitted, 1, 1>;
 type OmittedRow = MayHave<Context<0>, OctetString, Extensible<MayAdd<Context<1>, (), NoMore>>>;
 
 impl Rowed for components::Omitted {
+    ghost use Rattle.rasn_oer.specs.Values.{both};
+
     type Values = <OmittedRow as Components>::Values;
 
     ghost EXTENSIBLE = { ⟦<OmittedRow as Components>⟧.EXTENSIBLE };
@@ -20,9 +22,11 @@ impl Rowed for components::Omitted {
 
     ghost row_is_schema = { ⟦<OmittedRow as Components>⟧.is_schema };
 
-    ghost components = { λ v. (v.a, (v.omitted, tt)) };
+    ghost components = { λ v. both v.a (both v.omitted tt) };
 
-    fn from_row((a, (omitted, ())): <OmittedRow as Components>::Values) -> components::Omitted {
+    fn from_row(
+        Both(a, Both(omitted, ())): <OmittedRow as Components>::Values,
+    ) -> components::Omitted {
         components::Omitted { a, omitted }
     }
 }
@@ -56,7 +60,7 @@ impl Tabled<1, 1> for components::Omitted {
     }
 
     fn put(&self, encoder: &mut Encoder<'_>) -> Result<(), EncodeError> {
-        OmittedRow::write((&self.a, (&self.omitted, ())), encoder)
+        OmittedRow::write(&Both(&self.a, Both(&self.omitted, ())), encoder)
     }
 
     ghost counts = { (refl, refl) };
@@ -77,6 +81,8 @@ type SequenceDuplicatesExtendedRow = Needs<
 >;
 
 impl Rowed for components::SequenceDuplicatesExtended {
+    ghost use Rattle.rasn_oer.specs.Values.{both};
+
     type Values = <SequenceDuplicatesExtendedRow as Components>::Values;
 
     ghost EXTENSIBLE = { ⟦<SequenceDuplicatesExtendedRow as Components>⟧.EXTENSIBLE };
@@ -87,10 +93,13 @@ impl Rowed for components::SequenceDuplicatesExtended {
 
     ghost row_is_schema = { ⟦<SequenceDuplicatesExtendedRow as Components>⟧.is_schema };
 
-    ghost components = { λ v. (v.it, (v.is, (v.late, (v.today, tt)))) };
+    ghost components = { λ v. both v.it (both v.is (both v.late (both v.today tt))) };
 
     fn from_row(
-        (it, (is, (late, (today, ())))): <SequenceDuplicatesExtendedRow as Components>::Values,
+        Both(
+            it,
+            Both(is, Both(late, Both(today, ()))),
+        ): <SequenceDuplicatesExtendedRow as Components>::Values,
     ) -> components::SequenceDuplicatesExtended {
         components::SequenceDuplicatesExtended {
             it,
@@ -131,7 +140,10 @@ impl Tabled<3, 1> for components::SequenceDuplicatesExtended {
 
     fn put(&self, encoder: &mut Encoder<'_>) -> Result<(), EncodeError> {
         SequenceDuplicatesExtendedRow::write(
-            (&self.it, (&self.is, (&self.late, (&self.today, ())))),
+            &Both(
+                &self.it,
+                Both(&self.is, Both(&self.late, Both(&self.today, ()))),
+            ),
             encoder,
         )
     }

@@ -16,6 +16,8 @@ pub struct SureComponents {
 type SureRow = Needs<Context<0>, bool, Extensible<Adds<Context<1>, bool, NoMore>>>;
 
 impl Rowed for SureComponents {
+    ghost use Rattle.rasn_oer.specs.Values.{both};
+
     type Values = <SureRow as Components>::Values;
 
     ghost EXTENSIBLE = { ⟦<SureRow as Components>⟧.EXTENSIBLE };
@@ -26,9 +28,9 @@ impl Rowed for SureComponents {
 
     ghost row_is_schema = { ⟦<SureRow as Components>⟧.is_schema };
 
-    ghost components = { λ v. (v.ok, (v.sure, tt)) };
+    ghost components = { λ v. both v.ok (both v.sure tt) };
 
-    fn from_row((ok, (sure, ())): <SureRow as Components>::Values) -> SureComponents {
+    fn from_row(Both(ok, Both(sure, ())): <SureRow as Components>::Values) -> SureComponents {
         SureComponents { ok, sure }
     }
 }
@@ -62,7 +64,7 @@ impl Tabled<1, 1> for SureComponents {
     }
 
     fn put(&self, encoder: &mut Encoder<'_>) -> Result<(), EncodeError> {
-        SureRow::write((&self.ok, (&self.sure, ())), encoder)
+        SureRow::write(&Both(&self.ok, Both(&self.sure, ())), encoder)
     }
 
     ghost counts = { (refl, refl) };

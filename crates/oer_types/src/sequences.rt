@@ -11,6 +11,8 @@ pub type Nested = Sequence<components::Nested, 2, 0>;
 type NestedRow = Needs<Context<0>, bool, Needs<Context<1>, Pair, NoMore>>;
 
 impl Rowed for components::Nested {
+    ghost use Rattle.rasn_oer.specs.Values.{both};
+
     type Values = <NestedRow as Components>::Values;
 
     ghost EXTENSIBLE = { ⟦<NestedRow as Components>⟧.EXTENSIBLE };
@@ -21,9 +23,9 @@ impl Rowed for components::Nested {
 
     ghost row_is_schema = { ⟦<NestedRow as Components>⟧.is_schema };
 
-    ghost components = { λ v. (v.a, (v.b, tt)) };
+    ghost components = { λ v. both v.a (both v.b tt) };
 
-    fn from_row((a, (b, ())): <NestedRow as Components>::Values) -> components::Nested {
+    fn from_row(Both(a, Both(b, ())): <NestedRow as Components>::Values) -> components::Nested {
         components::Nested { a, b }
     }
 }
@@ -55,7 +57,7 @@ impl Tabled<2, 0> for components::Nested {
     }
 
     fn put(&self, encoder: &mut Encoder<'_>) -> Result<(), EncodeError> {
-        NestedRow::write((&self.a, (&self.b, ())), encoder)
+        NestedRow::write(&Both(&self.a, Both(&self.b, ())), encoder)
     }
 
     ghost counts = { (refl, refl) };
@@ -109,7 +111,7 @@ impl Tabled<0, 0> for components::Empty {
     }
 
     fn put(&self, encoder: &mut Encoder<'_>) -> Result<(), EncodeError> {
-        EmptyRow::write((), encoder)
+        EmptyRow::write(&(), encoder)
     }
 
     ghost counts = { (refl, refl) };
@@ -121,6 +123,8 @@ pub type DefaultInteger = Sequence<components::DefaultInteger, 1, 0>;
 type DefaultIntegerRow = Defaults<Context<0>, Integer, IsNumber<0>, NoMore>;
 
 impl Rowed for components::DefaultInteger {
+    ghost use Rattle.rasn_oer.specs.Values.{both};
+
     type Values = <DefaultIntegerRow as Components>::Values;
 
     ghost EXTENSIBLE = { ⟦<DefaultIntegerRow as Components>⟧.EXTENSIBLE };
@@ -131,9 +135,11 @@ impl Rowed for components::DefaultInteger {
 
     ghost row_is_schema = { ⟦<DefaultIntegerRow as Components>⟧.is_schema };
 
-    ghost components = { λ v. (v.a, tt) };
+    ghost components = { λ v. both v.a tt };
 
-    fn from_row((a, ()): <DefaultIntegerRow as Components>::Values) -> components::DefaultInteger {
+    fn from_row(
+        Both(a, ()): <DefaultIntegerRow as Components>::Values,
+    ) -> components::DefaultInteger {
         components::DefaultInteger { a }
     }
 }
@@ -165,7 +171,7 @@ impl Tabled<1, 0> for components::DefaultInteger {
     }
 
     fn put(&self, encoder: &mut Encoder<'_>) -> Result<(), EncodeError> {
-        DefaultIntegerRow::write((&self.a, ()), encoder)
+        DefaultIntegerRow::write(&Both(&self.a, ()), encoder)
     }
 
     ghost counts = { (refl, refl) };
@@ -182,6 +188,8 @@ type DefaultAndOptionalRow = Defaults<
 >;
 
 impl Rowed for components::DefaultAndOptional {
+    ghost use Rattle.rasn_oer.specs.Values.{both};
+
     type Values = <DefaultAndOptionalRow as Components>::Values;
 
     ghost EXTENSIBLE = { ⟦<DefaultAndOptionalRow as Components>⟧.EXTENSIBLE };
@@ -192,10 +200,10 @@ impl Rowed for components::DefaultAndOptional {
 
     ghost row_is_schema = { ⟦<DefaultAndOptionalRow as Components>⟧.is_schema };
 
-    ghost components = { λ v. (v.a, (v.b, tt)) };
+    ghost components = { λ v. both v.a (both v.b tt) };
 
     fn from_row(
-        (a, (b, ())): <DefaultAndOptionalRow as Components>::Values,
+        Both(a, Both(b, ())): <DefaultAndOptionalRow as Components>::Values,
     ) -> components::DefaultAndOptional {
         components::DefaultAndOptional { a, b }
     }
@@ -228,7 +236,7 @@ impl Tabled<2, 0> for components::DefaultAndOptional {
     }
 
     fn put(&self, encoder: &mut Encoder<'_>) -> Result<(), EncodeError> {
-        DefaultAndOptionalRow::write((&self.a, (&self.b, ())), encoder)
+        DefaultAndOptionalRow::write(&Both(&self.a, Both(&self.b, ())), encoder)
     }
 
     ghost counts = { (refl, refl) };
@@ -245,6 +253,8 @@ type AllDefaultRow = Defaults<
 >;
 
 impl Rowed for components::AllDefault {
+    ghost use Rattle.rasn_oer.specs.Values.{both};
+
     type Values = <AllDefaultRow as Components>::Values;
 
     ghost EXTENSIBLE = { ⟦<AllDefaultRow as Components>⟧.EXTENSIBLE };
@@ -255,9 +265,11 @@ impl Rowed for components::AllDefault {
 
     ghost row_is_schema = { ⟦<AllDefaultRow as Components>⟧.is_schema };
 
-    ghost components = { λ v. (v.a, (v.b, tt)) };
+    ghost components = { λ v. both v.a (both v.b tt) };
 
-    fn from_row((a, (b, ())): <AllDefaultRow as Components>::Values) -> components::AllDefault {
+    fn from_row(
+        Both(a, Both(b, ())): <AllDefaultRow as Components>::Values,
+    ) -> components::AllDefault {
         components::AllDefault { a, b }
     }
 }
@@ -289,7 +301,7 @@ impl Tabled<2, 0> for components::AllDefault {
     }
 
     fn put(&self, encoder: &mut Encoder<'_>) -> Result<(), EncodeError> {
-        AllDefaultRow::write((&self.a, (&self.b, ())), encoder)
+        AllDefaultRow::write(&Both(&self.a, Both(&self.b, ())), encoder)
     }
 
     ghost counts = { (refl, refl) };
@@ -301,6 +313,8 @@ pub type AllOptional = Sequence<components::AllOptional, 2, 0>;
 type AllOptionalRow = MayHave<Context<0>, Integer, MayHave<Context<1>, Integer, NoMore>>;
 
 impl Rowed for components::AllOptional {
+    ghost use Rattle.rasn_oer.specs.Values.{both};
+
     type Values = <AllOptionalRow as Components>::Values;
 
     ghost EXTENSIBLE = { ⟦<AllOptionalRow as Components>⟧.EXTENSIBLE };
@@ -311,9 +325,11 @@ impl Rowed for components::AllOptional {
 
     ghost row_is_schema = { ⟦<AllOptionalRow as Components>⟧.is_schema };
 
-    ghost components = { λ v. (v.a, (v.b, tt)) };
+    ghost components = { λ v. both v.a (both v.b tt) };
 
-    fn from_row((a, (b, ())): <AllOptionalRow as Components>::Values) -> components::AllOptional {
+    fn from_row(
+        Both(a, Both(b, ())): <AllOptionalRow as Components>::Values,
+    ) -> components::AllOptional {
         components::AllOptional { a, b }
     }
 }
@@ -345,7 +361,7 @@ impl Tabled<2, 0> for components::AllOptional {
     }
 
     fn put(&self, encoder: &mut Encoder<'_>) -> Result<(), EncodeError> {
-        AllOptionalRow::write((&self.a, (&self.b, ())), encoder)
+        AllOptionalRow::write(&Both(&self.a, Both(&self.b, ())), encoder)
     }
 
     ghost counts = { (refl, refl) };

@@ -19,6 +19,8 @@ const ADDITION7_FIELDS: &'static [Field<'static>] =
     fields![0 Optional Context 0 "e", 1 Default Context 1 "f"];
 
 impl Rowed for Addition7Components {
+    ghost use Rattle.rasn_oer.specs.Values.{both};
+
     type Values = <Addition7Row as Components>::Values;
 
     ghost EXTENSIBLE = { ⟦<Addition7Row as Components>⟧.EXTENSIBLE };
@@ -29,9 +31,9 @@ impl Rowed for Addition7Components {
 
     ghost row_is_schema = { ⟦<Addition7Row as Components>⟧.is_schema };
 
-    ghost components = { λ v. (v.e, (v.f, tt)) };
+    ghost components = { λ v. both v.e (both v.f tt) };
 
-    fn from_row((e, (f, ())): <Addition7Row as Components>::Values) -> Addition7Components {
+    fn from_row(Both(e, Both(f, ())): <Addition7Row as Components>::Values) -> Addition7Components {
         Addition7Components { e, f }
     }
 }
@@ -63,7 +65,7 @@ impl Tabled<2, 0> for Addition7Components {
     }
 
     fn put(&self, encoder: &mut Encoder<'_>) -> Result<(), EncodeError> {
-        Addition7Row::write((&self.e, (&self.f, ())), encoder)
+        Addition7Row::write(&Both(&self.e, Both(&self.f, ())), encoder)
     }
 
     ghost counts = { (refl, refl) };
@@ -90,54 +92,7 @@ type Sequence7Row = Needs<
 >;
 
 /// The additions from `d` on.
-pub struct FromD;
-
-type FromDRow = MayAdd<Context<3>, Integer, MayAddGroup<2, 0, Addition7, NoMore>>;
-
-impl Additions for FromD {
-    type More = <FromDRow as Additions>::More;
-
-    ghost table = { ⟦<FromDRow as Additions>⟧.table };
-
-    ghost is_table = { ⟦<FromDRow as Additions>⟧.is_table };
-}
-
-impl ReadsAdditions for FromD {
-    type Slots = <FromDRow as ReadsAdditions>::Slots;
-
-    ghost filled = { ⟦<FromDRow as ReadsAdditions>⟧.filled };
-
-    ghost filled_once = { ⟦<FromDRow as ReadsAdditions>⟧.filled_once };
-
-    fn empty() -> Self::Slots {
-        FromDRow::empty()
-    }
-
-    fn read_additions(
-        alloc: Global,
-        decoder: &mut Decoder<'_>,
-        slots: &mut Self::Slots,
-    ) -> Result<(), DecodeError> {
-        FromDRow::read_additions(alloc, decoder, slots)
-    }
-
-    fn taken(slots: Self::Slots) -> Self::More {
-        FromDRow::taken(slots)
-    }
-}
-
-impl<'v> AdditionViews<'v> for FromD {
-    type MoreView = <FromDRow as AdditionViews<'v>>::MoreView;
-
-    ghost seen = { ⟦<FromDRow as AdditionViews<'v>>⟧.seen };
-
-    fn write_additions(
-        view: <FromDRow as AdditionViews<'v>>::MoreView,
-        encoder: &mut Encoder<'_>,
-    ) -> Result<(), EncodeError> {
-        FromDRow::write_additions(view, encoder)
-    }
-}
+type FromD = MayAdd<Context<3>, Integer, MayAddGroup<2, 0, Addition7, NoMore>>;
 
 const SEQUENCE7_FIELDS: &'static [Field<'static>] = fields![0 Required Context 0 "a"];
 
@@ -146,6 +101,8 @@ const SEQUENCE7_ADDITIONS: &'static [Field<'static>] = fields![
 ];
 
 impl Rowed for Sequence7Components {
+    ghost use Rattle.rasn_oer.specs.Values.{both};
+
     type Values = <Sequence7Row as Components>::Values;
 
     ghost EXTENSIBLE = { ⟦<Sequence7Row as Components>⟧.EXTENSIBLE };
@@ -156,10 +113,10 @@ impl Rowed for Sequence7Components {
 
     ghost row_is_schema = { ⟦<Sequence7Row as Components>⟧.is_schema };
 
-    ghost components = { λ v. (v.a, (v.b, (v.c, (v.d, (v.group, tt))))) };
+    ghost components = { λ v. both v.a (both v.b (both v.c (both v.d (both v.group tt)))) };
 
     fn from_row(
-        (a, (b, (c, (d, (group, ()))))): <Sequence7Row as Components>::Values,
+        Both(a, Both(b, Both(c, Both(d, Both(group, ()))))): <Sequence7Row as Components>::Values,
     ) -> Sequence7Components {
         Sequence7Components { a, b, c, d, group }
     }
@@ -195,7 +152,10 @@ impl Tabled<1, 4> for Sequence7Components {
 
     fn put(&self, encoder: &mut Encoder<'_>) -> Result<(), EncodeError> {
         Sequence7Row::write(
-            (&self.a, (&self.b, (&self.c, (&self.d, (&self.group, ()))))),
+            &Both(
+                &self.a,
+                Both(&self.b, Both(&self.c, Both(&self.d, Both(&self.group, ())))),
+            ),
             encoder,
         )
     }

@@ -1,5 +1,10 @@
 pub mod Headline
 pub mod Conversions
 -- what a type by its row names
+pub use Rattle.oer_rows.specs.Values as Values
 pub use Rattle.oer_choices.specs.declared.alternatives.Either.TheVariants as Alternative
 pub use Rattle.asn1_core.specs.declared.constraints.Bounded.TheVariants as Bounded
+-- what a default of octets or bits names
+pub use Rattle.oer_rows.specs.Literals as Literals
+pub use Rattle.asn1_core.specs.Octets as Octets
+pub use Rattle.asn1_core.specs.Texts as Texts

@@ -15,5 +15,7 @@ pub use asn1_base::{Class, Field, FieldPresence, Tag};
 #[doc(hidden)]
 pub use oer_choices::Either;
 pub use oer_read::{Decode, DecodeChoice, Decoder, DecoderOptions, de};
+#[doc(hidden)]
+pub use oer_rows::Both;
 pub use oer_spec::{Spelled, laws};
 pub use oer_write::{Encode, Encoder, enc};

@@ -13,18 +13,18 @@ macro_rules! fields {
     };
 }
 
-/// The nested pairs of a row's values: `pairs![a, b]` is `(a, (b, ()))`, as a pattern and as an expression.
+/// A row's values, one behind another: `pairs![a, b]` is `Both(a, Both(b, ()))`, as a pattern and as an expression.
 #[macro_export]
 macro_rules! pairs {
     () => { () };
-    ($first:ident $(, $rest:ident)*) => { ($first, $crate::pairs![$($rest),*]) };
+    ($first:ident $(, $rest:ident)*) => { $crate::Both($first, $crate::pairs![$($rest),*]) };
 }
 
-/// References to the fields of a struct as a row has them: `views![self: a, b]` is `(&self.a, (&self.b, ()))`.
+/// References to the fields of a struct as a row has them: `views![self: a, b]` is `Both(&self.a, Both(&self.b, ()))`.
 #[macro_export]
 macro_rules! views {
     ($of:ident:) => { () };
-    ($of:ident: $first:ident $(, $rest:ident)*) => { (&$of.$first, $crate::views![$of: $($rest),*]) };
+    ($of:ident: $first:ident $(, $rest:ident)*) => { $crate::Both(&$of.$first, $crate::views![$of: $($rest),*]) };
 }
 
 /// The struct of a row's values: `built![T from row: a, b]` is `T { a, b }`, each field by its name.

@@ -3,6 +3,7 @@
 
 mod types_01;
 mod types_02;
+mod types_03;
 
 pub use types_01::{
     Again, Below, Bits, Colour, ColourValues, Key, Name, Names, Narrow, Percent, Row,
@@ -12,3 +13,4 @@ pub use types_02::{
     Bag, BagComponents, Letter, LetterComponents, LetterGroup1, LetterGroup1Components, LetterHead,
     LetterHeadComponents, Signal, SignalAlternatives,
 };
+pub use types_03::{Permit, PermitComponents, Rights};

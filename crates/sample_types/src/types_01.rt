@@ -1,8 +1,7 @@
 //! Types of ASN.1 modules, as oergen printed them.
 
 use rasn_oer::prelude::*;
-use std::alloc::Global;
-use std::marker::PhantomData;
+use std::alloc::{AllocError, Global};
 
 /// `Percent ::= INTEGER (0..100)`
 pub type Percent = Limited<u8, PercentLimits>;
@@ -209,6 +208,8 @@ pub struct RowInnerComponents {
 type RowInnerRow = Needs<Context<0>, u8, MayHave<Context<1>, Colour, NoMore>>;
 
 impl Rowed for RowInnerComponents {
+    ghost use Rattle.rasn_oer.specs.Values.{both};
+
     type Values = <RowInnerRow as Components>::Values;
 
     ghost EXTENSIBLE = { ⟦<RowInnerRow as Components>⟧.EXTENSIBLE };
@@ -219,7 +220,7 @@ impl Rowed for RowInnerComponents {
 
     ghost row_is_schema = { ⟦<RowInnerRow as Components>⟧.is_schema };
 
-    ghost components = { λ v. (v.x, (v.colour, tt)) };
+    ghost components = { λ v. both v.x (both v.colour tt) };
 
     fn from_row(row: Self::Values) -> Self {
         built![RowInnerComponents from row:
@@ -263,7 +264,7 @@ impl Tabled<2, 0> for RowInnerComponents {
             x,
             colour
         ];
-        RowInnerRow::write(view, encoder)
+        RowInnerRow::write(&view, encoder)
     }
 
     ghost counts = { (refl, refl) };
@@ -272,13 +273,17 @@ impl Tabled<2, 0> for RowInnerComponents {
 /// The default 3 of `RowPercent`.
 pub struct RowPercentDefault;
 
-impl Standard<Percent> for RowPercentDefault {
+impl Standard<u8> for RowPercentDefault {
     ghost use Rattle.std.specs.Prelude.{negsuc, pos, refl};
 
-    ghost value = { record { 0 = 3; 1 = record {} } };
+    ghost value = { 3 };
 
-    fn value() -> Percent {
-        Limited(3, PhantomData)
+    fn value(_alloc: Global) -> Result<u8, AllocError> {
+        Ok(3)
+    }
+
+    fn is_value(other: &u8) -> bool {
+        *other == 3
     }
 
     ghost admitted = { refl };
@@ -292,8 +297,12 @@ impl Standard<Integer> for RowTypeDefault {
 
     ghost value = { (negsuc 1) };
 
-    fn value() -> Integer {
-        Integer::from_i128(-2)
+    fn value(_alloc: Global) -> Result<Integer, AllocError> {
+        Ok(Integer::from_i128(-2))
+    }
+
+    fn is_value(other: &Integer) -> bool {
+        *other == Integer::from_i128(-2)
     }
 
     ghost admitted = { refl };
@@ -312,6 +321,8 @@ pub struct RowGroup1Components {
 type RowGroup1Row = Needs<Context<7>, Bits, MayHave<Context<8>, u16, NoMore>>;
 
 impl Rowed for RowGroup1Components {
+    ghost use Rattle.rasn_oer.specs.Values.{both};
+
     type Values = <RowGroup1Row as Components>::Values;
 
     ghost EXTENSIBLE = { ⟦<RowGroup1Row as Components>⟧.EXTENSIBLE };
@@ -322,7 +333,7 @@ impl Rowed for RowGroup1Components {
 
     ghost row_is_schema = { ⟦<RowGroup1Row as Components>⟧.is_schema };
 
-    ghost components = { λ v. (v.bits, (v.level, tt)) };
+    ghost components = { λ v. both v.bits (both v.level tt) };
 
     fn from_row(row: Self::Values) -> Self {
         built![RowGroup1Components from row:
@@ -366,7 +377,7 @@ impl Tabled<2, 0> for RowGroup1Components {
             bits,
             level
         ];
-        RowGroup1Row::write(view, encoder)
+        RowGroup1Row::write(&view, encoder)
     }
 
     ghost counts = { (refl, refl) };
@@ -395,278 +406,30 @@ type RowRow = Defaults<
     Context<0>,
     bool,
     IsTrue,
-    Defaults<Context<1>, Percent, RowPercentDefault, MayHave<Context<2>, Key, RowFromNames>>,
+    Defaults<
+        Context<1>,
+        Percent,
+        Within<RowPercentDefault>,
+        MayHave<
+            Context<2>,
+            Key,
+            Needs<Context<3>, Names, Needs<Context<4>, RowInner, RowFromType>>,
+        >,
+    >,
 >;
 
-/// The components of `Row` from `names` on.
-pub struct RowFromNames;
-
-type RowFromNamesRow = Needs<Context<3>, Names, RowFromInner>;
-
-impl Components for RowFromNames {
-    ghost use Rattle.std.specs.Prelude.{true};
-
-    type Values = <RowFromNamesRow as Components>::Values;
-
-    ghost EXTENSIBLE = { true };
-
-    const EXTENSIBLE: bool = true;
-
-    ghost schema = { ⟦<RowFromNamesRow as Components>⟧.schema };
-
-    ghost is_schema = { ⟦<RowFromNamesRow as Components>⟧.is_schema };
-}
-
-impl Reads for RowFromNames {
-    type Slots = <RowFromNamesRow as Reads>::Slots;
-
-    ghost filled = { ⟦<RowFromNamesRow as Reads>⟧.filled };
-
-    ghost filled_once = { ⟦<RowFromNamesRow as Reads>⟧.filled_once };
-
-    fn empty() -> Self::Slots {
-        RowFromNamesRow::empty()
-    }
-
-    fn read(
-        alloc: Global,
-        decoder: &mut Decoder<'_>,
-        slots: &mut Self::Slots,
-    ) -> Result<(), DecodeError> {
-        RowFromNamesRow::read(alloc, decoder, slots)
-    }
-
-    fn taken(slots: Self::Slots) -> Self::Values {
-        RowFromNamesRow::taken(slots)
-    }
-}
-
-impl<'v> Views<'v> for RowFromNames {
-    type View = <RowFromNamesRow as Views<'v>>::View;
-
-    ghost seen = { ⟦<RowFromNamesRow as Views<'v>>⟧.seen };
-
-    fn write(
-        view: <RowFromNamesRow as Views<'v>>::View,
-        encoder: &mut Encoder<'_>,
-    ) -> Result<(), EncodeError> {
-        RowFromNamesRow::write(view, encoder)
-    }
-}
-
-/// The components of `Row` from `inner` on.
-pub struct RowFromInner;
-
-type RowFromInnerRow = Needs<Context<4>, RowInner, RowFromType>;
-
-impl Components for RowFromInner {
-    ghost use Rattle.std.specs.Prelude.{true};
-
-    type Values = <RowFromInnerRow as Components>::Values;
-
-    ghost EXTENSIBLE = { true };
-
-    const EXTENSIBLE: bool = true;
-
-    ghost schema = { ⟦<RowFromInnerRow as Components>⟧.schema };
-
-    ghost is_schema = { ⟦<RowFromInnerRow as Components>⟧.is_schema };
-}
-
-impl Reads for RowFromInner {
-    type Slots = <RowFromInnerRow as Reads>::Slots;
-
-    ghost filled = { ⟦<RowFromInnerRow as Reads>⟧.filled };
-
-    ghost filled_once = { ⟦<RowFromInnerRow as Reads>⟧.filled_once };
-
-    fn empty() -> Self::Slots {
-        RowFromInnerRow::empty()
-    }
-
-    fn read(
-        alloc: Global,
-        decoder: &mut Decoder<'_>,
-        slots: &mut Self::Slots,
-    ) -> Result<(), DecodeError> {
-        RowFromInnerRow::read(alloc, decoder, slots)
-    }
-
-    fn taken(slots: Self::Slots) -> Self::Values {
-        RowFromInnerRow::taken(slots)
-    }
-}
-
-impl<'v> Views<'v> for RowFromInner {
-    type View = <RowFromInnerRow as Views<'v>>::View;
-
-    ghost seen = { ⟦<RowFromInnerRow as Views<'v>>⟧.seen };
-
-    fn write(
-        view: <RowFromInnerRow as Views<'v>>::View,
-        encoder: &mut Encoder<'_>,
-    ) -> Result<(), EncodeError> {
-        RowFromInnerRow::write(view, encoder)
-    }
-}
-
 /// The components of `Row` from `r_type` on.
-pub struct RowFromType;
+type RowFromType = Defaults<Context<5>, Integer, RowTypeDefault, Extensible<RowAdditions>>;
 
-type RowFromTypeRow = Defaults<Context<5>, Integer, RowTypeDefault, Extensible<RowAdditions>>;
-
-impl Components for RowFromType {
-    ghost use Rattle.std.specs.Prelude.{true};
-
-    type Values = <RowFromTypeRow as Components>::Values;
-
-    ghost EXTENSIBLE = { true };
-
-    const EXTENSIBLE: bool = true;
-
-    ghost schema = { ⟦<RowFromTypeRow as Components>⟧.schema };
-
-    ghost is_schema = { ⟦<RowFromTypeRow as Components>⟧.is_schema };
-}
-
-impl Reads for RowFromType {
-    type Slots = <RowFromTypeRow as Reads>::Slots;
-
-    ghost filled = { ⟦<RowFromTypeRow as Reads>⟧.filled };
-
-    ghost filled_once = { ⟦<RowFromTypeRow as Reads>⟧.filled_once };
-
-    fn empty() -> Self::Slots {
-        RowFromTypeRow::empty()
-    }
-
-    fn read(
-        alloc: Global,
-        decoder: &mut Decoder<'_>,
-        slots: &mut Self::Slots,
-    ) -> Result<(), DecodeError> {
-        RowFromTypeRow::read(alloc, decoder, slots)
-    }
-
-    fn taken(slots: Self::Slots) -> Self::Values {
-        RowFromTypeRow::taken(slots)
-    }
-}
-
-impl<'v> Views<'v> for RowFromType {
-    type View = <RowFromTypeRow as Views<'v>>::View;
-
-    ghost seen = { ⟦<RowFromTypeRow as Views<'v>>⟧.seen };
-
-    fn write(
-        view: <RowFromTypeRow as Views<'v>>::View,
-        encoder: &mut Encoder<'_>,
-    ) -> Result<(), EncodeError> {
-        RowFromTypeRow::write(view, encoder)
-    }
-}
-
-/// The components of `Row` from `next` on.
-pub struct RowAdditions;
-
-type RowAdditionsRow = MayAdd<Context<6>, Below, MayAddGroup<2, 0, RowGroup1, RowFromSure>>;
-
-impl Additions for RowAdditions {
-    type More = <RowAdditionsRow as Additions>::More;
-
-    ghost table = { ⟦<RowAdditionsRow as Additions>⟧.table };
-
-    ghost is_table = { ⟦<RowAdditionsRow as Additions>⟧.is_table };
-}
-
-impl ReadsAdditions for RowAdditions {
-    type Slots = <RowAdditionsRow as ReadsAdditions>::Slots;
-
-    ghost filled = { ⟦<RowAdditionsRow as ReadsAdditions>⟧.filled };
-
-    ghost filled_once = { ⟦<RowAdditionsRow as ReadsAdditions>⟧.filled_once };
-
-    fn empty() -> Self::Slots {
-        RowAdditionsRow::empty()
-    }
-
-    fn read_additions(
-        alloc: Global,
-        decoder: &mut Decoder<'_>,
-        slots: &mut Self::Slots,
-    ) -> Result<(), DecodeError> {
-        RowAdditionsRow::read_additions(alloc, decoder, slots)
-    }
-
-    fn taken(slots: Self::Slots) -> Self::More {
-        RowAdditionsRow::taken(slots)
-    }
-}
-
-impl<'v> AdditionViews<'v> for RowAdditions {
-    type MoreView = <RowAdditionsRow as AdditionViews<'v>>::MoreView;
-
-    ghost seen = { ⟦<RowAdditionsRow as AdditionViews<'v>>⟧.seen };
-
-    fn write_additions(
-        view: <RowAdditionsRow as AdditionViews<'v>>::MoreView,
-        encoder: &mut Encoder<'_>,
-    ) -> Result<(), EncodeError> {
-        RowAdditionsRow::write_additions(view, encoder)
-    }
-}
-
-/// The components of `Row` from `sure` on.
-pub struct RowFromSure;
-
-type RowFromSureRow = Adds<Context<9>, bool, NoMore>;
-
-impl Additions for RowFromSure {
-    type More = <RowFromSureRow as Additions>::More;
-
-    ghost table = { ⟦<RowFromSureRow as Additions>⟧.table };
-
-    ghost is_table = { ⟦<RowFromSureRow as Additions>⟧.is_table };
-}
-
-impl ReadsAdditions for RowFromSure {
-    type Slots = <RowFromSureRow as ReadsAdditions>::Slots;
-
-    ghost filled = { ⟦<RowFromSureRow as ReadsAdditions>⟧.filled };
-
-    ghost filled_once = { ⟦<RowFromSureRow as ReadsAdditions>⟧.filled_once };
-
-    fn empty() -> Self::Slots {
-        RowFromSureRow::empty()
-    }
-
-    fn read_additions(
-        alloc: Global,
-        decoder: &mut Decoder<'_>,
-        slots: &mut Self::Slots,
-    ) -> Result<(), DecodeError> {
-        RowFromSureRow::read_additions(alloc, decoder, slots)
-    }
-
-    fn taken(slots: Self::Slots) -> Self::More {
-        RowFromSureRow::taken(slots)
-    }
-}
-
-impl<'v> AdditionViews<'v> for RowFromSure {
-    type MoreView = <RowFromSureRow as AdditionViews<'v>>::MoreView;
-
-    ghost seen = { ⟦<RowFromSureRow as AdditionViews<'v>>⟧.seen };
-
-    fn write_additions(
-        view: <RowFromSureRow as AdditionViews<'v>>::MoreView,
-        encoder: &mut Encoder<'_>,
-    ) -> Result<(), EncodeError> {
-        RowFromSureRow::write_additions(view, encoder)
-    }
-}
+type RowAdditions = MayAdd<
+    Context<6>,
+    Below,
+    MayAddGroup<2, 0, RowGroup1, Adds<Context<9>, bool, NoMore>>,
+>;
 
 impl Rowed for RowComponents {
+    ghost use Rattle.rasn_oer.specs.Values.{both};
+
     type Values = <RowRow as Components>::Values;
 
     ghost EXTENSIBLE = { ⟦<RowRow as Components>⟧.EXTENSIBLE };
@@ -677,7 +440,7 @@ impl Rowed for RowComponents {
 
     ghost row_is_schema = { ⟦<RowRow as Components>⟧.is_schema };
 
-    ghost components = { λ v. (v.ok, (v.percent, (v.key, (v.names, (v.inner, (v.r_type, (v.next, (v.group_1, (v.sure, tt))))))))) };
+    ghost components = { λ v. both v.ok (both v.percent (both v.key (both v.names (both v.inner (both v.r_type (both v.next (both v.group_1 (both v.sure tt)))))))) };
 
     fn from_row(row: Self::Values) -> Self {
         built![RowComponents from row:
@@ -745,7 +508,7 @@ impl Tabled<6, 3> for RowComponents {
             group_1,
             sure
         ];
-        RowRow::write(view, encoder)
+        RowRow::write(&view, encoder)
     }
 
     ghost counts = { (refl, refl) };

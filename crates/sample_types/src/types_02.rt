@@ -23,57 +23,11 @@ type BagRow = MayHave<
     Needs<Context<0>, Name, Needs<Context<1>, i8, Extensible<BagAdditions>>>,
 >;
 
-/// The components of `Bag` from `more` on.
-pub struct BagAdditions;
-
-type BagAdditionsRow = MayAdd<Context<3>, (), NoMore>;
-
-impl Additions for BagAdditions {
-    type More = <BagAdditionsRow as Additions>::More;
-
-    ghost table = { ⟦<BagAdditionsRow as Additions>⟧.table };
-
-    ghost is_table = { ⟦<BagAdditionsRow as Additions>⟧.is_table };
-}
-
-impl ReadsAdditions for BagAdditions {
-    type Slots = <BagAdditionsRow as ReadsAdditions>::Slots;
-
-    ghost filled = { ⟦<BagAdditionsRow as ReadsAdditions>⟧.filled };
-
-    ghost filled_once = { ⟦<BagAdditionsRow as ReadsAdditions>⟧.filled_once };
-
-    fn empty() -> Self::Slots {
-        BagAdditionsRow::empty()
-    }
-
-    fn read_additions(
-        alloc: Global,
-        decoder: &mut Decoder<'_>,
-        slots: &mut Self::Slots,
-    ) -> Result<(), DecodeError> {
-        BagAdditionsRow::read_additions(alloc, decoder, slots)
-    }
-
-    fn taken(slots: Self::Slots) -> Self::More {
-        BagAdditionsRow::taken(slots)
-    }
-}
-
-impl<'v> AdditionViews<'v> for BagAdditions {
-    type MoreView = <BagAdditionsRow as AdditionViews<'v>>::MoreView;
-
-    ghost seen = { ⟦<BagAdditionsRow as AdditionViews<'v>>⟧.seen };
-
-    fn write_additions(
-        view: <BagAdditionsRow as AdditionViews<'v>>::MoreView,
-        encoder: &mut Encoder<'_>,
-    ) -> Result<(), EncodeError> {
-        BagAdditionsRow::write_additions(view, encoder)
-    }
-}
+type BagAdditions = MayAdd<Context<3>, (), NoMore>;
 
 impl Rowed for BagComponents {
+    ghost use Rattle.rasn_oer.specs.Values.{both};
+
     type Values = <BagRow as Components>::Values;
 
     ghost EXTENSIBLE = { ⟦<BagRow as Components>⟧.EXTENSIBLE };
@@ -84,7 +38,7 @@ impl Rowed for BagComponents {
 
     ghost row_is_schema = { ⟦<BagRow as Components>⟧.is_schema };
 
-    ghost components = { λ v. (v.a, (v.c, (v.b, (v.more, tt)))) };
+    ghost components = { λ v. both v.a (both v.c (both v.b (both v.more tt))) };
 
     fn from_row(row: Self::Values) -> Self {
         built![BagComponents from row:
@@ -137,7 +91,7 @@ impl Tabled<3, 1> for BagComponents {
             b,
             more
         ];
-        BagRow::write(view, encoder)
+        BagRow::write(&view, encoder)
     }
 
     ghost counts = { (refl, refl) };
@@ -203,7 +157,7 @@ impl Alternating for SignalAlternatives {
         constraints: Constraints,
     ) -> Result<(), EncodeError> {
         let view = to_row!(self => SignalAlternatives: Busy, Level, NewKey);
-        SignalRow::write_alternative::<E>(view, encoder, constraints)
+        SignalRow::write_alternative::<E>(&view, encoder, constraints)
     }
 
     ghost apart = { refl };
@@ -219,8 +173,28 @@ impl TakesAlternative for SignalAlternatives {
     }
 }
 
-/// `SEQUENCE { from Name, key Key OPTIONAL, signal Signal }`
-pub type LetterHead = Sequence<LetterHeadComponents, 3, 0>;
+/// The limits of `LetterHeadWide`.
+#[derive(Drop)]
+pub enum LetterHeadWideLimits {}
+
+impl Limits for LetterHeadWideLimits {
+    ghost use Rattle.std.specs.Prelude.{None, Some, false, negsuc, pos, refl};
+    ghost use Rattle.rasn_oer.specs.Bounded.{Range, Single};
+
+    ghost LIMITS = { record { value = None; size = Some (Single 2, false) } };
+
+    const LIMITS: Constraints = Constraints {
+        value: None,
+        size: Some((Bounded::Single(2), false)),
+    };
+
+    ghost consistent = { refl };
+}
+
+/// `SEQUENCE { from Name, key Key OPTIONAL, signal Signal, open ANY, digits NumericString, plain
+/// PrintableString, seen VisibleString, general GeneralString, graphic GraphicString, teletex
+/// TeletexString, wide BMPString (SIZE(2)) }`
+pub type LetterHead = Sequence<LetterHeadComponents, 11, 0>;
 
 /// The components of `LetterHead`.
 #[derive(Debug, PartialEq, Eq, Drop)]
@@ -228,67 +202,51 @@ pub struct LetterHeadComponents {
     pub from: Name,
     pub key: Option<Key>,
     pub signal: Signal,
+    pub open: OpenOctets,
+    pub digits: NumericText,
+    pub plain: PrintableText,
+    pub seen: VisibleText,
+    pub general: GeneralText,
+    pub graphic: GraphicText,
+    pub teletex: TeletexText,
+    pub wide: Limited<BmpText, LetterHeadWideLimits>,
 }
 
-type LetterHeadRow = Needs<Context<0>, Name, MayHave<Context<1>, Key, LetterHeadFromSignal>>;
+type LetterHeadRow = Needs<
+    Context<0>,
+    Name,
+    MayHave<
+        Context<1>,
+        Key,
+        Needs<
+            Context<2>,
+            Signal,
+            Needs<Context<3>, OpenOctets, Needs<Context<4>, NumericText, LetterHeadFromPlain>>,
+        >,
+    >,
+>;
 
-/// The components of `LetterHead` from `signal` on.
-pub struct LetterHeadFromSignal;
+/// The components of `LetterHead` from `plain` on.
+type LetterHeadFromPlain = Needs<
+    Context<5>,
+    PrintableText,
+    Needs<
+        Context<6>,
+        VisibleText,
+        Needs<
+            Context<7>,
+            GeneralText,
+            Needs<Context<8>, GraphicText, Needs<Context<9>, TeletexText, LetterHeadFromWide>>,
+        >,
+    >,
+>;
 
-type LetterHeadFromSignalRow = Needs<Context<2>, Signal, NoMore>;
-
-impl Components for LetterHeadFromSignal {
-    ghost use Rattle.std.specs.Prelude.{false};
-
-    type Values = <LetterHeadFromSignalRow as Components>::Values;
-
-    ghost EXTENSIBLE = { false };
-
-    const EXTENSIBLE: bool = false;
-
-    ghost schema = { ⟦<LetterHeadFromSignalRow as Components>⟧.schema };
-
-    ghost is_schema = { ⟦<LetterHeadFromSignalRow as Components>⟧.is_schema };
-}
-
-impl Reads for LetterHeadFromSignal {
-    type Slots = <LetterHeadFromSignalRow as Reads>::Slots;
-
-    ghost filled = { ⟦<LetterHeadFromSignalRow as Reads>⟧.filled };
-
-    ghost filled_once = { ⟦<LetterHeadFromSignalRow as Reads>⟧.filled_once };
-
-    fn empty() -> Self::Slots {
-        LetterHeadFromSignalRow::empty()
-    }
-
-    fn read(
-        alloc: Global,
-        decoder: &mut Decoder<'_>,
-        slots: &mut Self::Slots,
-    ) -> Result<(), DecodeError> {
-        LetterHeadFromSignalRow::read(alloc, decoder, slots)
-    }
-
-    fn taken(slots: Self::Slots) -> Self::Values {
-        LetterHeadFromSignalRow::taken(slots)
-    }
-}
-
-impl<'v> Views<'v> for LetterHeadFromSignal {
-    type View = <LetterHeadFromSignalRow as Views<'v>>::View;
-
-    ghost seen = { ⟦<LetterHeadFromSignalRow as Views<'v>>⟧.seen };
-
-    fn write(
-        view: <LetterHeadFromSignalRow as Views<'v>>::View,
-        encoder: &mut Encoder<'_>,
-    ) -> Result<(), EncodeError> {
-        LetterHeadFromSignalRow::write(view, encoder)
-    }
-}
+/// The components of `LetterHead` from `wide` on.
+type LetterHeadFromWide = Needs<Context<10>, Limited<BmpText, LetterHeadWideLimits>, NoMore>;
 
 impl Rowed for LetterHeadComponents {
+    ghost use Rattle.rasn_oer.specs.Values.{both};
+
     type Values = <LetterHeadRow as Components>::Values;
 
     ghost EXTENSIBLE = { ⟦<LetterHeadRow as Components>⟧.EXTENSIBLE };
@@ -299,13 +257,21 @@ impl Rowed for LetterHeadComponents {
 
     ghost row_is_schema = { ⟦<LetterHeadRow as Components>⟧.is_schema };
 
-    ghost components = { λ v. (v.from, (v.key, (v.signal, tt))) };
+    ghost components = { λ v. both v.from (both v.key (both v.signal (both v.open (both v.digits (both v.plain (both v.seen (both v.general (both v.graphic (both v.teletex (both v.wide tt)))))))))) };
 
     fn from_row(row: Self::Values) -> Self {
         built![LetterHeadComponents from row:
             from,
             key,
-            signal
+            signal,
+            open,
+            digits,
+            plain,
+            seen,
+            general,
+            graphic,
+            teletex,
+            wide
         ]
     }
 }
@@ -316,14 +282,22 @@ impl Takes for LetterHeadComponents {
     }
 }
 
-impl Tabled<3, 0> for LetterHeadComponents {
+impl Tabled<11, 0> for LetterHeadComponents {
     ghost use Rattle.std.specs.Prelude.{refl};
 
-    const FIELDS: Fields<3> = Fields {
+    const FIELDS: Fields<11> = Fields {
         fields: fields![
             0 Required Context 0 "from",
             1 Optional Context 1 "key",
-            2 Required Context 2 "signal"
+            2 Required Context 2 "signal",
+            3 Required Context 3 "open",
+            4 Required Context 4 "digits",
+            5 Required Context 5 "plain",
+            6 Required Context 6 "seen",
+            7 Required Context 7 "general",
+            8 Required Context 8 "graphic",
+            9 Required Context 9 "teletex",
+            10 Required Context 10 "wide"
         ],
     };
 
@@ -344,9 +318,17 @@ impl Tabled<3, 0> for LetterHeadComponents {
         let view = views![self:
             from,
             key,
-            signal
+            signal,
+            open,
+            digits,
+            plain,
+            seen,
+            general,
+            graphic,
+            teletex,
+            wide
         ];
-        LetterHeadRow::write(view, encoder)
+        LetterHeadRow::write(&view, encoder)
     }
 
     ghost counts = { (refl, refl) };
@@ -387,6 +369,8 @@ type LetterGroup1Row = Needs<
 >;
 
 impl Rowed for LetterGroup1Components {
+    ghost use Rattle.rasn_oer.specs.Values.{both};
+
     type Values = <LetterGroup1Row as Components>::Values;
 
     ghost EXTENSIBLE = { ⟦<LetterGroup1Row as Components>⟧.EXTENSIBLE };
@@ -397,7 +381,7 @@ impl Rowed for LetterGroup1Components {
 
     ghost row_is_schema = { ⟦<LetterGroup1Row as Components>⟧.is_schema };
 
-    ghost components = { λ v. (v.stamp, (v.note, tt)) };
+    ghost components = { λ v. both v.stamp (both v.note tt) };
 
     fn from_row(row: Self::Values) -> Self {
         built![LetterGroup1Components from row:
@@ -441,14 +425,16 @@ impl Tabled<2, 0> for LetterGroup1Components {
             stamp,
             note
         ];
-        LetterGroup1Row::write(view, encoder)
+        LetterGroup1Row::write(&view, encoder)
     }
 
     ghost counts = { (refl, refl) };
 }
 
-/// `Letter ::= SEQUENCE { head SEQUENCE { from Name, key Key OPTIONAL, signal Signal }, body OCTET STRING,
-/// ..., [[ stamp OCTET STRING (SIZE(2)), note UTF8String OPTIONAL ]] }`
+/// `Letter ::= SEQUENCE { head SEQUENCE { from Name, key Key OPTIONAL, signal Signal, open ANY, digits
+/// NumericString, plain PrintableString, seen VisibleString, general GeneralString, graphic
+/// GraphicString, teletex TeletexString, wide BMPString (SIZE(2)) }, body OCTET STRING, ..., [[
+/// stamp OCTET STRING (SIZE(2)), note UTF8String OPTIONAL ]] }`
 pub type Letter = Sequence<LetterComponents, 2, 1>;
 
 /// The components of `Letter`.
@@ -459,67 +445,17 @@ pub struct LetterComponents {
     pub group_1: Option<LetterGroup1>,
 }
 
-type LetterRow = Needs<Context<0>, LetterHead, LetterFromBody>;
-
-/// The components of `Letter` from `body` on.
-pub struct LetterFromBody;
-
-type LetterFromBodyRow = Needs<Context<1>, Octets, Extensible<LetterAdditions>>;
-
-impl Components for LetterFromBody {
-    ghost use Rattle.std.specs.Prelude.{true};
-
-    type Values = <LetterFromBodyRow as Components>::Values;
-
-    ghost EXTENSIBLE = { true };
-
-    const EXTENSIBLE: bool = true;
-
-    ghost schema = { ⟦<LetterFromBodyRow as Components>⟧.schema };
-
-    ghost is_schema = { ⟦<LetterFromBodyRow as Components>⟧.is_schema };
-}
-
-impl Reads for LetterFromBody {
-    type Slots = <LetterFromBodyRow as Reads>::Slots;
-
-    ghost filled = { ⟦<LetterFromBodyRow as Reads>⟧.filled };
-
-    ghost filled_once = { ⟦<LetterFromBodyRow as Reads>⟧.filled_once };
-
-    fn empty() -> Self::Slots {
-        LetterFromBodyRow::empty()
-    }
-
-    fn read(
-        alloc: Global,
-        decoder: &mut Decoder<'_>,
-        slots: &mut Self::Slots,
-    ) -> Result<(), DecodeError> {
-        LetterFromBodyRow::read(alloc, decoder, slots)
-    }
-
-    fn taken(slots: Self::Slots) -> Self::Values {
-        LetterFromBodyRow::taken(slots)
-    }
-}
-
-impl<'v> Views<'v> for LetterFromBody {
-    type View = <LetterFromBodyRow as Views<'v>>::View;
-
-    ghost seen = { ⟦<LetterFromBodyRow as Views<'v>>⟧.seen };
-
-    fn write(
-        view: <LetterFromBodyRow as Views<'v>>::View,
-        encoder: &mut Encoder<'_>,
-    ) -> Result<(), EncodeError> {
-        LetterFromBodyRow::write(view, encoder)
-    }
-}
+type LetterRow = Needs<
+    Context<0>,
+    LetterHead,
+    Needs<Context<1>, Octets, Extensible<LetterAdditions>>,
+>;
 
 type LetterAdditions = MayAddGroup<2, 0, LetterGroup1, NoMore>;
 
 impl Rowed for LetterComponents {
+    ghost use Rattle.rasn_oer.specs.Values.{both};
+
     type Values = <LetterRow as Components>::Values;
 
     ghost EXTENSIBLE = { ⟦<LetterRow as Components>⟧.EXTENSIBLE };
@@ -530,7 +466,7 @@ impl Rowed for LetterComponents {
 
     ghost row_is_schema = { ⟦<LetterRow as Components>⟧.is_schema };
 
-    ghost components = { λ v. (v.head, (v.body, (v.group_1, tt))) };
+    ghost components = { λ v. both v.head (both v.body (both v.group_1 tt)) };
 
     fn from_row(row: Self::Values) -> Self {
         built![LetterComponents from row:
@@ -580,7 +516,7 @@ impl Tabled<2, 1> for LetterComponents {
             body,
             group_1
         ];
-        LetterRow::write(view, encoder)
+        LetterRow::write(&view, encoder)
     }
 
     ghost counts = { (refl, refl) };

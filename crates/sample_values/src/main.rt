@@ -2,12 +2,13 @@
 #![tactic(auto)]
 
 use anyhow::{Error, Result};
-use rasn_oer::coer;
 use rasn_oer::prelude::*;
+use rasn_oer::{coer, oer};
 use sample_types::{
     Bag, BagComponents, Colour, ColourValues, Key, Letter, LetterComponents, LetterGroup1,
-    LetterGroup1Components, LetterHead, LetterHeadComponents, Name, Row, RowComponents, RowGroup1,
-    RowGroup1Components, RowInner, RowInnerComponents, Signal, SignalAlternatives,
+    LetterGroup1Components, LetterHead, LetterHeadComponents, Name, Permit, PermitComponents,
+    Rights, Row, RowComponents, RowGroup1, RowGroup1Components, RowInner, RowInnerComponents,
+    Signal, SignalAlternatives,
 };
 use std::alloc::Global;
 
@@ -21,10 +22,15 @@ fn digits_of<T: Encode + Decode + PartialEq>(alloc: Global, value: &T) -> Result
     Ok(hex::encode(alloc, octets.as_slice())?)
 }
 
-/// Prints a value's octets.
-fn show<R: Print + AllocGlobal, T: Encode + Decode + PartialEq>(rt: &R, value: &T) -> Result<()> {
-    let digits = digits_of(rt.alloc(), value)?;
-    println!(rt; "{digits}")?;
+/// Prints the octets of values, a line each.
+fn show<R: Print + AllocGlobal, T: Encode + Decode + PartialEq>(
+    rt: &R,
+    values: &[T],
+) -> Result<()> {
+    for value in values {
+        let digits = digits_of(rt.alloc(), value)?;
+        println!(rt; "{digits}")?;
+    }
     Ok(())
 }
 
@@ -43,15 +49,20 @@ fn key(alloc: Global) -> Result<Key> {
     Ok(Limited::new(octets(alloc, &[0xAA, 0xBB, 0xCC, 0xDD])?))
 }
 
+/// The first `count` bits of octets.
+fn bits(alloc: Global, octets: &[u8], count: usize) -> Result<BitString> {
+    match BitString::from_octets(alloc, octets, count)? {
+        Some(bits) => Ok(bits),
+        None => Err(Error::msg("other octets than so many bits have")),
+    }
+}
+
 /// The group of a row: its first and its last bit, and a level.
 fn group(alloc: Global) -> Result<RowGroup1> {
-    match BitString::from_octets(alloc, &[0x80, 0x10], 12)? {
-        Some(bits) => Ok(Sequence(RowGroup1Components {
-            bits: Limited::new(bits),
-            level: Some(258),
-        })),
-        None => Err(Error::msg("not twelve bits")),
-    }
+    Ok(Sequence(RowGroup1Components {
+        bits: Limited::new(bits(alloc, &[0x80, 0x10], 12)?),
+        level: Some(258),
+    }))
 }
 
 /// A row in which each component differs from its default.
@@ -108,13 +119,64 @@ fn bag(alloc: Global, more: Option<()>) -> Result<Bag> {
     }))
 }
 
+/// Characters of the sorts that are ASCII's.
+fn plain_texts(alloc: Global) -> Result<(NumericText, PrintableText, VisibleText)> {
+    let digits = NumericString::from_bytes(alloc, b"12")?;
+    let plain = PrintableString::from_bytes(alloc, b"A.")?;
+    let seen = VisibleString::from_bytes(alloc, b"~")?;
+    Ok((NumericText(digits), PrintableText(plain), VisibleText(seen)))
+}
+
+/// Characters of the sorts that have escape sequences.
+fn other_texts(alloc: Global) -> Result<(GeneralText, GraphicText, TeletexText)> {
+    let general = GeneralString::from_bytes(alloc, &[27])?;
+    let graphic = GraphicString::from_bytes(alloc, &[0xE9])?;
+    let teletex = TeletexString::from_bytes(alloc, &[1, 2, 3])?;
+    Ok((
+        GeneralText(general),
+        GraphicText(graphic),
+        TeletexText(teletex),
+    ))
+}
+
+/// The octets of an open type, and a text of two characters of two octets.
+fn open_and_wide(alloc: Global) -> Result<(OpenOctets, BmpText)> {
+    let open = Any::from_slice(alloc, &[5, 0])?;
+    let wide = BmpString::from_units(alloc, &[0x41, 0xE9])?;
+    Ok((OpenOctets(open), BmpText(wide)))
+}
+
+/// The sender of a letter, and a key.
+fn sender(alloc: Global) -> Result<(Name, Key)> {
+    let from = name(alloc, b"ab")?;
+    let key = key(alloc)?;
+    Ok((from, key))
+}
+
+/// The head of a letter: octets and characters of each sort.
+fn head(alloc: Global) -> Result<LetterHead> {
+    let (from, key) = sender(alloc)?;
+    let (open, wide) = open_and_wide(alloc)?;
+    let (digits, plain, seen) = plain_texts(alloc)?;
+    let (general, graphic, teletex) = other_texts(alloc)?;
+    Ok(Sequence(LetterHeadComponents {
+        from,
+        key: Some(key),
+        signal: OneOf(SignalAlternatives::Level(Limited::new(99))),
+        open,
+        digits,
+        plain,
+        seen,
+        general,
+        graphic,
+        teletex,
+        wide: Limited::new(wide),
+    }))
+}
+
 /// A letter of octets and characters, with an addition.
 fn letter(alloc: Global) -> Result<Letter> {
-    let head: LetterHead = Sequence(LetterHeadComponents {
-        from: name(alloc, b"ab")?,
-        key: Some(key(alloc)?),
-        signal: OneOf(SignalAlternatives::Level(Limited::new(99))),
-    });
+    let head = head(alloc)?;
     let group: LetterGroup1 = Sequence(LetterGroup1Components {
         stamp: Limited::new(octets(alloc, &[10, 11])?),
         note: Some(Utf8Text(String::from_str(alloc, "hé")?)),
@@ -126,19 +188,173 @@ fn letter(alloc: Global) -> Result<Letter> {
     }))
 }
 
-fn main(rt: HostRuntime) -> Result<()> {
+/// Rights by their octet.
+fn rights(alloc: Global, octet: u8) -> Result<Rights> {
+    Ok(Limited::new(bits(alloc, &[octet], 8)?))
+}
+
+/// The rights of a permit, and those that were added.
+fn both_rights(alloc: Global, first: u8, more: u8) -> Result<(Rights, Rights)> {
+    let first = rights(alloc, first)?;
+    let more = rights(alloc, more)?;
+    Ok((first, more))
+}
+
+/// A place, and so many bits of an octet.
+fn place_and_bits(
+    alloc: Global,
+    place: &[u8],
+    octet: u8,
+    count: usize,
+) -> Result<(Name, BitString)> {
+    let place = name(alloc, place)?;
+    let bits = bits(alloc, &[octet], count)?;
+    Ok((place, bits))
+}
+
+/// A permit of its parts: the mark, the colour and the seal beside the others.
+fn permit(
+    alloc: Global,
+    own: (&[u8], ColourValues, &[u16]),
+    rights: (Rights, Rights),
+    named: (Name, BitString),
+) -> Result<Permit> {
+    let mark = octets(alloc, own.0)?;
+    let seal = BmpString::from_units(alloc, own.2)?;
+    Ok(Sequence(PermitComponents {
+        rights: rights.0,
+        mark: Limited::new(mark),
+        place: named.0,
+        colour: Enumeration(own.1),
+        bits: named.1,
+        nothing: (),
+        seal: BmpText(seal),
+        more: rights.1,
+    }))
+}
+
+/// A permit in which each component is its default, but for the last addition, which may be another.
+fn usual_permit(alloc: Global, more: u8) -> Result<Permit> {
+    let rights = both_rights(alloc, 0x80, more)?;
+    let named = place_and_bits(alloc, b"home", 0xA0, 3)?;
+    permit(
+        alloc,
+        (&[0xAB, 1], ColourValues::Green, &[0x48, 0x69]),
+        rights,
+        named,
+    )
+}
+
+/// A permit in which each component differs from its default, but for the one that can't.
+fn other_permit(alloc: Global) -> Result<Permit> {
+    let rights = both_rights(alloc, 0xC0, 0)?;
+    let named = place_and_bits(alloc, b"inn", 0xA8, 5)?;
+    permit(
+        alloc,
+        (&[0xCD, 2], ColourValues::Blue, &[0x48, 0x6F]),
+        rights,
+        named,
+    )
+}
+
+/// Rows with and without what stands for itself.
+fn rows(alloc: Global) -> Result<Vec<Row>> {
+    let mut rows = Vec::new(alloc);
+    rows.push(full_row(alloc)?)?;
+    rows.push(short_row(alloc))?;
+    Ok(rows)
+}
+
+/// Bags without and with the addition.
+fn bags(alloc: Global) -> Result<Vec<Bag>> {
+    let mut bags = Vec::new(alloc);
+    bags.push(bag(alloc, None)?)?;
+    bags.push(bag(alloc, Some(()))?)?;
+    Ok(bags)
+}
+
+/// A signal of each alternative.
+fn signals(alloc: Global) -> Result<Vec<Signal>> {
+    let mut signals = Vec::new(alloc);
+    signals.push(OneOf(SignalAlternatives::Busy(())))?;
+    signals.push(OneOf(SignalAlternatives::Level(Limited::new(99))))?;
+    signals.push(OneOf(SignalAlternatives::NewKey(key(alloc)?)))?;
+    Ok(signals)
+}
+
+/// Permits with and without their defaults.
+fn permits(alloc: Global) -> Result<Vec<Permit>> {
+    let mut permits = Vec::new(alloc);
+    permits.push(usual_permit(alloc, 0x40)?)?;
+    permits.push(other_permit(alloc)?)?;
+    permits.push(usual_permit(alloc, 0x80)?)?;
+    Ok(permits)
+}
+
+/// Why octets that spell a default out are refused in canonical mode. Refused where they aren't the value's in the other.
+fn refusal_of<T: Decode + PartialEq>(
+    alloc: Global,
+    value: &T,
+    octets: &[u8],
+) -> Result<&'static str> {
+    let lenient: T = oer::decode(alloc, octets)?;
+    if lenient != *value {
+        return Err(Error::msg("another value was read"));
+    }
+    match coer::decode::<T>(alloc, octets) {
+        Ok(_) => Err(Error::msg("not refused")),
+        Err(e) => Ok(e.kind.name()),
+    }
+}
+
+/// Prints why each of several octets is refused in canonical mode, a line each.
+fn show_refusals<R: Print + AllocGlobal, T: Decode + PartialEq>(
+    rt: &R,
+    value: &T,
+    spelled: &[&[u8]],
+) -> Result<()> {
+    for octets in spelled {
+        let kind = refusal_of(rt.alloc(), value, octets)?;
+        println!(rt; "{kind}")?;
+    }
+    Ok(())
+}
+
+/// Prints why octets that spell a permit's defaults out are refused.
+fn show_spelled_out<R: Print + AllocGlobal>(rt: &R) -> Result<()> {
+    let usual = usual_permit(rt.alloc(), 0x40)?;
+    let spelled: &[&[u8]] = &[
+        &[0x40, 0x80],
+        &[0x20, 0xAB, 1],
+        &[0x80, 2, 6, 0x80, 5, 4, 0, 0x48, 0, 0x69],
+    ];
+    show_refusals(rt, &usual, spelled)
+}
+
+/// Prints rows and bags.
+fn show_sequences<R: Print + AllocGlobal>(rt: &R) -> Result<()> {
     let alloc = rt.alloc();
-    show(&rt, &full_row(alloc)?)?;
-    show(&rt, &short_row(alloc))?;
-    show(&rt, &bag(alloc, None)?)?;
-    show(&rt, &bag(alloc, Some(()))?)?;
-    let busy: Signal = OneOf(SignalAlternatives::Busy(()));
-    show(&rt, &busy)?;
-    let level: Signal = OneOf(SignalAlternatives::Level(Limited::new(99)));
-    show(&rt, &level)?;
-    let new_key: Signal = OneOf(SignalAlternatives::NewKey(key(alloc)?));
-    show(&rt, &new_key)?;
-    let colour: Colour = Enumeration(ColourValues::DarkGrey);
-    show(&rt, &colour)?;
-    show(&rt, &letter(alloc)?)
+    show(rt, &rows(alloc)?)?;
+    show(rt, &bags(alloc)?)
+}
+
+/// Prints values of a choice and of an enumerated type.
+fn show_choices<R: Print + AllocGlobal>(rt: &R) -> Result<()> {
+    let colours: &[Colour] = &[Enumeration(ColourValues::DarkGrey)];
+    show(rt, &signals(rt.alloc())?)?;
+    show(rt, colours)
+}
+
+/// Prints a letter.
+fn show_letters<R: Print + AllocGlobal>(rt: &R) -> Result<()> {
+    let letters: &[Letter] = &[letter(rt.alloc())?];
+    show(rt, letters)
+}
+
+fn main(rt: HostRuntime) -> Result<()> {
+    show_sequences(&rt)?;
+    show_choices(&rt)?;
+    show_letters(&rt)?;
+    show(&rt, &permits(rt.alloc())?)?;
+    show_spelled_out(&rt)
 }

@@ -69,7 +69,7 @@ impl<T: Decode + Encode> Alternating for Choice1Alternatives<T> {
         constraints: Constraints,
     ) -> Result<(), EncodeError> {
         let view = to_row!(self => Choice1Alternatives: Inner);
-        <Choice1Row<T>>::write_alternative::<E>(view, encoder, constraints)
+        <Choice1Row<T>>::write_alternative::<E>(&view, encoder, constraints)
     }
 
     ghost apart = { refl };
@@ -120,7 +120,7 @@ impl<T: Decode + Encode> Alternating for Choice2Alternatives<T> {
         constraints: Constraints,
     ) -> Result<(), EncodeError> {
         let view = to_row!(self => Choice2Alternatives: Inner, Added);
-        <Choice2Row<T>>::write_alternative::<E>(view, encoder, constraints)
+        <Choice2Row<T>>::write_alternative::<E>(&view, encoder, constraints)
     }
 
     ghost apart = { refl };

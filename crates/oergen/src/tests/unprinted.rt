@@ -2,7 +2,12 @@
 
 pub const UNPRINTED: &str =
     r#"A ::= SEQUENCE { a A OPTIONAL } => 2:20: met 'A'; can read a type that doesn't contain itself: recursion by rows isn't printed yet
-A ::= SEQUENCE { a IA5String DEFAULT "x" } => 2:18: met 'a'; can read a component whose default is a boolean or a number: others aren't printed yet
+A ::= SEQUENCE { a UTF8String DEFAULT "x" } => 2:18: met 'a'; can read a default that is a boolean, NULL, a number, an enumerated value, bits, octets or characters but UTF-8's: others aren't printed yet
+A ::= SEQUENCE { a SEQUENCE OF NULL DEFAULT {} } => 2:18: met 'a'; can read a default that is a boolean, NULL, a number, an enumerated value, bits, octets or characters but UTF-8's: others aren't printed yet
+A ::= SEQUENCE { a NumericString DEFAULT "x" } => 2:42: met '"x"'; can read a text of the type's characters, ASCII but in a BMPString
+A ::= SEQUENCE { a BMPString (SIZE(1)) DEFAULT "xy" } => 2:18: met 'a'; can read a default that the type's constraints allow
+A ::= SEQUENCE { a BIT STRING (SIZE(2)) DEFAULT '101'B } => 2:18: met 'a'; can read a default that the type's constraints allow
+A ::= SEQUENCE { a BIT STRING { b(8) } (SIZE(8)) DEFAULT {b} } => 2:18: met 'a'; can read a default that the type's constraints allow
 A ::= SEQUENCE { a INTEGER (0..9) DEFAULT 10 } => 2:18: met 'a'; can read a default that the type's constraints allow
 A ::= CHOICE { a NULL, b NULL, c NULL, d NULL, e NULL, f NULL, g NULL, h NULL, i NULL, j NULL, k NULL, l NULL, m NULL, n NULL, o NULL, p NULL, q NULL } => 2:7: met 'CHOICE'; can read a CHOICE of 1 to 16 alternatives: others aren't printed yet
 A ::= CHOICE { a-b NULL, aB NULL } => 2:7: met 'CHOICE'; can read alternatives whose Rust names differ

@@ -1,0 +1,71 @@
+//! Components with a DEFAULT that are read: the default is made only where nothing is spelled.
+ghost use Rattle.oer_rows.specs.Standards.{Settles, AsksStandard, AddsStandard};
+
+use crate::additions::read_addition;
+use crate::places::Standard;
+use asn1_core::{Codec, DecodeError, DecodeErrorKind, Tag};
+use oer_read::{Decode, Decoder};
+use oer_spec::EqualAsSpelled;
+use std::alloc::Global;
+
+/// What a component's value is, of what is spelled: the default `D` where that is nothing.
+///
+/// Refused: the default, for want of memory; a value that is equal to it in canonical mode, as `NotValidCanonicalEncoding` (X.696, 16.2
+/// and 18).
+#[inline(always)]
+fn settled<D: Standard<B>, B: EqualAsSpelled>(
+    alloc: Global,
+    codec: Codec,
+    spelled: Option<B>,
+) -> Result<B, DecodeError>
+    ensures { Settles B.eq D.value codec spelled result }
+{
+    match spelled {
+        None => match D::value(alloc) {
+            Ok(default) => Ok(default),
+            Err(_) => Err(DecodeErrorKind::OutOfMemory.with_codec(codec)),
+        },
+        Some(value) => match codec {
+            Codec::Oer => Ok(value),
+            Codec::Coer => {
+                if D::is_value(&value) {
+                    Err(DecodeErrorKind::NotValidCanonicalEncoding.with_codec(codec))
+                } else {
+                    Ok(value)
+                }
+            }
+        },
+    }
+}
+
+/// Reads a root component with the DEFAULT `D` under its type's constraints.
+///
+/// Refused as an optional component is; then as `settled` refuses.
+#[inline(always)]
+pub(crate) fn read_default<D: Standard<B>, B: Decode + EqualAsSpelled>(
+    alloc: Global,
+    decoder: &mut Decoder<'_>,
+    tag: Tag,
+) -> Result<B, DecodeError>
+    ensures { AsksStandard (B.tree B.CONSTRAINTS) B.IsValue (B.Answered B.CONSTRAINTS) B.eq decoder.old tag D.value result decoder.new }
+{
+    let codec = decoder.codec();
+    let spelled = decoder.decode_optional_with_tag::<B>(alloc, tag)?;
+    settled::<D, B>(alloc, codec, spelled)
+}
+
+/// Reads an addition with the DEFAULT `D` under its type's constraints.
+///
+/// Refused as an optional addition is; then as `settled` refuses.
+#[inline(always)]
+pub(crate) fn read_default_addition<D: Standard<B>, B: Decode + EqualAsSpelled>(
+    alloc: Global,
+    decoder: &mut Decoder<'_>,
+    tag: Tag,
+) -> Result<B, DecodeError>
+    ensures { AddsStandard (B.tree B.CONSTRAINTS) B.IsValue (B.Answered B.CONSTRAINTS) B.eq decoder.old tag D.value result decoder.new }
+{
+    let codec = decoder.codec();
+    let spelled = read_addition::<B>(alloc, decoder, tag)?;
+    settled::<D, B>(alloc, codec, spelled)
+}
