@@ -1,7 +1,10 @@
 //! What both modules' calls come down to: one function for each direction.
 ghost use Rattle.asn1_core.specs.declared.codec.Codec.{Codec};
 ghost use Rattle.oer_spec.specs.Spelled.{IsConsistent};
-ghost use Rattle.rasn_oer.specs.Headline.{IsAppended, IsWritten, IsRead, Says};
+ghost use Rattle.std.specs.Prelude.{◌≡◌, ◌++◌, OnOk, IfErr};
+ghost use Rattle.oer_spec.specs.Encoding.{IsEncodable, canonical_octets};
+ghost use Rattle.oer_spec.specs.Writing.{BeginsWith};
+ghost use Rattle.rasn_oer.specs.Headline.{IsAppended, IsWritten, IsRead, NotWritten, Says};
 
 use asn1_core::{Constraints, DecodeError, EncodeError};
 use oer_read::de::DecoderOptions;
@@ -44,17 +47,19 @@ pub(crate) fn decode_value<'a, T: Decode>(
     }
 }
 
-/// The canonical octets of a value behind what the buffer holds; after a refusal the buffer is as before.
-pub(crate) fn append_value<T: Encode>(
+/// Writes the canonical octets of a value behind what the buffer holds.
+fn write_behind<T: Encode>(
     alloc: Global,
     constraints: Constraints,
     value: &T,
     buffer: &mut Vec<u8>,
 ) -> Result<(), EncodeError>
     requires { IsConsistent constraints }
-    ensures { IsAppended (T.tree constraints) T.IsValue value.now buffer.old.items result buffer.new.items }
+    ensures done { OnOk result (IsEncodable (T.tree constraints value.now) × (buffer.new.items ≡ buffer.old.items ++ canonical_octets (T.tree constraints value.now))) }
+    ensures value { OnOk result (T.IsValue value.now) }
+    ensures refused { IfErr result (λ x. NotWritten (T.tree constraints) T.IsValue value.now x) }
+    ensures begins { BeginsWith buffer.old.items buffer.new.items }
 {
-    let mark = buffer.len();
     let mut worker = Vec::new(alloc);
     let mut encoder = Encoder::from_buffer(
         alloc,
@@ -66,8 +71,25 @@ pub(crate) fn append_value<T: Encode>(
     let octets = encoder.output();
     drop(encoder);
     *buffer = octets;
-    if answer.is_err() {
-        buffer.truncate(mark);
-    }
     answer
+}
+
+/// The canonical octets of a value behind what the buffer holds; after a refusal the buffer is as before.
+pub(crate) fn append_value<T: Encode>(
+    alloc: Global,
+    constraints: Constraints,
+    value: &T,
+    buffer: &mut Vec<u8>,
+) -> Result<(), EncodeError>
+    requires { IsConsistent constraints }
+    ensures { IsAppended (T.tree constraints) T.IsValue value.now buffer.old.items result buffer.new.items }
+{
+    let mark = buffer.len();
+    match write_behind(alloc, constraints, value, &mut *buffer) {
+        Ok(()) => Ok(()),
+        Err(e) => {
+            buffer.truncate(mark);
+            Err(e)
+        }
+    }
 }
