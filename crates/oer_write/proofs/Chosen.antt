@@ -1,7 +1,7 @@
 -- From what the closure of a choice writes to what the choice writes.
-use Rattle.std.proofs.Common.{◌≡◌, ℕ, suc, ◌+◌, ◌^◌, ◌<◌, ◌≤◌, Bool, true, false, not, ◌&&◌, List, ◌++◌, length, take, drop, ◌⊎◌, refl, ap, sym, ◌∙◌, subst, arith, append_assoc, append-nil, [], inl, inr}
+use Rattle.std.proofs.Common.{◌≡◌, ℕ, suc, ◌+◌, ◌^◌, ◌<◌, ◌≤◌, Bool, true, false, not, ◌&&◌, List, ◌++◌, length, take, drop, refl, ap, sym, ◌∙◌, arith, append_assoc, inl, inr}
 use Rattle.std.specs.Prelude.{nat_lt}
-use Rattle.std.proofs.lemmas.List.{append_cancel_left, take_at}
+use Rattle.std.proofs.lemmas.List.{append_cancel_left}
 use Rattle.asn1_core.specs.Octets.{Octets, usize_max}
 use Rattle.asn1_core.specs.Tags.{holds}
 use Rattle.asn1_core.specs.declared.error.EncodeError.{EncodeError}
@@ -13,11 +13,9 @@ use Rattle.oer_spec.specs.Leaves.{Failure, BadValue, BadSize, BadIdentifier, Bad
 use Rattle.oer_spec.specs.Lengths.{behind_length, tag_octets}
 use Rattle.oer_spec.specs.Places.{choice_octets}
 use Rattle.oer_spec.specs.Tree.{Tree, Choice}
-use Rattle.oer_spec.specs.Writing.{BeginsWith}
-use Rattle.oer_write.specs.Choices.{Picks, ContentRefused, Appended, AppendedOpen, ChoiceDone, ChoiceBroken, alternative_octets, IsKnownToPick}
-use Rattle.oer_write.specs.Written.{Written, append, Keeps, Encodes, Refused, WantsMemory}
+use Rattle.oer_write.specs.Choices.{Picks, ContentDone, Appended, AppendedOpen, ChoiceDone, ChoiceBroken, alternative_octets, IsKnownToPick}
+use Rattle.oer_write.specs.Written.{Written, append, Encodes, Refused}
 use Rattle.oer_write.proofs.Items.{or_false, or_left}
-use Rattle.oer_write.proofs.Keeping.{keeps_then}
 use Rattle.oer_write.proofs.Filling.{open_written, open_short}
 
 not_above : (a b : ℕ) → a < suc b → nat_lt b a ≡ false
@@ -68,25 +66,26 @@ choice_refused picks roots additions tag t old new x known h = record {
   keeps = h.keeps;
 }
 
--- behind the tag
-tag_keeps : (old middle new : Written) (octets : Octets) → middle ≡ append octets old → new ≡ record middle { octets = new.octets } → BeginsWith middle.octets new.octets → Keeps old new
-tag_keeps old middle new octets first rest begins = keeps_then old middle new
-    (subst (λ (e : Written). Keeps old e) (sym first) (record { octets = (octets, refl); is_open = refl; is_set = refl; extensible = refl; start = refl; outer = refl }))
-    (record { octets = begins; is_open = ap (λ (e : Written). e.frame.is_open) rest; is_set = ap (λ (e : Written). e.frame.is_set) rest; extensible = ap (λ (e : Written). e.frame.extensible) rest; start = ap (λ (e : Written). e.frame.start) rest; outer = ap (λ (e : Written). e.outer) rest })
-
-pub root_broken : (picks : Picks) (x : EncodeError) (old middle new : Written) (octets : Octets) → middle ≡ append octets old → new ≡ record middle { octets = new.octets } → BeginsWith middle.octets new.octets → ContentRefused picks x → ChoiceBroken picks x old new
-root_broken picks x old middle new octets first rest begins h = record { keeps = tag_keeps old middle new octets first rest begins; reason = inr h }
-
-pub root_done : (picks : Picks) (is_root : Bool) (tag : Tag) (old middle new : Written) → is_root ≡ true → middle ≡ append (tag_octets tag) old → new ≡ record middle { octets = new.octets } → Appended picks middle.octets new.octets → ChoiceDone picks is_root tag old new
-root_done picks is_root tag old middle new root first rest h = record {
-  content = h.content;
-  done = h.done;
-  short = λ e. absurd cc;
-  appended = subst (λ (b : Bool). new ≡ append (tag_octets tag ++ alternative_octets b h.content) old) (sym root)
-      (rest ∙ ap (λ (o : Octets). record middle { octets = o }) h.appended ∙ ap (λ (e : Written). record e { octets = e.octets ++ h.content }) first ∙ ap (λ (o : Octets). record old { octets = o }) (append_assoc old.octets _ _));
-}
+-- a tag, and a root alternative behind it
+pub root_written : (picks : Picks) (is_root : Bool) (tag : Tag) (old mid new : Octets) → is_root ≡ true → mid ≡ old ++ tag_octets tag → Appended picks mid new
+    → (o : Octets) × ContentDone picks o × (is_root ≡ false → length o < 2 ^ 64) × (new ≡ old ++ (tag_octets tag ++ alternative_octets is_root o))
+root_written picks is_root tag old mid new root e h = (
+  h.content,
+  h.done,
+  (λ other. absurd cc),
+  h.appended ∙ ap (λ (x : Octets). x ++ h.content) e ∙ append_assoc old (tag_octets tag) h.content ∙ ap (λ (b : Bool). old ++ (tag_octets tag ++ alternative_octets b h.content)) (sym root),
+)
 
 -- ---- an alternative beyond the root
+
+pub open_behind : (picks : Picks) (is_root : Bool) (tag : Tag) (old mid new : Octets) → is_root ≡ false → mid ≡ old ++ tag_octets tag → AppendedOpen picks mid new
+    → (o : Octets) × ContentDone picks o × (is_root ≡ false → length o < 2 ^ 64) × (new ≡ old ++ (tag_octets tag ++ alternative_octets is_root o))
+open_behind picks is_root tag old mid new other e h = (
+  h.content,
+  h.done,
+  (λ _. h.short),
+  h.appended ∙ ap (λ (x : Octets). x ++ behind_length h.content) e ∙ append_assoc old (tag_octets tag) _ ∙ ap (λ (b : Bool). old ++ (tag_octets tag ++ alternative_octets b h.content)) (sym other),
+)
 
 pub open_picked : (picks : Picks) (old free mid all new : Octets) (start : ℕ) → start ≡ length old → length free ≡ 1 → mid ≡ old ++ free → length all < 2 ^ 64 → Appended picks mid all → new ≡ take start all ++ behind_length (drop (start + 1) all) → AppendedOpen picks old new
 open_picked picks old free mid all new start s f m short h e =
@@ -98,31 +97,3 @@ open_picked picks old free mid all new start s f m short h e =
       short = omega (arith, few);
       appended = open_written old free all h.content new start s f laid e;
     }
-
-pub addition_broken : (picks : Picks) (x : EncodeError) (old middle new : Written) (octets : Octets) → middle ≡ append octets old → new ≡ record middle { octets = new.octets } → BeginsWith middle.octets new.octets → WantsMemory x ⊎ ContentRefused picks x → ChoiceBroken picks x old new
-addition_broken picks x old middle new octets first rest begins h = record { keeps = tag_keeps old middle new octets first rest begins; reason = h }
-
-pub addition_done : (picks : Picks) (tag : Tag) (old middle new : Written) → middle ≡ append (tag_octets tag) old → new ≡ record middle { octets = new.octets } → AppendedOpen picks middle.octets new.octets → ChoiceDone picks false tag old new
-addition_done picks tag old middle new first rest h = record {
-  content = h.content;
-  done = h.done;
-  short = λ e. h.short;
-  appended = rest ∙ ap (λ (o : Octets). record middle { octets = o }) h.appended ∙ ap (λ (e : Written). record e { octets = e.octets ++ behind_length h.content }) first ∙ ap (λ (o : Octets). record old { octets = o }) (append_assoc old.octets _ _);
-}
-
--- what a refused choice wrote is cut off
-pub choice_cut_octets : (picks : Picks) (x : EncodeError) (old new cut : Written) (start : ℕ) → ChoiceBroken picks x old new → start ≡ length old.octets → cut ≡ record new { octets = take start new.octets } → cut.octets ≡ old.octets
-choice_cut_octets picks x old new cut start h s c = ap (λ (e : Written). e.octets) c ∙ ap (take start) h.keeps.octets.1 ∙ take_at old.octets h.keeps.octets.0 start (sym s)
-
-pub choice_cut : (picks : Picks) (x : EncodeError) (old new cut : Written) (start : ℕ) → ChoiceBroken picks x old new → start ≡ length old.octets → cut ≡ record new { octets = take start new.octets } → ChoiceBroken picks x old cut
-choice_cut picks x old new cut start h s c = record {
-  keeps = record {
-    octets = ([], choice_cut_octets picks x old new cut start h s c ∙ sym (append-nil old.octets));
-    is_open = ap (λ (e : Written). e.frame.is_open) c ∙ h.keeps.is_open;
-    is_set = ap (λ (e : Written). e.frame.is_set) c ∙ h.keeps.is_set;
-    extensible = ap (λ (e : Written). e.frame.extensible) c ∙ h.keeps.extensible;
-    start = ap (λ (e : Written). e.frame.start) c ∙ h.keeps.start;
-    outer = ap (λ (e : Written). e.outer) c ∙ h.keeps.outer;
-  };
-  reason = h.reason;
-}

@@ -1,6 +1,5 @@
 -- Octets kept free are filled with what was written behind.
-use Rattle.std.proofs.Common.{◌≡◌, ℕ, ◌+◌, ◌-◌, ◌%◌, ◌^◌, ◌<◌, ◌≤◌, List, [], ◌∷◌, ◌++◌, set, length, take, drop, refl, ap, ap₂, sym, ◌∙◌, arith, append_assoc, length-append, length-drop, Ok, Err, Result}
-use Rattle.std.specs.Prelude.{MatchResult}
+use Rattle.std.proofs.Common.{◌≡◌, ℕ, ◌+◌, ◌-◌, ◌%◌, ◌^◌, ◌<◌, ◌≤◌, List, [], ◌∷◌, ◌++◌, set, length, take, drop, refl, ap, ap₂, sym, ◌∙◌, arith, append_assoc, length-append, length-drop}
 use lib.Seq.{paste}
 use Rattle.std.proofs.Math.Seq.{take-append-add}
 use Rattle.std.proofs.lemmas.List.Edits.{paste_all, take-paste}
@@ -9,14 +8,9 @@ use Rattle.std.proofs.lemmas.List.{take-set, drop-set, take-append-le, take-appe
 use Rattle.std.specs.Prelude.{Bool}
 use Rattle.asn1_core.specs.Numbers.{low_octets}
 use Rattle.asn1_core.specs.Octets.{Octets, pack, usize_max}
-use Rattle.asn1_core.specs.declared.error.EncodeErrorKind.{EncodeErrorKind}
-use Rattle.asn1_core.specs.declared.error.EncodeErrorKind.TheVariants.{OutOfMemory}
 use Rattle.oer_spec.specs.Lengths.{length_octets, behind_length}
-use Rattle.oer_spec.specs.Places.{extension_bit}
-use Rattle.oer_spec.specs.Writing.{Appends, BeginsWith}
+use Rattle.oer_spec.specs.Writing.{BeginsWith}
 use Rattle.oer_write.specs.Bits.{ArePacked}
-use Rattle.oer_write.specs.Scopes.{any_true, extension_of, sequence_octets}
-use Rattle.oer_write.specs.Written.{Frame}
 use Rattle.oer_write.proofs.Keeping.{begins_then}
 
 -- octets in four parts
@@ -145,18 +139,6 @@ pub preamble_moved : (start size : ℕ) (all header mid new : Octets) → start 
     → new ≡ take start all ++ (header ++ drop (start + size) all)
 preamble_moved start size all header mid new h e g = g ∙ ap (λ (o : Octets). take start o ++ (drop (length all) o ++ drop (start + size) (take (length all) o))) e ∙ filled start size all header h
 
--- the additions follow
-pub sequence_closed : {T : Type 0} (r : Result T EncodeErrorKind) (start size : ℕ) (f : Frame) (all placed new : Octets)
-    → placed ≡ take start all ++ (pack (extension_bit f.extensible (any_true f.bitmap) ++ f.presence) ++ drop (start + size) all)
-    → Appends r (extension_of f.bitmap f.opens) placed new
-    → MatchResult r (λ _. new ≡ take start all ++ sequence_octets f (drop (start + size) all)) (λ e. (e ≡ OutOfMemory) × BeginsWith (take start all) new)
-sequence_closed (Ok u) start size f all placed new e a =
-    let header : List ℕ = pack (extension_bit f.extensible (any_true f.bitmap) ++ f.presence) in
-    a ∙ ap (λ (o : Octets). o ++ extension_of f.bitmap f.opens) e ∙ append_assoc (take start all) _ _ ∙ ap (λ (o : Octets). take start all ++ o) (append_assoc header _ _)
-sequence_closed (Err k) start size f all placed new e a =
-    let header : List ℕ = pack (extension_bit f.extensible (any_true f.bitmap) ++ f.presence) in
-    (a.0, ((header ++ drop (start + size) all) ++ a.1.0, a.1.1 ∙ ap (λ (o : Octets). o ++ a.1.0) e ∙ append_assoc (take start all) _ _))
-
 -- what stands behind octets that are free
 pub behind_free : (old free more : Octets) (start size : ℕ) → start ≡ length old → length free ≡ size → (take start ((old ++ free) ++ more) ≡ old) × (drop (start + size) ((old ++ free) ++ more) ≡ more)
 behind_free old free more start size s f =
@@ -180,10 +162,3 @@ pub begins_closed : (old free mid all new : Octets) (start : ℕ) → start ≡ 
 begins_closed old free mid all new start s e b n =
     let whole = begins_then old mid all (free, e) b in
     (n.0, n.1 ∙ ap (λ (o : Octets). o ++ n.0) (ap (take start) whole.1 ∙ take_at old whole.0 start (sym s)))
-
--- a sequence, of which the preamble's octets were free
-pub sequence_written : (old free mid all new components : Octets) (start size : ℕ) (f : Frame) → start ≡ length old → length free ≡ size → mid ≡ old ++ free → all ≡ mid ++ components → new ≡ take start all ++ sequence_octets f (drop (start + size) all) → new ≡ old ++ sequence_octets f components
-sequence_written old free mid all new components start size f s n m e g =
-    let p = behind_free old free components start size s n in
-    let laid : all ≡ (old ++ free) ++ components = e ∙ ap (λ (o : Octets). o ++ components) m in
-    g ∙ ap (λ (o : Octets). take start o ++ sequence_octets f (drop (start + size) o)) laid ∙ ap₂ (λ (x y : Octets). x ++ sequence_octets f y) p.0 p.1

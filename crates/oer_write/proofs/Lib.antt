@@ -16,3 +16,5 @@ pub mod Words
 pub mod Filling
 pub mod Cutting
 pub mod Places
+pub mod Regions
+pub mod Closing

@@ -1,5 +1,5 @@
 //! Extension additions of the open scope: each that is present is written as an open type.
-ghost use Rattle.std.specs.Prelude.{◌≡◌, ◌⊎◌, true, false, List, [], ◌∷◌, ◌++◌, OnOk, OnErr, IfErr, IfSome};
+ghost use Rattle.std.specs.Prelude.{◌≡◌, ◌≤◌, ◌⊎◌, ◌&&◌, not, true, false, List, [], ◌∷◌, ◌++◌, length, OnOk, OnErr, IfErr, IfSome};
 ghost use Rattle.asn1_core.specs.declared.codec.Codec.TheVariants.{Coer};
 ghost use Rattle.asn1_core.specs.declared.error.EncodeErrorKind.TheVariants.{OutOfMemory};
 ghost use Rattle.oer_spec.specs.Encoding.{canonical_octets};
@@ -8,11 +8,13 @@ ghost use Rattle.oer_spec.specs.Spelled.{IsConsistent};
 ghost use Rattle.oer_spec.specs.Writing.{BeginsWith};
 ghost use Rattle.oer_spec.specs.Tree.{NoRows, Present, Absent};
 ghost use Rattle.oer_write.specs.Rows.{RowsDone, SetDone, RowsRefused, IsOpenEncodable, optional, defaulted, present_unless, slot_of, open_type};
+ghost use Rattle.oer_write.specs.Seen.{around, within, IsLaid};
 ghost use Rattle.oer_write.specs.Written.{Keeps, WantsMemory};
 
 use crate::encode::Encode;
 use crate::encoder::Encoder;
 use crate::holes::{close_open, keep_free};
+use crate::region::{Region, begin};
 use crate::rows::append_value;
 use asn1_core::{Constraints, EncodeError, EncodeErrorKind, Tag};
 use std::alloc::Global;
@@ -66,6 +68,34 @@ fn put_open<E: Encode>(
             Err(e)
         }
     }
+}
+
+/// Appends an open type to the additions that lie in the output; where it refuses, these are as before.
+#[tactic(auto, using(crate::proofs::Regions::around_last, crate::proofs::Regions::within_last, crate::proofs::Regions::laid_last))]
+fn put_behind<E: Encode>(
+    alloc: Global,
+    tag: Tag,
+    constraints: Constraints,
+    value: &E,
+    region: &mut Region,
+    out: &mut Vec<u8>,
+) -> Result<(), EncodeError>
+    requires consistent { IsConsistent constraints }
+    requires laid { IsLaid region.old (length out.old.items) }
+    ensures short { OnOk result (IsOpenEncodable (E.tree constraints value.now)) }
+    ensures done { OnOk result (within region.new out.new.items ≡ within region.old out.old.items ++ open_type (canonical_octets (E.tree constraints value.now))) }
+    ensures value { OnOk result (E.IsValue value.now) }
+    ensures refused { IfErr result (λ x. (x.kind ≡ OutOfMemory) ⊎ Fails (E.tree constraints value.now) x.kind) }
+    ensures mode { IfErr result (λ x. x.codec ≡ Coer) }
+    ensures octets { around region.new out.new.items ≡ around region.old out.old.items }
+    ensures unchanged { OnErr result (within region.new out.new.items ≡ within region.old out.old.items) }
+    ensures laid { IsLaid region.new (length out.new.items) }
+    ensures behind { region.old.start ≤ region.new.start }
+{
+    begin(region, out)?;
+    put_open(alloc, tag, constraints, value, out)?;
+    region.end = out.len();
+    Ok(())
 }
 
 impl<'buffer> Encoder<'buffer> {
@@ -150,7 +180,35 @@ impl<'buffer> Encoder<'buffer> {
         ensures value { OnOk result (E.IsValue value.now) }
         ensures refused { IfErr result (λ x. RowsRefused NoRows (optional tag (Present (E.tree constraints value.now))) x self.old self.new) }
     {
+        if self.scope.is_sequence() {
+            return self.put_within(tag, constraints, value);
+        }
         put_open(self.alloc, tag, constraints, value, &mut self.scope.opens)?;
+        self.note_addition(true)?;
+        Ok(())
+    }
+
+    /// Writes an addition straight into the output.
+    fn put_within<E: Encode>(
+        &mut self,
+        tag: Tag,
+        constraints: Constraints,
+        value: &E,
+    ) -> Result<(), EncodeError>
+        requires consistent { IsConsistent constraints }
+        requires sequence { (self.old.frame.is_open && not self.old.frame.is_set) ≡ true }
+        ensures done { OnOk result (RowsDone NoRows (optional tag (Present (E.tree constraints value.now))) self.old self.new) }
+        ensures value { OnOk result (E.IsValue value.now) }
+        ensures refused { IfErr result (λ x. RowsRefused NoRows (optional tag (Present (E.tree constraints value.now))) x self.old self.new) }
+    {
+        put_behind(
+            self.alloc,
+            tag,
+            constraints,
+            value,
+            &mut self.scope.region,
+            &mut *self.output,
+        )?;
         self.note_addition(true)?;
         Ok(())
     }

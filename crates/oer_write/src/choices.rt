@@ -1,17 +1,16 @@
 //! Choices: a tag, and the alternative that the closure writes.
-ghost use Rattle.std.specs.Prelude.{◌≡◌, ◌⊎◌, Bool, true, false, OnOk, OnErr, IfErr};
+ghost use Rattle.std.specs.Prelude.{◌≡◌, ◌^◌, ◌<◌, ◌++◌, ◌⊎◌, Bool, true, false, length, OnOk, OnErr, IfErr};
+ghost use Rattle.asn1_core.specs.Octets.{Octets};
 ghost use Rattle.asn1_core.specs.Tags.{holds};
-ghost use Rattle.asn1_core.specs.declared.error.EncodeErrorKind.TheVariants.{OutOfMemory};
 ghost use Rattle.oer_spec.specs.Lengths.{tag_octets};
 ghost use Rattle.oer_spec.specs.Tree.{Tree, Choice};
 ghost use Rattle.oer_spec.specs.Writing.{BeginsWith};
-ghost use Rattle.oer_write.specs.Choices.{PromisePick, PicksTag, ContentRefused, Appended, AppendedOpen, ChoiceDone, ChoiceBroken, IsKnownToPick};
-ghost use Rattle.oer_write.specs.Written.{append, Keeps, Encodes, Refused, WantsMemory};
+ghost use Rattle.oer_write.specs.Choices.{PromisePick, PicksTag, ContentDone, ContentRefused, Appended, AppendedOpen, alternative_octets, ChoiceDone, ChoiceBroken, IsKnownToPick};
+ghost use Rattle.oer_write.specs.Written.{Keeps, Encodes, Refused, WantsMemory};
 
 use crate::encoder::Encoder;
 use crate::holes::{close_open, keep_free};
-use crate::scope::Scope;
-use asn1_core::{Choice, Constraints, EncodeError, EncodeErrorKind, Tag};
+use asn1_core::{Choice, Constraints, EncodeError, Tag};
 use oer_leaf_write::write_tag;
 use std::alloc::Global;
 
@@ -68,12 +67,7 @@ fn pick_into<F: FnOnce(&mut Encoder<'_>) -> Result<Tag, EncodeError>>(
     ensures refused { IfErr result (λ x. ContentRefused (PromisePick F.FnOnce f) x) }
     ensures begins { BeginsWith out.old.items out.new.items }
 {
-    let mut inner = Encoder {
-        output: &mut *out,
-        scope: Scope::none(alloc),
-        is_lent: true,
-        alloc,
-    };
+    let mut inner = Encoder::lent(alloc, &mut *out);
     let answer = pick(&mut inner, tag, f);
     *out = inner.into_octets();
     answer
@@ -100,6 +94,52 @@ fn pick_open<F: FnOnce(&mut Encoder<'_>) -> Result<Tag, EncodeError>>(
     Ok(())
 }
 
+/// Writes a tag, and behind it a root alternative as it is, another as an open type.
+fn write_choice<F: FnOnce(&mut Encoder<'_>) -> Result<Tag, EncodeError>>(
+    alloc: Global,
+    tag: Tag,
+    is_root: bool,
+    f: F,
+    out: &mut Vec<u8>,
+) -> Result<(), EncodeError>
+    requires callable { F.IsAlwaysCallable f }
+    requires picks { PicksTag (PromisePick F.FnOnce f) tag }
+    ensures done { OnOk result ((o : Octets) × ContentDone (PromisePick F.FnOnce f) o × (is_root ≡ false → length o < 2 ^ 64) × (out.new.items ≡ out.old.items ++ (tag_octets tag ++ alternative_octets is_root o))) }
+    ensures refused { IfErr result (λ x. WantsMemory x ⊎ ContentRefused (PromisePick F.FnOnce f) x) }
+    ensures begins { BeginsWith out.old.items out.new.items }
+{
+    write_tag(tag, out)?;
+    if is_root {
+        return pick_into(alloc, tag, f, out);
+    }
+    pick_open(alloc, tag, f, out)
+}
+
+/// Writes a choice; where it refuses, the output is as before.
+#[tactic(auto, using(crate::proofs::Filling::cut_begun))]
+fn put_choice<F: FnOnce(&mut Encoder<'_>) -> Result<Tag, EncodeError>>(
+    alloc: Global,
+    tag: Tag,
+    is_root: bool,
+    f: F,
+    out: &mut Vec<u8>,
+) -> Result<(), EncodeError>
+    requires callable { F.IsAlwaysCallable f }
+    requires picks { PicksTag (PromisePick F.FnOnce f) tag }
+    ensures done { OnOk result ((o : Octets) × ContentDone (PromisePick F.FnOnce f) o × (is_root ≡ false → length o < 2 ^ 64) × (out.new.items ≡ out.old.items ++ (tag_octets tag ++ alternative_octets is_root o))) }
+    ensures refused { IfErr result (λ x. WantsMemory x ⊎ ContentRefused (PromisePick F.FnOnce f) x) }
+    ensures unchanged { OnErr result (out.new.items ≡ out.old.items) }
+{
+    let start = out.len();
+    match write_choice(alloc, tag, is_root, f, &mut *out) {
+        Ok(()) => Ok(()),
+        Err(e) => {
+            out.truncate(start);
+            Err(e)
+        }
+    }
+}
+
 impl<'buffer> Encoder<'buffer> {
     /// Writes a CHOICE (X.696, 20): the tag, and the alternative that the closure writes, which answers that tag.
     ///
@@ -121,8 +161,7 @@ impl<'buffer> Encoder<'buffer> {
         self.choice(tag, is_among(E::root_tags(), tag), f)
     }
 
-    /// Writes a choice; where it refuses, the octets are as before.
-    #[tactic(auto, using(crate::proofs::Chosen::choice_cut, crate::proofs::Chosen::choice_cut_octets))]
+    #[tactic(auto, using(crate::proofs::Regions::more_around, crate::proofs::Regions::more_within))]
     fn choice<F: FnOnce(&mut Encoder<'_>) -> Result<Tag, EncodeError>>(
         &mut self,
         tag: Tag,
@@ -133,102 +172,9 @@ impl<'buffer> Encoder<'buffer> {
         requires picks { PicksTag (PromisePick F.FnOnce f) tag }
         ensures done { OnOk result (ChoiceDone (PromisePick F.FnOnce f) is_root tag self.old self.new) }
         ensures refused { IfErr result (λ x. ChoiceBroken (PromisePick F.FnOnce f) x self.old self.new) }
-        ensures octets { OnErr result (self.new.octets ≡ self.old.octets) }
+        ensures unchanged { OnErr result (self.new ≡ self.old) }
     {
-        let start = self.written();
-        match self.put_choice(tag, is_root, f) {
-            Ok(()) => Ok(()),
-            Err(e) => {
-                self.output.truncate(start);
-                Err(e)
-            }
-        }
-    }
-
-    fn put_choice<F: FnOnce(&mut Encoder<'_>) -> Result<Tag, EncodeError>>(
-        &mut self,
-        tag: Tag,
-        is_root: bool,
-        f: F,
-    ) -> Result<(), EncodeError>
-        requires callable { F.IsAlwaysCallable f }
-        requires picks { PicksTag (PromisePick F.FnOnce f) tag }
-        ensures done { OnOk result (ChoiceDone (PromisePick F.FnOnce f) is_root tag self.old self.new) }
-        ensures refused { IfErr result (λ x. ChoiceBroken (PromisePick F.FnOnce f) x self.old self.new) }
-    {
-        if is_root {
-            return self.root_choice(tag, f);
-        }
-        self.addition_choice(tag, f)
-    }
-
-    fn put_tag(&mut self, tag: Tag) -> Result<(), EncodeErrorKind>
-        ensures done { OnOk result (self.new ≡ append (tag_octets tag) self.old) }
-        ensures refused { IfErr result (λ k. (k ≡ OutOfMemory) × Keeps self.old self.new) }
-    {
-        write_tag(tag, &mut *self.output)?;
+        put_choice(self.alloc, tag, is_root, f, &mut *self.output)?;
         Ok(())
-    }
-
-    /// Writes a root alternative straight behind the tag.
-    fn root_choice<F: FnOnce(&mut Encoder<'_>) -> Result<Tag, EncodeError>>(
-        &mut self,
-        tag: Tag,
-        f: F,
-    ) -> Result<(), EncodeError>
-        requires callable { F.IsAlwaysCallable f }
-        requires picks { PicksTag (PromisePick F.FnOnce f) tag }
-        ensures done { OnOk result (ChoiceDone (PromisePick F.FnOnce f) true tag self.old self.new) }
-        ensures refused { IfErr result (λ x. ChoiceBroken (PromisePick F.FnOnce f) x self.old self.new) }
-    {
-        self.put_tag(tag)?;
-        self.lend_inside(tag, f)
-    }
-
-    /// Lends an encoder with no scope open, over the same output.
-    fn lend_inside<F: FnOnce(&mut Encoder<'_>) -> Result<Tag, EncodeError>>(
-        &mut self,
-        tag: Tag,
-        f: F,
-    ) -> Result<(), EncodeError>
-        requires callable { F.IsAlwaysCallable f }
-        requires picks { PicksTag (PromisePick F.FnOnce f) tag }
-        ensures done { OnOk result (Appended (PromisePick F.FnOnce f) self.old.octets self.new.octets) }
-        ensures refused { IfErr result (λ x. ContentRefused (PromisePick F.FnOnce f) x) }
-        ensures begins { BeginsWith self.old.octets self.new.octets }
-        ensures left { self.new ≡ record self.old { octets = self.new.octets } }
-    {
-        pick_into(self.alloc, tag, f, &mut *self.output)
-    }
-
-    /// Writes an alternative beyond the root as an open type behind the tag.
-    fn addition_choice<F: FnOnce(&mut Encoder<'_>) -> Result<Tag, EncodeError>>(
-        &mut self,
-        tag: Tag,
-        f: F,
-    ) -> Result<(), EncodeError>
-        requires callable { F.IsAlwaysCallable f }
-        requires picks { PicksTag (PromisePick F.FnOnce f) tag }
-        ensures done { OnOk result (ChoiceDone (PromisePick F.FnOnce f) false tag self.old self.new) }
-        ensures refused { IfErr result (λ x. ChoiceBroken (PromisePick F.FnOnce f) x self.old self.new) }
-    {
-        self.put_tag(tag)?;
-        self.lend_open(tag, f)
-    }
-
-    /// Lends an encoder with no scope open, over the same output, and puts the length in front.
-    fn lend_open<F: FnOnce(&mut Encoder<'_>) -> Result<Tag, EncodeError>>(
-        &mut self,
-        tag: Tag,
-        f: F,
-    ) -> Result<(), EncodeError>
-        requires callable { F.IsAlwaysCallable f }
-        requires picks { PicksTag (PromisePick F.FnOnce f) tag }
-        ensures done { OnOk result (AppendedOpen (PromisePick F.FnOnce f) self.old.octets self.new.octets) }
-        ensures refused { IfErr result (λ x. WantsMemory x ⊎ ContentRefused (PromisePick F.FnOnce f) x) }
-        ensures begins { BeginsWith self.old.octets self.new.octets }
-        ensures left { self.new ≡ record self.old { octets = self.new.octets } }
-    {
-        pick_open(self.alloc, tag, f, &mut *self.output)
     }
 }

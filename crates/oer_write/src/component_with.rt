@@ -12,7 +12,6 @@ ghost use Rattle.oer_write.specs.Written.{Keeps, WantsMemory};
 
 use crate::component::{Component, Components, push_place};
 use crate::encoder::Encoder;
-use crate::scope::Scope;
 use asn1_core::{EncodeError, Tag};
 use std::alloc::Global;
 
@@ -55,12 +54,7 @@ fn put_into<F: FnOnce(&mut Encoder<'_>) -> Result<(), EncodeError>>(
     ensures refused { IfErr result (λ x. RefusedBy (Promise F.FnOnce f) x) }
     ensures begins { BeginsWith out.old.items out.new.items }
 {
-    let mut inner = Encoder {
-        output: &mut *out,
-        scope: Scope::none(alloc),
-        is_lent: true,
-        alloc,
-    };
+    let mut inner = Encoder::lent(alloc, &mut *out);
     let answer = put_by(&mut inner, f);
     *out = inner.into_octets();
     answer
@@ -134,6 +128,7 @@ impl<'buffer> Encoder<'buffer> {
     }
 
     /// Lends an encoder with no scope open, over the same output.
+    #[tactic(auto, using(crate::proofs::Regions::appended_more, crate::proofs::Regions::more_around, crate::proofs::Regions::more_within))]
     fn put_inside<F: FnOnce(&mut Encoder<'_>) -> Result<(), EncodeError>>(
         &mut self,
         f: F,

@@ -1,8 +1,8 @@
 //! The encoder.
-ghost use Rattle.std.specs.Prelude.{◌≡◌, false, List, [], ◌++◌, length, cond};
+ghost use Rattle.std.specs.Prelude.{◌≡◌, ◌≤◌, false, List, [], ◌∷◌, ◌++◌, length, cond};
 ghost use Rattle.asn1_core.specs.declared.codec.Codec.TheVariants.{Coer};
-ghost use Rattle.oer_write.specs.Seen.{frame_of};
-ghost use Rattle.oer_write.specs.Written.{Written, closed};
+ghost use Rattle.oer_write.specs.Seen.{around, frame_of, IsSound};
+ghost use Rattle.oer_write.specs.Written.{Written, closed, fresh};
 
 use crate::enc::EncoderOptions;
 use crate::scope::Scope;
@@ -29,15 +29,18 @@ impl<'buffer> Model for Encoder<'buffer> {
 
     ghost Value = { Written };
 
-    ghost use Rattle.oer_write.specs.Seen.{seen};
+    ghost use Rattle.oer_write.specs.Seen.{seen, is_sound};
 
     ghost view = { seen };
+
+    ghost invariant = { is_sound };
 }
 
 impl<'buffer> Encoder<'buffer> {
     /// An encoder that appends to `output`.
     ///
     /// `worker` may hold anything, and is left as it is. Takes no memory.
+    #[tactic(auto, using(crate::proofs::Regions::none_around))]
     pub fn from_buffer(
         alloc: Global,
         _options: EncoderOptions,
@@ -50,6 +53,41 @@ impl<'buffer> Encoder<'buffer> {
             output,
             scope: Scope::none(alloc),
             is_lent: false,
+            alloc,
+        }
+    }
+
+    /// An encoder that appends to `output`, lent for an element, an alternative or a component.
+    #[tactic(auto, using(crate::proofs::Regions::none_around))]
+    pub(crate) fn lent(alloc: Global, output: &'buffer mut Vec<u8>) -> Encoder<'buffer>
+        ensures { result ≡ record { octets = output.old.items; frame = closed; outer = closed ∷ [] } }
+    {
+        Encoder {
+            output,
+            scope: Scope::none(alloc),
+            is_lent: true,
+            alloc,
+        }
+    }
+
+    /// An encoder with a new scope open that appends to `output`; so many octets are to be kept free for a bitmap.
+    #[tactic(auto, using(crate::proofs::Regions::none_around, crate::proofs::Regions::sound_opened))]
+    pub(crate) fn open(
+        alloc: Global,
+        is_set: bool,
+        extensible: bool,
+        size: usize,
+        output: &'buffer mut Vec<u8>,
+    ) -> Encoder<'buffer>
+        requires { size ≤ 16 }
+        ensures { result ≡ record { octets = output.old.items; frame = fresh is_set extensible (length output.old.items); outer = [] } }
+    {
+        let start = output.len();
+        let is_lent = false;
+        Encoder {
+            output,
+            scope: Scope::open(alloc, is_set, extensible, start, size),
+            is_lent,
             alloc,
         }
     }
@@ -75,16 +113,18 @@ impl<'buffer> Encoder<'buffer> {
     }
 
     /// How many octets are written.
+    #[tactic(auto, using(crate::proofs::Regions::around_long))]
     pub(crate) fn written(&self) -> usize
         ensures { result ≡ length self.now.octets }
     {
-        self.output.len()
+        self.output.len() - (self.scope.region.end - self.scope.region.start)
     }
 
-    /// The octets written, and the open scope.
+    /// The output, and the open scope.
     pub(crate) fn into_parts(self) -> (Vec<u8>, Scope)
-        ensures octets { result.0.items ≡ self.entry.octets }
-        ensures frame { frame_of result.1 ≡ self.entry.frame }
+        ensures octets { around result.1.region result.0.items ≡ self.entry.octets }
+        ensures frame { frame_of result.0.items result.1 ≡ self.entry.frame }
+        ensures sound { IsSound result.1.is_open result.1.start result.1.region (length result.0.items) }
     {
         let Encoder {
             output,
@@ -94,8 +134,10 @@ impl<'buffer> Encoder<'buffer> {
         } = self;
         (std::mem::replace(output, Vec::new(alloc)), scope)
     }
-    /// The octets written.
+
+    /// The octets written, where no scope is open.
     pub(crate) fn into_octets(self) -> Vec<u8>
+        requires { self.frame.is_open ≡ false }
         ensures { result.items ≡ self.entry.octets }
     {
         let Encoder {

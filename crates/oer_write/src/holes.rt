@@ -73,7 +73,7 @@ fn exchange_within(start: usize, count: usize, octets: &mut [u8])
     tail.rotate_left(count);
 }
 
-fn exchange(start: usize, count: usize, out: &mut Vec<u8>)
+pub(crate) fn exchange(start: usize, count: usize, out: &mut Vec<u8>)
     requires { start + count ≤ vec_len out.old }
     ensures { out.new.items ≡ take start out.old.items ++ (drop count (drop start out.old.items) ++ take count (drop start out.old.items)) }
 {

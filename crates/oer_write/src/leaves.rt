@@ -14,7 +14,7 @@ impl<'buffer> Encoder<'buffer> {
     /// Writes a BOOLEAN (X.696, 9): FF for true, 00 for false.
     ///
     /// Refused for want of memory alone.
-    #[tactic(auto, unfolding(oer_spec::specs::Spelled::boolean, oer_spec::specs::Encoding::canonical_octets, oer_spec::specs::Encoding::fails))]
+    #[tactic(auto, using(crate::proofs::Regions::more_around, crate::proofs::Regions::more_within), unfolding(oer_spec::specs::Spelled::boolean, oer_spec::specs::Encoding::canonical_octets, oer_spec::specs::Encoding::fails))]
     #[inline]
     pub fn encode_bool(&mut self, _tag: Tag, value: bool) -> Result<(), EncodeError>
         ensures done { OnOk result (Encodes (boolean value) self.old self.new) }
@@ -41,7 +41,7 @@ impl<'buffer> Encoder<'buffer> {
     /// octets of the number.
     ///
     /// Refused for want of memory alone.
-    #[tactic(auto, unfolding(oer_spec::specs::Spelled::enumerated, oer_spec::specs::Encoding::canonical_octets, oer_spec::specs::Encoding::fails))]
+    #[tactic(auto, using(crate::proofs::Regions::more_around, crate::proofs::Regions::more_within), unfolding(oer_spec::specs::Spelled::enumerated, oer_spec::specs::Encoding::canonical_octets, oer_spec::specs::Encoding::fails))]
     pub fn encode_enumerated<E: Enumerated>(
         &mut self,
         _tag: Tag,
@@ -73,7 +73,7 @@ impl<'buffer> Encoder<'buffer> {
         self.put_integer(constraints, value)
     }
 
-    #[tactic(auto, unfolding(oer_spec::specs::Spelled::integer, oer_spec::specs::Encoding::canonical_octets, oer_spec::specs::Encoding::fails))]
+    #[tactic(auto, using(crate::proofs::Regions::more_around, crate::proofs::Regions::more_within), unfolding(oer_spec::specs::Spelled::integer, oer_spec::specs::Encoding::canonical_octets, oer_spec::specs::Encoding::fails))]
     #[inline]
     fn put_integer<I: IntegerType>(
         &mut self,

@@ -14,6 +14,7 @@ mod identifiers;
 mod integers;
 mod leaves;
 mod lists;
+mod region;
 mod rows;
 mod rules;
 mod scope;

@@ -11,9 +11,9 @@ ghost use Rattle.oer_write.specs.Written.{append, closed, Keeps, Encodes, Refuse
 
 use crate::encode::Encode;
 use crate::encoder::Encoder;
-use crate::scope::Scope;
 use asn1_core::{Constraints, EncodeError, EncodeErrorKind, Tag};
 use oer_leaf_write::write_quantity;
+use std::alloc::Global;
 
 /// At most so many elements of one list may take no octets (the project's own choice).
 pub(crate) const MAX_EMPTY_ELEMENTS: u32 = 65536;
@@ -95,6 +95,25 @@ fn put_elements<E, F: Fn(&mut Encoder<'_>, &E) -> Result<(), EncodeError>>(
     Ok(())
 }
 
+/// Lends an encoder with no scope open, for each element, over an output.
+fn put_elements_into<E, F: Fn(&mut Encoder<'_>, &E) -> Result<(), EncodeError>>(
+    alloc: Global,
+    value: &[E],
+    f: &F,
+    out: &mut Vec<u8>,
+) -> Result<(), EncodeError>
+    requires callable { (x : E) → Contains value.now x → TakesElement F.Fn f.now x }
+    requires orderly { IsOrderlyAt (PromiseAt F.Fn f.now) value.now }
+    ensures done { OnOk result (ElementsDone (PromiseAt F.Fn f.now) value.now out.old.items out.new.items) }
+    ensures refused { IfErr result (λ x. ElementsBroken (PromiseAt F.Fn f.now) value.now x) }
+    ensures begins { BeginsWith out.old.items out.new.items }
+{
+    let mut inner = Encoder::lent(alloc, &mut *out);
+    let answer = put_elements(&mut inner, value, f);
+    *out = inner.into_octets();
+    answer
+}
+
 impl<'buffer> Encoder<'buffer> {
     /// Writes a list (X.696, 17): its quantity, and each element by the closure.
     ///
@@ -134,6 +153,7 @@ impl<'buffer> Encoder<'buffer> {
     }
 
     /// Writes a quantity, and makes room for an octet of each element.
+    #[tactic(auto, using(crate::proofs::Regions::more_around, crate::proofs::Regions::more_within))]
     fn put_quantity(&mut self, count: usize) -> Result<(), EncodeErrorKind>
         ensures done { OnOk result (self.new ≡ append (quantity_octets count) self.old) }
         ensures refused { IfErr result (λ k. (k ≡ OutOfMemory) × Keeps self.old self.new) }
@@ -143,7 +163,8 @@ impl<'buffer> Encoder<'buffer> {
         Ok(())
     }
 
-    /// Lends an encoder with no scope open, for each element.
+    /// Writes each element behind the quantity.
+    #[tactic(auto, using(crate::proofs::Regions::elements_more, crate::proofs::Regions::more_around, crate::proofs::Regions::more_within))]
     fn put_all<E, F: Fn(&mut Encoder<'_>, &E) -> Result<(), EncodeError>>(
         &mut self,
         value: &[E],
@@ -156,15 +177,7 @@ impl<'buffer> Encoder<'buffer> {
         ensures begins { BeginsWith self.old.octets self.new.octets }
         ensures left { self.new ≡ record self.old { octets = self.new.octets } }
     {
-        let mut inner = Encoder {
-            output: &mut *self.output,
-            scope: Scope::none(self.alloc),
-            is_lent: true,
-            alloc: self.alloc,
-        };
-        let answer = put_elements(&mut inner, value, f);
-        *self.output = inner.into_octets();
-        answer
+        put_elements_into(self.alloc, value, f, &mut *self.output)
     }
 }
 

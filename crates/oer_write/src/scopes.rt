@@ -1,23 +1,33 @@
 //! Scopes: closures that write the components of a sequence straight behind the octets of before, its preamble into octets
 //! kept free in front of them.
-ghost use Rattle.std.specs.Prelude.{◌≡◌, ◌≤◌, ◌++◌, ◌⊎◌, false, OnOk, OnErr, IfOk, IfErr};
+ghost use Rattle.std.specs.Prelude.{◌≡◌, ◌≤◌, ◌++◌, ◌⊎◌, true, false, length, OnOk, OnErr, IfOk, IfErr};
 ghost use Rattle.asn1_core.specs.Octets.{Octets};
 ghost use Rattle.asn1_core.specs.declared.error.EncodeErrorKind.TheVariants.{OutOfMemory};
 ghost use Rattle.oer_spec.specs.Tree.{Rows, Struct};
 ghost use Rattle.oer_spec.specs.Writing.{BeginsWith};
 ghost use Rattle.oer_write.specs.Rows.{IsKnownToWrite};
 ghost use Rattle.oer_write.specs.Scopes.{Promise, IsOrderly, RanInScope, Closed, Stopped, Broken, sequence_octets};
-ghost use Rattle.oer_write.specs.Seen.{frame_of};
+ghost use Rattle.oer_write.specs.Seen.{around, frame_of, IsSound};
 ghost use Rattle.oer_write.specs.Written.{Frame, Keeps, Encodes, Refused, WantsMemory};
 
 use crate::encoder::Encoder;
 use crate::holes::{keep_free, preamble_size};
+use crate::region::bitmap_size;
 use crate::scope::Scope;
 use asn1_core::{Constructed, EncodeError, Tag};
 use std::alloc::Global;
 
+/// How many octets a sequence keeps free.
+#[derive(Clone, Copy)]
+struct Sizes {
+    preamble: usize,
+    bitmap: usize,
+    ghost few_preamble: { preamble ≤ 16 },
+    ghost few_bitmap: { bitmap ≤ 16 },
+}
+
 /// Lends an encoder to a closure.
-fn lend<F: FnOnce(&mut Encoder<'_>) -> Result<(), EncodeError>>(
+pub(crate) fn lend<F: FnOnce(&mut Encoder<'_>) -> Result<(), EncodeError>>(
     encoder: &mut Encoder<'_>,
     f: F,
 ) -> Result<(), EncodeError>
@@ -29,54 +39,29 @@ fn lend<F: FnOnce(&mut Encoder<'_>) -> Result<(), EncodeError>>(
     f(encoder)
 }
 
-/// Runs a closure in a new scope, which writes straight behind the octets of before.
-pub(crate) fn run<F: FnOnce(&mut Encoder<'_>) -> Result<(), EncodeError>>(
-    alloc: Global,
-    is_set: bool,
-    extensible: bool,
-    output: &mut Vec<u8>,
-    f: F,
-) -> Result<Scope, EncodeError>
-    requires callable { F.IsAlwaysCallable f }
-    requires orderly { IsOrderly is_set (Promise F.FnOnce f) }
-    ensures done { IfOk result (λ scope. (o : Octets) × RanInScope (Promise F.FnOnce f) is_set extensible (frame_of scope) o × (output.new.items ≡ output.old.items ++ o)) }
-    ensures refused { IfErr result (λ x. Stopped (Promise F.FnOnce f) is_set extensible x) }
-    ensures begins { BeginsWith output.old.items output.new.items }
-{
-    let start = output.len();
-    let mut inner = Encoder {
-        output: &mut *output,
-        scope: Scope::open(alloc, is_set, extensible, start),
-        is_lent: false,
-        alloc,
-    };
-    let answer = lend(&mut inner, f);
-    let (octets, scope) = inner.into_parts();
-    *output = octets;
-    answer?;
-    let _count = scope.bitmap.len();
-    Ok(scope)
-}
-
-/// Writes a sequence with `size` octets kept free for its preamble.
+/// Writes a sequence with octets kept free for its preamble and its bitmap.
 fn write_sequence<F: FnOnce(&mut Encoder<'_>) -> Result<(), EncodeError>>(
     alloc: Global,
     extensible: bool,
-    size: usize,
+    sizes: Sizes,
     output: &mut Vec<u8>,
     f: F,
 ) -> Result<(), EncodeError>
     requires callable { F.IsAlwaysCallable f }
     requires orderly { IsOrderly false (Promise F.FnOnce f) }
-    requires few { size ≤ 16 }
     ensures done { OnOk result ((frame : Frame) × (o : Octets) × RanInScope (Promise F.FnOnce f) false extensible frame o × (output.new.items ≡ output.old.items ++ sequence_octets frame o)) }
     ensures refused { IfErr result (λ x. WantsMemory x ⊎ Stopped (Promise F.FnOnce f) false extensible x) }
     ensures begins { BeginsWith output.old.items output.new.items }
 {
     let start = output.len();
-    keep_free(size, output)?;
-    let scope = run(alloc, false, extensible, &mut *output, f)?;
-    scope.close_sequence(alloc, start, size, output)?;
+    keep_free(sizes.preamble, output)?;
+    let mut inner = Encoder::open(alloc, false, extensible, sizes.bitmap, &mut *output);
+    let answer = lend(&mut inner, f);
+    let (octets, scope) = inner.into_parts();
+    *output = octets;
+    answer?;
+    let _count = scope.bitmap.len();
+    scope.close_sequence(alloc, start, sizes.preamble, output)?;
     Ok(())
 }
 
@@ -85,19 +70,18 @@ fn write_sequence<F: FnOnce(&mut Encoder<'_>) -> Result<(), EncodeError>>(
 fn put_sequence<F: FnOnce(&mut Encoder<'_>) -> Result<(), EncodeError>>(
     alloc: Global,
     extensible: bool,
-    size: usize,
+    sizes: Sizes,
     output: &mut Vec<u8>,
     f: F,
 ) -> Result<(), EncodeError>
     requires callable { F.IsAlwaysCallable f }
     requires orderly { IsOrderly false (Promise F.FnOnce f) }
-    requires few { size ≤ 16 }
     ensures done { OnOk result ((frame : Frame) × (o : Octets) × RanInScope (Promise F.FnOnce f) false extensible frame o × (output.new.items ≡ output.old.items ++ sequence_octets frame o)) }
     ensures refused { IfErr result (λ x. WantsMemory x ⊎ Stopped (Promise F.FnOnce f) false extensible x) }
     ensures unchanged { OnErr result (output.new.items ≡ output.old.items) }
 {
     let start = output.len();
-    match write_sequence(alloc, extensible, size, &mut *output, f) {
+    match write_sequence(alloc, extensible, sizes, &mut *output, f) {
         Ok(()) => Ok(()),
         Err(e) => {
             output.truncate(start);
@@ -127,24 +111,27 @@ impl<'buffer> Encoder<'buffer> {
         ensures tree_refused { (roots additions : Rows) → IsKnownToWrite (Promise F.FnOnce f) roots additions → IfErr result (λ x. Refused (Struct false C.IS_EXTENSIBLE roots additions) x self.old self.new) }
     {
         let extensible = C::IS_EXTENSIBLE;
-        let size = preamble_size(extensible, C::FIELDS.fields);
-        self.sequence(extensible, size, f)
+        let sizes = Sizes {
+            preamble: preamble_size(extensible, C::FIELDS.fields),
+            bitmap: bitmap_size(EL),
+        };
+        self.sequence(extensible, sizes, f)
     }
 
+    #[tactic(auto, using(crate::proofs::Regions::more_around, crate::proofs::Regions::more_within))]
     fn sequence<F: FnOnce(&mut Encoder<'_>) -> Result<(), EncodeError>>(
         &mut self,
         extensible: bool,
-        size: usize,
+        sizes: Sizes,
         f: F,
     ) -> Result<(), EncodeError>
         requires callable { F.IsAlwaysCallable f }
         requires orderly { IsOrderly false (Promise F.FnOnce f) }
-        requires few { size ≤ 16 }
         ensures done { OnOk result (Closed (Promise F.FnOnce f) extensible self.old self.new) }
         ensures refused { IfErr result (λ x. Broken (Promise F.FnOnce f) false extensible x self.old self.new) }
         ensures unchanged { OnErr result (self.new ≡ self.old) }
     {
-        put_sequence(self.alloc, extensible, size, &mut *self.output, f)?;
+        put_sequence(self.alloc, extensible, sizes, &mut *self.output, f)?;
         Ok(())
     }
 }

@@ -15,7 +15,7 @@ use crate::bits::Bits;
 use crate::component::{Component, Components, body_of};
 use crate::encoder::Encoder;
 use crate::scope::Scope;
-use crate::scopes::run;
+use crate::scopes::lend;
 use asn1_core::{Constructed, EncodeError, EncodeErrorKind, Tag};
 use std::alloc::Global;
 
@@ -64,7 +64,8 @@ impl Scope {
         alloc: Global,
         out: &mut Vec<u8>,
     ) -> Result<(), EncodeErrorKind>
-        ensures { Appends result (set_octets (frame_of self.old)) out.old.items out.new.items }
+        requires { self.old.is_set ≡ true }
+        ensures { (o : Octets) → Appends result (set_octets (frame_of o self.old)) out.old.items out.new.items }
     {
         let Components { mut places, octets } = std::mem::replace(
             &mut self.components,
@@ -93,7 +94,12 @@ fn write_set<F: FnOnce(&mut Encoder<'_>) -> Result<(), EncodeError>>(
     ensures begins { BeginsWith output.old.items output.new.items }
 {
     let start = output.len();
-    let mut scope = run(alloc, true, extensible, &mut *output, f)?;
+    let mut inner = Encoder::open(alloc, true, extensible, 0, &mut *output);
+    let answer = lend(&mut inner, f);
+    let (octets, mut scope) = inner.into_parts();
+    *output = octets;
+    answer?;
+    let _count = scope.bitmap.len();
     output.truncate(start);
     scope.write_set(alloc, output)?;
     Ok(())
@@ -146,6 +152,7 @@ impl<'buffer> Encoder<'buffer> {
         self.set(C::IS_EXTENSIBLE, f)
     }
 
+    #[tactic(auto, using(crate::proofs::Regions::more_around, crate::proofs::Regions::more_within))]
     fn set<F: FnOnce(&mut Encoder<'_>) -> Result<(), EncodeError>>(
         &mut self,
         extensible: bool,

@@ -35,7 +35,7 @@ impl<'buffer> Encoder<'buffer> {
         self.put_bits(constraints, value)
     }
 
-    #[tactic(auto, unfolding(oer_spec::specs::Spelled::bit_string, oer_spec::specs::Encoding::canonical_octets, oer_spec::specs::Encoding::fails))]
+    #[tactic(auto, using(crate::proofs::Regions::more_around, crate::proofs::Regions::more_within), unfolding(oer_spec::specs::Spelled::bit_string, oer_spec::specs::Encoding::canonical_octets, oer_spec::specs::Encoding::fails))]
     fn put_bits(&mut self, constraints: Constraints, value: &BitString) -> Result<(), EncodeError>
         ensures done { OnOk result (Encodes (bit_string constraints value.now) self.old self.new) }
         ensures refused { IfErr result (λ x. RefusedLeaf (Bits (size_bounds constraints) value.now) x self.old self.new) }
@@ -62,7 +62,7 @@ impl<'buffer> Encoder<'buffer> {
         self.put_octets(constraints, value)
     }
 
-    #[tactic(auto, unfolding(oer_spec::specs::Spelled::text, oer_spec::specs::Encoding::canonical_octets, oer_spec::specs::Encoding::fails))]
+    #[tactic(auto, using(crate::proofs::Regions::more_around, crate::proofs::Regions::more_within), unfolding(oer_spec::specs::Spelled::text, oer_spec::specs::Encoding::canonical_octets, oer_spec::specs::Encoding::fails))]
     fn put_octets(&mut self, constraints: Constraints, value: &[u8]) -> Result<(), EncodeError>
         ensures done { OnOk result (Encodes (text AnyOctets constraints value.now) self.old self.new) }
         ensures refused { IfErr result (λ x. RefusedLeaf (Text AnyOctets (size_bounds constraints) (Written value.now)) x self.old self.new) }
@@ -82,7 +82,7 @@ impl<'buffer> Encoder<'buffer> {
         self.put_any(value)
     }
 
-    #[tactic(auto, unfolding(oer_spec::specs::Spelled::unsized_text, oer_spec::specs::Encoding::canonical_octets, oer_spec::specs::Encoding::fails))]
+    #[tactic(auto, using(crate::proofs::Regions::more_around, crate::proofs::Regions::more_within), unfolding(oer_spec::specs::Spelled::unsized_text, oer_spec::specs::Encoding::canonical_octets, oer_spec::specs::Encoding::fails))]
     fn put_any(&mut self, value: &Any) -> Result<(), EncodeError>
         ensures done { OnOk result (Encodes (unsized_text AnyOctets value.now) self.old self.new) }
         ensures refused { IfErr result (λ x. RefusedLeaf (Text AnyOctets None (Written value.now)) x self.old self.new) }
@@ -109,7 +109,7 @@ impl<'buffer> Encoder<'buffer> {
         self.put_utf8(constraints, value)
     }
 
-    #[tactic(auto, unfolding(oer_spec::specs::Spelled::text, oer_spec::specs::Encoding::canonical_octets, oer_spec::specs::Encoding::fails))]
+    #[tactic(auto, using(crate::proofs::Regions::more_around, crate::proofs::Regions::more_within), unfolding(oer_spec::specs::Spelled::text, oer_spec::specs::Encoding::canonical_octets, oer_spec::specs::Encoding::fails))]
     fn put_utf8(&mut self, constraints: Constraints, value: &str) -> Result<(), EncodeError>
         ensures done { OnOk result (Encodes (text Utf8 constraints value.now) self.old self.new) }
         ensures refused { IfErr result (λ x. RefusedLeaf (Text Utf8 (size_bounds constraints) (Written value.now)) x self.old self.new) }
@@ -262,7 +262,7 @@ impl<'buffer> Encoder<'buffer> {
         self.put_text::<BmpCharacters>(constraints, value)
     }
 
-    #[tactic(auto, unfolding(oer_spec::specs::Spelled::text, oer_spec::specs::Encoding::canonical_octets, oer_spec::specs::Encoding::fails))]
+    #[tactic(auto, using(crate::proofs::Regions::more_around, crate::proofs::Regions::more_within), unfolding(oer_spec::specs::Spelled::text, oer_spec::specs::Encoding::canonical_octets, oer_spec::specs::Encoding::fails))]
     fn put_text<C: CharacterSet>(
         &mut self,
         constraints: Constraints,

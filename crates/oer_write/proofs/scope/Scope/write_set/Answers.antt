@@ -1,17 +1,20 @@
-use Rattle.std.proofs.Common.{◌≡◌, ◌++◌, [], map, sym, ◌∙◌, rules}
-use Rattle.asn1_core.specs.Octets.{pack}
+use Rattle.std.proofs.Common.{◌≡◌, ◌++◌, [], map, sym, subst, ◌∙◌, rules}
+use Rattle.asn1_core.specs.Octets.{Octets, pack}
 use Rattle.oer_spec.specs.Places.{bodies, extension_bit, presence}
+use Rattle.oer_spec.specs.Writing.{Appends}
 use Rattle.oer_write.specs.Kept.{item}
-use Rattle.oer_write.specs.Scopes.{any_true}
+use Rattle.oer_write.specs.Scopes.{any_true, extension_of}
 use Rattle.oer_write.specs.Seen.{frame_of}
+use Rattle.oer_write.proofs.Closing.{apart}
 use Rattle.oer_write.proofs.Places.{set_written}
 use Rattle.oer_write.proofs.scope.Scope.write_set.Goals as goal
 
 pub returns : goal.returns
-returns c =
-    let own : (frame_of c.args.self.now).components ≡ map (item c.places.inside.octets.items) c.places.inside.places.items = sym (c.places.view_is ∙ c.replace.ensures.value) in
+returns c = λ o.
+    let own : (frame_of o c.args.self.now).components ≡ map (item c.places.inside.octets.items) c.places.inside.places.items = sym (c.places.view_is ∙ c.replace.ensures.value) in
     let bits : c.put_presence.new.bits ≡ presence (map (item []) c.arrange.new.components.items) = search rules in
     let front : c.write_preamble.new.out.items ≡ c.args.out.now.items ++ pack (extension_bit c.args.self.now.extensible (any_true c.args.self.now.bitmap) ++ c.put_presence.new.bits) = search rules in
     let rear : c.put_bodies.new.out.items ≡ c.write_preamble.new.out.items ++ bodies (map (item c.places.inside.octets.items) c.arrange.new.components.items) = search rules in
-    set_written c.write_extension.result (frame_of c.args.self.now) c.places.inside.places.items c.arrange.new.components.items c.places.inside.octets.items c.put_presence.new.bits c.args.out.now.items c.write_preamble.new.out.items c.put_bodies.new.out.items c.write_extension.new.out.items
-    own (c.in_ok-arrange.ensures.done c.places.inside.octets.items) bits front rear c.write_extension.ensures
+    set_written c.write_extension.result (frame_of o c.args.self.now) c.places.inside.places.items c.arrange.new.components.items c.places.inside.octets.items c.put_presence.new.bits c.args.out.now.items c.write_preamble.new.out.items c.put_bodies.new.out.items c.write_extension.new.out.items
+    own (c.in_ok-arrange.ensures.done c.places.inside.octets.items) bits front rear
+    (subst (λ (x : Octets). Appends c.write_extension.result (extension_of c.args.self.now.bitmap x) c.put_bodies.new.out.items c.write_extension.new.out.items) (sym (apart o c.args.self.now c.requires)) c.write_extension.ensures)
