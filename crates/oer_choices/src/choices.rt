@@ -15,11 +15,10 @@ use std::fmt::{Debug, Formatter};
 /// A type whose alternatives stand in a row, with what the row says of them under the type's own name: what it says to be the
 /// content of a `OneOf` that is written.
 pub trait Alternating: Drop {
-    ghost use Rattle.std.specs.Prelude.{◌≡◌, ◌++◌, [], true, is_some, OnOk, IfErr};
+    ghost use Rattle.std.specs.Prelude.{◌≡◌, ◌++◌, [], true, is_some};
     ghost use Rattle.std.specs.Option.{option_map_or};
     ghost use Rattle.oer_choices.specs.Choosing.{are_apart, Choices, AreChoices};
-    ghost use Rattle.oer_spec.specs.Tree.{Choice};
-    ghost use Rattle.oer_write.specs.Written.{Encodes, Refused};
+    ghost use Rattle.oer_choices.specs.Putting.{PutsOne};
 
     /// The values of the row.
     type Values;
@@ -58,9 +57,7 @@ pub trait Alternating: Drop {
         encoder: &mut Encoder<'_>,
         constraints: Constraints,
     ) -> Result<(), EncodeError>
-        ensures done { OnOk result (Encodes (Choice E.root_tags E.addition_tags (Self.row_choices.tag_of (Self.alternative self.now)) (Self.row_choices.child (Self.alternative self.now))) encoder.old encoder.new) }
-        ensures value { OnOk result (Self.row_choices.IsValue (Self.alternative self.now)) }
-        ensures refused { IfErr result (λ x. Refused (Choice E.root_tags E.addition_tags (Self.row_choices.tag_of (Self.alternative self.now)) (Self.row_choices.child (Self.alternative self.now))) x encoder.old encoder.new) };
+        ensures { PutsOne E.root_tags E.addition_tags (Self.row_choices.tag_of (Self.alternative self.now)) (Self.row_choices.child (Self.alternative self.now)) (Self.row_choices.IsValue (Self.alternative self.now)) encoder.old result encoder.new };
 
     /// No tag stands twice, and each number is one of u32.
     ghost apart: { are_apart (Self.row_choices.roots ++ Self.row_choices.additions) ≡ true };

@@ -1,8 +1,7 @@
 //! Alternatives, written from references.
-ghost use Rattle.std.specs.Prelude.{OnOk, IfErr};
-ghost use Rattle.oer_spec.specs.Tree.{Choice};
+ghost use Rattle.std.specs.Prelude.{OnOk};
+ghost use Rattle.oer_choices.specs.Putting.{PutsOne};
 ghost use Rattle.oer_write.specs.Choices.{WritesAlternative};
-ghost use Rattle.oer_write.specs.Written.{Encodes, Refused};
 
 use crate::alternatives::{Alternatives, Either, Offers};
 use asn1_core::{Choice, Constraints, EncodeError, Tag};
@@ -20,9 +19,7 @@ pub fn put_alternative<E: Choice, T: Encode>(
     tag: Tag,
     value: &T,
 ) -> Result<(), EncodeError>
-    ensures done { OnOk result (Encodes (Choice E.root_tags E.addition_tags tag (T.tree T.CONSTRAINTS value.now)) encoder.old encoder.new) }
-    ensures value { OnOk result (T.IsValue value.now) }
-    ensures refused { IfErr result (λ x. Refused (Choice E.root_tags E.addition_tags tag (T.tree T.CONSTRAINTS value.now)) x encoder.old encoder.new) }
+    ensures { PutsOne E.root_tags E.addition_tags tag (T.tree T.CONSTRAINTS value.now) (T.IsValue value.now) encoder.old result encoder.new }
 {
     encoder.encode_choice::<E, _>(
         constraints,
@@ -54,9 +51,7 @@ pub trait AlternativeViews<'v>: Alternatives {
         encoder: &mut Encoder<'_>,
         constraints: Constraints,
     ) -> Result<(), EncodeError>
-        ensures done { SeesOne view.now (λ v. OnOk result (Encodes (Choice E.root_tags E.addition_tags (Self.choices.tag_of v) (Self.choices.child v)) encoder.old encoder.new)) }
-        ensures value { SeesOne view.now (λ v. OnOk result (Self.choices.IsValue v)) }
-        ensures refused { SeesOne view.now (λ v. IfErr result (λ x. Refused (Choice E.root_tags E.addition_tags (Self.choices.tag_of v) (Self.choices.child v)) x encoder.old encoder.new)) };
+        ensures { SeesOne view.now (λ v. PutsOne E.root_tags E.addition_tags (Self.choices.tag_of v) (Self.choices.child v) (Self.choices.IsValue v) encoder.old result encoder.new) };
 }
 
 impl<'v> AlternativeViews<'v> for NoMore {
