@@ -2,10 +2,12 @@
 ghost use Rattle.std.specs.Prelude.{OnOk};
 ghost use Rattle.oer_read.specs.Law.{IsRear};
 
-use asn1_core::{AsnType, Class, DecodeError, DecodeErrorKind, Tag};
+use asn1_core::{
+    AsnType, Class, Constructed, DecodeError, DecodeErrorKind, Field, FieldPresence, Fields, Tag,
+};
 use asn1_ints::Integer;
-use oer_types::{AllOptional, Foo, MixedSet, Pair, Sequence, Sequence1, Set, components};
-use rasn_oer::{Decode, Decoder, DecoderOptions};
+use oer_types::{AllOptional, MixedSet, Pair, Sequence, Sequence1, Set, components};
+use rasn_oer::{Decode, Decoder, DecoderOptions, fields};
 use std::alloc::Global;
 use std::process::Abort;
 use std::test::Fail;
@@ -146,25 +148,58 @@ fn calls_of(alloc: Global, decoder: &mut Decoder<'_>) -> Result<Vec<(usize, Tag)
     Ok(calls)
 }
 
+/// `SET { a [444] INTEGER OPTIONAL, b [5] INTEGER OPTIONAL, c [APPLICATION 9] INTEGER OPTIONAL }`
+#[derive(Drop)]
+struct Unsorted {}
+
+const UNSORTED: &'static [Field<'static>] = fields![
+    0 Optional Context 444 "a", 1 Optional Context 5 "b", 2 Optional Application 9 "c"
+];
+
+impl Constructed<3, 0> for Unsorted {
+    ghost use Rattle.std.specs.Prelude.{false, true, refl, []};
+    ghost use Rattle.call_tests.specs.Unsorted.{unsorted};
+
+    ghost is_set = { true };
+
+    ghost root_rows = { unsorted };
+
+    ghost addition_rows = { [] };
+
+    ghost IS_EXTENSIBLE = { false };
+
+    const IS_EXTENSIBLE: bool = false;
+
+    const FIELDS: Fields<3> = Fields { fields: UNSORTED };
+
+    const EXTENDED_FIELDS: Option<Fields<0>> = None;
+
+    fn root_fields() -> &'static [Field<'static>] {
+        Self::FIELDS.fields
+    }
+
+    fn addition_fields() -> &'static [Field<'static>] {
+        &[]
+    }
+
+    ghost tables = { record { root_count = refl; addition_count = refl; root_indexes = (refl, (refl, (refl, tt))); addition_indexes = tt; only = λ e. refl; distinct = λ e. (refl, (refl, (refl, tt))) } };
+}
+
 /// By which indexes and tags the closure of a set whose table isn't in the order of its tags is asked.
-fn calls_of_foo(
+fn calls_of_unsorted(
     alloc: Global,
     decoder: &mut Decoder<'_>,
 ) -> Result<Vec<(usize, Tag)>, DecodeError> {
     let mut calls = Vec::new(alloc);
-    let _set = decoder.decode_set::<3, 0, (usize, Tag), Foo, _, _>(
+    let _set = decoder.decode_set::<3, 0, (usize, Tag), Unsorted, _, _>(
         alloc,
         Tag::SET,
         |inner: &mut Decoder<'_>, index: usize, tag: Tag| -> Result<(usize, Tag), DecodeError>
             ensures { OnOk result (IsRear inner.old.input inner.new.input) }
         { asked_by(alloc, inner, index, tag) },
-        |fields: Vec<(usize, Tag)>| -> Result<Foo, DecodeError> {
+        |fields: Vec<(usize, Tag)>| -> Result<Unsorted, DecodeError> {
             calls = fields;
-            Ok(Foo {
-                a: None,
-                b: None,
-                c: None,
-            })
+            Ok(Unsorted {})
         },
     )?;
     Ok(calls)
@@ -180,7 +215,7 @@ fn components_of_a_set_are_read_in_the_order_of_their_tags(rt: HostRuntime) -> R
     ];
     for options in [DecoderOptions::oer(), DecoderOptions::coer()] {
         let mut decoder = Decoder::new(&octets, options);
-        let calls = calls_of_foo(rt.alloc(), &mut decoder)?;
+        let calls = calls_of_unsorted(rt.alloc(), &mut decoder)?;
         assert_eq!(rt; calls.as_slice(), expected.as_slice());
         assert!(rt; decoder.remaining().is_empty());
     }

@@ -6,7 +6,7 @@ use asn1_ints::{ConstrainedInteger, Integer, IntegerRange};
 use asn1_strings::{BitString, BmpString, OctetString};
 use asn1_times::{Date, GeneralizedTime, UtcTime};
 use jiff::civil;
-use oer_types::{DeepDefault, Foo, HashedId3, Negative, Nest, Positive};
+use oer_types::{DeepDefault, HashedId3, Negative, Nest, Positive, Set, components};
 use oer_words::constrained::{sizes, values};
 use oer_write::enc::EncoderOptions;
 use oer_write::{Encode, Encoder};
@@ -170,11 +170,11 @@ impl IntegerRange for OneOctet {
 #[test]
 fn a_refused_value_leaves_the_buffer_as_it_was(rt: HostRuntime) -> Result<(), Fail> {
     let alloc = rt.alloc();
-    let set = Foo {
+    let set = Set(components::Foo {
         a: Some(Integer::from_i128(5)),
         b: Some(Integer::from_i128(6)),
         c: Some(Integer::from_i128(7)),
-    };
+    });
     let outside = ConstrainedInteger::<OneOctet>::new(256);
     let expected = [0xaa, 0xbb, 0xe0, 1, 7, 1, 6, 1, 5];
     let mut told = String::new(alloc);

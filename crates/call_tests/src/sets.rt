@@ -4,8 +4,7 @@ ghost use Rattle.oer_rows.specs.Integers.{integer_unless};
 ghost use Rattle.oer_rows.specs.Integers.{plain_integer};
 ghost use Rattle.oer_spec.specs.Spelled.{boolean};
 ghost use Rattle.oer_spec.specs.Tree.{NoRows, Required, Optional, Default, Present, Struct};
-ghost use Rattle.oer_rows.specs.Schema.{context};
-ghost use Rattle.oer_types.specs.Sets.{application};
+ghost use Rattle.oer_rows.specs.Schema.{application, context};
 ghost use Rattle.oer_write.specs.Rows.{InSet};
 ghost use Rattle.oer_write.specs.Written.{Encodes};
 

@@ -8,8 +8,7 @@ ghost use Rattle.oer_write.specs.Written.{WritesTree};
 ghost use Rattle.oer_rows.specs.Integers.{integer_unless};
 ghost use Rattle.oer_rows.specs.Integers.{plain_integer};
 ghost use Rattle.oer_types.specs.Pairs.{pair_rows};
-ghost use Rattle.oer_rows.specs.Schema.{context};
-ghost use Rattle.oer_types.specs.Sets.{application};
+ghost use Rattle.oer_rows.specs.Schema.{application, context};
 
 use crate::encoding::Done;
 use crate::entry::one;

@@ -7,7 +7,7 @@ use anyhow::Result;
 use asn1_core::SetOf;
 use asn1_ints::Integer;
 use asn1_strings::OctetString;
-use oer_types::{ExtendedOptional, Foo, Nest, Sequence, components};
+use oer_types::{ExtendedOptional, Foo, Nest, Sequence, Set, components};
 use std::alloc::Global;
 use std::rt::Clock;
 
@@ -67,11 +67,11 @@ fn extended(alloc: Global) -> Result<ExtendedOptional> {
 
 /// A set of three optional integers, of which two are there.
 fn foo() -> Foo {
-    Foo {
+    Set(components::Foo {
         a: some(1),
         b: some(2),
         c: None,
-    }
+    })
 }
 
 /// Measures the sequence or the set of that word; nothing where it is no such value's.

@@ -4,5 +4,4 @@ pub mod DeepDefaultLaw
 pub mod LinkLaw
 pub mod NestLaw
 pub mod NestedLaw
-pub mod SetParts
 pub mod TopLaw

@@ -14,6 +14,17 @@ pub enum PriorityAlternatives {
     Medium(Integer),
 }
 
+/// `CHOICE { normal [0] INTEGER, high [1] INTEGER, medium [4294967295] INTEGER }`
+pub type WideChoice = OneOf<WideAlternatives>;
+
+/// The alternatives of a `WideChoice`.
+#[derive(Debug, PartialEq, Eq, Drop)]
+pub enum WideAlternatives {
+    Normal(Integer),
+    High(Integer),
+    Medium(Integer),
+}
+
 /// `CHOICE { only [130] BOOLEAN }`
 pub type OnlyChoice = OneOf<OnlyAlternatives>;
 
@@ -38,6 +49,10 @@ type PriorityRow = Offers<Context<0>, Integer, Offers<Context<1>, Integer, Prior
 
 type PriorityAdditions = Extensible<Offers<Context<2>, Integer, NoMore>>;
 
+type WideRow = Offers<Context<0>, Integer, Offers<Context<1>, Integer, WideMedium>>;
+
+type WideMedium = Offers<Context<4294967295>, Integer, NoMore>;
+
 type OnlyRow = Offers<Context<130>, bool, NoMore>;
 
 type BoolRow = Offers<Context<0>, bool, Offers<Context<2>, PriorityChoice, BoolAdditions>>;
@@ -47,6 +62,8 @@ type BoolAdditions = Extensible<Offers<Context<1>, bool, NoMore>>;
 const PRIORITY_ROOTS: &'static [Tag] = tags![Context 0, Context 1];
 
 const PRIORITY_ADDITIONS: &'static [Tag] = tags![Context 2];
+
+const WIDE_ROOTS: &'static [Tag] = tags![Context 0, Context 1, Context 4294967295];
 
 const ONLY_ROOTS: &'static [Tag] = tags![Context 130];
 
@@ -102,6 +119,57 @@ impl TakesAlternative for PriorityAlternatives {
         tag: Tag,
     ) -> Result<Self, DecodeError> {
         read_alternative::<Self, PriorityRow, D>(alloc, decoder, tag)
+    }
+}
+
+impl Alternating for WideAlternatives {
+    ghost use Rattle.std.specs.Prelude.{refl};
+    ghost use Rattle.oer_choices.specs.declared.alternatives.Either.TheVariants.{First, Rest};
+    ghost use Rattle.oer_types.specs.declared.choices.WideAlternatives.TheVariants.{Normal, High, Medium};
+
+    type Values = <WideRow as Alternatives>::Values;
+
+    ghost row_choices = { ⟦<WideRow as Alternatives>⟧.choices };
+
+    ghost row_are_choices = { ⟦<WideRow as Alternatives>⟧.are_choices };
+
+    ghost alternative = { elim [ Normal n ↦ First n | High n ↦ Rest (First n) | Medium n ↦ Rest (Rest (First n)) ] };
+
+    const VARIANTS: &'static [Tag] = WIDE_ROOTS;
+
+    const EXTENDED_VARIANTS: Option<&'static [Tag]> = None;
+
+    fn root_tags() -> &'static [Tag] {
+        Self::VARIANTS
+    }
+
+    fn addition_tags() -> Option<&'static [Tag]> {
+        Self::EXTENDED_VARIANTS
+    }
+
+    fn from_alternative(value: <WideRow as Alternatives>::Values) -> WideAlternatives {
+        from_row!(value => WideAlternatives: Normal, High, Medium)
+    }
+
+    fn put<E: Choice>(
+        &self,
+        encoder: &mut Encoder<'_>,
+        constraints: Constraints,
+    ) -> Result<(), EncodeError> {
+        let view = to_row!(self => WideAlternatives: Normal, High, Medium);
+        WideRow::write_alternative::<E>(&view, encoder, constraints)
+    }
+
+    ghost apart = { refl };
+}
+
+impl TakesAlternative for WideAlternatives {
+    fn take<D: Choice>(
+        alloc: Global,
+        decoder: &mut Decoder<'_>,
+        tag: Tag,
+    ) -> Result<Self, DecodeError> {
+        read_alternative::<Self, WideRow, D>(alloc, decoder, tag)
     }
 }
 

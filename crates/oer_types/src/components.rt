@@ -170,6 +170,14 @@ pub struct SequenceDuplicatesExtended {
     pub today: OctetString,
 }
 
+/// The components of a `Foo` of this crate.
+#[derive(Debug, PartialEq, Eq, Drop)]
+pub struct Foo {
+    pub a: Option<Integer>,
+    pub b: Option<Integer>,
+    pub c: Option<Integer>,
+}
+
 /// The components of a `MixedSet` of this crate.
 #[derive(Debug, PartialEq, Eq, Drop)]
 pub struct MixedSet {

@@ -26,13 +26,12 @@ mod sequences;
 mod sets;
 mod top_levels;
 mod versions;
-mod wide_choice;
 mod wrappers;
 
 pub use bushes::Bush;
 pub use choices::{
     BoolAlternatives, BoolChoice, OnlyAlternatives, OnlyChoice, PriorityAlternatives,
-    PriorityChoice,
+    PriorityChoice, WideAlternatives, WideChoice,
 };
 pub use constrained::ConstrainedOptions;
 pub use deep_defaults::DeepDefault;
@@ -56,5 +55,4 @@ pub use sequences::{AllDefault, AllOptional, DefaultAndOptional, DefaultInteger,
 pub use sets::Foo;
 pub use top_levels::{TestChoice, TopLevel};
 pub use versions::{Addition7, Addition7Components, Sequence7, Sequence7Components};
-pub use wide_choice::WideChoice;
 pub use wrappers::{HashedId3, Negative, Positive};
