@@ -95,10 +95,22 @@ fn with_scope<W: UnderConstraints + Drop>(word: &str, work: W) -> Option<W::Outp
         "Boxed" => Some(work.under::<Box<bool>>(Constraints::NONE)),
         "Pair" => Some(work.under::<Pair>(Constraints::NONE)),
         "Nested" => Some(work.under::<Nested>(Constraints::NONE)),
+        _ => with_options(word, work),
+    }
+}
+
+fn with_options<W: UnderConstraints + Drop>(word: &str, work: W) -> Option<W::Output> {
+    match word {
         "AllOptional" => Some(work.under::<AllOptional>(Constraints::NONE)),
         "AllDefault" => Some(work.under::<AllDefault>(Constraints::NONE)),
         "ConstrainedOptions" => Some(work.under::<ConstrainedOptions>(Constraints::NONE)),
         "AddDef" => Some(work.under::<AddDef>(Constraints::NONE)),
+        _ => with_other_scope(word, work),
+    }
+}
+
+fn with_other_scope<W: UnderConstraints + Drop>(word: &str, work: W) -> Option<W::Output> {
+    match word {
         "BoolChoice" => Some(work.under::<BoolChoice>(Constraints::NONE)),
         "MixedSet" => Some(work.under::<MixedSet>(Constraints::NONE)),
         "Bush" => Some(work.under::<Bush>(Constraints::NONE)),

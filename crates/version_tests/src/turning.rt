@@ -132,6 +132,39 @@ impl<'a> Turning<'a> {
             Err(Error::msg("answered otherwise within another type"))
         }
     }
+
+    fn in_box<New: Decode + Encode, Old: Decode + Encode + Eq>(self, plain: &Turned) -> Result<()> {
+        self.in_nest::<Box<New>, Box<Old>>(Nest::Alone, plain)
+    }
+
+    /// By a box, whose size is known.
+    fn in_sequence<New: Decode + Encode, Old: Decode + Encode + Eq>(
+        self,
+        plain: &Turned,
+    ) -> Result<()> {
+        self.in_nest::<Holding<Box<New>>, Holding<Box<Old>>>(Nest::Alone, plain)
+    }
+
+    fn in_list<New: Decode + Encode, Old: Decode + Encode + Eq>(
+        self,
+        plain: &Turned,
+    ) -> Result<()> {
+        self.in_nest::<Vec<New>, Vec<Old>>(Nest::Twice, plain)
+    }
+
+    fn in_unordered_list<New: Decode + Encode, Old: Decode + Encode + Eq>(
+        self,
+        plain: &Turned,
+    ) -> Result<()> {
+        self.in_nest::<SetOf<New>, SetOf<Old>>(Nest::Twice, plain)
+    }
+
+    fn in_addition<New: Decode + Encode, Old: Decode + Encode + Eq>(
+        self,
+        plain: &Turned,
+    ) -> Result<()> {
+        self.in_nest::<Adding<Box<New>>, Adding<Box<Old>>>(Nest::Added, plain)
+    }
 }
 
 impl<'a> OnPair for Turning<'a> {
@@ -139,12 +172,11 @@ impl<'a> OnPair for Turning<'a> {
 
     fn on<New: Decode + Encode + Eq, Old: Decode + Encode + Eq>(self) -> Result<String> {
         let plain = self.turned::<New, Old>(self.octets)?;
-        self.in_nest::<Box<New>, Box<Old>>(Nest::Alone, &plain)?;
-        // by a box, whose size is known
-        self.in_nest::<Holding<Box<New>>, Holding<Box<Old>>>(Nest::Alone, &plain)?;
-        self.in_nest::<Vec<New>, Vec<Old>>(Nest::Twice, &plain)?;
-        self.in_nest::<SetOf<New>, SetOf<Old>>(Nest::Twice, &plain)?;
-        self.in_nest::<Adding<Box<New>>, Adding<Box<Old>>>(Nest::Added, &plain)?;
+        self.in_box::<New, Old>(&plain)?;
+        self.in_sequence::<New, Old>(&plain)?;
+        self.in_list::<New, Old>(&plain)?;
+        self.in_unordered_list::<New, Old>(&plain)?;
+        self.in_addition::<New, Old>(&plain)?;
         match plain {
             Ok((other, own)) => {
                 let other = hex::encode(self.alloc, other.as_slice())?;

@@ -9,27 +9,65 @@ use oer_types::{
 };
 
 /// Does it with the sequence or set of that word; the work again where none has it.
+///
+/// A few types a function: what the check looks at in one grows with the square of how many it names.
 pub(super) fn with_sequence<W: OnType>(word: &str, work: W) -> Result<W::Output, W> {
     match word {
         "empty" => Ok(work.on::<Empty>()),
         "emptyext" => Ok(work.on::<EmptyExtensible>()),
         "seq1" => Ok(work.on::<Sequence1>()),
-        "seq2" => Ok(work.on::<Sequence2>()),
-        "seq3" => Ok(work.on::<Sequence3>()),
-        "seq5" => Ok(work.on::<Sequence5>()),
-        "seq6" => Ok(work.on::<Sequence6>()),
-        "seq7" => Ok(work.on::<Sequence7>()),
-        "outer" => Ok(work.on::<Outer>()),
-        "defint" => Ok(work.on::<DefaultInteger>()),
-        "defopt" => Ok(work.on::<DefaultAndOptional>()),
-        "deepdef" => Ok(work.on::<DeepDefault>()),
-        "holder1" => Ok(work.on::<Holder1>()),
-        "holder2" => Ok(work.on::<Holder2>()),
         "omitted" => Ok(work.on::<Omitted>()),
+        _ => with_additions(word, work),
+    }
+}
+
+fn with_additions<W: OnType>(word: &str, work: W) -> Result<W::Output, W> {
+    match word {
+        "seq2" => Ok(work.on::<Sequence2>()),
+        "seq5" => Ok(work.on::<Sequence5>()),
+        "seq7" => Ok(work.on::<Sequence7>()),
+        _ => with_groups(word, work),
+    }
+}
+
+fn with_groups<W: OnType>(word: &str, work: W) -> Result<W::Output, W> {
+    match word {
+        "seq3" => Ok(work.on::<Sequence3>()),
+        "seq6" => Ok(work.on::<Sequence6>()),
+        "outer" => Ok(work.on::<Outer>()),
+        _ => with_long_sequence(word, work),
+    }
+}
+
+fn with_long_sequence<W: OnType>(word: &str, work: W) -> Result<W::Output, W> {
+    match word {
         "dup" => Ok(work.on::<SequenceDuplicatesExtended>()),
         "extopt" => Ok(work.on::<ExtendedOptional>()),
         "manyopt" => Ok(work.on::<ManyOptional>()),
+        _ => with_default(word, work),
+    }
+}
+
+fn with_default<W: OnType>(word: &str, work: W) -> Result<W::Output, W> {
+    match word {
+        "defint" => Ok(work.on::<DefaultInteger>()),
+        "defopt" => Ok(work.on::<DefaultAndOptional>()),
+        "deepdef" => Ok(work.on::<DeepDefault>()),
+        _ => with_holder(word, work),
+    }
+}
+
+fn with_holder<W: OnType>(word: &str, work: W) -> Result<W::Output, W> {
+    match word {
+        "holder1" => Ok(work.on::<Holder1>()),
+        "holder2" => Ok(work.on::<Holder2>()),
         "toplevel" => Ok(work.on::<TopLevel>()),
+        _ => with_set(word, work),
+    }
+}
+
+fn with_set<W: OnType>(word: &str, work: W) -> Result<W::Output, W> {
+    match word {
         "foo" => Ok(work.on::<Foo>()),
         "mixset" => Ok(work.on::<MixedSet>()),
         "mixset2" => Ok(work.on::<MixedSet2>()),
@@ -43,13 +81,25 @@ pub(super) fn with_list_or_choice<W: OnType>(word: &str, work: W) -> Result<W::O
         "choice" => Ok(work.on::<PriorityChoice>()),
         "tagmax" => Ok(work.on::<WideChoice>()),
         "tag130" => Ok(work.on::<OnlyChoice>()),
+        _ => with_list(word, work),
+    }
+}
+
+fn with_list<W: OnType>(word: &str, work: W) -> Result<W::Output, W> {
+    match word {
         "ints" => Ok(work.on::<Vec<Integer>>()),
         "nulls" => Ok(work.on::<Vec<()>>()),
+        "nest" => Ok(work.on::<Nest>()),
+        _ => with_unordered_list(word, work),
+    }
+}
+
+fn with_unordered_list<W: OnType>(word: &str, work: W) -> Result<W::Output, W> {
+    match word {
         "intset" => Ok(work.on::<SetOf<Integer>>()),
         "bag1" => Ok(work.on::<SetOf<Sequence1>>()),
         "bag2" => Ok(work.on::<SetOf<Sequence2>>()),
         "bag3" => Ok(work.on::<SetOf<Sequence7>>()),
-        "nest" => Ok(work.on::<Nest>()),
         _ => Err(work),
     }
 }
