@@ -1,5 +1,6 @@
 #!/usr/bin/env python3
-"""Runs a command, hands its lines on, and prints before its last line the processor minutes of each crate.
+"""Runs a command, hands its lines on, and prints before its last line the processor minutes of each crate and, with
+what runs behind it, the minutes by the clock.
 
 usage: minutes.py COMMAND... [--then COMMAND...]..., for example: minutes.py rt ci --then scripts/memory/run.py
 
@@ -14,6 +15,7 @@ import resource
 import subprocess
 import sys
 import threading
+import time
 
 PARTS = ("proof", "tests", "edits")
 TICKS = os.sysconf("SC_CLK_TCK")
@@ -120,6 +122,7 @@ def counting(line, failed):
 
 def main():
     first, *others = commands(sys.argv[1:])
+    began = time.monotonic()
     command = subprocess.Popen(first, stdout=subprocess.PIPE, stderr=subprocess.STDOUT)
     watch = Watch(command.pid)
     watch.start()
@@ -134,6 +137,8 @@ def main():
     print(table(watch.rows(), used.ru_utime + used.ru_stime), flush=True)
     if statuses[0] == 0:
         statuses += [subprocess.run(other, check=False).returncode for other in others]
+    took = (time.monotonic() - began) / 60
+    print(f"{took:.1f} minutes by the clock, on {len(os.sched_getaffinity(0))} processors", flush=True)
     sys.stdout.buffer.write(counting(held, sum(status != 0 for status in statuses[1:])))
     sys.stdout.buffer.flush()
     status = next((status for status in statuses if status), 0)
