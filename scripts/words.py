@@ -85,9 +85,9 @@ def turn(copy, types):
 
 
 # Structs around one value, which the printed types have otherwise; and names of components that they can't have.
-AROUND = {"Limited", "Octets", "OpenOctets", "BmpText", "HashedId3", "Positive", "Negative"}
+AROUND = {"Limited", "Octets", "OpenOctets", "ListOf", "HashedId3", "Positive", "Negative"}
 OTHER = {"seq3": {"b": "group_1", "a2": "a"}, "seq6": {"b": "group_1", "a2": "a"}, "seq7": {"group": "group_1"}, "bag3": {"group": "group_1"}}
-PIECE = re.compile(r'"(?:[^"\\\\]|\\\\.)*"|b"(?:[^"\\\\]|\\\\.)*"|PhantomData<_>|[^\s{}()\[\],:]+|[{}()\[\],:]')
+PIECE = re.compile(r'b?"(?:[^"\\]|\\.)*"|PhantomData<_>|\d{4}-[\dT:.-]+|[^\s{}()\[\],:]+|[{}()\[\],:]')
 
 
 class Shown:
@@ -127,7 +127,7 @@ class Shown:
         if self.sees("("):
             self.next()
             held = self.parts(")", self.value)
-            return held[0] if name in AROUND else (name, held)
+            return held[0] if name in AROUND or name.endswith("Text") else (name, held)
         if self.sees("{"):
             self.next()
             held = self.parts("}", self.field)
