@@ -1,8 +1,12 @@
 //! Reading boxes: a box is read as its content.
+ghost use Rattle.std.specs.Fn.{FnOnceTakesAtMut, FnOnceReturnsAtMut};
+ghost use Rattle.oer_read.specs.Law.{Decodes};
+ghost use Rattle.oer_read.specs.State.{State};
 
 use crate::decode::Decode;
 use crate::decoder::Decoder;
 use asn1_core::{Constraints, DecodeError, Tag};
+use oer_spec::Spelled;
 use std::alloc::Global;
 
 /// A box is read as its content; memory may be refused, as `OutOfMemory`.
@@ -24,6 +28,32 @@ impl<T: Decode> Decode for Box<T> {
                 Err(_) => {
                     decoder.set_remaining(input);
                     Err(decoder.want_of_memory())
+                }
+                Ok(boxed) => Ok(boxed),
+            },
+        }
+    }
+}
+
+impl<'input> Decoder<'input> {
+    /// Reads a box as its content, by `f`; memory may be refused, as `OutOfMemory`.
+    ///
+    /// Refused, the first that applies: what `f` refuses; the box, for want of memory.
+    pub fn decode_boxed_with<D, F>(&mut self, alloc: Global, f: F) -> Result<Box<D>, DecodeError>
+    where
+        D: Spelled,
+        F: FnOnce(&mut Decoder<'_>) -> Result<D, DecodeError>,
+        requires callable { FnOnceTakesAtMut F.FnOnce f self.old }
+        requires law { (s t : State) (r : _) → FnOnceReturnsAtMut F.FnOnce f s r t → Decodes (D.tree D.CONSTRAINTS) D.IsValue s r t }
+        ensures { Decodes (λ b. D.tree D.CONSTRAINTS b.value) (λ b. D.IsValue b.value) self.old result self.new }
+    {
+        let input = self.remaining();
+        match f(self) {
+            Err(e) => Err(e),
+            Ok(value) => match Box::new(alloc, value) {
+                Err(_) => {
+                    self.set_remaining(input);
+                    Err(self.want_of_memory())
                 }
                 Ok(boxed) => Ok(boxed),
             },

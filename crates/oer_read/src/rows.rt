@@ -1,19 +1,21 @@
 //! Optional and default components: each is asked by the next presence bit, in the order of the table.
 
-ghost use Rattle.std.specs.Prelude.{◌≡◌, ◌∷◌, List, IfOk, IfErr, OnErr, Bool, map};
+ghost use Rattle.std.specs.Prelude.{◌≡◌, ◌∷◌, List, IfOk, IfErr, OnErr, Bool, true, ⊤, map};
+ghost use Rattle.std.specs.Fn.{FnOnceTakesAtMut, FnOnceReturnsAtMut};
 ghost use Rattle.asn1_core.specs.Rows.{row};
 ghost use Rattle.oer_leaf_read.specs.Views.{bits_left};
 ghost use Rattle.oer_spec.specs.Spelled.{IsConsistent};
 ghost use Rattle.oer_read.specs.Components.{asking, Asks};
 ghost use Rattle.oer_read.specs.Law.{Decodes};
 ghost use Rattle.oer_read.specs.Scopes.{missing};
-ghost use Rattle.oer_read.specs.State.{Ask, asks_of};
+ghost use Rattle.oer_read.specs.State.{Ask, State, asks_of};
 
 use crate::decode::Decode;
 use crate::decoder::Decoder;
 use crate::scopes::{missing, next_bit, next_marked};
 use asn1_core::{Constraints, DecodeError, Field, Tag};
 use oer_leaf_read::BitSlice;
+use oer_spec::Spelled;
 use std::alloc::Global;
 
 impl<'input> Decoder<'input> {
@@ -70,6 +72,34 @@ impl<'input> Decoder<'input> {
                 Err(e) => {
                     self.ask_from(roots, presence);
                     Err(e)
+                }
+                Ok(value) => Ok(Some(value)),
+            },
+        }
+    }
+
+    /// Reads an optional component, by `f` where the next presence bit is 1: none where it is 0.
+    ///
+    /// Refused, the first that applies: no root row is left to ask, or the next one has another tag, as
+    /// `MissingTagClassOrValueInSequenceOrSet` with `tag`; what `f` refuses.
+    #[inline(always)]
+    pub fn decode_optional_with<D, F>(&mut self, tag: Tag, f: F) -> Result<Option<D>, DecodeError>
+    where
+        D: Spelled,
+        F: FnOnce(&mut Decoder<'_>) -> Result<D, DecodeError>,
+        requires callable { (more : List Ask) → self.old.frame.asks ≡ record { tag = tag; bit = true } ∷ more → FnOnceTakesAtMut F.FnOnce f (asking self.old more) }
+        requires law { (s t : State) (r : _) → FnOnceReturnsAtMut F.FnOnce f s r t → Decodes (D.tree D.CONSTRAINTS) D.IsValue s r t }
+        ensures { Asks (D.tree D.CONSTRAINTS) D.IsValue (λ s r t. ⊤) self.old tag result self.new }
+    {
+        let roots = self.scope.roots;
+        let presence = self.scope.presence;
+        match self.next_row(tag) {
+            Err(e) => Err(e),
+            Ok(false) => Ok(None),
+            Ok(true) => match f(self) {
+                Err(refused) => {
+                    self.ask_from(roots, presence);
+                    Err(refused)
                 }
                 Ok(value) => Ok(Some(value)),
             },
