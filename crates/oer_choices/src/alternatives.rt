@@ -6,6 +6,7 @@ ghost use Rattle.oer_read.specs.Law.{Decodes};
 use asn1_core::{Choice, DecodeError, Tag};
 use oer_read::{Decode, Decoder};
 use oer_rows::{Extensible, NoMore, Place};
+use oer_spec::Spelled;
 use std::alloc::Global;
 use std::convert::Infallible;
 use std::marker::PhantomData;
@@ -33,7 +34,10 @@ pub trait Alternatives {
     ghost choices: { Choices Self.Values };
 
     ghost are_choices: { AreChoices choices };
+}
 
+/// A row whose alternatives are read.
+pub trait ReadsAlternatives: Alternatives {
     /// Reads what the alternative with that tag holds (X.696, 20): the value is an admitted one, and of that alternative.
     ///
     /// Refused: a tag of no alternative, as `InvalidTagVariantOnChoice` of the choice `D`; else what the alternative's type
@@ -43,8 +47,8 @@ pub trait Alternatives {
         decoder: &mut Decoder<'_>,
         tag: Tag,
     ) -> Result<Self::Values, DecodeError>
-        requires distinct { AreDistinct (choices.roots ++ choices.additions) }
-        ensures { Decodes choices.child (λ v. choices.IsValue v × (choices.tag_of v ≡ tag)) decoder.old result decoder.new };
+        requires distinct { AreDistinct (Self.choices.roots ++ Self.choices.additions) }
+        ensures { Decodes Self.choices.child (λ v. Self.choices.IsValue v × (Self.choices.tag_of v ≡ tag)) decoder.old result decoder.new };
 }
 
 /// An alternative of type `B` with the tag `G`, and the row `R` after it.
@@ -66,7 +70,9 @@ impl Alternatives for NoMore {
     ghost choices = { no_choice };
 
     ghost are_choices = { no_choice_is };
+}
 
+impl ReadsAlternatives for NoMore {
     fn read<D: Choice>(
         _alloc: Global,
         decoder: &mut Decoder<'_>,
@@ -76,7 +82,7 @@ impl Alternatives for NoMore {
     }
 }
 
-impl<G: Place, B: Decode, R: Alternatives> Alternatives for Offers<G, B, R> {
+impl<G: Place, B: Spelled, R: Alternatives> Alternatives for Offers<G, B, R> {
     ghost use Rattle.oer_choices.specs.Choosing.{one_of, one_of_is};
     ghost use Rattle.oer_rows.specs.Schema.{typed, typed_is};
 
@@ -85,7 +91,9 @@ impl<G: Place, B: Decode, R: Alternatives> Alternatives for Offers<G, B, R> {
     ghost choices = { one_of G.tag (typed B.tree B.CONSTRAINTS B.IsValue) R.choices };
 
     ghost are_choices = { one_of_is G.tag (typed B.tree B.CONSTRAINTS B.IsValue) R.choices (typed_is B.tree B.IsValue B.is_tree B.alike B.CONSTRAINTS B.consistent) R.are_choices };
+}
 
+impl<G: Place, B: Decode, R: ReadsAlternatives> ReadsAlternatives for Offers<G, B, R> {
     fn read<D: Choice>(
         alloc: Global,
         decoder: &mut Decoder<'_>,
@@ -114,7 +122,9 @@ impl<R: Alternatives> Alternatives for Extensible<R> {
     ghost choices = { adding R.choices };
 
     ghost are_choices = { adding_is R.choices R.are_choices };
+}
 
+impl<R: ReadsAlternatives> ReadsAlternatives for Extensible<R> {
     fn read<D: Choice>(
         alloc: Global,
         decoder: &mut Decoder<'_>,

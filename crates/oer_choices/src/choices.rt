@@ -3,7 +3,7 @@ ghost use Rattle.std.specs.Prelude.{◌≡◌, ◌++◌, true};
 ghost use Rattle.oer_choices.specs.Choosing.{are_apart, IsOneOf};
 ghost use Rattle.oer_read.specs.Law.{Decodes};
 
-use crate::alternatives::Alternatives;
+use crate::alternatives::ReadsAlternatives;
 use asn1_core::{AsnType, Choice, Constraints, DecodeError, EncodeError, Tag};
 use oer_read::{Decode, DecodeChoice, Decoder};
 use oer_spec::Spelled;
@@ -69,7 +69,7 @@ pub trait TakesAlternative: Alternating {
 
     /// Reads what the alternative with that tag holds (X.696, 20): `read_alternative`.
     ///
-    /// Refused as `Alternatives::read` refuses, with the choice `D`.
+    /// Refused as `ReadsAlternatives::read` refuses, with the choice `D`.
     fn take<D: Choice>(
         alloc: Global,
         decoder: &mut Decoder<'_>,
@@ -80,8 +80,8 @@ pub trait TakesAlternative: Alternating {
 
 /// Reads what the alternative with that tag holds (X.696, 20), by the row `R` of `T`: what `TakesAlternative::take` calls.
 ///
-/// Refused as `Alternatives::read` refuses.
-pub fn read_alternative<T: Alternating, R: Alternatives<Values = T::Values>, D: Choice>(
+/// Refused as `ReadsAlternatives::read` refuses.
+pub fn read_alternative<T: Alternating, R: ReadsAlternatives<Values = T::Values>, D: Choice>(
     alloc: Global,
     decoder: &mut Decoder<'_>,
     tag: Tag,

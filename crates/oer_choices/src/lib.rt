@@ -7,7 +7,7 @@ mod choices;
 mod enumerations;
 mod views;
 
-pub use alternatives::{Alternatives, Either, Offers};
+pub use alternatives::{Alternatives, Either, Offers, ReadsAlternatives};
 pub use choices::{Alternating, OneOf, TakesAlternative, read_alternative};
 pub use enumerations::{Enumeration, Numbered};
 pub use oer_rows::{Application, Context, Extensible, NoMore, Place, Private, Universal};

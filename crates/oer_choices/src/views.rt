@@ -5,7 +5,6 @@ ghost use Rattle.oer_write.specs.Choices.{WritesAlternative};
 
 use crate::alternatives::{Alternatives, Either, Offers};
 use asn1_core::{Choice, Constraints, EncodeError, Tag};
-use oer_read::Decode;
 use oer_rows::{Extensible, NoMore, Place};
 use oer_write::{Encode, Encoder};
 
@@ -70,7 +69,7 @@ impl<'v> AlternativeViews<'v> for NoMore {
     }
 }
 
-impl<'v, G: Place, B: Decode + Encode + 'v, R: AlternativeViews<'v>> AlternativeViews<'v>
+impl<'v, G: Place, B: Encode + 'v, R: AlternativeViews<'v>> AlternativeViews<'v>
     for Offers<G, B, R> {
     type View = Either<&'v B, R::View>;
 

@@ -42,7 +42,7 @@ fn settled<D: Standard<B>, B: EqualAsSpelled>(
 ///
 /// Refused as an optional component is; then as `settled` refuses.
 #[inline(always)]
-pub(crate) fn read_default<D: Standard<B>, B: Decode + EqualAsSpelled>(
+pub fn read_default<D: Standard<B>, B: Decode + EqualAsSpelled>(
     alloc: Global,
     decoder: &mut Decoder<'_>,
     tag: Tag,

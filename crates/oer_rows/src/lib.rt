@@ -26,6 +26,7 @@ pub use additions::{Additions, Extensible, MayAdd, ReadsAdditions};
 pub use both::Both;
 pub use compared::Compared;
 pub use components::{Components, Defaults, MayHave, Needs, NoMore, Reads};
+pub use defaults::read_default;
 pub use held_octets::{Octets, OpenOctets};
 pub use held_texts::{Ia5Text, NumericText, PrintableText, Utf8Text, VisibleText};
 pub use limited::{Limited, Limits};

@@ -12,7 +12,7 @@ use std::fmt::{self, Debug};
 
 /// What a type says beside its row to be the content of a `Sequence`: its tables, and its components as its row writes
 /// them.
-pub trait Tabled<const RC: usize, const EC: usize>: Takes {
+pub trait Tabled<const RC: usize, const EC: usize>: Rowed + Drop {
     ghost use Rattle.std.specs.Prelude.{◌≡◌, length, map, OnOk};
     ghost use Rattle.asn1_core.specs.Rows.{row};
     ghost use Rattle.oer_write.specs.Rows.{InSequence};
@@ -71,7 +71,7 @@ impl<const RC: usize, const EC: usize, T: Tabled<RC, EC>> Rowed for Sequence<T, 
     }
 }
 
-impl<const RC: usize, const EC: usize, T: Tabled<RC, EC>> Takes for Sequence<T, RC, EC> {
+impl<const RC: usize, const EC: usize, T: Tabled<RC, EC> + Takes> Takes for Sequence<T, RC, EC> {
     fn take(alloc: Global, decoder: &mut Decoder<'_>) -> Result<Sequence<T, RC, EC>, DecodeError> {
         Ok(Sequence(T::take(alloc, decoder)?))
     }
@@ -159,7 +159,7 @@ impl<const RC: usize, const EC: usize, T: Tabled<RC, EC>> Encode for Sequence<T,
     }
 }
 
-impl<const RC: usize, const EC: usize, T: Tabled<RC, EC>> Decode for Sequence<T, RC, EC> {
+impl<const RC: usize, const EC: usize, T: Tabled<RC, EC> + Takes> Decode for Sequence<T, RC, EC> {
     ghost use Rattle.std.specs.Prelude.{⊤};
 
     ghost Answered = { λ c s r t. ⊤ };

@@ -1,5 +1,6 @@
 //! Sets of the components of a type, which stand in its row in the order of their tags.
 
+use crate::rowed::Takes;
 use crate::sequences::{Sequence, Tabled};
 use crate::writing::{Writes, encode_rows};
 use asn1_core::{AsnType, Constraints, Constructed, DecodeError, EncodeError, Field, Fields, Tag};
@@ -112,7 +113,7 @@ impl<const RC: usize, const EC: usize, T: InTagOrder<RC, EC>> Encode for Set<T, 
     }
 }
 
-impl<const RC: usize, const EC: usize, T: InTagOrder<RC, EC>> Decode for Set<T, RC, EC> {
+impl<const RC: usize, const EC: usize, T: InTagOrder<RC, EC> + Takes> Decode for Set<T, RC, EC> {
     ghost use Rattle.std.specs.Prelude.{⊤};
 
     ghost Answered = { λ c s r t. ⊤ };

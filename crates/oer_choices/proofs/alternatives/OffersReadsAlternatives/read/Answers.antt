@@ -1,6 +1,6 @@
 use Rattle.std.proofs.Common.{sym, ◌∙◌}
 use Rattle.oer_choices.proofs.Reading.{first_read, first_stops, rest_read, rest_stops}
-use Rattle.oer_choices.proofs.alternatives.OffersAlternatives.read.Goals as goal
+use Rattle.oer_choices.proofs.alternatives.OffersReadsAlternatives.read.Goals as goal
 
 pub returns-in-Ok : goal.returns-in-Ok
 returns-in-Ok g c = first_read _ _ _ _ g.R.Alternatives.are_choices c.requires.distinct (sym c.tag.ensures ∙ c.is_same.ensures.same c.if-is_same.true) _ _ _ c.in-Ok.ensures.law
