@@ -4,6 +4,10 @@ pub mod Conversions
 pub use Rattle.oer_rows.specs.Values as Values
 pub use Rattle.oer_choices.specs.declared.alternatives.Either.TheVariants as Alternative
 pub use Rattle.asn1_core.specs.declared.constraints.Bounded.TheVariants as Bounded
+-- what a type that contains itself names
+pub use Rattle.oer_knots.specs.Knots as Knots
+pub use Rattle.oer_knots.specs.Ties as Ties
+pub use Rattle.oer_knots.specs.Choices as KnotChoices
 -- what a default of octets or bits names
 pub use Rattle.oer_rows.specs.Literals as Literals
 pub use Rattle.asn1_core.specs.Octets as Octets

@@ -1,0 +1,6 @@
+pub mod Choices
+pub mod Knots
+pub mod Lists
+pub mod Reading
+pub mod Rows
+pub mod Ties

@@ -1,0 +1,97 @@
+//! The place of a knot in a type that it contains.
+ghost use Rattle.oer_read.specs.Law.{Decodes};
+ghost use Rattle.oer_knots.specs.Reading.{ReadsKnots};
+
+use crate::ties::{DecodeKnot, HoldsKnot};
+use asn1_core::{AsnType, Constraints, DecodeError, EncodeError, Tag};
+use oer_read::{Decode, Decoder};
+use oer_spec::Spelled;
+use oer_write::{Encode, Encoder};
+use std::alloc::Global;
+
+/// A value of a type that may contain this one: in a box.
+#[derive(Debug, PartialEq, Eq, Drop)]
+pub struct Held<K>(pub Box<K>);
+
+impl<K: AsnType> AsnType for Held<K> {
+    ghost TAG = { K.TAG };
+
+    const TAG: Tag = K::TAG;
+
+    ghost CONSTRAINTS = { K.CONSTRAINTS };
+
+    const CONSTRAINTS: Constraints = K::CONSTRAINTS;
+
+    ghost consistent = { K.consistent };
+
+    const IS_CHOICE: bool = K::IS_CHOICE;
+}
+
+impl<K: Spelled> Spelled for Held<K> {
+    ghost tree = { λ c h. K.tree c h.0.value };
+
+    ghost IsValue = { λ h. K.IsValue h.0.value };
+
+    ghost is_tree = { λ c k h i. K.is_tree c k h.0.value i };
+
+    ghost alike = { λ c k g h i j. K.alike c k g.0.value h.0.value i j };
+}
+
+impl<K: Encode> Encode for Held<K> {
+    fn encode_with_tag_and_constraints(
+        &self,
+        encoder: &mut Encoder<'_>,
+        tag: Tag,
+        constraints: Constraints,
+    ) -> Result<(), EncodeError> {
+        (*self.0).encode_with_tag_and_constraints(encoder, tag, constraints)
+    }
+}
+
+impl<K: Decode> Decode for Held<K> {
+    ghost use Rattle.std.specs.Prelude.{⊤};
+
+    ghost Answered = { λ c s r t. ⊤ };
+
+    fn decode_with_tag_and_constraints(
+        alloc: Global,
+        decoder: &mut Decoder<'_>,
+        tag: Tag,
+        constraints: Constraints,
+    ) -> Result<Held<K>, DecodeError> {
+        match Box::<K>::decode_with_tag_and_constraints(alloc, decoder, tag, constraints) {
+            Ok(content) => Ok(Held(content)),
+            Err(e) => Err(e),
+        }
+    }
+}
+
+impl<K> HoldsKnot<K> for Held<K> {
+    ghost use Rattle.oer_knots.specs.Ties.{held_tied, held_weight, held_ties};
+
+    ghost tied = { held_tied (λ h. h.0.value) };
+
+    ghost weight = { held_weight (λ h. h.0.value) };
+
+    ghost ties = { held_ties (λ h. h.0.value) };
+}
+
+impl<K: Spelled> DecodeKnot<K> for Held<K> {
+    fn decode_knot<F: Fn(&mut Decoder<'_>) -> Result<K, DecodeError>>(
+        alloc: Global,
+        decoder: &mut Decoder<'_>,
+        _tag: Tag,
+        knot: &F,
+    ) -> Result<Held<K>, DecodeError> {
+        match decoder.decode_boxed_with::<K, _>(
+            alloc,
+            |inner: &mut Decoder<'_>| -> Result<K, DecodeError>
+                requires { ReadsKnots F.Fn knot.now (K.tree K.CONSTRAINTS) K.IsValue inner.old.levels }
+                ensures { Decodes (K.tree K.CONSTRAINTS) K.IsValue inner.old result inner.new }
+            { knot(inner) },
+        ) {
+            Ok(content) => Ok(Held(content)),
+            Err(e) => Err(e),
+        }
+    }
+}

@@ -1,0 +1,24 @@
+//! Types that contain themselves, by their rows.
+#![tactic(auto)]
+
+mod cells;
+mod choices;
+mod held;
+mod knots;
+mod lists;
+mod reading;
+mod rows;
+mod sequences;
+mod ties;
+
+pub use cells::{MayHaveKnot, NeedsKnot};
+pub use choices::{
+    KnotAlternating, KnotAlternatives, OffersKnot, ReadsKnotAlternatives, TakesKnotAlternative,
+    read_knot_alternative,
+};
+pub use held::Held;
+pub use knots::{Knot, Layered, decode_knotted, layer_of};
+pub use reading::ReadsKnot;
+pub use rows::KnotRow;
+pub use sequences::{KnotRowed, TakesKnot, read_knot_row};
+pub use ties::{DecodeInside, DecodeKnot, HoldsKnot};

@@ -1,0 +1,283 @@
+//! Rows that are read, where what reads a knot is handed in.
+ghost use Rattle.std.specs.Prelude.{◌≡◌, ⊤, OnOk};
+ghost use Rattle.oer_read.specs.Components.{Asks};
+ghost use Rattle.oer_read.specs.Law.{Decodes};
+ghost use Rattle.oer_read.specs.Parts.{Takes, Stops};
+ghost use Rattle.oer_knots.specs.Reading.{ReadsKnots};
+
+use crate::cells::{MayHaveKnot, NeedsKnot};
+use crate::ties::DecodeKnot;
+use asn1_core::{DecodeError, Tag};
+use oer_read::{Decode, Decoder};
+use oer_rows::{
+    Both, Components, Defaults, Extensible, MayHave, Needs, NoMore, Place, ReadsAdditions,
+    Standard, read_default,
+};
+use oer_spec::{EqualAsSpelled, Spelled};
+use std::alloc::Global;
+
+/// A row whose components are read, each knot in them by what is handed in.
+pub trait ReadsKnot<K: Spelled>: Components {
+    /// Where they are put as they are read, as of `Reads`.
+    type Slots;
+
+    /// What the places hold once these values are read.
+    ghost filled: { Self.Values → Self.Slots };
+
+    /// They hold no other values.
+    ghost filled_once: { (v w : Self.Values) → filled v ≡ filled w → v ≡ w };
+
+    /// Places that hold nothing.
+    fn empty() -> Self::Slots;
+
+    /// Reads them into their places, in the order of the row, inside the scope of a sequence (X.696, 16); each value of `K` in
+    /// them by `knot`.
+    ///
+    /// Refused, the first that applies, as the calls of `Decoder` refuse that read each component.
+    fn read<F: Fn(&mut Decoder<'_>) -> Result<K, DecodeError>>(
+        alloc: Global,
+        decoder: &mut Decoder<'_>,
+        slots: &mut Self::Slots,
+        knot: &F,
+    ) -> Result<(), DecodeError>
+        requires { ReadsKnots F.Fn knot.now (K.tree K.CONSTRAINTS) K.IsValue decoder.old.levels }
+        ensures read { OnOk result ((v : Self.Values) × (slots.new ≡ filled v) × Takes decoder.old Self.schema.roots.parts Self.schema.additions.parts (Self.schema.roots.rows v) (Self.schema.additions.rows v) decoder.new × Self.schema.roots.IsValue v × Self.schema.additions.IsValue v) }
+        ensures stops { Stops decoder.old Self.schema.roots.parts Self.schema.additions.parts result };
+
+    /// The values that the places hold.
+    fn taken(slots: Self::Slots) -> Self::Values
+        requires { (v : Self.Values) × (slots ≡ filled v) }
+        ensures { slots ≡ filled result };
+}
+
+/// Reads an OPTIONAL component by its presence bit, each knot in it by `knot`.
+///
+/// Refused as `Decoder::decode_optional_with` refuses, with what the component's type does.
+#[inline(always)]
+fn read_optional<K: Spelled, B: DecodeKnot<K>, F: Fn(&mut Decoder<'_>) -> Result<K, DecodeError>>(
+    alloc: Global,
+    decoder: &mut Decoder<'_>,
+    tag: Tag,
+    knot: &F,
+) -> Result<Option<B>, DecodeError>
+    requires { ReadsKnots F.Fn knot.now (K.tree K.CONSTRAINTS) K.IsValue decoder.old.levels }
+    ensures { Asks (B.tree B.CONSTRAINTS) B.IsValue (λ s r t. ⊤) decoder.old tag result decoder.new }
+{
+    decoder.decode_optional_with::<B, _>(
+        tag,
+        |inner: &mut Decoder<'_>| -> Result<B, DecodeError>
+            requires { ReadsKnots F.Fn knot.now (K.tree K.CONSTRAINTS) K.IsValue inner.old.levels }
+            ensures { Decodes (B.tree B.CONSTRAINTS) B.IsValue inner.old result inner.new }
+        { B::decode_knot(alloc, inner, tag, knot) },
+    )
+}
+
+impl<K: Spelled> ReadsKnot<K> for NoMore {
+    ghost use Rattle.std.specs.Prelude.{refl};
+
+    type Slots = ();
+
+    ghost filled = { λ v. tt };
+
+    ghost filled_once = { λ v w e. refl };
+
+    fn empty() -> () {
+        ()
+    }
+
+    fn read<F: Fn(&mut Decoder<'_>) -> Result<K, DecodeError>>(
+        _alloc: Global,
+        _decoder: &mut Decoder<'_>,
+        _slots: &mut (),
+        _knot: &F,
+    ) -> Result<(), DecodeError> {
+        Ok(())
+    }
+
+    fn taken(_slots: ()) -> () {
+        ()
+    }
+}
+
+/// No addition holds a knot.
+impl<K: Spelled, R: ReadsAdditions> ReadsKnot<K> for Extensible<R> {
+    type Slots = R::Slots;
+
+    ghost filled = { R.filled };
+
+    ghost filled_once = { R.filled_once };
+
+    fn empty() -> R::Slots {
+        R::empty()
+    }
+
+    fn read<F: Fn(&mut Decoder<'_>) -> Result<K, DecodeError>>(
+        alloc: Global,
+        decoder: &mut Decoder<'_>,
+        slots: &mut R::Slots,
+        _knot: &F,
+    ) -> Result<(), DecodeError> {
+        R::read_additions(alloc, decoder, slots)
+    }
+
+    fn taken(slots: R::Slots) -> R::More {
+        R::taken(slots)
+    }
+}
+
+impl<K: Spelled, G: Place, B: Decode, R: ReadsKnot<K>> ReadsKnot<K> for Needs<G, B, R> {
+    ghost use Rattle.oer_rows.specs.Slots.{with_needed, needed_once};
+
+    type Slots = Both<Option<B>, R::Slots>;
+
+    ghost filled = { with_needed R.filled };
+
+    ghost filled_once = { needed_once R.filled R.filled_once };
+
+    fn empty() -> Self::Slots {
+        Both(None, R::empty())
+    }
+
+    fn read<F: Fn(&mut Decoder<'_>) -> Result<K, DecodeError>>(
+        alloc: Global,
+        decoder: &mut Decoder<'_>,
+        slots: &mut Self::Slots,
+        knot: &F,
+    ) -> Result<(), DecodeError> {
+        let value = B::decode_with_tag(alloc, decoder, G::tag())?;
+        slots.0 = Some(value);
+        R::read(alloc, decoder, &mut slots.1, knot)?;
+        Ok(())
+    }
+
+    fn taken(slots: Self::Slots) -> Self::Values {
+        let Both(value, rest) = slots;
+        Both(value.unwrap(), R::taken(rest))
+    }
+}
+
+impl<K: Spelled, G: Place, B: Decode, R: ReadsKnot<K>> ReadsKnot<K> for MayHave<G, B, R> {
+    ghost use Rattle.oer_rows.specs.Slots.{with_optional, optional_once};
+
+    type Slots = Both<Option<B>, R::Slots>;
+
+    ghost filled = { with_optional R.filled };
+
+    ghost filled_once = { optional_once R.filled R.filled_once };
+
+    fn empty() -> Self::Slots {
+        Both(None, R::empty())
+    }
+
+    fn read<F: Fn(&mut Decoder<'_>) -> Result<K, DecodeError>>(
+        alloc: Global,
+        decoder: &mut Decoder<'_>,
+        slots: &mut Self::Slots,
+        knot: &F,
+    ) -> Result<(), DecodeError> {
+        let value = decoder.decode_optional_with_tag::<B>(alloc, G::tag())?;
+        slots.0 = value;
+        R::read(alloc, decoder, &mut slots.1, knot)?;
+        Ok(())
+    }
+
+    fn taken(slots: Self::Slots) -> Self::Values {
+        let Both(value, rest) = slots;
+        Both(value, R::taken(rest))
+    }
+}
+
+impl<K: Spelled, G: Place, B: Decode + EqualAsSpelled, D: Standard<B>, R: ReadsKnot<K>> ReadsKnot<K>
+    for Defaults<G, B, D, R> {
+    ghost use Rattle.oer_rows.specs.Slots.{with_needed, needed_once};
+
+    type Slots = Both<Option<B>, R::Slots>;
+
+    ghost filled = { with_needed R.filled };
+
+    ghost filled_once = { needed_once R.filled R.filled_once };
+
+    fn empty() -> Self::Slots {
+        Both(None, R::empty())
+    }
+
+    fn read<F: Fn(&mut Decoder<'_>) -> Result<K, DecodeError>>(
+        alloc: Global,
+        decoder: &mut Decoder<'_>,
+        slots: &mut Self::Slots,
+        knot: &F,
+    ) -> Result<(), DecodeError> {
+        let value = read_default::<D, B>(alloc, decoder, G::tag())?;
+        slots.0 = Some(value);
+        R::read(alloc, decoder, &mut slots.1, knot)?;
+        Ok(())
+    }
+
+    fn taken(slots: Self::Slots) -> Self::Values {
+        let Both(value, rest) = slots;
+        Both(value.unwrap(), R::taken(rest))
+    }
+}
+
+impl<K: Spelled, G: Place, B: DecodeKnot<K>, R: ReadsKnot<K>> ReadsKnot<K> for NeedsKnot<G, B, R> {
+    ghost use Rattle.oer_rows.specs.Slots.{with_needed, needed_once};
+
+    type Slots = Both<Option<B>, R::Slots>;
+
+    ghost filled = { with_needed R.filled };
+
+    ghost filled_once = { needed_once R.filled R.filled_once };
+
+    fn empty() -> Self::Slots {
+        Both(None, R::empty())
+    }
+
+    fn read<F: Fn(&mut Decoder<'_>) -> Result<K, DecodeError>>(
+        alloc: Global,
+        decoder: &mut Decoder<'_>,
+        slots: &mut Self::Slots,
+        knot: &F,
+    ) -> Result<(), DecodeError> {
+        let value = B::decode_knot(alloc, decoder, G::tag(), knot)?;
+        slots.0 = Some(value);
+        R::read(alloc, decoder, &mut slots.1, knot)?;
+        Ok(())
+    }
+
+    fn taken(slots: Self::Slots) -> Self::Values {
+        let Both(value, rest) = slots;
+        Both(value.unwrap(), R::taken(rest))
+    }
+}
+
+impl<K: Spelled, G: Place, B: DecodeKnot<K>, R: ReadsKnot<K>> ReadsKnot<K>
+    for MayHaveKnot<G, B, R> {
+    ghost use Rattle.oer_rows.specs.Slots.{with_optional, optional_once};
+
+    type Slots = Both<Option<B>, R::Slots>;
+
+    ghost filled = { with_optional R.filled };
+
+    ghost filled_once = { optional_once R.filled R.filled_once };
+
+    fn empty() -> Self::Slots {
+        Both(None, R::empty())
+    }
+
+    fn read<F: Fn(&mut Decoder<'_>) -> Result<K, DecodeError>>(
+        alloc: Global,
+        decoder: &mut Decoder<'_>,
+        slots: &mut Self::Slots,
+        knot: &F,
+    ) -> Result<(), DecodeError> {
+        let value = read_optional::<K, B, F>(alloc, decoder, G::tag(), knot)?;
+        slots.0 = value;
+        R::read(alloc, decoder, &mut slots.1, knot)?;
+        Ok(())
+    }
+
+    fn taken(slots: Self::Slots) -> Self::Values {
+        let Both(value, rest) = slots;
+        Both(value, R::taken(rest))
+    }
+}

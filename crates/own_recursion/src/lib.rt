@@ -1,0 +1,10 @@
+//! Types that contain themselves, by their rows.
+#![tactic(auto)]
+
+mod branches;
+mod envelopes;
+mod nodes;
+
+pub use branches::{Branch, BranchComponents, BranchContent};
+pub use envelopes::{Body, BodyAlternatives, Envelope, EnvelopeComponents, EnvelopeContent};
+pub use nodes::{Node, NodeComponents, NodeContent};
