@@ -55,6 +55,7 @@ EXTENDED = (
     "ExtendedOptional {{ value: {}, integer1: None, octet1: None, integer2: None, octet2: None, integer3: None, octet3: None, "
     "integer4: Some({}), octet4: Some({}), integer5: None, octet5: None }}"
 )
+NODE = "Node(NodeComponents {{ value: {}, next: {}, last: {} }})"
 SEQ2 = "Sequence2 {{ a: {}, b: {}, c: {} }}"
 MOST = "[" + ", ".join(["()"] * 65536) + "]"
 
@@ -110,6 +111,7 @@ ROWS = [
     Row("toplevel", "01 82 02 80", "TopLevel { test: 1, choice: Number3(TopLevel { test: 2, choice: Number1(()) }) }"),
     Row("Bush", "01 05 01 01 01 ff 01 00", f"Bush {{ a: {number(5)}, b: [Bush {{ a: {number(-1)}, b: [] }}] }}"),
     Row("Link", "80 01 01 81 80 01 02 80 ff", f"Link {{ a: Some({number(1)}), b: B(Link {{ a: Some({number(2)}), b: A(true) }}) }}"),
+    Row("Node", "80 01 01 00 01 05 ff 00", NODE.format(number(1), "Some(Held(%s))" % NODE.format(number(5), "None", "true"), "false")),
     Row("deepdef", "80 01 00", "DeepDefault { n: Nest { items: [] } }"),
     Row("seq6", "80 ff 02 07 80 02 80 ff", "Sequence6 { a: true, b: Some(Group6 { a: Some(true) }) }"),
     Row("AddDef", "80 ff 02 07 80 02 01 08", f"AddDef {{ a: true, b: {number(8)} }}"),
@@ -143,6 +145,7 @@ ROWS = [
     Row("tagmax", "bf 8f ff ff ff 7f 02 01 4d", f"Medium({number(333)})"),
     Row("Bush", f"{G} 01 01 01 ff 01 00", f"Bush {{ a: {number(GREAT)}, b: [Bush {{ a: {number(-1)}, b: [] }}] }}"),
     Row("Link", f"80 {G} 81 80 01 02 80 ff", f"Link {{ a: Some({number(GREAT)}), b: B(Link {{ a: Some({number(2)}), b: A(true) }}) }}"),
+    Row("Node", f"80 {G} 00 01 05 ff 00", NODE.format(number(GREAT), "Some(Held(%s))" % NODE.format(number(5), "None", "true"), "false")),
     Row("ints", f"01 02 {G} {G}", f"[{number(GREAT)}, {number(GREAT)}]"),
     Row("intset", f"01 02 {G} {G}", f"SetOf {{ items: [{number(GREAT)}, {number(GREAT)}] }}"),
     # the other strings, and wrappers
@@ -384,9 +387,11 @@ def values():
 # what no case calls by its own word: a row that goes through it, with a request for memory in it
 THROUGH = {
     "decode_sequence": ("defopt", f"c0 {G} {G}"),
-    "decode_set": ("foo", f"e0 {G} 01 06 01 05"),
+    "decode_set": ("Bush", f"{G} 01 01 01 ff 01 00"),
     "decode_choice_with": ("Link", f"80 {G} 81 80 01 02 80 ff"),
     "decode_sequence_of_with": ("Bush", f"{G} 01 01 01 ff 01 00"),
+    "decode_optional_with": ("Node", f"80 {G} 00 01 05 ff 00"),
+    "decode_boxed_with": ("Node", f"80 {G} 00 01 05 ff 00"),
     "decode_extension_addition_group": ("seq7", f"80 ff 02 04 30 {OPEN_G} 81 83 40 {G}"),
 }
 # calls of tables, rules and options, which have no allocator

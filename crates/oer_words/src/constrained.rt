@@ -11,6 +11,7 @@ use oer_types::{
     MixedSet, Negative, Nested, Pair, Positive,
 };
 use oer_write::Encode;
+use own_recursion::Node;
 use rasn_oer::Decode;
 use std::fmt::Debug;
 
@@ -113,9 +114,17 @@ fn with_other_scope<W: UnderConstraints + Drop>(word: &str, work: W) -> Option<W
     match word {
         "BoolChoice" => Some(work.under::<BoolChoice>(Constraints::NONE)),
         "MixedSet" => Some(work.under::<MixedSet>(Constraints::NONE)),
+        "SetOfOctets" => Some(work.under::<SetOf<OctetString>>(Constraints::NONE)),
+        _ => with_recursive(word, work),
+    }
+}
+
+/// By the word of a type that contains itself.
+fn with_recursive<W: UnderConstraints + Drop>(word: &str, work: W) -> Option<W::Output> {
+    match word {
         "Bush" => Some(work.under::<Bush>(Constraints::NONE)),
         "Link" => Some(work.under::<Link>(Constraints::NONE)),
-        "SetOfOctets" => Some(work.under::<SetOf<OctetString>>(Constraints::NONE)),
+        "Node" => Some(work.under::<Node>(Constraints::NONE)),
         _ => with_type(word, Own { work }),
     }
 }
