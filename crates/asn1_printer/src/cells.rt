@@ -3,9 +3,9 @@
 use crate::defaults::push_default;
 use crate::items::push_limits;
 use crate::shapes::shape_of;
+use crate::text::Text;
 use asn1_core::{Class, Tag};
 use asn1_layouts::definitions::{Definition, Part};
-use asn1_layouts::names::push_type_name;
 use asn1_layouts::rows::Row;
 use asn1_layouts::scope::Scope;
 use asn1_modules::ast::Need;
@@ -16,16 +16,41 @@ use std::alloc::{AllocError, Global};
 #[derive(Drop)]
 pub struct Cell {
     /// The field's name.
-    pub field: String,
+    pub field: Text,
     /// The field's type.
-    pub field_type: String,
+    pub field_type: Text,
     /// The component's name as the name of a type.
-    pub camel: String,
-    /// The cell's own name, and its arguments before the row behind it.
+    pub camel: Text,
+    /// The cell's own name.
     pub head: &'static str,
-    pub arguments: Vec<String>,
+    /// Its arguments before the row behind it, a line each.
+    pub arguments: Text,
     /// Its line in the table, less the index.
-    pub entry: String,
+    pub entry: Text,
+}
+
+impl Cell {
+    /// A cell without texts.
+    fn new(alloc: Global, head: &'static str) -> Cell {
+        Cell {
+            field: Text::new(alloc),
+            field_type: Text::new(alloc),
+            camel: Text::new(alloc),
+            head,
+            arguments: Text::new(alloc),
+            entry: Text::new(alloc),
+        }
+    }
+
+    /// The cell; refused where memory was refused for a piece of it.
+    fn end(self) -> Result<Cell, AllocError> {
+        let is_whole = self.field.is_whole() && self.field_type.is_whole() && self.camel.is_whole();
+        if is_whole && self.arguments.is_whole() && self.entry.is_whole() {
+            Ok(self)
+        } else {
+            Err(AllocError)
+        }
+    }
 }
 
 /// The class of a tag, as a table and a row write it.
@@ -51,63 +76,38 @@ fn need_of(need: &Need, is_addition: bool) -> (&'static str, &'static str, bool)
 }
 
 /// A type's name with a component's behind it.
-pub fn camel_of(alloc: Global, owner: &str, name: &str) -> Result<String, AllocError> {
-    let mut out = String::from_str(alloc, owner)?;
-    push_type_name(&mut out, name)?;
-    Ok(out)
+fn camel_of(alloc: Global, owner: &str, name: &str) -> Text {
+    let mut out = Text::new(alloc);
+    out.push(owner);
+    out.push_type_name(name);
+    out
 }
 
 /// The name of a variant: as a type's, with `R` in front of one of those words.
-pub fn variant_name(alloc: Global, name: &str, kept: &str) -> Result<String, AllocError> {
-    let own = camel_of(alloc, "", name)?;
-    if kept.split(' ').any(|word| word == own.as_str()) {
-        return format!(in alloc; "R{own}");
+pub fn variant_name(alloc: Global, name: &str, kept: &str) -> Text {
+    let own = camel_of(alloc, "", name);
+    if !kept.split(' ').any(|word| word == own.as_str()) {
+        return own;
     }
-    Ok(own)
+    let mut out = Text::new(alloc);
+    out.push("R");
+    out.push_text(&own);
+    out
 }
 
-/// The field's type.
-fn field_type(alloc: Global, rust: &str, is_option: bool) -> Result<String, AllocError> {
-    if is_option {
-        format!(in alloc; "Option<{rust}>")
-    } else {
-        String::from_str(alloc, rust)
-    }
-}
-
-/// The first arguments of a cell: its tag, and its type.
-fn arguments_of(alloc: Global, tag: Tag, rust: &str) -> Result<Vec<String>, AllocError> {
-    let class = class_of(tag);
-    let number = tag.value;
-    let mut arguments = Vec::new(alloc);
-    arguments.push(format!(in alloc; "{class}<{number}>")?)?;
-    arguments.push(String::from_str(alloc, rust)?)?;
-    Ok(arguments)
-}
-
-/// A tag as a table writes it.
-fn tag_entry(alloc: Global, tag: Tag) -> Result<String, AllocError> {
-    let class = class_of(tag);
-    let number = tag.value;
-    format!(in alloc; "{class} {number}")
-}
-
-/// A component's line in a table of components.
-fn component_entry(
-    alloc: Global,
-    presence: &str,
-    tag: Tag,
-    name: &str,
-) -> Result<String, AllocError> {
-    let tag = tag_entry(alloc, tag)?;
-    format!(in alloc; "{presence} {tag} \"{name}\"")
+/// Appends a tag: its class and its number, with texts around the number.
+fn push_tag(out: &mut Text, tag: Tag, front: &str, behind: &str) {
+    out.push(class_of(tag));
+    out.push(front);
+    out.push_number(i128::from(tag.value));
+    out.push(behind);
 }
 
 /// A component's Rust type without an Option; its limits are printed, under the name `own`.
 fn push_shape<'m>(
     scope: Scope<'m, '_>,
     all: &[Definition<'m>],
-    out: &mut String,
+    out: &mut Text,
     own: &str,
     part: &Part<'m>,
     row: Row<'m>,
@@ -116,58 +116,73 @@ fn push_shape<'m>(
     if let Some(limits) = shape.limits {
         push_limits(scope, out, own, limits, row.link.of.first)?;
     }
-    Ok(shape.text)
+    Ok(shape.text.end()?)
 }
 
-/// A component's arguments before the row behind it. Its default is printed, under the name `own`.
-fn push_arguments<'m>(
+/// The type that stands for a component's default, which is printed under the name `own`; nothing where it has none.
+fn push_own_default<'m>(
     scope: Scope<'m, '_>,
     all: &[Definition<'m>],
-    out: &mut String,
+    out: &mut Text,
     own: &str,
     row: Row<'m>,
     rust: &str,
-) -> Result<Vec<String>, Refusal> {
-    let mut arguments = arguments_of(scope.alloc, row.tag.unwrap_or(Tag::EOC), rust)?;
-    if let Need::Default(value) = row.need {
-        arguments.push(push_default(scope, all, out, row, value, (own, rust))?)?;
+) -> Result<Option<Text>, Refusal> {
+    match row.need {
+        Need::Default(value) => Ok(Some(push_default(scope, all, out, row, value, (own, rust))?)),
+        _ => Ok(None),
     }
-    Ok(arguments)
+}
+
+/// A component's cell, by its names, its Rust type and its default.
+fn component_cell(
+    alloc: Global,
+    names: (&str, &str),
+    row: Row<'_>,
+    rust: &str,
+    default: Option<Text>,
+    is_addition: bool,
+) -> Cell {
+    let (name, field) = names;
+    let tag = row.tag.unwrap_or(Tag::EOC);
+    let (head, presence, is_option) = need_of(row.need, is_addition);
+    let mut cell = Cell::new(alloc, head);
+    cell.field.push(field);
+    let around = if is_option {
+        ("Option<", ">")
+    } else {
+        ("", "")
+    };
+    cell.field_type.push_all(&[around.0, rust, around.1]);
+    cell.camel.push_type_name(name);
+    push_tag(&mut cell.arguments, tag, "<", ">\n");
+    cell.arguments.push(rust);
+    if let Some(default) = default {
+        cell.arguments.push("\n");
+        cell.arguments.push_text(&default);
+    }
+    cell.entry.push_all(&[presence, " "]);
+    push_tag(&mut cell.entry, tag, " ", "");
+    cell.entry.push_all(&[" \"", name, "\""]);
+    cell
 }
 
 /// A component's cell. Its limits and its default are printed before.
 pub fn cell_of<'m>(
     scope: Scope<'m, '_>,
     all: &[Definition<'m>],
-    out: &mut String,
+    out: &mut Text,
     owner: &str,
     part: &Part<'m>,
     row: Row<'m>,
     is_addition: bool,
 ) -> Result<Cell, Refusal> {
-    let alloc = scope.alloc;
     let name = scope.text(row.name);
-    let own = camel_of(alloc, owner, name)?;
+    let own = camel_of(scope.alloc, owner, name).end()?;
     let rust = push_shape(scope, all, out, own.as_str(), part, row)?;
-    let (head, presence, is_option) = need_of(row.need, is_addition);
-    let arguments = push_arguments(scope, all, out, own.as_str(), row, rust.as_str())?;
-    Ok(Cell {
-        field: part.rust_name.clone()?,
-        field_type: field_type(alloc, rust.as_str(), is_option)?,
-        camel: camel_of(alloc, "", name)?,
-        head,
-        arguments,
-        entry: component_entry(alloc, presence, row.tag.unwrap_or(Tag::EOC), name)?,
-    })
-}
-
-/// The arguments of a group's cell before the row behind it.
-fn group_arguments(alloc: Global, group: &str, roots: usize) -> Result<Vec<String>, AllocError> {
-    let mut arguments = Vec::new(alloc);
-    arguments.push(format!(in alloc; "{roots}")?)?;
-    arguments.push(String::from_str(alloc, "0")?)?;
-    arguments.push(String::from_str(alloc, group)?)?;
-    Ok(arguments)
+    let default = push_own_default(scope, all, out, own.as_str(), row, rust.as_str())?;
+    let names = (name, part.rust_name.as_str());
+    Ok(component_cell(scope.alloc, names, row, rust.as_str(), default, is_addition).end()?)
 }
 
 /// The cell of an addition group, whose sequence is a type of its own.
@@ -177,36 +192,46 @@ pub fn group_cell(
     number: usize,
     roots: usize,
 ) -> Result<Cell, AllocError> {
-    Ok(Cell {
-        field: format!(in alloc; "group_{number}")?,
-        field_type: format!(in alloc; "Option<{group}>")?,
-        camel: format!(in alloc; "Group{number}")?,
-        head: "MayAddGroup",
-        arguments: group_arguments(alloc, group, roots)?,
-        entry: format!(in alloc; "Optional Universal 16 \"group {number}\"")?,
-    })
+    let mut cell = Cell::new(alloc, "MayAddGroup");
+    cell.field.push("group_");
+    cell.field.push_count(number);
+    cell.field_type.push_all(&["Option<", group, ">"]);
+    cell.camel.push("Group");
+    cell.camel.push_count(number);
+    cell.arguments.push_count(roots);
+    cell.arguments.push_all(&["\n0\n", group]);
+    cell.entry.push("Optional Universal 16 \"group ");
+    cell.entry.push_count(number);
+    cell.entry.push("\"");
+    cell.end()
+}
+
+/// An alternative's cell, by its names and its Rust type.
+fn alternative_cell(alloc: Global, names: (&str, &str), tag: Tag, rust: &str) -> Cell {
+    let (name, field) = names;
+    let mut cell = Cell::new(alloc, "Offers");
+    cell.field.push(field);
+    cell.field_type.push(rust);
+    cell.camel = variant_name(alloc, name, "Self First Rest");
+    push_tag(&mut cell.arguments, tag, "<", ">\n");
+    cell.arguments.push(rust);
+    push_tag(&mut cell.entry, tag, " ", "");
+    cell
 }
 
 /// An alternative's cell. Its limits are printed before.
 pub fn alternative_of<'m>(
     scope: Scope<'m, '_>,
     all: &[Definition<'m>],
-    out: &mut String,
+    out: &mut Text,
     owner: &str,
     part: &Part<'m>,
     row: Row<'m>,
 ) -> Result<Cell, Refusal> {
-    let alloc = scope.alloc;
     let name = scope.text(row.name);
-    let own = camel_of(alloc, owner, name)?;
+    let own = camel_of(scope.alloc, owner, name).end()?;
     let rust = push_shape(scope, all, out, own.as_str(), part, row)?;
+    let names = (name, part.rust_name.as_str());
     let tag = row.tag.unwrap_or(Tag::EOC);
-    Ok(Cell {
-        field: part.rust_name.clone()?,
-        arguments: arguments_of(alloc, tag, rust.as_str())?,
-        field_type: rust,
-        camel: variant_name(alloc, name, "Self First Rest")?,
-        head: "Offers",
-        entry: tag_entry(alloc, tag)?,
-    })
+    Ok(alternative_cell(scope.alloc, names, tag, rust.as_str()).end()?)
 }

@@ -2,13 +2,14 @@
 ghost use Rattle.std.specs.Prelude.{◌≡◌, false, true, int_le, IfOk, IfSome};
 
 use crate::cells::variant_name;
-use crate::items::defined_number;
+use crate::items::push_defined;
 use crate::literals::{
-    array_text, bits_of_literal, bits_of_names, fill_up, list_text, octets_of_text, packed, written,
+    bits_of_literal, bits_of_names, fill_up, list_text, octets_of_text, packed, push_array,
+    push_written,
 };
 use crate::shapes::{number_of_octets, sizes_of};
 use crate::templates::DEFAULT;
-use crate::text::{Words, fill};
+use crate::text::{Text, Words};
 use asn1_layouts::definitions::Definition;
 use asn1_layouts::numbers::{Spot, names_of, number_of, settled};
 use asn1_layouts::rows::Row;
@@ -17,7 +18,7 @@ use asn1_layouts::visible::Limits;
 use asn1_modules::ast::{Body, Simple, Value};
 use asn1_modules::lexer::TokenId;
 use asn1_modules::refusal::Refusal;
-use std::alloc::{AllocError, Global};
+use std::alloc::Global;
 
 /// What can be read where a default isn't printed.
 const PRINTED: &str =
@@ -25,26 +26,6 @@ const PRINTED: &str =
 
 /// What can be read where a default is no value of its type.
 const ALLOWED: &str = "a default that the type's constraints allow";
-
-/// The parts of a default's text.
-#[derive(Drop)]
-struct Parts {
-    /// As the module writes it.
-    text: String,
-    /// The names that its definitions take from elsewhere, a line each.
-    uses: &'static str,
-    /// The Rust type, without limits.
-    rust: &'static str,
-    /// Its definition.
-    ghost_value: String,
-    /// The lines in front of what is answered, and of the test.
-    front: String,
-    content: String,
-    /// The test of `other`.
-    test: String,
-    admitted: String,
-    takes_memory: bool,
-}
 
 /// The number of a default. Refused where the limits don't allow it.
 fn default_number<'m>(
@@ -73,125 +54,168 @@ fn allows(limits: Limits, number: i128) -> bool
         || limits.low.unwrap_or(number) <= number && number <= limits.high.unwrap_or(number)
 }
 
-/// Prints a default by its parts, and answers its name: where the component's type stands within limits, of a default within these.
-fn push_parts(
-    alloc: Global,
-    out: &mut String,
-    name: &str,
-    is_limited: bool,
-    parts: &Parts,
-) -> Result<String, AllocError> {
-    let front = parts.front.as_str();
-    let content = parts.content.as_str();
-    let test = parts.test.as_str();
-    let code = format!(in alloc; "{front}{content}")?;
-    let test = format!(in alloc; "{front}{test}")?;
-    let mut words = Words::new(alloc);
-    words.put("NAME", name)?;
-    words.put("TYPE", parts.rust)?;
-    words.put("TEXT", parts.text.as_str())?;
-    words.put("USES", parts.uses)?;
-    words.put("GHOST", parts.ghost_value.as_str())?;
-    words.put("ALLOC", alloc_name(parts.takes_memory))?;
-    words.put("CODE", code.as_str())?;
-    words.put("TEST", test.as_str())?;
-    words.put("ADMITTED", parts.admitted.as_str())?;
-    fill(out, DEFAULT, &words)?;
-    if is_limited {
-        return format!(in alloc; "Within<{name}Default>");
-    }
-    format!(in alloc; "{name}Default")
-}
-
-/// The name of the allocator, which is used or isn't.
-fn alloc_name(takes_memory: bool) -> &'static str {
-    if takes_memory { "alloc" } else { "_alloc" }
-}
-
-/// The parts of a number.
-fn number_parts(alloc: Global, number: i128, base: &'static str) -> Result<Parts, AllocError> {
-    let code = if base == "Integer" {
-        format!(in alloc; "Integer::from_i128({number})")?
+/// Prints a default by its words, and answers its name: where the component's type stands within limits, of a default within these.
+fn push_words(alloc: Global, out: &mut Text, name: &str, is_limited: bool, words: &Words) -> Text {
+    out.fill(DEFAULT, words);
+    let mut own = Text::new(alloc);
+    let around = if is_limited {
+        ("Within<", ">")
     } else {
-        format!(in alloc; "{number}")?
+        ("", "")
     };
-    Ok(Parts {
-        text: format!(in alloc; "{number}")?,
-        uses: "ghost use Rattle.std.specs.Prelude.{negsuc, pos, refl};",
-        rust: base,
-        ghost_value: defined_number(alloc, number, !base.starts_with('u'))?,
-        front: String::new(alloc),
-        content: format!(in alloc; "Ok({code})")?,
-        test: format!(in alloc; "*other == {code}")?,
-        admitted: String::from_str(alloc, "refl")?,
-        takes_memory: false,
-    })
+    own.push_all(&[around.0, name, "Default", around.1]);
+    own
+}
+
+/// The words that each default has: its name, its Rust type without limits, and the name of the allocator, which is used or isn't.
+fn words_of(alloc: Global, name: &str, rust: &str, takes_memory: bool) -> Words {
+    let mut words = Words::new(alloc);
+    words.put("NAME", name);
+    words.put("TYPE", rust);
+    words.put("ALLOC", if takes_memory { "alloc" } else { "_alloc" });
+    words
+}
+
+/// Appends a number as the code writes it.
+fn push_literal(out: &mut Text, number: i128, base: &str) {
+    let around = if base == "Integer" {
+        ("Integer::from_i128(", ")")
+    } else {
+        ("", "")
+    };
+    out.push(around.0);
+    out.push_number(number);
+    out.push(around.1);
+}
+
+/// The words of a number.
+fn number_words(alloc: Global, name: &str, number: i128, base: &str) -> Words {
+    const USES: &str = "ghost use Rattle.std.specs.Prelude.{negsuc, pos, refl};";
+    let mut words = words_of(alloc, name, base, false);
+    words.put("USES", USES);
+    words.begin("TEXT").push_number(number);
+    push_defined(words.begin("GHOST"), number, !base.starts_with('u'));
+    let code = words.begin("CODE");
+    code.push("Ok(");
+    push_literal(code, number, base);
+    code.push(")");
+    let test = words.begin("TEST");
+    test.push("*other == ");
+    push_literal(test, number, base);
+    words.put("ADMITTED", "refl");
+    words
 }
 
 /// Prints a number's default.
 fn push_number<'m>(
     scope: Scope<'m, '_>,
-    out: &mut String,
+    out: &mut Text,
     row: Row<'m>,
     spot: Spot<'m>,
     name: &str,
-) -> Result<String, Refusal> {
+) -> Result<Text, Refusal> {
     let (base, is_limited, limits) = number_of_octets(scope, row.link)?;
     let number = default_number(scope, spot, row.name, limits)?;
-    let parts = number_parts(scope.alloc, number, base)?;
-    Ok(push_parts(scope.alloc, out, name, is_limited, &parts)?)
+    let words = number_words(scope.alloc, name, number, base);
+    Ok(push_words(scope.alloc, out, name, is_limited, &words))
 }
 
-/// The line of an array of octets, in front of what takes it.
-fn octets_front(alloc: Global, octets: &[u8]) -> Result<String, AllocError> {
-    let array = array_text(alloc, octets)?;
-    let count = octets.len();
-    format!(in alloc; "let octets: [u8; {count}] = {array};\n        ")
+/// Begins a word's text with the line of an array of octets, in front of what takes it.
+fn begin_behind_octets<'w>(
+    words: &'w mut Words,
+    word: &'static str,
+    octets: &[u8],
+) -> &'w mut Text {
+    let out = words.begin(word);
+    out.push("let octets: [u8; ");
+    out.push_count(octets.len());
+    out.push("] = ");
+    push_array(out, octets);
+    out.push(";\n        ");
+    out
 }
 
-/// The parts of a bit string.
-fn bits_parts(alloc: Global, text: String, bits: &[bool]) -> Result<Parts, AllocError> {
-    let octets = packed(alloc, bits)?;
-    let list = list_text(alloc, octets.as_slice())?;
-    let count = bits.len();
-    Ok(Parts {
-        text,
-        uses: "ghost use Rattle.std.specs.Prelude.{◌∷◌, [], take};\n    ghost use Rattle.rasn_oer.specs.Octets.{bits_of};",
-        rust: "BitString",
-        ghost_value: format!(in alloc; "take {count} (bits_of {list})")?,
-        front: octets_front(alloc, octets.as_slice())?,
-        content: format!(in alloc; "bits_from(alloc, &octets, {count})")?,
-        test: format!(in alloc; "are_bits(other, &octets, {count})")?,
-        admitted: String::from_str(alloc, "tt")?,
-        takes_memory: true,
-    })
+/// Appends what takes an array of octets and a count of bits.
+fn push_call(out: &mut Text, front: &str, count: usize) {
+    out.push_all(&[front, ", &octets, "]);
+    out.push_count(count);
+    out.push(")");
 }
 
-/// Prints the default of a BIT STRING; one with named bits has zero bits behind them, up to its least size (X.680, 22.7).
-fn push_bits<'m>(
+/// The words of a bit string, but for its text.
+fn bits_words(alloc: Global, name: &str, octets: &[u8], count: usize) -> Words {
+    const USES: &str =
+        "ghost use Rattle.std.specs.Prelude.{◌∷◌, [], take};\n    ghost use Rattle.rasn_oer.specs.Octets.{bits_of};";
+    let mut words = words_of(alloc, name, "BitString", true);
+    words.put("USES", USES);
+    let value = words.begin("GHOST");
+    value.push("take ");
+    value.push_count(count);
+    value.push(" (bits_of ");
+    value.push_text(&list_text(alloc, octets));
+    value.push(")");
+    push_call(
+        begin_behind_octets(&mut words, "CODE", octets),
+        "bits_from(alloc",
+        count,
+    );
+    push_call(
+        begin_behind_octets(&mut words, "TEST", octets),
+        "are_bits(other",
+        count,
+    );
+    words.put("ADMITTED", "tt");
+    words
+}
+
+/// The bits of a default of a BIT STRING, as far as they are written.
+fn written_bits<'m>(
     scope: Scope<'m, '_>,
-    out: &mut String,
     row: Row<'m>,
     spot: Spot<'m>,
-    name: &str,
-) -> Result<String, Refusal> {
+) -> Result<Vec<bool>, Refusal> {
+    match spot.value {
+        Value::Literal(id) => Ok(bits_of_literal(scope, *id)?),
+        Value::Names(_, bits) => bits_of_names(scope, spot.names, bits.as_slice()),
+        _ => Err(scope.refused(row.name, PRINTED)),
+    }
+}
+
+/// The bits of a default of a BIT STRING; one with named bits has zero bits behind them, up to its least size (X.680, 22.7). Refused where
+/// the limits don't allow so many.
+fn default_bits<'m>(
+    scope: Scope<'m, '_>,
+    row: Row<'m>,
+    spot: Spot<'m>,
+    limits: Limits,
+) -> Result<Vec<bool>, Refusal> {
     const MAX_BITS: i128 = 65536;
-    let (is_limited, limits) = sizes_of(scope, row.link)?;
-    let text = written(scope, spot.value)?;
-    let mut bits = match spot.value {
-        Value::Literal(id) => bits_of_literal(scope, *id)?,
-        Value::Names(_, bits) => bits_of_names(scope, spot.names, bits.as_slice())?,
-        _ => return Err(scope.refused(row.name, PRINTED)),
-    };
+    let mut bits = written_bits(scope, row, spot)?;
     let least = limits.low.unwrap_or(0);
     if spot.names.is_some_and(|n| !n.items.is_empty()) && least <= MAX_BITS {
         fill_up(&mut bits, usize::try_from(least).unwrap_or(0))?;
     }
-    if !allows(limits, i128::try_from(bits.len()).unwrap_or(i128::MAX)) {
-        return Err(scope.refused(row.name, ALLOWED));
+    if allows(limits, i128::try_from(bits.len()).unwrap_or(i128::MAX)) {
+        Ok(bits)
+    } else {
+        Err(scope.refused(row.name, ALLOWED))
     }
-    let parts = bits_parts(scope.alloc, text, bits.as_slice())?;
-    Ok(push_parts(scope.alloc, out, name, is_limited, &parts)?)
+}
+
+/// Prints the default of a BIT STRING.
+fn push_bits<'m>(
+    scope: Scope<'m, '_>,
+    out: &mut Text,
+    row: Row<'m>,
+    spot: Spot<'m>,
+    name: &str,
+) -> Result<Text, Refusal> {
+    let (is_limited, limits) = sizes_of(scope, row.link)?;
+    let bits = default_bits(scope, row, spot, limits)?;
+    let octets = packed(scope.alloc, bits.as_slice())?;
+    let mut words = bits_words(scope.alloc, name, octets.as_slice(), bits.len());
+    push_written(scope, words.begin("TEXT"), spot.value);
+    Ok(push_words(scope.alloc, out, name, is_limited, &words))
 }
 
 /// A type of octets or characters: the struct that holds it, what makes one of octets, its rule, and what shows that they obey that.
@@ -232,37 +256,50 @@ fn held_of(simple: Simple) -> Option<Held> {
     })
 }
 
-/// What makes a value of octets, and what shows that they obey the type's rule: of a BMPString, that they are twice as many as so many.
-fn made_of(alloc: Global, held: Held, size: usize) -> Result<(String, String), AllocError> {
-    let Held { holder, made, .. } = held;
-    if made.is_empty() {
-        return Ok((
-            String::from_str(alloc, "bmp_from(alloc, &octets)")?,
-            format!(in alloc; "({}, refl)", size / 2)?,
-        ));
+/// Appends what makes a value of octets.
+fn push_made(out: &mut Text, held: Held) {
+    if held.made.is_empty() {
+        out.push("bmp_from(alloc, &octets)");
+        return;
     }
-    Ok((
-        format!(in alloc; "let content = {made}(alloc, &octets)?;\n        Ok({holder}(content))")?,
-        String::from_str(alloc, held.obeys)?,
-    ))
+    out.push_all(&[
+        "let content = ",
+        held.made,
+        "(alloc, &octets)?;\n        Ok(",
+    ]);
+    out.push_all(&[held.holder, "(content))"]);
 }
 
-/// The parts of octets or characters.
-fn held_parts(alloc: Global, held: Held, text: String, octets: &[u8]) -> Result<Parts, AllocError> {
-    let list = list_text(alloc, octets)?;
-    let rule = held.rule;
-    let (content, obeys) = made_of(alloc, held, octets.len())?;
-    Ok(Parts {
-        text,
-        uses: "ghost use Rattle.std.specs.Prelude.{◌∷◌, [], refl};\n    ghost use Rattle.rasn_oer.specs.Literals.{written};\n    ghost use Rattle.rasn_oer.specs.Texts as texts;",
-        rust: held.holder,
-        ghost_value: format!(in alloc; "record {{ 0 = {list} }}")?,
-        front: octets_front(alloc, octets)?,
-        content,
-        test: String::from_str(alloc, "other.0.as_bytes() == octets.as_slice()")?,
-        admitted: format!(in alloc; "written texts.{rule} {list} refl {obeys}")?,
-        takes_memory: true,
-    })
+/// Appends what shows that octets obey a type's rule: of a BMPString, that they are twice as many as so many.
+fn push_obeys(out: &mut Text, held: Held, size: usize) {
+    if !held.made.is_empty() {
+        out.push(held.obeys);
+        return;
+    }
+    out.push("(");
+    out.push_count(size / 2);
+    out.push(", refl)");
+}
+
+/// The words of octets or characters, but for their text.
+fn held_words(alloc: Global, name: &str, held: Held, octets: &[u8]) -> Words {
+    const USES: &str =
+        "ghost use Rattle.std.specs.Prelude.{◌∷◌, [], refl};\n    ghost use Rattle.rasn_oer.specs.Literals.{written};\n    ghost use Rattle.rasn_oer.specs.Texts as texts;";
+    let list = list_text(alloc, octets);
+    let mut words = words_of(alloc, name, held.holder, true);
+    words.put("USES", USES);
+    let value = words.begin("GHOST");
+    value.push("record { 0 = ");
+    value.push_text(&list);
+    value.push(" }");
+    push_made(begin_behind_octets(&mut words, "CODE", octets), held);
+    begin_behind_octets(&mut words, "TEST", octets).push("other.0.as_bytes() == octets.as_slice()");
+    let admitted = words.begin("ADMITTED");
+    admitted.push_all(&["written texts.", held.rule, " "]);
+    admitted.push_text(&list);
+    admitted.push(" refl ");
+    push_obeys(admitted, held, octets.len());
+    words
 }
 
 /// The octets of a literal of a type of octets or characters.
@@ -274,29 +311,44 @@ fn octets_of<'m>(scope: Scope<'m, '_>, simple: Simple, id: TokenId) -> Result<Ve
     octets_of_text(scope, simple, id)
 }
 
+/// The octets of a default of an OCTET STRING or a character string.
+fn default_octets<'m>(
+    scope: Scope<'m, '_>,
+    row: Row<'m>,
+    spot: Spot<'m>,
+    simple: Simple,
+) -> Result<Vec<u8>, Refusal> {
+    match spot.value {
+        Value::Literal(id) => octets_of(scope, simple, *id),
+        _ => Err(scope.refused(row.name, PRINTED)),
+    }
+}
+
+/// Whether limits allow a string of so many octets.
+fn allows_octets(limits: Limits, simple: Simple, octets: usize) -> bool {
+    let unit = if simple == Simple::BmpString { 2 } else { 1 };
+    let size = octets.checked_div(unit).unwrap_or(0);
+    allows(limits, i128::try_from(size).unwrap_or(i128::MAX))
+}
+
 /// Prints the default of an OCTET STRING or a character string.
 fn push_held<'m>(
     scope: Scope<'m, '_>,
-    out: &mut String,
+    out: &mut Text,
     row: Row<'m>,
     spot: Spot<'m>,
     of: (Simple, Held),
     name: &str,
-) -> Result<String, Refusal> {
+) -> Result<Text, Refusal> {
     let (simple, held) = of;
-    let Value::Literal(id) = spot.value else {
-        return Err(scope.refused(row.name, PRINTED));
-    };
-    let octets = octets_of(scope, simple, *id)?;
+    let octets = default_octets(scope, row, spot, simple)?;
     let (is_limited, limits) = sizes_of(scope, row.link)?;
-    let unit = if simple == Simple::BmpString { 2 } else { 1 };
-    let size = octets.len().checked_div(unit).unwrap_or(0);
-    if !allows(limits, i128::try_from(size).unwrap_or(i128::MAX)) {
+    if !allows_octets(limits, simple, octets.len()) {
         return Err(scope.refused(row.name, ALLOWED));
     }
-    let text = written(scope, spot.value)?;
-    let parts = held_parts(scope.alloc, held, text, octets.as_slice())?;
-    Ok(push_parts(scope.alloc, out, name, is_limited, &parts)?)
+    let mut words = held_words(scope.alloc, name, held, octets.as_slice());
+    push_written(scope, words.begin("TEXT"), spot.value);
+    Ok(push_words(scope.alloc, out, name, is_limited, &words))
 }
 
 /// The Rust name of the definition of a type; none where it has none.
@@ -309,45 +361,69 @@ fn definition_of<'d>(all: &'d [Definition<'_>], base: Link<'_>) -> &'d str {
     ""
 }
 
+/// The words of an enumerated value, by the names of the value, of its enum's owner and of its variant.
+fn enumerated_words(
+    alloc: Global,
+    named: (&str, &str),
+    text: &str,
+    owner: &str,
+    variant: &str,
+) -> Words {
+    let (name, rust) = named;
+    let mut words = words_of(alloc, name, rust, false);
+    words.put("TEXT", text);
+    let uses = words.begin("USES");
+    uses.push_all(&["ghost use Rattle.@HOME:", owner, "Values@.", owner]);
+    uses.push_all(&["Values.TheVariants.{", variant, "};"]);
+    words
+        .begin("GHOST")
+        .push_all(&["record { 0 = ", variant, " }"]);
+    words
+        .begin("CODE")
+        .push_all(&["Ok(Enumeration(", owner, "Values::", variant, "))"]);
+    words.begin("TEST").push_all(&["*other == Enumeration(", owner, "Values::", variant, ")"]);
+    words.put("ADMITTED", "tt");
+    words
+}
+
 /// Prints the default of an ENUMERATED, by its name.
 fn push_enumerated<'m>(
     scope: Scope<'m, '_>,
     all: &[Definition<'m>],
-    out: &mut String,
+    out: &mut Text,
     base: Link<'m>,
     value: (TokenId, &Value),
     named: (&str, &str),
-) -> Result<String, Refusal> {
-    let alloc = scope.alloc;
+) -> Result<Text, Refusal> {
     let (first, value) = value;
-    let (name, rust) = named;
     let Value::Reference(reference) = value else {
         return Err(scope.refused(first, PRINTED));
     };
     let text = scope.text(reference.name);
+    let variant = variant_name(scope.alloc, text, "Self").end()?;
     let owner = definition_of(all, base);
-    let variant = variant_name(alloc, text, "Self")?;
-    let variant = variant.as_str();
-    let code = format!(in alloc; "Enumeration({owner}Values::{variant})")?;
-    let test = format!(in alloc; "*other == {code}")?;
-    let uses = format!(in alloc;
-        "ghost use Rattle.@HOME:{owner}Values@.{owner}Values.TheVariants.{{{variant}}};"
-    )?;
-    let mut words = Words::new(alloc);
-    words.put("NAME", name)?;
-    words.put("TYPE", rust)?;
-    words.put("TEXT", text)?;
-    words.put("USES", uses.as_str())?;
-    words.put(
-        "GHOST",
-        format!(in alloc; "record {{ 0 = {variant} }}")?.as_str(),
-    )?;
-    words.put("ALLOC", "_alloc")?;
-    words.put("CODE", format!(in alloc; "Ok({code})")?.as_str())?;
-    words.put("TEST", test.as_str())?;
-    words.put("ADMITTED", "tt")?;
-    fill(out, DEFAULT, &words)?;
-    Ok(format!(in alloc; "{name}Default")?)
+    let words = enumerated_words(scope.alloc, named, text, owner, variant.as_str());
+    Ok(push_words(scope.alloc, out, named.0, false, &words))
+}
+
+/// The default of a type without parts: printed, but where the library has a type for it.
+fn push_simple<'m>(
+    scope: Scope<'m, '_>,
+    out: &mut Text,
+    row: Row<'m>,
+    spot: Spot<'m>,
+    simple: Simple,
+    name: &str,
+) -> Result<Text, Refusal> {
+    if let Some(held) = held_of(simple) {
+        return push_held(scope, out, row, settled(scope, spot)?, (simple, held), name);
+    }
+    if !matches!(simple, Simple::Boolean | Simple::Null) {
+        return Err(scope.refused(row.name, PRINTED));
+    }
+    let mut constant = Text::new(scope.alloc);
+    constant.push(constant_of(scope, settled(scope, spot)?));
+    Ok(constant)
 }
 
 /// The type that stands for a default: printed, but where the library has one. Refused where its type's defaults aren't printed, or its
@@ -355,11 +431,11 @@ fn push_enumerated<'m>(
 pub fn push_default<'m>(
     scope: Scope<'m, '_>,
     all: &[Definition<'m>],
-    out: &mut String,
+    out: &mut Text,
     row: Row<'m>,
     value: &'m Value,
     named: (&str, &str),
-) -> Result<String, Refusal> {
+) -> Result<Text, Refusal> {
     let base = scope.base_of(row.link)?;
     let spot = Spot {
         module: row.link.module,
@@ -371,22 +447,7 @@ pub fn push_default<'m>(
         Body::Integer(_) => push_number(scope, out, row, spot, name),
         Body::Enumerated(_, _) => push_enumerated(scope, all, out, base, (row.name, value), named),
         Body::BitString(_) => push_bits(scope, out, row, settled(scope, spot)?, name),
-        Body::Simple(simple) => match (held_of(*simple), *simple) {
-            (Some(held), _) => {
-                push_held(
-                    scope,
-                    out,
-                    row,
-                    settled(scope, spot)?,
-                    (*simple, held),
-                    name,
-                )
-            }
-            (None, Simple::Boolean | Simple::Null) => {
-                Ok(String::from_str(scope.alloc, constant_of(scope, settled(scope, spot)?))?)
-            }
-            _ => Err(scope.refused(row.name, PRINTED)),
-        },
+        Body::Simple(simple) => push_simple(scope, out, row, spot, *simple, name),
         _ => Err(scope.refused(row.name, PRINTED)),
     }
 }

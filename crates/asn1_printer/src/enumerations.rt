@@ -1,66 +1,31 @@
 //! An ENUMERATED: its enum, and the list of its values.
 
 use crate::cells::variant_name;
-use crate::items::defined_number;
+use crate::items::push_defined;
 use crate::templates::ENUMERATED;
-use crate::text::{Words, fill, joined};
+use crate::text::{Text, Words};
 use asn1_layouts::definitions::Definition;
 use asn1_layouts::numbers::enumerated_numbers;
 use asn1_layouts::scope::Scope;
 use asn1_modules::ast::Numbered;
 use asn1_modules::lexer::TokenId;
 use asn1_modules::refusal::Refusal;
-use std::alloc::{AllocError, Global};
+use std::alloc::Global;
 use std::collections::BTreeSet;
 
-/// The parts of the text that go through the values.
+/// A value: the name of its variant, and its number.
 #[derive(Drop)]
-struct Values {
-    variants: String,
-    names: Vec<String>,
-    numbers: Vec<String>,
-    paths: Vec<String>,
-}
-
-/// A value's parts of the text.
-fn push_value(
-    alloc: Global,
-    values: &mut Values,
-    owner: &str,
+struct Variant {
     name: String,
     number: i128,
-) -> Result<(), AllocError> {
-    let variant = name.as_str();
-    values
-        .variants
-        .push_str(format!(in alloc; "    {variant} = {number},\n")?.as_str())?;
-    let defined = defined_number(alloc, number, true)?;
-    values
-        .numbers
-        .push(format!(in alloc; "{variant} ↦ {defined}")?)?;
-    values
-        .paths
-        .push(format!(in alloc; "{owner}Values::{variant}")?)?;
-    values.names.push(name)?;
-    Ok(())
 }
 
-/// The parts of the text of all values. Refused where two have one Rust name, or a number is past 64 bits.
-fn values_of<'m>(
-    scope: Scope<'m, '_>,
-    owner: &str,
-    numbers: &[(TokenId, i128)],
-) -> Result<Values, Refusal> {
-    let alloc = scope.alloc;
-    let mut values = Values {
-        variants: String::new(alloc),
-        names: Vec::new(alloc),
-        numbers: Vec::new(alloc),
-        paths: Vec::new(alloc),
-    };
-    let mut seen = BTreeSet::new(alloc);
+/// The values. Refused where two have one Rust name, or a number is past 64 bits.
+fn variants_of(scope: Scope<'_, '_>, numbers: &[(TokenId, i128)]) -> Result<Vec<Variant>, Refusal> {
+    let mut seen = BTreeSet::new(scope.alloc);
+    let mut variants = Vec::new(scope.alloc);
     for (id, number) in numbers.iter() {
-        let name = variant_name(alloc, scope.text(*id), "Self")?;
+        let name = variant_name(scope.alloc, scope.text(*id), "Self").end()?;
         let is_long = i64::try_from(*number).is_err();
         if is_long || !seen.insert(name.clone()?)? {
             return Err(scope.refused(
@@ -68,70 +33,92 @@ fn values_of<'m>(
                 "a value whose Rust name no other has, and a number of 64 bits",
             ));
         }
-        push_value(alloc, &mut values, owner, name, *number)?;
+        variants.push(Variant {
+            name,
+            number: *number,
+        })?;
     }
-    Ok(values)
+    Ok(variants)
 }
 
-/// Each text with others around it.
-fn with_ends(alloc: Global, texts: &[String], behind: &str) -> Result<String, AllocError> {
-    let mut out = String::new(alloc);
-    for text in texts.iter() {
-        out.push_str(text.as_str())?;
-        out.push_str(behind)?;
+/// Appends a line for each value.
+fn push_lines(out: &mut Text, variants: &[Variant]) {
+    for one in variants.iter() {
+        out.push_all(&["    ", one.name.as_str(), " = "]);
+        out.push_number(one.number);
+        out.push(",\n");
     }
-    Ok(out)
 }
 
-/// A list of paths as rustfmt lays it out.
-fn paths_text(alloc: Global, paths: &[String]) -> Result<String, AllocError> {
+/// Appends the names, each but the first with a text in front, and each with one behind it.
+fn push_names(out: &mut Text, variants: &[Variant], between: &str, behind: &str) {
+    for (at, one) in variants.iter().enumerate() {
+        out.push_all(&[
+            if at == 0 { "" } else { between },
+            one.name.as_str(),
+            behind,
+        ]);
+    }
+}
+
+/// Appends the numbers by the names, for definitions.
+fn push_numbers(out: &mut Text, variants: &[Variant]) {
+    for (at, one) in variants.iter().enumerate() {
+        out.push_all(&[if at == 0 { "" } else { " | " }, one.name.as_str(), " ↦ "]);
+        push_defined(out, one.number, true);
+    }
+}
+
+/// Appends the paths of the values, each with a text in front, and one between any two.
+fn push_paths(out: &mut Text, owner: &str, variants: &[Variant], front: &str, between: &str) {
+    for (at, one) in variants.iter().enumerate() {
+        let before = if at == 0 { "" } else { between };
+        out.push_all(&[before, front, owner, "Values::", one.name.as_str()]);
+    }
+}
+
+/// Appends the list of the paths as rustfmt lays it out.
+fn push_list(alloc: Global, out: &mut Text, owner: &str, variants: &[Variant]) {
     const ARRAY: usize = 60;
-    let line = joined(alloc, paths, "", ", ")?;
+    let mut line = Text::new(alloc);
+    push_paths(&mut line, owner, variants, "", ", ");
+    out.push("&[");
     if line.len() <= ARRAY {
-        return format!(in alloc; "&[{line}]");
+        out.push_text(&line);
+        out.push("]");
+        return;
     }
-    let lines = joined(alloc, paths, "            ", ",\n")?;
-    format!(in alloc; "&[\n{lines},\n        ]")
+    out.push("\n");
+    push_paths(out, owner, variants, "            ", ",\n");
+    out.push(",\n        ]");
 }
 
-/// Prints an ENUMERATED by the parts of its text.
-fn push_parts(
-    alloc: Global,
-    out: &mut String,
-    owner: &str,
-    doc: &str,
-    values: &Values,
-) -> Result<(), AllocError> {
-    let names = values.names.as_slice();
-    let list = joined(alloc, names, "", ", ")?;
-    let chain = with_ends(alloc, names, " ∷ ")?;
-    let numbers = joined(alloc, values.numbers.as_slice(), "", " | ")?;
-    let listed = joined(alloc, names, "", " ↦ (refl, refl) | ")?;
-    let paths = paths_text(alloc, values.paths.as_slice())?;
+/// Prints an ENUMERATED by its values.
+fn push_values(alloc: Global, out: &mut Text, owner: &str, doc: &str, variants: &[Variant]) {
     let mut words = Words::new(alloc);
-    words.put("HOME", "@HOME@")?;
-    words.put("DOC", doc)?;
-    words.put("NAME", owner)?;
-    words.put("VARIANTS", values.variants.as_str())?;
-    words.put("LIST", list.as_str())?;
-    words.put("NUMBERS", numbers.as_str())?;
-    words.put("CHAIN", chain.as_str())?;
-    words.put("LISTED", listed.as_str())?;
-    words.put("PATHS", paths.as_str())?;
-    fill(out, ENUMERATED, &words)
+    words.put("HOME", "@HOME@");
+    words.put("DOC", doc);
+    words.put("NAME", owner);
+    push_lines(words.begin("VARIANTS"), variants);
+    push_names(words.begin("LIST"), variants, ", ", "");
+    push_numbers(words.begin("NUMBERS"), variants);
+    push_names(words.begin("CHAIN"), variants, "", " ∷ ");
+    push_names(words.begin("LISTED"), variants, " ↦ (refl, refl) | ", "");
+    push_list(alloc, words.begin("PATHS"), owner, variants);
+    out.fill(ENUMERATED, &words);
 }
 
 /// Prints an ENUMERATED.
 pub fn push_enumerated<'m>(
     scope: Scope<'m, '_>,
-    out: &mut String,
+    out: &mut Text,
     definition: &Definition<'m>,
     items: (&'m [Numbered], usize),
     doc: &str,
 ) -> Result<(), Refusal> {
     let owner = definition.rust_name.as_str();
     let numbers = enumerated_numbers(scope, definition.link.module, items.0, items.1)?;
-    let values = values_of(scope, owner, numbers.as_slice())?;
-    push_parts(scope.alloc, out, owner, doc, &values)?;
+    let variants = variants_of(scope, numbers.as_slice())?;
+    push_values(scope.alloc, out, owner, doc, variants.as_slice());
     Ok(())
 }

@@ -1,7 +1,7 @@
 //! The files of the crates that the types are put into.
 
 use crate::printer::{LeftOut, Outcome, Printed, print_types};
-use crate::text::replaced;
+use crate::text::Text;
 use crate::uses::{Homes, Paths, path_lines, push_path, use_lines};
 use asn1_layouts::definitions::definitions;
 use asn1_layouts::scope::{Scope, all_tokens};
@@ -19,6 +19,12 @@ const LINES_A_FILE: usize = 500;
 
 /// The library that each printed crate uses.
 const LIBRARY: &str = "rasn_oer";
+
+/// The module of a crate's first file.
+const FIRST_MODULE: &str = "types_01";
+
+/// The first line of each file.
+const HEAD: &str = "//! Types of ASN.1 modules, as oergen printed them.\n";
 
 /// A file: its path below the folder of crates, and its text.
 #[derive(Drop)]
@@ -50,20 +56,21 @@ fn library_name(
     number: usize,
     count: usize,
 ) -> Result<String, AllocError> {
-    if count <= 1 {
-        String::from_str(alloc, name)
-    } else {
-        format!(in alloc; "{name}_{number}")
+    let mut library = Text::new(alloc);
+    library.push(name);
+    if count > 1 {
+        library.push("_");
+        library.push_count(number);
     }
+    library.end()
 }
 
 /// The name of a file's module by its number from 1.
 fn module_name(alloc: Global, number: usize) -> Result<String, AllocError> {
-    if number < 10 {
-        format!(in alloc; "types_0{number}")
-    } else {
-        format!(in alloc; "types_{number}")
-    }
+    let mut module = Text::new(alloc);
+    module.push(if number < 10 { "types_0" } else { "types_" });
+    module.push_count(number);
+    module.end()
 }
 
 /// How many lines a text has.
@@ -75,12 +82,34 @@ fn line_count(text: &str) -> usize {
     count
 }
 
+/// Where a section begins: its first type, and its file's number from 1.
+#[derive(Clone, Copy)]
+struct Start {
+    from: usize,
+    number: usize,
+}
+
+/// The section that ends with a type, of so many types.
+fn section_to(
+    alloc: Global,
+    name: &str,
+    start: Start,
+    last: usize,
+    count: usize,
+) -> Result<Section, AllocError> {
+    let number = (last / TYPES_A_CRATE).saturating_add(1);
+    Ok(Section {
+        library: library_name(alloc, name, number, count.div_ceil(TYPES_A_CRATE))?,
+        module: module_name(alloc, start.number)?,
+        from: start.from,
+        to: last.saturating_add(1),
+    })
+}
+
 /// Cuts the types into crates and files.
 fn sections(alloc: Global, name: &str, types: &[Printed]) -> Result<Vec<Section>, AllocError> {
-    let count = types.len().div_ceil(TYPES_A_CRATE);
     let mut all: Vec<Section> = Vec::new(alloc);
-    let mut number = 1usize;
-    let mut from = 0usize;
+    let mut start = Start { from: 0, number: 1 };
     let mut lines = 0usize;
     for (at, one) in types.iter().enumerate() {
         lines = lines.saturating_add(line_count(one.text.as_str()));
@@ -89,20 +118,13 @@ fn sections(alloc: Global, name: &str, types: &[Printed]) -> Result<Vec<Section>
         if !ends_crate && lines < LINES_A_FILE {
             continue;
         }
-        let library = at / TYPES_A_CRATE;
-        all.push(Section {
-            library: library_name(alloc, name, library.saturating_add(1), count)?,
-            module: module_name(alloc, number)?,
-            from,
-            to,
-        })?;
-        from = to;
-        lines = 0;
-        number = if ends_crate {
-            1
-        } else {
-            number.saturating_add(1)
+        all.push(section_to(alloc, name, start, at, types.len())?)?;
+        let number = if ends_crate { 0 } else { start.number };
+        start = Start {
+            from: to,
+            number: number.saturating_add(1),
         };
+        lines = 0;
     }
     Ok(all)
 }
@@ -134,28 +156,70 @@ fn homes_of(alloc: Global, types: &[Printed], all: &[Section]) -> Result<Homes, 
 
 /// The texts of types, one behind another.
 fn body_of(alloc: Global, types: &[Printed]) -> Result<String, AllocError> {
-    let mut body = String::new(alloc);
+    let mut body = Text::new(alloc);
     for one in types.iter() {
-        body.push_str(one.text.as_str())?;
+        body.push(one.text.as_str());
     }
-    Ok(body)
+    body.end()
 }
 
-/// A text with the homes of names in the place of their marks: `@HOME:NAME@`.
-fn with_homes(alloc: Global, text: &str, homes: &Homes) -> Result<String, AllocError> {
-    let mut out = String::new(alloc);
+/// The name that a file's definitions have.
+fn push_home(out: &mut Text, library: &str, module: &str) {
+    out.push_all(&[library, ".specs.declared.", module]);
+}
+
+/// Appends what stands behind a mark: the home of the name there, and the rest.
+fn push_behind_mark(out: &mut Text, piece: &str, homes: &Homes) {
+    let Some((name, rest)) = piece.split_once('@') else {
+        out.push(piece);
+        return;
+    };
+    if let Some((library, module)) = homes.get(name) {
+        push_home(out, library.as_str(), module.as_str());
+    }
+    out.push(rest);
+}
+
+/// Appends a text with the homes of names in the place of their marks: `@HOME:NAME@`.
+fn push_with_homes(out: &mut Text, text: &str, homes: &Homes) {
     for (at, piece) in text.split("@HOME:").enumerate() {
-        match piece.split_once('@') {
-            Some((name, rest)) if at != 0 => {
-                if let Some((library, module)) = homes.get(name) {
-                    out.push_str(format!(in alloc; "{library}.specs.declared.{module}")?.as_str())?;
-                }
-                out.push_str(rest)?;
-            }
-            _ => out.push_str(piece)?,
+        if at == 0 {
+            out.push(piece);
+        } else {
+            push_behind_mark(out, piece, homes);
         }
     }
-    Ok(out)
+}
+
+/// The path of a crate's file.
+fn path_of(alloc: Global, library: &str, module: &str) -> Result<String, AllocError> {
+    let mut path = Text::new(alloc);
+    path.push_all(&[library, "/src/", module, ".rt"]);
+    path.end()
+}
+
+/// The text of a section's file: its types, behind the names that they take from elsewhere.
+fn section_text(
+    alloc: Global,
+    types: &[Printed],
+    homes: &Homes,
+    section: &Section,
+) -> Result<String, AllocError> {
+    let library = section.library.as_str();
+    let module = section.module.as_str();
+    let types = body_of(alloc, types_of(types, section))?;
+    let uses = use_lines(alloc, types.as_str(), homes, library, module)?;
+    let mut home = Text::new(alloc);
+    push_home(&mut home, library, module);
+    let mut body = Text::new(alloc);
+    body.push_replaced(types.as_str().trim_end(), "@HOME@", home.as_str());
+    let mut out = Text::new(alloc);
+    out.push_all(&[HEAD, "\n", uses.as_str(), "\n"]);
+    push_with_homes(&mut out, body.as_str(), homes);
+    out.push("\n");
+    home.end()?;
+    body.end()?;
+    out.end()
 }
 
 /// A section's file.
@@ -165,55 +229,50 @@ fn section_file(
     homes: &Homes,
     section: &Section,
 ) -> Result<File, AllocError> {
-    let library = section.library.as_str();
-    let module = section.module.as_str();
-    let body = body_of(alloc, types_of(types, section))?;
-    let uses = use_lines(alloc, body.as_str(), homes, library, module)?;
-    let home = format!(in alloc; "{library}.specs.declared.{module}")?;
-    let body = replaced(alloc, body.as_str().trim_end(), "@HOME@", home.as_str())?;
-    let body = with_homes(alloc, body.as_str(), homes)?;
     Ok(File {
-        path: format!(in alloc; "{library}/src/{module}.rt")?,
-        text: format!(in alloc;
-            "//! Types of ASN.1 modules, as oergen printed them.\n\n{uses}\n{body}\n"
-        )?,
+        path: path_of(alloc, section.library.as_str(), section.module.as_str())?,
+        text: section_text(alloc, types, homes, section)?,
     })
 }
 
-/// The modules of a crate, and the names of each.
-fn push_library(
+/// Puts the paths of a section's names to others.
+fn push_paths(
     alloc: Global,
     types: &[Printed],
     section: &Section,
-    modules: &mut String,
     paths: &mut Paths,
 ) -> Result<(), AllocError> {
-    let module = section.module.as_str();
-    modules.push_str(format!(in alloc; "mod {module};\n")?.as_str())?;
     for one in types_of(types, section).iter() {
         for name in one.names.iter() {
-            push_path(alloc, paths, module, name.as_str())?;
+            push_path(alloc, paths, section.module.as_str(), name.as_str())?;
         }
     }
     Ok(())
 }
 
-/// The modules of a crate, and the lines that hand on the names of its types.
-fn root_parts(
+/// Appends the modules of a crate.
+fn push_modules(out: &mut Text, all: &[Section], library: &str) {
+    for section in all.iter() {
+        if section.library.as_str() == library {
+            out.push_all(&["mod ", section.module.as_str(), ";\n"]);
+        }
+    }
+}
+
+/// The lines that hand on the names of a crate's types.
+fn name_lines(
     alloc: Global,
     types: &[Printed],
     all: &[Section],
     library: &str,
-) -> Result<(String, String), AllocError> {
-    let mut modules = String::new(alloc);
+) -> Result<String, AllocError> {
     let mut paths: Paths = BTreeMap::new(alloc);
     for section in all.iter() {
         if section.library.as_str() == library {
-            push_library(alloc, types, section, &mut modules, &mut paths)?;
+            push_paths(alloc, types, section, &mut paths)?;
         }
     }
-    let names = path_lines(alloc, "pub use", &paths)?;
-    Ok((modules, names))
+    path_lines(alloc, "pub use", &paths)
 }
 
 /// A crate's root file.
@@ -223,37 +282,42 @@ fn root_file(
     all: &[Section],
     library: &str,
 ) -> Result<File, AllocError> {
-    let (modules, names) = root_parts(alloc, types, all, library)?;
+    let names = name_lines(alloc, types, all, library)?;
+    let mut text = Text::new(alloc);
+    text.push_all(&[HEAD, "#![tactic(auto)]\n\n"]);
+    push_modules(&mut text, all, library);
+    text.push_all(&["\n", names.as_str()]);
     Ok(File {
-        path: format!(in alloc; "{library}/src/lib.rt")?,
-        text: format!(in alloc;
-            "//! Types of ASN.1 modules, as oergen printed them.\n#![tactic(auto)]\n\n{modules}\n{names}"
-        )?,
+        path: path_of(alloc, library, "lib")?,
+        text: text.end()?,
     })
 }
 
-/// The files of all crates, and the lines of `crates.txt`, lowest first.
-fn crate_files(
-    alloc: Global,
-    name: &str,
-    types: &[Printed],
-) -> Result<(Vec<File>, String), AllocError> {
-    let all = sections(alloc, name, types)?;
-    let homes = homes_of(alloc, types, all.as_slice())?;
+/// The files of all crates.
+fn crate_files(alloc: Global, types: &[Printed], all: &[Section]) -> Result<Vec<File>, AllocError> {
+    let homes = homes_of(alloc, types, all)?;
     let mut files = Vec::new(alloc);
-    let mut lines = String::new(alloc);
-    let mut lower = String::new(alloc);
     for section in all.iter() {
         files.push(section_file(alloc, types, &homes, section)?)?;
-        if section.module.as_str() == "types_01" {
-            let library = section.library.as_str();
-            files.push(root_file(alloc, types, all.as_slice(), library)?)?;
-            lines.push_str(format!(in alloc; "{library}: {lower}{LIBRARY}\n")?.as_str())?;
-            lower.push_str(library)?;
-            lower.push(' ')?;
+        if section.module.as_str() == FIRST_MODULE {
+            files.push(root_file(alloc, types, all, section.library.as_str())?)?;
         }
     }
-    Ok((files, lines))
+    Ok(files)
+}
+
+/// Appends the lines of `crates.txt`, lowest first.
+fn push_crates(alloc: Global, out: &mut Text, all: &[Section]) {
+    let mut lower = Text::new(alloc);
+    for section in all.iter() {
+        if section.module.as_str() == FIRST_MODULE {
+            let library = section.library.as_str();
+            out.push_all(&[library, ": "]);
+            out.push_text(&lower);
+            out.push_all(&[LIBRARY, "\n"]);
+            lower.push_all(&[library, " "]);
+        }
+    }
 }
 
 /// What is asked for: the name of the crate, the names of the files that were handed in, and whether types that can't be printed
@@ -265,33 +329,48 @@ pub struct Wish<'w> {
     pub leaves_out: bool,
 }
 
-/// A line for each type that was left out.
+/// The name of the file that a refusal speaks of.
+fn file_of<'w>(why: &Refusal, files: &[&'w str]) -> &'w str {
+    match why {
+        Refusal::At { place, .. } => files.get(place.file).copied().unwrap_or(""),
+        Refusal::OutOfMemory => "",
+    }
+}
+
+/// Appends a line for each type that was left out.
 fn push_left_out(
     alloc: Global,
-    lines: &mut String,
+    out: &mut Text,
     left_out: &[LeftOut],
     files: &[&str],
 ) -> Result<(), AllocError> {
     for one in left_out.iter() {
-        let name = one.name.as_str();
-        let file = match &one.why {
-            Refusal::At { place, .. } => files.get(place.file).copied().unwrap_or(""),
-            Refusal::OutOfMemory => "",
-        };
         let why = &one.why;
-        lines.push_str(format!(in alloc; "# left out: {name}, {file}:{why}\n")?.as_str())?;
+        let why = format!(in alloc; "{why}")?;
+        out.push_all(&["# left out: ", one.name.as_str(), ", "]);
+        out.push_all(&[file_of(&one.why, files), ":", why.as_str(), "\n"]);
     }
     Ok(())
 }
 
+/// What is written of types that are printed or left out.
+fn output_of(alloc: Global, outcome: &Outcome, wish: Wish<'_>) -> Result<Output, AllocError> {
+    let types = outcome.printed.as_slice();
+    let all = sections(alloc, wish.name, types)?;
+    let mut lines = Text::new(alloc);
+    push_crates(alloc, &mut lines, all.as_slice());
+    push_left_out(alloc, &mut lines, outcome.left_out.as_slice(), wish.files)?;
+    Ok(Output {
+        files: crate_files(alloc, types, all.as_slice())?,
+        lines: lines.end()?,
+    })
+}
+
 /// The crates of modules that were resolved.
 fn crates_of_scope(scope: Scope<'_, '_>, wish: Wish<'_>) -> Result<Output, Refusal> {
-    let alloc = scope.alloc;
     let all = definitions(scope)?;
-    let Outcome { printed, left_out } = print_types(scope, all.as_slice(), wish.leaves_out)?;
-    let (files, mut lines) = crate_files(alloc, wish.name, printed.as_slice())?;
-    push_left_out(alloc, &mut lines, left_out.as_slice(), wish.files)?;
-    Ok(Output { files, lines })
+    let outcome = print_types(scope, all.as_slice(), wish.leaves_out)?;
+    Ok(output_of(scope.alloc, &outcome, wish)?)
 }
 
 /// The crates of the modules in tokens.

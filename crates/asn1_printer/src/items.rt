@@ -1,70 +1,87 @@
 //! The limits that stand beside a type.
 
 use crate::templates::LIMITS;
-use crate::text::{Words, fill};
+use crate::text::{Text, Words};
 use asn1_layouts::scope::Scope;
 use asn1_layouts::visible::{Limits, Purpose};
 use asn1_modules::lexer::TokenId;
 use asn1_modules::refusal::Refusal;
-use std::alloc::{AllocError, Global};
+use std::alloc::Global;
 
-/// A number as definitions write it: with its sign, or one that is 0 or more.
-pub fn defined_number(alloc: Global, number: i128, has_sign: bool) -> Result<String, AllocError> {
-    if !has_sign {
-        return format!(in alloc; "{number}");
-    }
-    if number < 0 {
-        let below = (-1i128).saturating_sub(number);
-        return format!(in alloc; "(negsuc {below})");
-    }
-    format!(in alloc; "(pos {number})")
+/// Appends a number as definitions write it: with its sign, or one that is 0 or more.
+pub fn push_defined(out: &mut Text, number: i128, has_sign: bool) {
+    let (front, digits, behind) = if !has_sign {
+        ("", number, "")
+    } else if number < 0 {
+        ("(negsuc ", (-1i128).saturating_sub(number), ")")
+    } else {
+        ("(pos ", number, ")")
+    };
+    out.push(front);
+    out.push_number(digits);
+    out.push(behind);
 }
 
-/// An end of a range, for the code and for definitions.
-fn end_text(
-    alloc: Global,
-    end: Option<i128>,
-    purpose: Purpose,
-) -> Result<(String, String), AllocError> {
+/// Appends an end of a range, for the code.
+fn push_end(out: &mut Text, end: Option<i128>) {
     match end {
         Some(number) => {
-            let defined = defined_number(alloc, number, purpose == Purpose::Value)?;
-            Ok((
-                format!(in alloc; "Some({number})")?,
-                format!(in alloc; "(Some {defined})")?,
-            ))
+            out.push("Some(");
+            out.push_number(number);
+            out.push(")");
         }
-        None => Ok((
-            String::from_str(alloc, "None")?,
-            String::from_str(alloc, "None")?,
-        )),
+        None => out.push("None"),
     }
 }
 
-/// One size, for the code and for definitions.
-fn single_text(alloc: Global, size: i128) -> Result<(String, String), AllocError> {
-    Ok((
-        format!(in alloc; "Some((Bounded::Single({size}), false))")?,
-        format!(in alloc; "Some (Single {size}, false)")?,
-    ))
+/// Appends an end of a range, for definitions.
+fn push_defined_end(out: &mut Text, end: Option<i128>, purpose: Purpose) {
+    match end {
+        Some(number) => {
+            out.push("(Some ");
+            push_defined(out, number, purpose == Purpose::Value);
+            out.push(")");
+        }
+        None => out.push("None"),
+    }
 }
 
-/// Bounds, for the code and for definitions.
-fn bounds_text(
-    alloc: Global,
-    limits: Limits,
-    purpose: Purpose,
-) -> Result<(String, String), AllocError> {
-    if let (Some(size), Purpose::Size) = (limits.fixed(), purpose) {
-        return single_text(alloc, size);
+/// The one size that is left, where there is one.
+fn single_of(limits: Limits, purpose: Purpose) -> Option<i128> {
+    match purpose {
+        Purpose::Size => limits.fixed(),
+        Purpose::Value => None,
     }
-    let (start, defined_start) = end_text(alloc, limits.low, purpose)?;
-    let (end, defined_end) = end_text(alloc, limits.high, purpose)?;
-    let code = format!(in alloc;
-        "Some((\n            Bounded::Range {{\n                start: {start},\n                end: {end},\n            }},\n            false,\n        ))"
-    )?;
-    let defined = format!(in alloc; "Some (Range {defined_start} {defined_end}, false)")?;
-    Ok((code, defined))
+}
+
+/// Appends bounds, for the code.
+fn push_code(out: &mut Text, limits: Limits, purpose: Purpose) {
+    if let Some(size) = single_of(limits, purpose) {
+        out.push("Some((Bounded::Single(");
+        out.push_number(size);
+        out.push("), false))");
+        return;
+    }
+    out.push("Some((\n            Bounded::Range {\n                start: ");
+    push_end(out, limits.low);
+    out.push(",\n                end: ");
+    push_end(out, limits.high);
+    out.push(",\n            },\n            false,\n        ))");
+}
+
+/// Appends bounds, for definitions.
+fn push_bounds(out: &mut Text, limits: Limits, purpose: Purpose) {
+    if let Some(size) = single_of(limits, purpose) {
+        out.push("Some (Single ");
+        out.push_number(size);
+        out.push(", false)");
+        return;
+    }
+    out.push("Some (Range ");
+    push_defined_end(out, limits.low, purpose);
+    out.push(" ");
+    push_defined_end(out, limits.high, purpose);
+    out.push(", false)");
 }
 
 /// Whether sizes are those of an usize.
@@ -74,10 +91,25 @@ fn are_sizes(limits: Limits) -> bool {
     low >= 0 && high <= 18446744073709551615
 }
 
+/// Prints limits.
+fn push_type(alloc: Global, out: &mut Text, name: &str, limits: Limits, purpose: Purpose) {
+    let mut words = Words::new(alloc);
+    words.put("NAME", name);
+    let (code, bounds, no_code, no_bounds) = match purpose {
+        Purpose::Size => ("SIZE", "GHOST_SIZE", "VALUE", "GHOST_VALUE"),
+        Purpose::Value => ("VALUE", "GHOST_VALUE", "SIZE", "GHOST_SIZE"),
+    };
+    push_code(words.begin(code), limits, purpose);
+    push_bounds(words.begin(bounds), limits, purpose);
+    words.put(no_code, "None");
+    words.put(no_bounds, "None");
+    out.fill(LIMITS, &words);
+}
+
 /// Prints limits. Refused where sizes are none.
 pub fn push_limits(
     scope: Scope<'_, '_>,
-    out: &mut String,
+    out: &mut Text,
     name: &str,
     limits: (Limits, Purpose),
     first: TokenId,
@@ -86,19 +118,6 @@ pub fn push_limits(
     if purpose == Purpose::Size && !are_sizes(limits) {
         return Err(scope.refused(first, "sizes from 0 to 18446744073709551615"));
     }
-    let (code, defined) = bounds_text(scope.alloc, limits, purpose)?;
-    let none = "None";
-    let (value, size) = if purpose == Purpose::Size {
-        ((none, none), (code.as_str(), defined.as_str()))
-    } else {
-        ((code.as_str(), defined.as_str()), (none, none))
-    };
-    let mut words = Words::new(scope.alloc);
-    words.put("NAME", name)?;
-    words.put("VALUE", value.0)?;
-    words.put("SIZE", size.0)?;
-    words.put("GHOST_VALUE", value.1)?;
-    words.put("GHOST_SIZE", size.1)?;
-    fill(out, LIMITS, &words)?;
+    push_type(scope.alloc, out, name, limits, purpose);
     Ok(())
 }

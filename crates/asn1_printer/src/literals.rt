@@ -1,6 +1,6 @@
 //! What a module writes of bits, octets and characters: the octets that a default of them has.
 
-use crate::text::{joined, replaced};
+use crate::text::Text;
 use asn1_layouts::numbers::{Names, Spot, number_of};
 use asn1_layouts::scope::Scope;
 use asn1_modules::ast::{Simple, Value};
@@ -165,50 +165,59 @@ pub fn octets_of_text(
     Ok(octets)
 }
 
-/// Octets as an array of the code, as rustfmt lays it out: in hexadecimal digits, so many a line.
-pub fn array_text(alloc: Global, octets: &[u8]) -> Result<String, AllocError> {
+/// Appends octets in hexadecimal digits, with a text between any two.
+fn push_octets(out: &mut Text, octets: &[u8]) {
+    for (at, octet) in octets.iter().enumerate() {
+        out.push(if at == 0 { "0x" } else { ", 0x" });
+        out.push_octet(*octet);
+    }
+}
+
+/// Appends octets as an array of the code, as rustfmt lays it out: in hexadecimal digits, so many a line.
+pub fn push_array(out: &mut Text, octets: &[u8]) {
     const LINE: usize = 14;
     const ONE_LINE: usize = 10;
-    let mut texts = Vec::new(alloc);
-    for octet in octets.iter() {
-        texts.push(format!(in alloc; "0x{octet:02X}")?)?;
-    }
+    out.push("[");
     if octets.len() <= ONE_LINE {
-        let line = joined(alloc, texts.as_slice(), "", ", ")?;
-        return format!(in alloc; "[{line}]");
+        push_octets(out, octets);
+        out.push("]");
+        return;
     }
-    let mut out = String::from_str(alloc, "[\n")?;
-    for line in texts.chunks(LINE) {
-        out.push_str("            ")?;
-        out.push_str(joined(alloc, line, "", ", ")?.as_str())?;
-        out.push_str(",\n")?;
+    for line in octets.chunks(LINE) {
+        out.push("\n            ");
+        push_octets(out, line);
+        out.push(",");
     }
-    out.push_str("        ]")?;
-    Ok(out)
+    out.push("\n        ]");
 }
 
 /// Octets as a list of definitions.
-pub fn list_text(alloc: Global, octets: &[u8]) -> Result<String, AllocError> {
-    let mut out = String::from_str(alloc, "(")?;
+pub fn list_text(alloc: Global, octets: &[u8]) -> Text {
+    let mut out = Text::new(alloc);
+    out.push("(");
     for octet in octets.iter() {
-        out.push_str(format!(in alloc; "{octet} ∷ ")?.as_str())?;
+        out.push_number(i128::from(*octet));
+        out.push(" ∷ ");
     }
-    out.push_str("[])")?;
-    Ok(out)
+    out.push("[])");
+    out
 }
 
-/// A value as the module writes it, in one line: one token, or names between braces.
-pub fn written(scope: Scope<'_, '_>, value: &Value) -> Result<String, AllocError> {
+/// Appends names between braces.
+fn push_names(scope: Scope<'_, '_>, out: &mut Text, names: &[TokenId]) {
+    out.push("{");
+    for (at, name) in names.iter().enumerate() {
+        out.push(if at == 0 { "" } else { ", " });
+        out.push(scope.text(*name));
+    }
+    out.push("}");
+}
+
+/// Appends a value as the module writes it, in one line: one token, or names between braces.
+pub fn push_written(scope: Scope<'_, '_>, out: &mut Text, value: &Value) {
     match value {
-        Value::Literal(id) => replaced(scope.alloc, scope.text(*id), "\n", " "),
-        Value::Names(_, names) => {
-            let mut texts = Vec::new(scope.alloc);
-            for name in names.iter() {
-                texts.push(String::from_str(scope.alloc, scope.text(*name))?)?;
-            }
-            let list = joined(scope.alloc, texts.as_slice(), "", ", ")?;
-            format!(in scope.alloc; "{{{list}}}")
-        }
-        _ => Ok(String::new(scope.alloc)),
+        Value::Literal(id) => out.push_replaced(scope.text(*id), "\n", " "),
+        Value::Names(_, names) => push_names(scope, out, names.as_slice()),
+        _ => {}
     }
 }

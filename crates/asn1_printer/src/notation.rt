@@ -1,7 +1,7 @@
 //! A type as ASN.1 writes it, from the tokens of its module.
 
+use crate::text::Text;
 use asn1_modules::lexer::{Kind, Token};
-use std::alloc::{AllocError, Global};
 
 /// How many characters a line of a comment has at most.
 const WIDTH: usize = 110;
@@ -52,15 +52,8 @@ fn is_apart(before: Token<'_>, next: Token<'_>) -> bool {
     }
 }
 
-/// A type as its tokens write it, with a name in front where there is one: the lines of a doc comment.
-pub fn notation(
-    alloc: Global,
-    name: &str,
-    tokens: &[Token<'_>],
-    start: usize,
-) -> Result<String, AllocError> {
-    let mut out = String::from_str(alloc, "/// `")?;
-    out.push_str(name)?;
+/// Appends a type as its tokens write it, behind what stands in its first line: the lines of a doc comment.
+pub fn push_notation(out: &mut Text, tokens: &[Token<'_>], start: usize) {
     let mut column = out.len();
     let own = tokens.get(start..).unwrap_or(&[]);
     let mut before: Option<Token<'_>> = None;
@@ -70,16 +63,25 @@ pub fn notation(
             None => false,
         };
         let width = token.text.len().saturating_add(1);
-        if apart && column.saturating_add(width) > WIDTH {
-            out.push_str("\n/// ")?;
+        let is_new_line = apart && column.saturating_add(width) > WIDTH;
+        if is_new_line {
             column = 4;
-        } else if apart {
-            out.push(' ')?;
         }
-        out.push_str(token.text)?;
+        out.push(blank(apart, is_new_line));
+        out.push(token.text);
         column = column.saturating_add(width);
         before = Some(*token);
     }
-    out.push_str("`\n")?;
-    Ok(out)
+    out.push("`\n");
+}
+
+/// What stands in front of a token: a line of its own, a blank or nothing.
+fn blank(apart: bool, is_new_line: bool) -> &'static str {
+    if is_new_line {
+        "\n/// "
+    } else if apart {
+        " "
+    } else {
+        ""
+    }
 }

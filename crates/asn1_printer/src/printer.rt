@@ -4,16 +4,17 @@ ghost use Rattle.std.specs.Prelude.{◌≡◌, ◌+◌, [], Err, false, IfOk, le
 use crate::choices::push_choice;
 use crate::enumerations::push_enumerated;
 use crate::items::push_limits;
-use crate::notation::notation;
+use crate::notation::push_notation;
 use crate::sequences::push_sequence;
 use crate::shapes::shape_of;
 use crate::templates::ALIAS;
-use crate::text::{Words, fill, lower};
+use crate::text::{Text, Words};
 use crate::uses::{KNOWN, declared_names};
 use asn1_layouts::definitions::Definition;
 use asn1_layouts::order::order_of_use;
 use asn1_layouts::scope::Scope;
 use asn1_modules::ast::Body;
+use asn1_modules::lexer::Token;
 use asn1_modules::refusal::Refusal;
 use std::alloc::{AllocError, Global};
 use std::collections::BTreeSet;
@@ -86,11 +87,20 @@ fn require_targets<'m>(
     Ok(())
 }
 
+/// Prints a name for a type, by its Rust type.
+fn push_name(alloc: Global, out: &mut Text, name: &str, doc: &str, rust: &Text) {
+    let mut words = Words::new(alloc);
+    words.put("DOC", doc);
+    words.put("NAME", name);
+    words.begin("TYPE").push_text(rust);
+    out.fill(ALIAS, &words);
+}
+
 /// A name for a type, or for a list or a type without parts.
 fn push_alias<'m>(
     scope: Scope<'m, '_>,
     all: &[Definition<'m>],
-    out: &mut String,
+    out: &mut Text,
     definition: &Definition<'m>,
     doc: &str,
 ) -> Result<(), Refusal> {
@@ -99,31 +109,40 @@ fn push_alias<'m>(
     };
     let name = definition.rust_name.as_str();
     let shape = shape_of(scope, all, part, definition.link, name)?;
-    let mut words = Words::new(scope.alloc);
-    words.put("DOC", doc)?;
-    words.put("NAME", name)?;
-    words.put("TYPE", shape.text.as_str())?;
-    fill(out, ALIAS, &words)?;
+    push_name(scope.alloc, out, name, doc, &shape.text);
     match shape.limits {
         Some(limits) => push_limits(scope, out, name, limits, definition.link.of.first),
         None => Ok(()),
     }
 }
 
+/// The token so many in front of another; nothing in front of the first.
+fn token_before<'a>(scope: Scope<'_, 'a>, start: usize, back: usize) -> Option<Token<'a>> {
+    match start.checked_sub(back) {
+        Some(at) => scope.tokens.get(at).copied(),
+        None => None,
+    }
+}
+
+/// The name in front of a type that is assigned; nothing in front of another.
+fn name_before<'a>(scope: Scope<'_, 'a>, start: usize) -> Option<&'a str> {
+    match (token_before(scope, start, 2), token_before(scope, start, 1)) {
+        (Some(name), Some(assigns)) if assigns.text == "::=" => Some(name.text),
+        _ => None,
+    }
+}
+
 /// A type's ASN.1 as a doc comment.
 fn doc_of(scope: Scope<'_, '_>, definition: &Definition<'_>) -> Result<String, AllocError> {
-    let alloc = scope.alloc;
     let start = definition.link.of.first.index;
-    let assigns = start.checked_sub(1).and_then(|at| scope.tokens.get(at));
-    let name = start.checked_sub(2).and_then(|at| scope.tokens.get(at));
-    let front = match (name, assigns) {
-        (Some(name), Some(assigns)) if assigns.text == "::=" => {
-            let name = name.text;
-            format!(in alloc; "{name} ::= ")?
-        }
-        _ => String::new(alloc),
-    };
-    notation(alloc, front.as_str(), scope.tokens, start)
+    let mut doc = Text::new(scope.alloc);
+    doc.push("/// `");
+    if let Some(name) = name_before(scope, start) {
+        doc.push(name);
+        doc.push(" ::= ");
+    }
+    push_notation(&mut doc, scope.tokens, start);
+    doc.end()
 }
 
 /// The text of one type.
@@ -136,7 +155,7 @@ fn text_of<'m>(
     require_targets(scope, definition, states)?;
     let doc = doc_of(scope, definition)?;
     let doc = doc.as_str();
-    let mut out = String::new(scope.alloc);
+    let mut out = Text::new(scope.alloc);
     match &definition.link.of.body {
         Body::Sequence(_) | Body::Set(_) => push_sequence(scope, all, &mut out, definition, doc)?,
         Body::Choice(_) => push_choice(scope, all, &mut out, definition, doc)?,
@@ -146,7 +165,14 @@ fn text_of<'m>(
         }
         _ => push_alias(scope, all, &mut out, definition, doc)?,
     }
-    Ok(out)
+    Ok(out.end()?)
+}
+
+/// A name in small letters.
+fn lower(alloc: Global, name: &str) -> Result<String, AllocError> {
+    let mut out = Text::new(alloc);
+    out.push_lower(name);
+    out.end()
 }
 
 /// The names, in small letters, that printed text takes from elsewhere.

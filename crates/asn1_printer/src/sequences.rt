@@ -3,7 +3,7 @@
 use crate::cells::{Cell, cell_of, group_cell};
 use crate::chains::{Chain, push_row};
 use crate::templates::{IN_TAG_ORDER, MEMBERS, TABLES, TYPE, USES_BOTH};
-use crate::text::{Words, fill, joined, repeated};
+use crate::text::{Text, Words};
 use asn1_core::Class;
 use asn1_layouts::definitions::{Definition, Part};
 use asn1_layouts::layouts::is_extensible;
@@ -15,165 +15,115 @@ use std::alloc::{AllocError, Global};
 use std::collections::{BTreeMap, BTreeSet};
 
 /// The fields of a struct, a line each.
-fn push_fields(out: &mut String, cells: &[Cell]) -> Result<(), AllocError> {
+fn push_fields(out: &mut Text, cells: &[Cell]) {
     for cell in cells.iter() {
-        out.push_str("\n    pub ")?;
-        out.push_str(cell.field.as_str())?;
-        out.push_str(": ")?;
-        out.push_str(cell.field_type.as_str())?;
-        out.push(',')?;
+        out.push_all(&[
+            "\n    pub ",
+            cell.field.as_str(),
+            ": ",
+            cell.field_type.as_str(),
+            ",",
+        ]);
     }
-    Ok(())
+    if !cells.is_empty() {
+        out.push("\n");
+    }
 }
 
-/// All fields of the struct of a type.
-fn fields_text(alloc: Global, of: Chain<'_>) -> Result<String, AllocError> {
-    let mut fields = String::new(alloc);
-    push_fields(&mut fields, of.roots)?;
-    push_fields(&mut fields, of.additions)?;
-    if !fields.is_empty() {
-        fields.push('\n')?;
+/// The names of the fields, a line each.
+fn push_list(out: &mut Text, cells: &[Cell]) {
+    for (index, cell) in cells.iter().enumerate() {
+        let between = if index == 0 { "" } else { ",\n" };
+        out.push_all(&[between, "            ", cell.field.as_str()]);
     }
-    Ok(fields)
-}
-
-/// The names of the fields.
-fn push_names(names: &mut Vec<String>, cells: &[Cell]) -> Result<(), AllocError> {
-    for cell in cells.iter() {
-        names.push(cell.field.clone()?)?;
-    }
-    Ok(())
-}
-
-/// The names of all fields of the struct of a type.
-fn names_of(alloc: Global, of: Chain<'_>) -> Result<Vec<String>, AllocError> {
-    let mut names = Vec::new(alloc);
-    push_names(&mut names, of.roots)?;
-    push_names(&mut names, of.additions)?;
-    Ok(names)
 }
 
 /// A value's fields, one behind another as a row has them.
-fn pairs_text(alloc: Global, names: &[String]) -> Result<String, AllocError> {
-    let mut out = String::new(alloc);
-    for (index, name) in names.iter().enumerate() {
-        out.push_str(if index == 0 { "both v." } else { "(both v." })?;
-        out.push_str(name.as_str())?;
-        out.push_str(" ")?;
+fn push_pairs(out: &mut Text, cells: &[Cell]) {
+    for (index, cell) in cells.iter().enumerate() {
+        let both = if index == 0 { "both v." } else { "(both v." };
+        out.push_all(&[both, cell.field.as_str(), " "]);
     }
-    out.push_str("tt")?;
-    let open = names.len().saturating_sub(1);
-    out.push_str(repeated(alloc, ")", open)?.as_str())?;
-    Ok(out)
+    out.push("tt");
+    out.push_times(")", cells.len().saturating_sub(1));
 }
 
 /// A table of components.
-fn table_text(alloc: Global, cells: &[Cell]) -> Result<String, AllocError> {
+fn push_table(out: &mut Text, cells: &[Cell]) {
     if cells.is_empty() {
-        return String::from_str(alloc, "Fields { fields: &[] }");
+        out.push("Fields { fields: &[] }");
+        return;
     }
-    let mut lines = Vec::new(alloc);
+    out.push("Fields {\n        fields: fields![");
     for (index, cell) in cells.iter().enumerate() {
-        let entry = cell.entry.as_str();
-        lines.push(format!(in alloc; "{index} {entry}")?)?;
+        out.push(if index == 0 {
+            "\n            "
+        } else {
+            ",\n            "
+        });
+        out.push_count(index);
+        out.push_all(&[" ", cell.entry.as_str()]);
     }
-    let lines = joined(alloc, lines.as_slice(), "            ", ",\n")?;
-    format!(in alloc; "Fields {{\n        fields: fields![\n{lines}\n        ],\n    }}")
+    out.push("\n        ],\n    }");
 }
 
 /// The table of additions.
-fn additions_text(alloc: Global, of: Chain<'_>) -> Result<String, AllocError> {
+fn push_additions(out: &mut Text, of: Chain<'_>) {
     if !of.is_extensible {
-        return String::from_str(alloc, "None");
+        out.push("None");
+        return;
     }
-    let table = table_text(alloc, of.additions)?;
-    format!(in alloc; "Some({table})")
+    out.push("Some(");
+    push_table(out, of.additions());
+    out.push(")");
 }
 
 /// How many root components and additions a type has, in digits.
-fn counts_of(alloc: Global, of: Chain<'_>) -> Result<(String, String), AllocError> {
-    let roots = format!(in alloc; "{}", of.roots.len())?;
-    let additions = format!(in alloc; "{}", of.additions.len())?;
-    Ok((roots, additions))
+fn put_counts(words: &mut Words, of: Chain<'_>) {
+    words.begin("RC").push_count(of.roots().len());
+    words.begin("EC").push_count(of.additions().len());
 }
 
 /// Prints a type's name and its struct.
-fn push_struct(
-    alloc: Global,
-    out: &mut String,
-    doc: &str,
-    of: Chain<'_>,
-    is_set: bool,
-) -> Result<(), AllocError> {
-    let fields = fields_text(alloc, of)?;
-    let (roots, additions) = counts_of(alloc, of)?;
+fn push_struct(alloc: Global, out: &mut Text, doc: &str, of: Chain<'_>, is_set: bool) {
     let mut words = Words::new(alloc);
-    words.put("DOC", doc)?;
-    words.put("NAME", of.owner)?;
-    words.put("KIND", if is_set { "Set" } else { "Sequence" })?;
-    words.put("FIELDS", fields.as_str())?;
-    words.put("RC", roots.as_str())?;
-    words.put("EC", additions.as_str())?;
-    fill(out, TYPE, &words)
+    words.put("DOC", doc);
+    words.put("NAME", of.owner);
+    words.put("KIND", if is_set { "Set" } else { "Sequence" });
+    push_fields(words.begin("FIELDS"), of.cells);
+    put_counts(&mut words, of);
+    out.fill(TYPE, &words);
 }
 
 /// Prints the struct as a row.
-fn push_conversions(
-    alloc: Global,
-    out: &mut String,
-    of: Chain<'_>,
-    pairs: &str,
-    list: &str,
-) -> Result<(), AllocError> {
+fn push_conversions(alloc: Global, out: &mut Text, of: Chain<'_>) {
     let mut words = Words::new(alloc);
-    words.put("NAME", of.owner)?;
-    words.put("USES", if pairs == "tt" { "" } else { USES_BOTH })?;
-    words.put("PAIRS", pairs)?;
-    words.put("LIST", list)?;
-    words.put("EXT", if of.is_extensible { "true" } else { "false" })?;
-    fill(out, MEMBERS, &words)
+    words.put("NAME", of.owner);
+    words.put("USES", if of.cells.is_empty() { "" } else { USES_BOTH });
+    push_pairs(words.begin("PAIRS"), of.cells);
+    push_list(words.begin("LIST"), of.cells);
+    words.put("EXT", if of.is_extensible { "true" } else { "false" });
+    out.fill(MEMBERS, &words);
 }
 
 /// Prints the tables of a type's components, and of a SET that they are in the order of their tags.
-fn push_tables(
-    alloc: Global,
-    out: &mut String,
-    of: Chain<'_>,
-    list: &str,
-    is_set: bool,
-) -> Result<(), AllocError> {
-    let roots = table_text(alloc, of.roots)?;
-    let additions = additions_text(alloc, of)?;
-    let (root_count, addition_count) = counts_of(alloc, of)?;
+fn push_tables(alloc: Global, out: &mut Text, of: Chain<'_>, is_set: bool) {
     let mut words = Words::new(alloc);
-    words.put("NAME", of.owner)?;
-    words.put("LIST", list)?;
-    words.put("ROOTS", roots.as_str())?;
-    words.put("ADDITIONS", additions.as_str())?;
-    words.put("RC", root_count.as_str())?;
-    words.put("EC", addition_count.as_str())?;
-    fill(out, TABLES, &words)?;
-    if is_set {
-        fill(out, IN_TAG_ORDER, &words)?;
-    }
-    Ok(())
+    words.put("NAME", of.owner);
+    push_list(words.begin("LIST"), of.cells);
+    push_table(words.begin("ROOTS"), of.roots());
+    push_additions(words.begin("ADDITIONS"), of);
+    put_counts(&mut words, of);
+    out.fill(TABLES, &words);
+    out.fill(if is_set { IN_TAG_ORDER } else { "" }, &words);
 }
 
 /// Prints a type by its cells.
-fn push_members(
-    alloc: Global,
-    out: &mut String,
-    doc: &str,
-    of: Chain<'_>,
-    is_set: bool,
-) -> Result<(), AllocError> {
-    let names = names_of(alloc, of)?;
-    let pairs = pairs_text(alloc, names.as_slice())?;
-    let list = joined(alloc, names.as_slice(), "            ", ",\n")?;
-    push_struct(alloc, out, doc, of, is_set)?;
-    push_row(alloc, out, of)?;
-    push_conversions(alloc, out, of, pairs.as_str(), list.as_str())?;
-    push_tables(alloc, out, of, list.as_str(), is_set)
+fn push_members(alloc: Global, out: &mut Text, doc: &str, of: Chain<'_>, is_set: bool) {
+    push_struct(alloc, out, doc, of, is_set);
+    push_row(alloc, out, of);
+    push_conversions(alloc, out, of);
+    push_tables(alloc, out, of, is_set);
 }
 
 /// The place of a class in the order of tags (X.680, 8.6).
@@ -224,7 +174,7 @@ fn in_text_order(
 fn cells_at<'m>(
     scope: Scope<'m, '_>,
     all: &[Definition<'m>],
-    out: &mut String,
+    out: &mut Text,
     owner: &str,
     parts: &[Part<'m>],
     places: &[usize],
@@ -240,69 +190,100 @@ fn cells_at<'m>(
     Ok(cells)
 }
 
+/// Prints the sequence of an addition group by its cells.
+fn push_group_type(
+    alloc: Global,
+    out: &mut Text,
+    owner: &str,
+    name: &str,
+    cells: &[Cell],
+    number: usize,
+) -> Result<(), AllocError> {
+    let mut doc = Text::new(alloc);
+    doc.push("/// The addition group ");
+    doc.push_count(number);
+    doc.push_all(&[" of `", owner, "`.\n"]);
+    let of = Chain {
+        owner: name,
+        cells,
+        root_count: cells.len(),
+        is_extensible: false,
+        is_choice: false,
+    };
+    let doc = doc.end()?;
+    push_members(alloc, out, doc.as_str(), of, false);
+    Ok(())
+}
+
+/// The name of the sequence of an addition group.
+fn group_name(alloc: Global, owner: &str, number: usize) -> Result<String, AllocError> {
+    let mut name = Text::new(alloc);
+    name.push_all(&[owner, "Group"]);
+    name.push_count(number);
+    name.end()
+}
+
 /// Prints the sequence of an addition group, and answers its cell.
 fn push_group<'m>(
     scope: Scope<'m, '_>,
     all: &[Definition<'m>],
-    out: &mut String,
+    out: &mut Text,
     definition: &Definition<'m>,
     number: usize,
 ) -> Result<Cell, Refusal> {
     let alloc = scope.alloc;
     let owner = definition.rust_name.as_str();
-    let name = format!(in alloc; "{owner}Group{number}")?;
     let parts = definition.parts.as_slice();
+    let name = group_name(alloc, owner, number)?;
     let places = in_text_order(alloc, parts, Position::Group(number))?;
-    let roots = cells_at(scope, all, out, name.as_str(), parts, places.as_slice())?;
-    let doc = format!(in alloc; "/// The addition group {number} of `{owner}`.\n")?;
-    let of = Chain {
-        owner: name.as_str(),
-        roots: roots.as_slice(),
-        additions: &[],
-        is_extensible: false,
-        is_choice: false,
-    };
-    push_members(alloc, out, doc.as_str(), of, false)?;
-    Ok(group_cell(alloc, name.as_str(), number, roots.len())?)
+    let cells = cells_at(scope, all, out, name.as_str(), parts, places.as_slice())?;
+    push_group_type(alloc, out, owner, name.as_str(), cells.as_slice(), number)?;
+    Ok(group_cell(alloc, name.as_str(), number, cells.len())?)
 }
 
-/// The cells of the additions; each group is printed before.
-fn addition_cells<'m>(
+/// Puts the cells of the additions behind others; each group is printed before.
+fn push_addition_cells<'m>(
     scope: Scope<'m, '_>,
     all: &[Definition<'m>],
-    out: &mut String,
+    out: &mut Text,
     definition: &Definition<'m>,
-) -> Result<Vec<Cell>, Refusal> {
-    let mut cells = Vec::new(scope.alloc);
+    cells: &mut Vec<Cell>,
+) -> Result<(), Refusal> {
     let owner = definition.rust_name.as_str();
     let mut printed = 0usize;
     for part in definition.parts.iter() {
         let Some(row) = part.row else {
             continue;
         };
-        match row.position {
-            Position::Root => {}
-            Position::Addition => cells.push(cell_of(scope, all, out, owner, part, row, true)?)?,
-            Position::Group(number) if number == printed => {}
-            Position::Group(number) => {
+        let cell = match row.position {
+            Position::Addition => cell_of(scope, all, out, owner, part, row, true)?,
+            Position::Group(number) if number != printed => {
                 printed = number;
-                cells.push(push_group(scope, all, out, definition, number)?)?;
+                push_group(scope, all, out, definition, number)?
+            }
+            _ => continue,
+        };
+        cells.push(cell)?;
+    }
+    Ok(())
+}
+
+/// The names of the groups among the components, as fields.
+fn group_fields(alloc: Global, parts: &[Part<'_>]) -> Result<BTreeSet<String>, AllocError> {
+    let mut names = BTreeSet::new(alloc);
+    for part in parts.iter() {
+        if let Some(row) = part.row {
+            if let Position::Group(number) = row.position {
+                let _ = names.insert(format!(in alloc; "group_{number}")?)?;
             }
         }
     }
-    Ok(cells)
+    Ok(names)
 }
 
 /// Refuses two components whose Rust names are the same.
 fn require_names<'m>(scope: Scope<'m, '_>, parts: &[Part<'m>]) -> Result<(), Refusal> {
-    let mut seen = BTreeSet::new(scope.alloc);
-    for part in parts.iter() {
-        if let Some(row) = part.row {
-            if let Position::Group(number) = row.position {
-                let _ = seen.insert(format!(in scope.alloc; "group_{number}")?)?;
-            }
-        }
-    }
+    let mut seen = group_fields(scope.alloc, parts)?;
     for part in parts.iter() {
         if let Some(row) = part.row {
             if !seen.insert(part.rust_name.clone()?)? {
@@ -313,33 +294,38 @@ fn require_names<'m>(scope: Scope<'m, '_>, parts: &[Part<'m>]) -> Result<(), Ref
     Ok(())
 }
 
+/// The root components of a SEQUENCE or a SET in the order of the row, as places among all.
+fn root_places(alloc: Global, parts: &[Part<'_>], is_set: bool) -> Result<Vec<usize>, AllocError> {
+    if is_set {
+        in_tag_order(alloc, parts)
+    } else {
+        in_text_order(alloc, parts, Position::Root)
+    }
+}
+
 /// Prints a SEQUENCE or a SET, behind what stands beside it.
 pub fn push_sequence<'m>(
     scope: Scope<'m, '_>,
     all: &[Definition<'m>],
-    out: &mut String,
+    out: &mut Text,
     definition: &Definition<'m>,
     doc: &str,
 ) -> Result<(), Refusal> {
-    let alloc = scope.alloc;
     let owner = definition.rust_name.as_str();
     let parts = definition.parts.as_slice();
     require_names(scope, parts)?;
     let is_set = matches!(definition.link.of.body, Body::Set(_));
-    let places = if is_set {
-        in_tag_order(alloc, parts)?
-    } else {
-        in_text_order(alloc, parts, Position::Root)?
-    };
-    let roots = cells_at(scope, all, out, owner, parts, places.as_slice())?;
-    let additions = addition_cells(scope, all, out, definition)?;
+    let places = root_places(scope.alloc, parts, is_set)?;
+    let mut cells = cells_at(scope, all, out, owner, parts, places.as_slice())?;
+    let root_count = cells.len();
+    push_addition_cells(scope, all, out, definition, &mut cells)?;
     let of = Chain {
         owner,
-        roots: roots.as_slice(),
-        additions: additions.as_slice(),
+        cells: cells.as_slice(),
+        root_count,
         is_extensible: is_extensible(definition.link.of),
         is_choice: false,
     };
-    push_members(alloc, out, doc, of, is_set)?;
+    push_members(scope.alloc, out, doc, of, is_set);
     Ok(())
 }

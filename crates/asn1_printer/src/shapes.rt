@@ -1,12 +1,13 @@
 //! The Rust type of a type without parts, of a name, and of lists of either.
 
+use crate::text::Text;
 use asn1_layouts::definitions::{Definition, Part};
 use asn1_layouts::numbers::names_of;
 use asn1_layouts::scope::{Link, Scope};
 use asn1_layouts::visible::{Limits, Purpose, UNLIMITED, limits_of};
 use asn1_modules::ast::{Body, Simple, Type};
 use asn1_modules::refusal::Refusal;
-use std::alloc::{AllocError, Global};
+use std::alloc::Global;
 
 /// How many lists may stand inside one another.
 const MAX_LISTS: usize = 64;
@@ -14,11 +15,9 @@ const MAX_LISTS: usize = 64;
 /// A Rust type.
 #[derive(Drop)]
 pub struct Shape {
-    pub text: String,
+    pub text: Text,
     /// The limits that it has a name for, where it has some.
     pub limits: Option<(Limits, Purpose)>,
-    /// The type within the limits.
-    pub base: &'static str,
 }
 
 /// The Rust type of a type without parts.
@@ -86,19 +85,31 @@ fn limited(
     limits: Limits,
     purpose: Purpose,
     name: &str,
-) -> Result<Shape, AllocError> {
-    if limits.is_extensible || limits == own {
-        return Ok(Shape {
-            text: String::from_str(alloc, base)?,
-            limits: None,
-            base,
-        });
+) -> Shape {
+    let has_limits = !limits.is_extensible && limits != own;
+    let mut text = Text::new(alloc);
+    if has_limits {
+        text.push("Limited<");
+        text.push(base);
+        text.push_all(&[", ", name, "Limits>"]);
+    } else {
+        text.push(base);
     }
-    Ok(Shape {
-        text: format!(in alloc; "Limited<{base}, {name}Limits>")?,
-        limits: Some((limits, purpose)),
-        base,
-    })
+    Shape {
+        text,
+        limits: if has_limits {
+            Some((limits, purpose))
+        } else {
+            None
+        },
+    }
+}
+
+/// A type that is taken by its name.
+fn plain(alloc: Global, name: &str) -> Shape {
+    let mut text = Text::new(alloc);
+    text.push(name);
+    Shape { text, limits: None }
 }
 
 /// What the limits of a type are of; nothing where it has none.
@@ -122,31 +133,31 @@ fn is_plain<'m>(scope: Scope<'m, '_>, chain: &[Link<'m>], base: Link<'m>) -> Res
     Ok(whole == named)
 }
 
-/// The Rust type of a part without the lists around it; `name` is that of its limits, where they need one.
-fn inner_shape<'m>(
+/// What a type is named where it is taken by its name: a type with parts, or one whose limits are those of the name.
+fn name_taken<'d>(
+    scope: Scope<'_, '_>,
+    all: &'d [Definition<'_>],
+    target: Option<usize>,
+    chain: &[Link<'_>],
+    base: Link<'_>,
+) -> Result<Option<&'d str>, Refusal> {
+    match target.and_then(|t| all.get(t)) {
+        Some(definition) if is_plain(scope, chain, base)? => {
+            Ok(Some(definition.rust_name.as_str()))
+        }
+        _ => Ok(None),
+    }
+}
+
+/// The Rust type at the end of a chain, within its limits; `name` is that of the limits, where they need one.
+fn base_shape<'m>(
     scope: Scope<'m, '_>,
-    all: &[Definition<'m>],
-    part: &Part<'m>,
+    chain: &[Link<'m>],
+    base: Link<'m>,
     name: &str,
 ) -> Result<Shape, Refusal> {
-    let alloc = scope.alloc;
-    let chain = scope.chain_of(part.inner)?;
-    let base = chain.last().copied().unwrap_or(part.inner);
-    let target = part.target.and_then(|t| all.get(t));
-    if let Some(target) = target {
-        if is_plain(scope, chain.as_slice(), base)? {
-            return Ok(Shape {
-                text: target.rust_name.clone()?,
-                limits: None,
-                base: "",
-            });
-        }
-    }
     let (limits, purpose) = match purpose_of(base) {
-        Some(purpose) => {
-            let limits = limits_of(scope, chain.as_slice(), names_of(base), purpose)?;
-            (limits, purpose)
-        }
+        Some(purpose) => (limits_of(scope, chain, names_of(base), purpose)?, purpose),
         None => (UNLIMITED, Purpose::Value),
     };
     let (rust, own) = match &base.of.body {
@@ -155,7 +166,22 @@ fn inner_shape<'m>(
         Body::Simple(simple) => (simple_type(*simple), UNLIMITED),
         _ => ("", UNLIMITED),
     };
-    Ok(limited(alloc, rust, own, limits, purpose, name)?)
+    Ok(limited(scope.alloc, rust, own, limits, purpose, name))
+}
+
+/// The Rust type of a part without the lists around it; `name` is that of its limits, where they need one.
+fn inner_shape<'m>(
+    scope: Scope<'m, '_>,
+    all: &[Definition<'m>],
+    part: &Part<'m>,
+    name: &str,
+) -> Result<Shape, Refusal> {
+    let chain = scope.chain_of(part.inner)?;
+    let base = chain.last().copied().unwrap_or(part.inner);
+    match name_taken(scope, all, part.target, chain.as_slice(), base)? {
+        Some(taken) => Ok(plain(scope.alloc, taken)),
+        None => base_shape(scope, chain.as_slice(), base, name),
+    }
 }
 
 /// The Rust type of an INTEGER's numbers, whether it stands within limits, and these.
@@ -182,22 +208,22 @@ pub fn sizes_of<'m>(scope: Scope<'m, '_>, link: Link<'m>) -> Result<(bool, Limit
 }
 
 /// Appends the fronts of the lists around a type, and answers how many there are.
-fn push_lists(out: &mut String, start: &Type) -> Result<usize, AllocError> {
+fn push_lists(out: &mut Text, start: &Type) -> usize {
     let mut of = start;
     for count in 0..MAX_LISTS {
         match &of.body {
             Body::SequenceOf(element) => {
-                out.push_str("ListOf<")?;
+                out.push("ListOf<");
                 of = &**element;
             }
             Body::SetOf(element) => {
-                out.push_str("SetOf<")?;
+                out.push("SetOf<");
                 of = &**element;
             }
-            _ => return Ok(count),
+            _ => return count,
         }
     }
-    Ok(MAX_LISTS)
+    MAX_LISTS
 }
 
 /// The Rust type of a part; `name` is that of its limits, where they need one.
@@ -209,15 +235,12 @@ pub fn shape_of<'m>(
     name: &str,
 ) -> Result<Shape, Refusal> {
     let inner = inner_shape(scope, all, part, name)?;
-    let mut text = String::new(scope.alloc);
-    let lists = push_lists(&mut text, whole.of)?;
-    text.push_str(inner.text.as_str())?;
-    for _ in 0..lists {
-        text.push('>')?;
-    }
+    let mut text = Text::new(scope.alloc);
+    let lists = push_lists(&mut text, whole.of);
+    text.push_text(&inner.text);
+    text.push_times(">", lists);
     Ok(Shape {
         text,
         limits: inner.limits,
-        base: inner.base,
     })
 }

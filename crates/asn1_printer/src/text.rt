@@ -1,135 +1,189 @@
-//! Text by templates and lists.
+//! Text by pieces, and by templates.
 
+use asn1_layouts::names::push_type_name;
 use std::alloc::{AllocError, Global};
 
-/// What stands for the words of templates.
+/// A text that is put together. Where memory is refused for a piece, it says so once, at its end: so a function that only appends has no
+/// early exits, of which each costs a check about what a call does, and all that is held there besides.
+#[derive(Drop)]
+pub struct Text {
+    alloc: Global,
+    text: String,
+    is_whole: bool,
+}
+
+impl Text {
+    /// None yet.
+    pub fn new(alloc: Global) -> Text {
+        Text {
+            alloc,
+            text: String::new(alloc),
+            is_whole: true,
+        }
+    }
+
+    /// Appends a piece.
+    pub fn push(&mut self, piece: &str) {
+        if self.text.push_str(piece).is_err() {
+            self.is_whole = false;
+        }
+    }
+
+    /// Appends pieces, one behind another.
+    pub fn push_all(&mut self, pieces: &[&str]) {
+        for piece in pieces.iter() {
+            self.push(*piece);
+        }
+    }
+
+    /// Appends a character.
+    pub fn push_char(&mut self, c: char) {
+        if self.text.push(c).is_err() {
+            self.is_whole = false;
+        }
+    }
+
+    /// Appends another text, which may lack a piece.
+    pub fn push_text(&mut self, other: &Text) {
+        self.push(other.as_str());
+        self.is_whole = self.is_whole && other.is_whole;
+    }
+
+    /// Appends a piece, as many times as stated.
+    pub fn push_times(&mut self, piece: &str, times: usize) {
+        for _ in 0..times {
+            self.push(piece);
+        }
+    }
+
+    /// Appends a number in digits.
+    pub fn push_number(&mut self, number: i128) {
+        match format!(in self.alloc; "{number}") {
+            Ok(digits) => self.push(digits.as_str()),
+            Err(_) => self.is_whole = false,
+        }
+    }
+
+    /// Appends a count in digits.
+    pub fn push_count(&mut self, count: usize) {
+        self.push_number(i128::try_from(count).unwrap_or(i128::MAX));
+    }
+
+    /// Appends an octet in two hexadecimal digits.
+    pub fn push_octet(&mut self, octet: u8) {
+        match format!(in self.alloc; "{octet:02X}") {
+            Ok(digits) => self.push(digits.as_str()),
+            Err(_) => self.is_whole = false,
+        }
+    }
+
+    /// Appends a name as a type's.
+    pub fn push_type_name(&mut self, name: &str) {
+        if push_type_name(&mut self.text, name).is_err() {
+            self.is_whole = false;
+        }
+    }
+
+    /// Appends a name in capitals.
+    pub fn push_upper(&mut self, name: &str) {
+        for c in name.chars() {
+            self.push_char(c.to_ascii_uppercase());
+        }
+    }
+
+    /// Appends a name in small letters.
+    pub fn push_lower(&mut self, name: &str) {
+        for c in name.chars() {
+            self.push_char(c.to_ascii_lowercase());
+        }
+    }
+
+    /// Appends a text with another in the place of each mark.
+    pub fn push_replaced(&mut self, text: &str, mark: &str, with: &str) {
+        for (at, piece) in text.split(mark).enumerate() {
+            if at != 0 {
+                self.push(with);
+            }
+            self.push(piece);
+        }
+    }
+
+    /// Appends a template with its words put in: between two `@` stands a word's name.
+    pub fn fill(&mut self, template: &str, words: &Words) {
+        let mut is_word = false;
+        for piece in template.split('@') {
+            self.push(if is_word { words.text_of(piece) } else { piece });
+            is_word = !is_word;
+        }
+        self.is_whole = self.is_whole && words.text.is_whole;
+    }
+
+    /// Whether memory was refused for no piece.
+    pub fn is_whole(&self) -> bool {
+        self.is_whole
+    }
+
+    /// What there is so far: the whole text only where it is whole.
+    pub fn as_str(&self) -> &str {
+        self.text.as_str()
+    }
+
+    /// How many octets there are so far.
+    pub fn len(&self) -> usize {
+        self.text.len()
+    }
+
+    /// Whether there are none so far.
+    pub fn is_empty(&self) -> bool {
+        self.text.is_empty()
+    }
+
+    /// The text; refused where memory was refused for a piece.
+    pub fn end(self) -> Result<String, AllocError> {
+        let Text { text, is_whole, .. } = self;
+        if is_whole { Ok(text) } else { Err(AllocError) }
+    }
+}
+
+/// What stands for the words of a template, one behind another: each word, and where its text begins.
 #[derive(Drop)]
 pub struct Words {
-    alloc: Global,
-    texts: Vec<(&'static str, String)>,
+    text: Text,
+    starts: Vec<(&'static str, usize)>,
 }
 
 impl Words {
     /// None yet.
     pub fn new(alloc: Global) -> Words {
         Words {
-            alloc,
-            texts: Vec::new(alloc),
+            text: Text::new(alloc),
+            starts: Vec::new(alloc),
         }
     }
 
-    /// Says what stands for a word; the first that is said of it counts.
-    pub fn put(&mut self, word: &'static str, text: &str) -> Result<(), AllocError> {
-        let text = String::from_str(self.alloc, text)?;
-        self.texts.push((word, text))?;
-        Ok(())
+    /// Begins what stands for a word: all that is appended before the next one.
+    pub fn begin(&mut self, word: &'static str) -> &mut Text {
+        let start = self.text.len();
+        if self.starts.push((word, start)).is_err() {
+            self.text.is_whole = false;
+        }
+        &mut self.text
+    }
+
+    /// Says what stands for a word.
+    pub fn put(&mut self, word: &'static str, text: &str) {
+        self.begin(word).push(text);
     }
 
     /// What stands for a word; nothing where there is none.
     fn text_of(&self, name: &str) -> &str {
-        for (word, text) in self.texts.iter() {
+        let mut end = self.text.len();
+        for (word, start) in self.starts.iter().rev() {
             if *word == name {
-                return text.as_str();
+                return self.text.as_str().get(*start..end).unwrap_or("");
             }
+            end = *start;
         }
         ""
     }
-}
-
-/// Appends a template with its words put in: between two `@` stands a word's name.
-pub fn fill(out: &mut String, template: &str, words: &Words) -> Result<(), AllocError> {
-    let mut is_word = false;
-    for piece in template.split('@') {
-        if is_word {
-            out.push_str(words.text_of(piece))?;
-        } else {
-            out.push_str(piece)?;
-        }
-        is_word = !is_word;
-    }
-    Ok(())
-}
-
-/// The texts with one in front of each, and one between any two.
-pub fn joined(
-    alloc: Global,
-    texts: &[String],
-    front: &str,
-    between: &str,
-) -> Result<String, AllocError> {
-    let mut out = String::new(alloc);
-    for (at, text) in texts.iter().enumerate() {
-        if at != 0 {
-            out.push_str(between)?;
-        }
-        out.push_str(front)?;
-        out.push_str(text.as_str())?;
-    }
-    Ok(out)
-}
-
-/// A text with another in the place of each mark.
-pub fn replaced(alloc: Global, text: &str, mark: &str, with: &str) -> Result<String, AllocError> {
-    let mut out = String::new(alloc);
-    for (at, piece) in text.split(mark).enumerate() {
-        if at != 0 {
-            out.push_str(with)?;
-        }
-        out.push_str(piece)?;
-    }
-    Ok(out)
-}
-
-/// A text, as many times as stated.
-pub fn repeated(alloc: Global, text: &str, times: usize) -> Result<String, AllocError> {
-    let mut out = String::new(alloc);
-    for _ in 0..times {
-        out.push_str(text)?;
-    }
-    Ok(out)
-}
-
-/// Appends a run of digits, where there is one, brought to twenty.
-fn push_run(alloc: Global, out: &mut String, run: &str) -> Result<(), AllocError> {
-    const DIGITS: usize = 20;
-    if run.is_empty() {
-        return Ok(());
-    }
-    out.push_str(repeated(alloc, "0", DIGITS.saturating_sub(run.len()))?.as_str())?;
-    out.push_str(run)
-}
-
-/// A name in capitals or none, as it stands, with each run of digits brought to twenty: so that texts sort as names do.
-pub fn sort_key(alloc: Global, name: &str) -> Result<String, AllocError> {
-    let mut out = String::new(alloc);
-    let mut run = String::new(alloc);
-    for c in name.chars() {
-        if c.is_ascii_digit() {
-            run.push(c)?;
-            continue;
-        }
-        push_run(alloc, &mut out, run.as_str())?;
-        run.clear();
-        out.push(c)?;
-    }
-    push_run(alloc, &mut out, run.as_str())?;
-    Ok(out)
-}
-
-/// A name in small letters.
-pub fn lower(alloc: Global, name: &str) -> Result<String, AllocError> {
-    let mut out = String::new(alloc);
-    for c in name.chars() {
-        out.push(c.to_ascii_lowercase())?;
-    }
-    Ok(out)
-}
-
-/// A name in capitals.
-pub fn upper(alloc: Global, name: &str) -> Result<String, AllocError> {
-    let mut out = String::new(alloc);
-    for c in name.chars() {
-        out.push(c.to_ascii_uppercase())?;
-    }
-    Ok(out)
 }

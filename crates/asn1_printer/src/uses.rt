@@ -1,6 +1,6 @@
 //! The `use` lines of a file, from the words of its text.
 
-use crate::text::{joined, sort_key};
+use crate::text::Text;
 use std::alloc::{AllocError, Global};
 use std::collections::{BTreeMap, BTreeSet};
 
@@ -38,23 +38,40 @@ fn behind_variant(line: &str) -> &str {
     }
 }
 
-/// Puts the words of a line to others: one that stands behind `::` with a colon in front.
-fn push_words(alloc: Global, words: &mut BTreeSet<String>, line: &str) -> Result<(), AllocError> {
-    let mut word = String::new(alloc);
-    let mut before = ' ';
-    for c in line.chars() {
-        if c.is_ascii_alphanumeric() || c == '_' {
-            if word.is_empty() && before == ':' {
-                word.push(':')?;
-            }
-            word.push(c)?;
-        } else if !word.is_empty() {
-            let _ = words.insert(word)?;
-            word = String::new(alloc);
-        }
-        before = c;
+/// Whether a character ends a word.
+fn ends_word(c: char) -> bool {
+    !(c.is_ascii_alphanumeric() || c == '_')
+}
+
+/// What stands behind the word that a text begins with.
+fn behind_word(text: &str) -> &str {
+    match text.split_once(|c: char| ends_word(c)) {
+        Some((_, rest)) => rest,
+        None => "",
     }
-    let _ = words.insert(word)?;
+}
+
+/// Puts the words of a text to others.
+fn push_words(alloc: Global, words: &mut BTreeSet<String>, text: &str) -> Result<(), AllocError> {
+    for word in text.split(|c: char| ends_word(c)) {
+        let _ = words.insert(String::from_str(alloc, word)?)?;
+    }
+    Ok(())
+}
+
+/// Puts the words of a line to others, but for those that stand behind a colon, as in a path.
+fn push_line_words(
+    alloc: Global,
+    words: &mut BTreeSet<String>,
+    line: &str,
+) -> Result<(), AllocError> {
+    for (at, piece) in line.split(':').enumerate() {
+        push_words(
+            alloc,
+            words,
+            if at == 0 { piece } else { behind_word(piece) },
+        )?;
+    }
     Ok(())
 }
 
@@ -62,13 +79,44 @@ fn push_words(alloc: Global, words: &mut BTreeSet<String>, line: &str) -> Result
 fn words_of(alloc: Global, body: &str) -> Result<BTreeSet<String>, AllocError> {
     let mut words = BTreeSet::new(alloc);
     for line in body.lines() {
-        push_words(alloc, &mut words, code_of(line))?;
+        push_line_words(alloc, &mut words, code_of(line))?;
     }
     Ok(words)
 }
 
 /// Paths to names, in the order in which rustfmt has them.
 pub type Paths = BTreeMap<String, (String, String)>;
+
+/// How many digits a text begins with.
+fn digits_of(text: &str) -> usize {
+    text.find(|c: char| !c.is_ascii_digit())
+        .unwrap_or(text.len())
+}
+
+/// Appends a name as it stands, with each run of digits brought to twenty: so that texts sort as names do.
+fn push_sortable(out: &mut Text, name: &str) {
+    const DIGITS: usize = 20;
+    let mut in_run = false;
+    for (at, c) in name.char_indices() {
+        if c.is_ascii_digit() && !in_run {
+            let digits = digits_of(name.get(at..).unwrap_or(""));
+            out.push_times("0", DIGITS.saturating_sub(digits));
+        }
+        in_run = c.is_ascii_digit();
+        out.push_char(c);
+    }
+}
+
+/// What sorts a name by its path as rustfmt does.
+fn sort_key(alloc: Global, home: &str, name: &str) -> Result<String, AllocError> {
+    let mut key = Text::new(alloc);
+    if home != "crate" {
+        push_sortable(&mut key, home);
+    }
+    key.push("::");
+    push_sortable(&mut key, name);
+    key.end()
+}
 
 /// Puts a name's path to others.
 pub fn push_path(
@@ -77,74 +125,77 @@ pub fn push_path(
     home: &str,
     name: &str,
 ) -> Result<(), AllocError> {
-    let front = if home == "crate" { "" } else { home };
-    let key = sort_key(alloc, format!(in alloc; "{front}::{name}")?.as_str())?;
     let path = (
         String::from_str(alloc, home)?,
         String::from_str(alloc, name)?,
     );
-    paths.insert(key, path)?;
+    paths.insert(sort_key(alloc, home, name)?, path)?;
     Ok(())
 }
 
-/// Names in lines, as rustfmt lays out a list that one line doesn't hold.
-fn broken(alloc: Global, names: &[String]) -> Result<String, AllocError> {
-    let mut out = String::from_str(alloc, "   ")?;
+/// Appends names in lines, as rustfmt lays out a list that one line doesn't hold.
+fn push_broken(out: &mut Text, names: &[&str]) {
+    out.push("   ");
     let mut column = 3usize;
     let last = names.len().saturating_sub(1);
     for (at, name) in names.iter().enumerate() {
         column = column.saturating_add(name.len()).saturating_add(2);
         let room = if at == last { WIDTH } else { WIDTH - 1 };
-        if column > room {
-            out.push_str("\n   ")?;
+        let is_new_line = column > room;
+        if is_new_line {
             column = name.len().saturating_add(5);
         }
-        out.push(' ')?;
-        out.push_str(name.as_str())?;
-        out.push(',')?;
+        out.push_all(&[if is_new_line { "\n    " } else { " " }, *name, ","]);
     }
-    Ok(out)
+}
+
+/// Appends names in one line.
+fn push_list(out: &mut Text, names: &[&str]) {
+    for (at, name) in names.iter().enumerate() {
+        out.push_all(&[if at == 0 { "" } else { ", " }, *name]);
+    }
 }
 
 /// One line of names, or several; none where there are no names.
-fn push_line(
-    alloc: Global,
-    out: &mut String,
-    word: &str,
-    home: &str,
-    names: &[String],
-) -> Result<(), AllocError> {
+fn push_line(alloc: Global, out: &mut Text, word: &str, home: &str, names: &[&str]) {
     if names.is_empty() {
-        return Ok(());
+        return;
     }
-    let list = joined(alloc, names, "", ", ")?;
-    let one = format!(in alloc; "{word} {home}::{list}")?;
-    let line = if names.len() == 1 {
-        format!(in alloc; "{one};\n")?
-    } else if one.len().saturating_add(3) <= WIDTH {
-        format!(in alloc; "{word} {home}::{{{list}}};\n")?
+    let mut line = Text::new(alloc);
+    line.push_all(&[word, " ", home, "::"]);
+    push_list(&mut line, names);
+    let (open, close) = if names.len() == 1 {
+        ("", ";\n")
+    } else if line.len().saturating_add(3) <= WIDTH {
+        ("{", "};\n")
     } else {
-        let many = broken(alloc, names)?;
-        format!(in alloc; "{word} {home}::{{\n{many}\n}};\n")?
+        ("{\n", "\n};\n")
     };
-    out.push_str(line.as_str())
+    out.push_all(&[word, " ", home, "::"]);
+    out.push(open);
+    if open == "{\n" {
+        push_broken(out, names);
+    } else {
+        push_list(out, names);
+    }
+    out.push(close);
 }
 
 /// The lines `use home::names`, or `pub use`, for paths.
 pub fn path_lines(alloc: Global, word: &str, paths: &Paths) -> Result<String, AllocError> {
-    let mut out = String::new(alloc);
+    let mut out = Text::new(alloc);
     let mut home = String::new(alloc);
-    let mut names: Vec<String> = Vec::new(alloc);
+    let mut names: Vec<&str> = Vec::new(alloc);
     for (module, name) in paths.values() {
         if module.as_str() != home.as_str() {
-            push_line(alloc, &mut out, word, home.as_str(), names.as_slice())?;
+            push_line(alloc, &mut out, word, home.as_str(), names.as_slice());
             home = module.clone()?;
-            names = Vec::new(alloc);
+            names.clear();
         }
-        names.push(name.clone()?)?;
+        names.push(name.as_str())?;
     }
-    push_line(alloc, &mut out, word, home.as_str(), names.as_slice())?;
-    Ok(out)
+    push_line(alloc, &mut out, word, home.as_str(), names.as_slice());
+    out.end()
 }
 
 /// The crate and the module of each printed name.
