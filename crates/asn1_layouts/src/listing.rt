@@ -10,7 +10,7 @@ use crate::values::default_of;
 use asn1_core::{Class, Tag};
 use asn1_modules::ast::{Body, Need, Numbered, Type};
 use asn1_modules::lexer::Token;
-use asn1_modules::modules::read_modules;
+use asn1_modules::modules::read_tree;
 use asn1_modules::refusal::Refusal;
 use std::alloc::{AllocError, Global};
 
@@ -22,10 +22,10 @@ pub fn list(alloc: Global, texts: &[&str]) -> Result<String, Refusal> {
 
 /// The table of the modules in the files' tokens.
 fn list_tokens(alloc: Global, tokens: &[Token<'_>]) -> Result<String, Refusal> {
-    let modules = read_modules(alloc, tokens)?;
+    let tree = read_tree(alloc, tokens)?;
     list_scope(Scope {
         alloc,
-        modules: modules.as_slice(),
+        modules: tree.modules(),
         tokens,
     })
 }

@@ -8,8 +8,34 @@ use crate::types::read_whole_type;
 use crate::values::read_value;
 use std::alloc::Global;
 
+/// Modules that were read. It is let go by a function of its own: else each crate that holds one proves anew how all types of the
+/// tree are let go.
+pub struct Tree {
+    modules: Vec<Module>,
+}
+
+impl Tree {
+    /// The modules.
+    pub fn modules(&self) -> &[Module] {
+        self.modules.as_slice()
+    }
+}
+
+impl Drop for Tree {
+    fn drop(self) {
+        let Tree { modules } = self;
+        drop(modules);
+    }
+}
+
 /// The modules in the tokens of files, one file behind another, each with its end. Refused at the first token that can't be read.
-pub fn read_modules(alloc: Global, tokens: &[Token<'_>]) -> Result<Vec<Module>, Refusal> {
+pub fn read_tree(alloc: Global, tokens: &[Token<'_>]) -> Result<Tree, Refusal> {
+    let modules = read_modules(alloc, tokens)?;
+    Ok(Tree { modules })
+}
+
+/// The modules in the tokens of files.
+fn read_modules(alloc: Global, tokens: &[Token<'_>]) -> Result<Vec<Module>, Refusal> {
     let mut all = Vec::new(alloc);
     let Some(end) = tokens.last() else {
         return Ok(all);

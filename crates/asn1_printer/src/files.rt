@@ -6,7 +6,7 @@ use crate::uses::{Homes, Paths, path_lines, push_path, use_lines};
 use asn1_layouts::definitions::definitions;
 use asn1_layouts::scope::{Scope, all_tokens};
 use asn1_modules::lexer::Token;
-use asn1_modules::modules::read_modules;
+use asn1_modules::modules::read_tree;
 use asn1_modules::refusal::Refusal;
 use std::alloc::{AllocError, Global};
 use std::collections::BTreeMap;
@@ -379,10 +379,10 @@ fn crates_of_tokens(
     tokens: &[Token<'_>],
     wish: Wish<'_>,
 ) -> Result<Output, Refusal> {
-    let modules = read_modules(alloc, tokens)?;
+    let tree = read_tree(alloc, tokens)?;
     let scope = Scope {
         alloc,
-        modules: modules.as_slice(),
+        modules: tree.modules(),
         tokens,
     };
     crates_of_scope(scope, wish)
