@@ -79,6 +79,7 @@ fn push_alias(alloc: Global, out: &mut Text, name: &Text, cells: &[Cell], end: &
     for (level, cell) in cells.iter().enumerate() {
         let mut rest = Text::new(alloc);
         push_flat(&mut rest, cells.get(level..).unwrap_or(&[]), end);
+        out.heed(&rest);
         if column.saturating_add(rest.len()) < WIDTH {
             break;
         }

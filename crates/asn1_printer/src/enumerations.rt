@@ -82,6 +82,7 @@ fn push_list(alloc: Global, out: &mut Text, owner: &str, variants: &[Variant]) {
     const ARRAY: usize = 60;
     let mut line = Text::new(alloc);
     push_paths(&mut line, owner, variants, "", ", ");
+    out.heed(&line);
     out.push("&[");
     if line.len() <= ARRAY {
         out.push_text(&line);

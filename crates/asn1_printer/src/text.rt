@@ -49,6 +49,11 @@ impl Text {
         self.is_whole = self.is_whole && other.is_whole;
     }
 
+    /// Appends nothing of another text, but lacks a piece where that does: so that its length may be trusted.
+    pub fn heed(&mut self, other: &Text) {
+        self.is_whole = self.is_whole && other.is_whole;
+    }
+
     /// Appends a piece, as many times as stated.
     pub fn push_times(&mut self, piece: &str, times: usize) {
         for _ in 0..times {

@@ -164,6 +164,7 @@ fn push_line(alloc: Global, out: &mut Text, word: &str, home: &str, names: &[&st
     let mut line = Text::new(alloc);
     line.push_all(&[word, " ", home, "::"]);
     push_list(&mut line, names);
+    out.heed(&line);
     let (open, close) = if names.len() == 1 {
         ("", ";\n")
     } else if line.len().saturating_add(3) <= WIDTH {
