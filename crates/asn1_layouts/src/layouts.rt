@@ -158,31 +158,34 @@ fn string_text(
     }
 }
 
-/// The octets of a unit that sizes count; none for a type without sizes.
-fn unit_of(simple: Simple) -> Option<i128> {
+/// The octets of a unit that sizes count; none where no size is seen: for a type without sizes, and for a string whose characters
+/// aren't each of one number of octets, which is always behind a length (X.696, 27).
+pub fn unit_of(simple: Simple) -> Option<i128> {
     match simple {
         Simple::Boolean | Simple::Null | Simple::ObjectIdentifier | Simple::Any => None,
         Simple::UtcTime | Simple::GeneralizedTime | Simple::Date => None,
+        Simple::Utf8String | Simple::GeneralString => None,
+        Simple::GraphicString | Simple::TeletexString => None,
         Simple::BmpString => Some(2),
         _ => Some(1),
     }
 }
 
-/// A type's name; for one without sizes with its layout.
+/// A type's name; where no size is seen with its layout.
 fn simple_name(simple: Simple) -> &'static str {
     match simple {
         Simple::Boolean => "BOOLEAN, 1 octet",
         Simple::Null => "NULL, no octets",
         Simple::OctetString => "OCTET STRING",
         Simple::ObjectIdentifier => "OBJECT IDENTIFIER, behind a length",
-        Simple::Utf8String => "UTF8String",
+        Simple::Utf8String => "UTF8String, behind a length",
         Simple::NumericString => "NumericString",
         Simple::PrintableString => "PrintableString",
         Simple::VisibleString => "VisibleString",
         Simple::Ia5String => "IA5String",
-        Simple::GeneralString => "GeneralString",
-        Simple::GraphicString => "GraphicString",
-        Simple::TeletexString => "TeletexString",
+        Simple::GeneralString => "GeneralString, behind a length",
+        Simple::GraphicString => "GraphicString, behind a length",
+        Simple::TeletexString => "TeletexString, behind a length",
         Simple::BmpString => "BMPString",
         Simple::UtcTime => "UTCTime, behind a length",
         Simple::GeneralizedTime => "GeneralizedTime, behind a length",

@@ -2,6 +2,7 @@
 
 use crate::text::Text;
 use asn1_layouts::definitions::{Definition, Part};
+use asn1_layouts::layouts::unit_of;
 use asn1_layouts::numbers::names_of;
 use asn1_layouts::scope::{Link, Scope};
 use asn1_layouts::visible::{Limits, Purpose, UNLIMITED, limits_of};
@@ -41,19 +42,6 @@ fn simple_type(simple: Simple) -> &'static str {
         Simple::Date => "Date",
         Simple::Any => "OpenOctets",
     }
-}
-
-/// Whether the octets of a type depend on its sizes (X.696, clauses 14 and 27).
-fn has_sizes(simple: Simple) -> bool {
-    matches!(
-        simple,
-        Simple::OctetString
-            | Simple::NumericString
-            | Simple::PrintableString
-            | Simple::VisibleString
-            | Simple::Ia5String
-            | Simple::BmpString
-    )
 }
 
 /// The Rust type of numbers within limits, with its own limits: those that X.696 writes in as many octets.
@@ -117,7 +105,7 @@ fn purpose_of(base: Link<'_>) -> Option<Purpose> {
     match &base.of.body {
         Body::Integer(_) => Some(Purpose::Value),
         Body::BitString(_) => Some(Purpose::Size),
-        Body::Simple(simple) if has_sizes(*simple) => Some(Purpose::Size),
+        Body::Simple(simple) if unit_of(*simple).is_some() => Some(Purpose::Size),
         _ => None,
     }
 }
