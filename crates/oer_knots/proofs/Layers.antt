@@ -1,7 +1,9 @@
 -- A type that contains itself is read as its content.
-use Rattle.std.specs.Result.{OnOk}
+use Rattle.std.specs.Result.{OnOk, IfErr}
 use Rattle.std.proofs.Common.{◌≡◌, Result, Ok, Err, refl, sym, ap, ◌∙◌, subst}
 use Rattle.asn1_core.specs.declared.error.DecodeError.{DecodeError}
+use Rattle.asn1_core.specs.declared.error.EncodeError.{EncodeError}
+use Rattle.oer_write.specs.Written.{Written, Encodes, Refused}
 use Rattle.oer_spec.specs.Tree.{Tree}
 use Rattle.oer_read.proofs.Alternatives.{alternative_made, alternative_refused}
 use Rattle.oer_read.specs.Law.{Decodes}
@@ -18,7 +20,14 @@ module _ {K C : Type 0} (tree : K → Tree) (IsValue : K → Type 0) (content : 
   pub layer_stops : (s u : State) (x : DecodeError) → Decodes inner IsInner s (Err x) u → Decodes tree IsValue s (Err x) u
   layer_stops s u x d = alternative_refused tree IsValue inner IsInner only (λ y. y ≡ x) s u x (Err x) d refl (λ y p. p)
 
--- what is admitted of the content is of the type, where it was written
-pub value_written : {A E : Type 0} (r : Result A E) (P Q : Type 0) → (P → Q) → OnOk r P → OnOk r Q
-value_written (Ok v) P Q f p = f p
-value_written (Err e) P Q f p = tt
+-- ---- what was written of a layer was of the value
+
+pub layer_done : (t u : Tree) (r : Result (Unit {0}) EncodeError) (e f : Written) → t ≡ u → OnOk r (Encodes u e f) → OnOk r (Encodes t e f)
+layer_done t u r e f p h = subst (λ (z : Tree). OnOk r (Encodes z e f)) (sym p) h
+
+pub layer_value : (P Q : Type 0) (r : Result (Unit {0}) EncodeError) → (Q → P) → OnOk r Q → OnOk r P
+layer_value P Q (Ok v) f h = f h
+layer_value P Q (Err e) f h = tt
+
+pub layer_refused : (t u : Tree) (r : Result (Unit {0}) EncodeError) (e f : Written) → t ≡ u → IfErr r (λ x. Refused u x e f) → IfErr r (λ x. Refused t x e f)
+layer_refused t u r e f p h = subst (λ (z : Tree). IfErr r (λ x. Refused z x e f)) (sym p) h

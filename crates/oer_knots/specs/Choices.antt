@@ -1,13 +1,13 @@
 -- Choices with alternatives that hold knots.
-use Rattle.std.specs.Prelude.{◌≡◌, ◌++◌, ◌≤◌, ℕ, Bool, true, List, ◌∷◌, refl}
+use Rattle.std.specs.Prelude.{◌≡◌, ◌++◌, ℕ, true, List, ◌∷◌, refl}
 use Rattle.std.proofs.Common.{sym, ap, ◌∙◌, subst}
 use Rattle.asn1_core.specs.declared.tag.Tag.{Tag}
-use Rattle.oer_spec.specs.Tree.{Tree, Choice}
+use Rattle.oer_spec.specs.Tree.{Choice}
 use Rattle.oer_rows.specs.Schema.{Typed, IsTyped}
-use Rattle.oer_choices.specs.Choosing.{Choices, AreChoices, are_apart, IsOneOf, tree_of, choices_is, choices_alike, no_choice, no_choice_is, one_of, one_of_is, one_child, OneValue, adding, adding_is}
+use Rattle.oer_choices.specs.Choosing.{Choices, AreChoices, are_apart, IsOneOf, tree_of, choices_is, choices_alike, no_choice, no_choice_is, one_of, one_of_is, adding, adding_is}
 use Rattle.oer_choices.specs.declared.alternatives.Either.{Either}
 use Rattle.oer_choices.specs.declared.alternatives.Either.TheVariants.{First, Rest}
-use Rattle.oer_knots.specs.Ties.{AgreeAt, AgreeTo, Ties}
+use Rattle.oer_knots.specs.Ties.{AgreeTo, Ties}
 
 -- two rows have the same tags; they give one value the same tag and tree, and where the first admits it, so does the second
 pub record AgreeChoice {R : Type 0} (c d : Choices R) (v : R) : Type 0 where

@@ -1,11 +1,10 @@
 -- A type that contains itself: its trees and its values, by those of what it holds.
-use Rattle.std.specs.Prelude.{◌≡◌, ◌+◌, ◌<◌, ◌≤◌, ℕ, zero, suc}
-use Rattle.std.proofs.Common.{sym, ◌∙◌, subst, arith}
-use Rattle.oer_spec.specs.Encoding.{IsTree}
+use Rattle.std.specs.Prelude.{◌≡◌, ◌+◌, ◌<◌, ℕ, zero, suc}
+use Rattle.std.proofs.Common.{sym, subst, arith}
 use Rattle.oer_spec.specs.Same.{Alike}
 use Rattle.oer_spec.specs.Tree.{Tree, Primitive, Null}
 use Rattle.oer_rows.specs.Schema.{Typed, IsTyped}
-use Rattle.oer_knots.specs.Ties.{AgreeAt, AgreeTo, Ties}
+use Rattle.oer_knots.specs.Ties.{AgreeAt, Ties}
 
 -- values that aren't seen
 abbrev unseen : {A : Type 0} → Typed A

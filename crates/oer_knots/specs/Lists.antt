@@ -1,11 +1,11 @@
 -- Lists of values that hold knots: the most that a knot in one of them weighs is `most`, as in a type's own size.
-use Rattle.std.specs.Prelude.{◌≡◌, ◌≤◌, ℕ, true, List, [], ◌∷◌, refl}
+use Rattle.std.specs.Prelude.{◌≡◌, ℕ, true, List, [], ◌∷◌, refl}
 use Rattle.std.proofs.Common.{ap, ◌∙◌}
 use denote.Param.Weighed.{most}
 use Rattle.oer_spec.specs.Spelled.{EachValue, trees_of, list_of, list_is, lists_alike}
 use Rattle.oer_spec.specs.Tree.{Tree, Trees, ListOf, More}
-use Rattle.oer_rows.specs.Schema.{Typed, IsTyped}
-use Rattle.oer_knots.specs.Ties.{AgreeAt, AgreeTo, agree_less, Ties, le_left, le_right}
+use Rattle.oer_rows.specs.Schema.{Typed}
+use Rattle.oer_knots.specs.Ties.{AgreeTo, agree_less, Ties, le_left, le_right}
 
 module _ {K A B : Type 0} (items : A → List B) (tied : Typed K → Typed B) (part : (K → ℕ) → B → ℕ) where
   abbrev pub list_tied : Typed K → Typed A

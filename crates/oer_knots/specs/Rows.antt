@@ -1,14 +1,14 @@
 -- Rows with components that hold knots.
-use Rattle.std.specs.Prelude.{◌≡◌, ◌≤◌, ℕ, Bool, true, false, Option, Some, None, List, ⊤, max, refl}
-use Rattle.std.proofs.Common.{ap, ◌∙◌, arith}
+use Rattle.std.specs.Prelude.{◌≡◌, ℕ, Bool, false, Option, Some, None, max, refl}
+use Rattle.std.proofs.Common.{ap, ◌∙◌}
 use Rattle.asn1_core.specs.declared.tag.Tag.{Tag}
 use Rattle.oer_spec.specs.Tree.{Tree, Rows, Slot, Required, Optional, Default, Present, Struct}
 use Rattle.oer_write.specs.Rows.{present_unless}
 use Rattle.oer_read.specs.Components.{slot_of}
-use Rattle.oer_rows.specs.Schema.{Typed, IsTyped, Table, IsTable, Schema, IsSchema, IsOf, tree_of, schema_is, schema_like, empty, empty_is, added, added_is, needed_then, needed_then_is, optional_then, optional_then_is, default_then, default_then_is}
+use Rattle.oer_rows.specs.Schema.{Typed, IsTyped, Schema, IsSchema, IsOf, tree_of, schema_is, schema_like, needed_then, needed_then_is, optional_then, optional_then_is, default_then, default_then_is}
 use Rattle.oer_rows.specs.Slots.{IfThere}
 use Rattle.oer_rows.specs.declared.both.Both.{Both}
-use Rattle.oer_knots.specs.Ties.{AgreeAt, AgreeTo, agree_less, Ties, option_weight, le_left, le_right}
+use Rattle.oer_knots.specs.Ties.{AgreeTo, agree_less, Ties, option_weight, le_left, le_right}
 
 -- two schemas give one value the same rows, and where the first admits it, so does the second
 pub record AgreeRows {R : Type 0} (s t : Schema R) (v : R) : Type 0 where

@@ -1,7 +1,6 @@
 -- Types that hold values of a type K, a knot: their trees and values, by those of K.
 use Rattle.std.specs.Prelude.{◌≡◌, ◌≤◌, ℕ, Option, Some, None, max}
 use Rattle.std.proofs.Common.{arith}
-use Rattle.oer_spec.specs.Tree.{Tree}
 use Rattle.oer_rows.specs.Schema.{Typed, IsTyped}
 
 -- two ways to see the values of a type give one tree at a value, and where the first admits it, so does the second

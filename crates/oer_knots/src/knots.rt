@@ -1,5 +1,7 @@
 //! Types that contain themselves.
-ghost use Rattle.std.specs.Prelude.{◌≡◌, ◌<◌};
+ghost use Rattle.std.specs.Prelude.{◌<◌, Result, OnOk, IfErr};
+ghost use Rattle.asn1_core.specs.declared.error.EncodeError.{EncodeError};
+ghost use Rattle.oer_write.specs.Written.{Written, Encodes, Refused};
 ghost use Rattle.oer_read.specs.Law.{Decodes};
 
 use crate::ties::DecodeInside;
@@ -33,11 +35,11 @@ pub trait Layered: Spelled {
     ghost layers: { IsLayered (Self.tree Self.CONSTRAINTS) Self.IsValue (λ v. v) inner.tree inner.IsPart };
 }
 
-/// Brings to the prover that a value's tree is that of its layer, and that it is admitted where that is: what a type's
-/// `Encode` calls.
+/// Brings to the prover that what was written, or refused, of a value's layer was of the value: what a type's `Encode` calls.
 pub fn layer_of<K: Layered>(_value: &K)
-    ensures same { K.tree K.CONSTRAINTS _value.now ≡ K.inner.tree _value.now }
-    ensures back { K.inner.IsPart _value.now → K.IsValue _value.now }
+    ensures done { (r : Result (Unit {0}) EncodeError) (e f : Written) → OnOk r (Encodes (K.inner.tree _value.now) e f) → OnOk r (Encodes (K.tree K.CONSTRAINTS _value.now) e f) }
+    ensures value { (r : Result (Unit {0}) EncodeError) → OnOk r (K.inner.IsPart _value.now) → OnOk r (K.IsValue _value.now) }
+    ensures refused { (r : Result (Unit {0}) EncodeError) (e f : Written) → IfErr r (λ x. Refused (K.inner.tree _value.now) x e f) → IfErr r (λ x. Refused (K.tree K.CONSTRAINTS _value.now) x e f) }
 {}
 
 /// Reads a value of a type that contains itself, within the levels left: each value in it within fewer.

@@ -2,7 +2,6 @@ use Rattle.std.proofs.Common.{◌<◌, refl}
 use Rattle.oer_choices.specs.Choosing.{IsOneOf, tree_of, choices_small, choices_is}
 use Rattle.oer_read.proofs.ChoiceLaw.{choice_law, promise_with}
 use Rattle.oer_read.proofs.Levels.{chosen_levels}
-use Rattle.oer_read.specs.Choices.{ReadsAlternative}
 use Rattle.oer_knots.specs.Reading.{inside_reads}
 use Rattle.oer_knots.proofs.choices.OneOfDecodeInside.decode_inside.Goals as goal
 

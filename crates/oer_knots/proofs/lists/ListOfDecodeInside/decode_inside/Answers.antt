@@ -1,8 +1,5 @@
-use Rattle.std.proofs.Common.{refl, true, Vec, Global}
-use Rattle.oer_spec.specs.Spelled.{EachValue, list_of}
 use Rattle.oer_read.proofs.ListLaw.{list_law}
 use Rattle.oer_read.proofs.Promises.{promise_of_fn}
-use Rattle.oer_read.proofs.Wrapped.{wrapped_read, wrapped_refused}
 use Rattle.oer_rows.specs.declared.lists.ListOf.{ListOf}
 use Rattle.oer_knots.proofs.lists.ListOfDecodeInside.decode_inside.Goals as goal
 
