@@ -1,3 +1,4 @@
+pub mod Additions
 pub mod Choices
 pub mod Knots
 pub mod Lists

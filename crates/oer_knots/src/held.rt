@@ -95,3 +95,100 @@ impl<K: Spelled> DecodeKnot<K> for Held<K> {
         }
     }
 }
+
+/// A value of a type that may contain this one, as it is: for a list, whose elements lie apart.
+#[derive(Debug, PartialEq, Eq, Drop)]
+pub struct Bare<K>(pub K);
+
+impl<K: AsnType> AsnType for Bare<K> {
+    ghost TAG = { K.TAG };
+
+    const TAG: Tag = K::TAG;
+
+    ghost CONSTRAINTS = { K.CONSTRAINTS };
+
+    const CONSTRAINTS: Constraints = K::CONSTRAINTS;
+
+    ghost consistent = { K.consistent };
+
+    const IS_CHOICE: bool = K::IS_CHOICE;
+}
+
+impl<K: Spelled> Spelled for Bare<K> {
+    ghost tree = { λ c h. K.tree c h.0 };
+
+    ghost IsValue = { λ h. K.IsValue h.0 };
+
+    ghost is_tree = { λ c k h i. K.is_tree c k h.0 i };
+
+    ghost alike = { λ c k g h i j. K.alike c k g.0 h.0 i j };
+}
+
+impl<K: Encode> Encode for Bare<K> {
+    #[inline]
+    fn encode_with_tag_and_constraints(
+        &self,
+        encoder: &mut Encoder<'_>,
+        tag: Tag,
+        constraints: Constraints,
+    ) -> Result<(), EncodeError> {
+        self.0
+            .encode_with_tag_and_constraints(encoder, tag, constraints)
+    }
+}
+
+impl<K: Decode> Decode for Bare<K> {
+    ghost use Rattle.std.specs.Prelude.{⊤};
+
+    ghost Answered = { λ c s r t. ⊤ };
+
+    fn decode_with_tag_and_constraints(
+        alloc: Global,
+        decoder: &mut Decoder<'_>,
+        tag: Tag,
+        constraints: Constraints,
+    ) -> Result<Bare<K>, DecodeError> {
+        match K::decode_with_tag_and_constraints(alloc, decoder, tag, constraints) {
+            Ok(content) => Ok(Bare(content)),
+            Err(e) => Err(e),
+        }
+    }
+}
+
+impl<K> HoldsKnot<K> for Bare<K> {
+    ghost use Rattle.oer_knots.specs.Ties.{held_tied, held_weight, held_ties};
+
+    ghost tied = { held_tied (λ h. h.0) };
+
+    ghost weight = { held_weight (λ h. h.0) };
+
+    ghost ties = { held_ties (λ h. h.0) };
+}
+
+/// Reads a knot by what is handed in.
+///
+/// Refused as that refuses.
+#[inline(always)]
+fn read_knot<K: Spelled, F: Fn(&mut Decoder<'_>) -> Result<K, DecodeError>>(
+    decoder: &mut Decoder<'_>,
+    knot: &F,
+) -> Result<K, DecodeError>
+    requires { ReadsKnots F.Fn knot.now (K.tree K.CONSTRAINTS) K.IsValue decoder.old.levels }
+    ensures { Decodes (K.tree K.CONSTRAINTS) K.IsValue decoder.old result decoder.new }
+{
+    knot(decoder)
+}
+
+impl<K: Spelled> DecodeKnot<K> for Bare<K> {
+    fn decode_knot<F: Fn(&mut Decoder<'_>) -> Result<K, DecodeError>>(
+        _alloc: Global,
+        decoder: &mut Decoder<'_>,
+        _tag: Tag,
+        knot: &F,
+    ) -> Result<Bare<K>, DecodeError> {
+        match read_knot(decoder, knot) {
+            Ok(content) => Ok(Bare(content)),
+            Err(e) => Err(e),
+        }
+    }
+}

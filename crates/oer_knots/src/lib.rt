@@ -1,22 +1,26 @@
 //! Types that contain themselves, by their rows.
 #![tactic(auto)]
 
+mod additions;
 mod cells;
 mod choices;
 mod held;
 mod knots;
 mod lists;
+mod plain_additions;
 mod reading;
 mod rows;
 mod sequences;
+mod sets;
 mod ties;
 
+pub use additions::{KnotAdditions, MayAddKnot, ReadsKnotAdditions};
 pub use cells::{MayHaveKnot, NeedsKnot};
 pub use choices::{
     KnotAlternating, KnotAlternatives, OffersKnot, ReadsKnotAlternatives, TakesKnotAlternative,
     read_knot_alternative,
 };
-pub use held::Held;
+pub use held::{Bare, Held};
 pub use knots::{Knot, Layered, decode_knotted, layer_of};
 pub use reading::ReadsKnot;
 pub use rows::KnotRow;

@@ -5,13 +5,13 @@ ghost use Rattle.oer_read.specs.Law.{Decodes};
 ghost use Rattle.oer_read.specs.Parts.{Takes, Stops};
 ghost use Rattle.oer_knots.specs.Reading.{ReadsKnots};
 
+use crate::additions::ReadsKnotAdditions;
 use crate::cells::{MayHaveKnot, NeedsKnot};
 use crate::ties::DecodeKnot;
 use asn1_core::{DecodeError, Tag};
 use oer_read::{Decode, Decoder};
 use oer_rows::{
-    Both, Components, Defaults, Extensible, MayHave, Needs, NoMore, Place, ReadsAdditions,
-    Standard, read_default,
+    Both, Components, Defaults, Extensible, MayHave, Needs, NoMore, Place, Standard, read_default,
 };
 use oer_spec::{EqualAsSpelled, Spelled};
 use std::alloc::Global;
@@ -99,8 +99,7 @@ impl<K: Spelled> ReadsKnot<K> for NoMore {
     }
 }
 
-/// No addition holds a knot.
-impl<K: Spelled, R: ReadsAdditions> ReadsKnot<K> for Extensible<R> {
+impl<K: Spelled, R: ReadsKnotAdditions<K>> ReadsKnot<K> for Extensible<R> {
     type Slots = R::Slots;
 
     ghost filled = { R.filled };
@@ -115,9 +114,9 @@ impl<K: Spelled, R: ReadsAdditions> ReadsKnot<K> for Extensible<R> {
         alloc: Global,
         decoder: &mut Decoder<'_>,
         slots: &mut R::Slots,
-        _knot: &F,
+        knot: &F,
     ) -> Result<(), DecodeError> {
-        R::read_additions(alloc, decoder, slots)
+        R::read_knot_additions(alloc, decoder, slots, knot)
     }
 
     fn taken(slots: R::Slots) -> R::More {

@@ -1,10 +1,9 @@
 //! Rows with components that hold knots: how their trees and values follow from those of the knot.
 
+use crate::additions::KnotAdditions;
 use crate::cells::{MayHaveKnot, NeedsKnot};
 use crate::ties::HoldsKnot;
-use oer_rows::{
-    Additions, Both, Components, Defaults, Extensible, MayHave, Needs, NoMore, Place, Standard,
-};
+use oer_rows::{Both, Components, Defaults, Extensible, MayHave, Needs, NoMore, Place, Standard};
 use oer_spec::{EqualAsSpelled, Spelled};
 
 /// A row by the values of `K` that its components hold.
@@ -47,11 +46,10 @@ impl<K> KnotRow<K> for NoMore {
     ghost ties = { plain_ties empty false empty_is };
 }
 
-/// No addition holds a knot.
-impl<K, R: Additions> KnotRow<K> for Extensible<R> {
+impl<K, R: KnotAdditions<K>> KnotRow<K> for Extensible<R> {
     ghost use Rattle.std.specs.Prelude.{true};
-    ghost use Rattle.oer_rows.specs.Schema.{added, added_is};
-    ghost use Rattle.oer_knots.specs.Rows.{no_weight, plain_ties};
+    ghost use Rattle.oer_rows.specs.Schema.{added};
+    ghost use Rattle.oer_knots.specs.Additions.{extended_ties};
 
     type Values = R::More;
 
@@ -59,11 +57,11 @@ impl<K, R: Additions> KnotRow<K> for Extensible<R> {
 
     const EXTENSIBLE: bool = true;
 
-    ghost schema = { λ of. added R.table };
+    ghost schema = { λ of. added (R.table of) };
 
-    ghost weight = { no_weight };
+    ghost weight = { R.weight };
 
-    ghost ties = { plain_ties (added R.table) true (added_is R.table R.is_table) };
+    ghost ties = { extended_ties R.table R.weight R.ties };
 }
 
 impl<K, G: Place, B: Spelled, R: KnotRow<K>> KnotRow<K> for Needs<G, B, R> {

@@ -11,6 +11,9 @@ use Rattle.oer_read.specs.Components.{asking, Asks, Inside}
 use Rattle.oer_read.specs.Law.{Decodes}
 use Rattle.oer_read.specs.State.{Ask, State}
 
+pub called_at : {F A : Type 0} (g : Once F (MutBor State × Unit {0}) (Result A DecodeError × (MutBor State × Unit {0}))) (f : F) (p q : MutBor State) (r : Result A DecodeError) (s : State) → p.now ≡ s → g.post f (p, tt) (r, (q, tt)) → FnOnceReturnsAtMut g f s r q.now
+called_at g f p q r s e k = record { shown = p; shows = e; left = q; met = k; leaves = refl }
+
 pub returned : {F A : Type 0} (g : Once F (MutBor State × Unit {0}) (Result A DecodeError × (MutBor State × Unit {0}))) (f : F) (P : State → Result A DecodeError → State → Type 0) → ((s t : State) (r : Result A DecodeError) → FnOnceReturnsAtMut g f s r t → P s r t)
     → (p q : MutBor State) (r : Result A DecodeError) → g.post f (p, tt) (r, (q, tt)) → P p.now r q.now
 returned g f P law p q r k = law p.now q.now r (record { shown = p; shows = refl; left = q; met = k; leaves = refl })

@@ -1,12 +1,16 @@
 -- What a scope lends has fewer levels left: the measure of types that contain themselves.
-use Rattle.std.proofs.Common.{◌≡◌, ℕ, ◌<◌, Bool, true, false, Some, List, Ok, ap, arith}
-use Rattle.asn1_core.specs.Octets.{Octets}
+use Rattle.std.proofs.Common.{◌≡◌, ℕ, ◌<◌, Bool, true, false, Option, Some, None, List, Result, Ok, Err, ap, arith}
+use Rattle.asn1_core.specs.Octets.{Octets, AreOctets}
 use Rattle.asn1_core.specs.Rows.{Row}
+use Rattle.asn1_core.specs.declared.error.DecodeError.{DecodeError}
 use Rattle.asn1_core.specs.declared.tag.Tag.{Tag}
 use Rattle.oer_spec.proofs.Steps.{bind_ok, ok_is}
 use Rattle.oer_spec.specs.Reading.{◌>>=◌, content_at, tag_at}
 use Rattle.oer_spec.specs.ReadingBits.{preamble_at}
+use Rattle.oer_spec.specs.Tree.{Tree}
+use Rattle.oer_read.proofs.AdditionRows.{passes}
 use Rattle.oer_read.proofs.Openings.{level_ok}
+use Rattle.oer_read.specs.Additions.{Added, Adds}
 use Rattle.oer_read.specs.Choices.{Chosen, place_at, lent_alternative, alternative_at, chosen_at}
 use Rattle.oer_read.specs.Scopes.{level_at, bits_for, frame_behind, opened_at}
 use Rattle.oer_read.specs.State.{State}
@@ -35,3 +39,14 @@ chosen_levels s roots additions extensible chosen e =
     let n = level_ok s.levels l.0 l.1 in
     let h = alternative_levels s l.0 t.0.0 t.0.1 chosen p.0 p.2 in
     omega (arith, n.0, n.1, h)
+
+-- ---- behind an addition as many levels are left
+
+module _ {A : Type 0} (tree : A → Tree) (IsValue : A → Type 0) (Says : State → Result A DecodeError → State → Type 0) (s : State) (g : Option Tag) where
+  passed_levels : (o : Option A) (t : State) → AreOctets s.input → Added tree IsValue Says s g o t → t.levels ≡ s.levels
+  passed_levels None t fits d = ap (λ (z : State). z.levels) (passes s t g None fits d.next).is
+  passed_levels (Some v) t fits d = ap (λ (z : State). z.levels) (passes s t g (Some d.content) fits d.next).is
+
+  pub added_levels : (answer : Result (Option A) DecodeError) (t : State) → Adds tree IsValue Says s g answer t → t.levels ≡ s.levels
+  added_levels (Ok o) t d = passed_levels o t d.octets d.read
+  added_levels (Err e) t d = ap (λ (z : State). z.levels) d.same

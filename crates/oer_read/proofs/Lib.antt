@@ -24,6 +24,7 @@ pub mod Reading
 pub mod LeafLaws
 pub mod IntegerLaw
 pub mod Alternatives
+pub mod AddedAlso
 pub mod Called
 pub mod Levels
 pub mod ChoiceLaw

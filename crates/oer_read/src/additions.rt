@@ -1,14 +1,16 @@
 //! Extension additions: each is asked by its bit of the extension bitmap, in the order of the table.
 
-ghost use Rattle.std.specs.Prelude.{◌≡◌, ◌≢◌, [], OnOk, not, get_or, false, drop, List, Bool, Option, Some, None, map, Ok, Err, IfOk, IfErr};
+ghost use Rattle.std.specs.Prelude.{◌≡◌, ◌≢◌, [], OnOk, not, get_or, false, drop, List, Bool, Option, Some, None, map, Ok, Err, IfOk, IfErr, ⊤};
+ghost use Rattle.std.specs.Fn.{FnOnceTakesAtMut, FnOnceReturnsAtMut};
 ghost use Rattle.std.specs.Option.{option_map};
-ghost use Rattle.asn1_core.specs.Octets.{AreOctets};
+ghost use Rattle.asn1_core.specs.Octets.{Octets, AreOctets};
 ghost use Rattle.asn1_core.specs.Rows.{row, may_be_absent};
 ghost use Rattle.oer_spec.specs.Reading.{Gives};
 ghost use Rattle.oer_spec.specs.Spelled.{IsConsistent};
 ghost use Rattle.oer_leaf_read.specs.Views.{bits_left};
 ghost use Rattle.oer_read.specs.Additions.{row_present, all_present, with_bitmap, bitmap_first, mapped_at, next_place, open_content, addition_at, past_place, inside, OpenRead, OpenRefused, Adds};
-ghost use Rattle.oer_read.specs.State.{places_of};
+ghost use Rattle.oer_read.specs.Law.{Decodes};
+ghost use Rattle.oer_read.specs.State.{State, places_of};
 
 use crate::decode::Decode;
 use crate::decoder::{Decoder, OpenScope};
@@ -17,6 +19,7 @@ use asn1_core::{
     Codec, Constraints, Constructed, DecodeError, DecodeErrorKind, Field, FieldPresence, Tag,
 };
 use oer_leaf_read::{BitSlice, read_bitmap, read_content};
+use oer_spec::Spelled;
 use std::alloc::Global;
 
 /// An addition whose bit is not set has to be one that may be absent.
@@ -178,21 +181,24 @@ impl<'input> Decoder<'input> {
         }
     }
 
-    /// The value in an open type's octets, of which canonically none may be left over.
+    /// The value that `f` reads in an open type's octets, of which canonically none may be left over.
     #[inline]
-    pub(crate) fn open_type<D: Decode>(
+    fn open_type<D, F>(
         &self,
-        alloc: Global,
         content: &'input [u8],
-        tag: Tag,
-        constraints: Constraints,
+        _constraints: Constraints,
+        f: F,
     ) -> Result<D, DecodeError>
-        requires { IsConsistent constraints }
-        ensures ok { IfOk result (OpenRead (D.tree constraints) D.IsValue (D.Answered constraints) self.now content.entry.now) }
-        ensures err { IfErr result (OpenRefused (D.tree constraints) D.IsValue (D.Answered constraints) self.now content.entry.now) }
+    where
+        D: Spelled,
+        F: FnOnce(&mut Decoder<'_>) -> Result<D, DecodeError>,
+        requires callable { FnOnceTakesAtMut F.FnOnce f (inside self.now content.now) }
+        requires law { (s t : State) (r : _) → FnOnceReturnsAtMut F.FnOnce f s r t → Decodes (D.tree _constraints) D.IsValue s r t }
+        ensures ok { IfOk result (OpenRead (D.tree _constraints) D.IsValue (λ s r t. FnOnceReturnsAtMut F.FnOnce f s r t) self.now content.entry.now) }
+        ensures err { IfErr result (OpenRefused (D.tree _constraints) D.IsValue (λ s r t. FnOnceReturnsAtMut F.FnOnce f s r t) self.now content.entry.now) }
     {
         let mut inner: Decoder<'input> = self.inside(content);
-        match D::decode_with_tag_and_constraints(alloc, &mut inner, tag, constraints) {
+        match f(&mut inner) {
             Err(e) => Err(e),
             Ok(value) => match self.require_whole(inner.remaining()) {
                 Err(e) => Err(e),
@@ -201,7 +207,41 @@ impl<'input> Decoder<'input> {
         }
     }
 
-    /// An addition, asked by its tag or, for a group, by its row alone.
+    /// An addition, asked by its tag or, for a group, by its row alone, whose value `f` reads.
+    #[inline]
+    fn addition_with<D, F>(
+        &mut self,
+        asked: Option<Tag>,
+        constraints: Constraints,
+        f: F,
+    ) -> Result<Option<D>, DecodeError>
+    where
+        D: Spelled,
+        F: FnOnce(&mut Decoder<'_>) -> Result<D, DecodeError>,
+        requires callable { (content : Octets) (next : State) → addition_at self.old asked ≡ Ok (Some content, next) → FnOnceTakesAtMut F.FnOnce f (inside self.old content) }
+        requires law { (s t : State) (r : _) → FnOnceReturnsAtMut F.FnOnce f s r t → Decodes (D.tree constraints) D.IsValue s r t }
+        ensures { Adds (D.tree constraints) D.IsValue (λ s r t. FnOnceReturnsAtMut F.FnOnce f s r t) self.old asked result self.new }
+    {
+        let _octets = self.octets();
+        match self.next_addition(asked) {
+            Err(kind) => Err(self.refusal(kind)),
+            Ok(found) => match found.content {
+                None => {
+                    self.pass_place(found.bits, found.rest);
+                    Ok(None)
+                }
+                Some(content) => match self.open_type::<D, F>(content, constraints, f) {
+                    Err(e) => Err(e),
+                    Ok(value) => {
+                        self.pass_place(found.bits, found.rest);
+                        Ok(Some(value))
+                    }
+                },
+            },
+        }
+    }
+
+    /// An addition of a type that is read, asked by its tag or, for a group, by its row alone.
     #[inline]
     fn addition<D: Decode>(
         &mut self,
@@ -213,23 +253,15 @@ impl<'input> Decoder<'input> {
         requires { IsConsistent constraints }
         ensures { Adds (D.tree constraints) D.IsValue (D.Answered constraints) self.old asked result self.new }
     {
-        let _octets = self.octets();
-        match self.next_addition(asked) {
-            Err(kind) => Err(self.refusal(kind)),
-            Ok(found) => match found.content {
-                None => {
-                    self.pass_place(found.bits, found.rest);
-                    Ok(None)
-                }
-                Some(content) => match self.open_type::<D>(alloc, content, tag, constraints) {
-                    Err(e) => Err(e),
-                    Ok(value) => {
-                        self.pass_place(found.bits, found.rest);
-                        Ok(Some(value))
-                    }
-                },
-            },
-        }
+        self.addition_with::<D, _>(
+            asked,
+            constraints,
+            |inner: &mut Decoder<'_>| -> Result<D, DecodeError>
+                requires { IsConsistent constraints }
+                ensures law { Decodes (D.tree constraints) D.IsValue inner.old result inner.new }
+                ensures answered { D.Answered constraints inner.old result inner.new }
+            { D::decode_with_tag_and_constraints(alloc, inner, tag, constraints) },
+        )
     }
 }
 
@@ -253,6 +285,26 @@ impl<'input> Decoder<'input> {
         ensures { Adds (D.tree constraints) D.IsValue (D.Answered constraints) self.old (Some tag) result self.new }
     {
         self.addition(alloc, Some(tag), tag, constraints)
+    }
+
+    /// Reads an extension addition's value by `f` (X.696, 16.4 and 30): none where its bit of the extension bitmap is 0.
+    /// `f` is handed a decoder of the open type's octets.
+    ///
+    /// Refused as `decode_extension_addition_with_tag_and_constraints` refuses, with what `f` does.
+    #[inline]
+    pub fn decode_extension_addition_with<D, F>(
+        &mut self,
+        tag: Tag,
+        f: F,
+    ) -> Result<Option<D>, DecodeError>
+    where
+        D: Spelled,
+        F: FnOnce(&mut Decoder<'_>) -> Result<D, DecodeError>,
+        requires callable { (content : Octets) (next : State) → addition_at self.old (Some tag) ≡ Ok (Some content, next) → FnOnceTakesAtMut F.FnOnce f (inside self.old content) }
+        requires law { (s t : State) (r : _) → FnOnceReturnsAtMut F.FnOnce f s r t → Decodes (D.tree D.CONSTRAINTS) D.IsValue s r t }
+        ensures { Adds (D.tree D.CONSTRAINTS) D.IsValue (λ s r t. ⊤) self.old (Some tag) result self.new }
+    {
+        self.addition_with::<D, F>(Some(tag), D::CONSTRAINTS, f)
     }
 
     /// Reads an extension addition with an explicit prefix, which adds no octets (X.696, 8.7), as

@@ -63,9 +63,11 @@ pub struct Extensible<R>(PhantomData<R>);
 /// An OPTIONAL addition of type `B` with the tag `G`, and those after it.
 pub struct MayAdd<G, B, R>(PhantomData<(G, B, R)>);
 
-/// Reads an addition under its type's constraints.
+/// Reads an OPTIONAL addition under its type's constraints (X.696, 16.4 and 30).
+///
+/// Refused as `Decoder::decode_extension_addition_with_tag_and_constraints` refuses.
 #[inline(always)]
-pub(crate) fn read_addition<B: Decode>(
+pub fn read_addition<B: Decode>(
     alloc: Global,
     decoder: &mut Decoder<'_>,
     tag: Tag,

@@ -22,7 +22,7 @@ mod sets;
 mod views;
 mod writing;
 
-pub use additions::{Additions, Extensible, MayAdd, ReadsAdditions};
+pub use additions::{Additions, Extensible, MayAdd, ReadsAdditions, read_addition};
 pub use both::Both;
 pub use compared::Compared;
 pub use components::{Components, Defaults, MayHave, Needs, NoMore, Reads};

@@ -1,0 +1,13 @@
+use Rattle.std.proofs.Common.{ap}
+use Rattle.oer_rows.specs.Values.{both}
+use Rattle.oer_rows.proofs.Chained.{added_there, chained}
+use Rattle.oer_knots.proofs.additions.MayAddKnotReadsAdditions.read_additions.Goals as goal
+
+pub returns-in_err-value-clause-stops : goal.returns-in_err-value-clause-stops
+returns-in_err-value-clause-stops g c = search chained
+
+pub returns-in_err-read_additions-clause-stops : goal.returns-in_err-read_additions-clause-stops
+returns-in_err-read_additions-clause-stops g c = search chained
+
+pub returns-clause-read : goal.returns-clause-read
+returns-clause-read g c = let rest = c.in_ok-read_additions.ensures.read in (both c.in_ok-value.value rest.0, ap (λ z. both c.in_ok-value.value z) rest.1, search (chained, rest.2), (added_there _ _ _ _ _ _ _ c.in_ok-value.ensures.read, rest.3))
