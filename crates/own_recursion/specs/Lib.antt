@@ -1,3 +1,4 @@
 pub mod Branches
+pub mod Chains
 pub mod Envelopes
 pub mod Nodes

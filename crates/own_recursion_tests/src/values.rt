@@ -1,7 +1,8 @@
 //! Values within values, written and read.
 
 use own_recursion::{
-    BodyAlternatives, Branch, BranchComponents, Envelope, EnvelopeComponents, Node, NodeComponents,
+    BodyAlternatives, Branch, BranchComponents, Chain, ChainComponents, Envelope,
+    EnvelopeComponents, Node, NodeComponents,
 };
 use rasn_oer::coer;
 use rasn_oer::prelude::*;
@@ -91,5 +92,25 @@ fn branches_are_written_and_read(rt: HostRuntime) -> Result<(), Fail> {
         0x02, 0x07, 0x80, 0x01, 0xFF,
     ];
     assert!(rt; agrees(alloc, &whole, &octets)?);
+    Ok(())
+}
+
+fn chain(ok: bool, next: Option<Held<Chain>>) -> Chain {
+    Chain(Sequence(ChainComponents { ok, next }))
+}
+
+#[test]
+fn chains_are_written_and_read(rt: HostRuntime) -> Result<(), Fail> {
+    let alloc = rt.alloc();
+    let end = chain(true, None);
+    assert!(rt; agrees(alloc, &end, &[0x00, 0xFF])?);
+    let two = chain(false, Some(Held(Box::new(alloc, end)?)));
+    let octets = [0x80, 0x00, 0x02, 0x07, 0x80, 0x02, 0x00, 0xFF];
+    assert!(rt; agrees(alloc, &two, &octets)?);
+    let three = chain(true, Some(Held(Box::new(alloc, two)?)));
+    let octets = [
+        0x80, 0xFF, 0x02, 0x07, 0x80, 0x08, 0x80, 0x00, 0x02, 0x07, 0x80, 0x02, 0x00, 0xFF,
+    ];
+    assert!(rt; agrees(alloc, &three, &octets)?);
     Ok(())
 }
