@@ -11,15 +11,15 @@ use Rattle.oer_write.specs.Rows.{present_unless}
 use Rattle.oer_read.specs.Defaults.{IsDefault}
 use Rattle.oer_read.specs.Parts.{Parts, NoParts, DefaultPart, Admits, OnPresent, AreOf}
 use Rattle.oer_types.specs.NestedLists.{nested_lists, is_nested, nested_decided, equal_to_nested, nested_is, nested_alike, nest_like_nested, nested_like_nest}
-use Rattle.oer_types.specs.Nests.{nest_tree, nest_is, nests_alike}
+use Rattle.oer_types.specs.Nests.{nest_tree, IsNest, each_nest, nest_is, nests_alike}
 use Rattle.oer_types.specs.SameNests.{nest_eq, nests_same}
 use Rattle.oer_rows.specs.Schema.{context}
 use Rattle.oer_types.specs.declared.deep_defaults.DeepDefault.{DeepDefault}
 use Rattle.oer_types.specs.declared.nests.Nest.{Nest}
 
 -- any nest may be a default
-pub nest_known : (d : Nest) → IsDefault nest_tree IsAny nest_eq d
-nest_known d = record { value = tt; is_tree = λ v i. nest_is v; alike = λ v w i j. nests_alike v w; decides = λ v w i j. nests_same v w }
+pub nest_known : (d : Nest) → IsDefault nest_tree IsNest nest_eq d
+nest_known d = record { value = each_nest d; is_tree = λ v i. nest_is v; alike = λ v w i j. nests_alike v w; decides = λ v w i j. nests_same v w }
 
 -- ---- a nest whose default is nested lists
 
@@ -48,11 +48,11 @@ module _ (n : ℕ) where
   pub unless_differs : (v : Nest) → SameSlot (nest_unless v) (Present (nested_lists n)) → ⊥
   unless_differs v x = present_differs (is_nested n v) v refl x
 
-  present_admitted : (b : Bool) (v : Nest) → OnPresent (Admits nest_tree IsAny) (present_unless b (nest_tree v))
+  present_admitted : (b : Bool) (v : Nest) → OnPresent (Admits nest_tree IsNest) (present_unless b (nest_tree v))
   present_admitted true v = tt
-  present_admitted false v = record { value = v; is_value = tt; is = refl }
+  present_admitted false v = record { value = v; is_value = each_nest v; is = refl }
 
-  pub unless_admitted : (v : Nest) → OnPresent (Admits nest_tree IsAny) (nest_unless v)
+  pub unless_admitted : (v : Nest) → OnPresent (Admits nest_tree IsNest) (nest_unless v)
   unless_admitted v = present_admitted (is_nested n v) v
 
   present_other : (b : Bool) (w : Nest) → OnSlot (λ t. Alike (nested_lists n) t) (present_unless b (nest_tree w))
@@ -98,7 +98,7 @@ abbrev pub deep_default_table : List Row
 deep_default_table = record { index = 0; tag = context 0; presence = presence.Default } ∷ []
 
 abbrev pub deep_default_parts : Parts
-deep_default_parts = DefaultPart (context 0) deep_lists (Admits nest_tree IsAny) NoParts
+deep_default_parts = DefaultPart (context 0) deep_lists (Admits nest_tree IsNest) NoParts
 
 pub deep_default_made : (v : DeepDefault) → IsAny v → AreOf deep_default_parts (deep_default_rows v) × AreOf NoParts NoRows
 deep_default_made v i = ((refl, refl, unless_admitted 127 v.n, unless_differs 127 v.n, tt), tt)

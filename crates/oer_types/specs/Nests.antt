@@ -1,47 +1,75 @@
--- The tree of a list of itself.
-use Rattle.std.specs.Prelude.{◌≡◌, true, List, refl}
-use Rattle.std.proofs.Common.{ap, sym, subst, ◌∙◌}
-use Rattle.oer_spec.specs.Encoding.{IsTree, AreTrees}
-use Rattle.oer_spec.specs.Same.{Alike, AlikeTrees}
-use Rattle.oer_spec.specs.Spelled.{trees_of, list_of}
-use Rattle.oer_spec.specs.Tree.{Tree, ListOf, Trees}
-use Rattle.oer_types.specs.OwnLists.{trees_of_map, HasTree, have_trees, IsAlikeAll, items_alike}
-use Rattle.oer_types.specs.declared.nests.Nest.{Nest}
+-- The tree of a list of itself: each nest is a value of it.
+use Rattle.std.specs.Prelude.{◌≡◌, ◌<◌, ℕ, zero, suc, true, List, [], ◌∷◌}
+use Rattle.std.proofs.Common.{ap, ◌∙◌, arith}
+use denote.Param.Weighed.{most}
+use Rattle.oer_spec.specs.Encoding.{IsTree}
+use Rattle.oer_spec.specs.Same.{Alike}
+use Rattle.oer_spec.specs.Spelled.{EachValue, list_of}
+use Rattle.oer_spec.specs.Tree.{Tree}
+use Rattle.oer_rows.specs.Schema.{Typed}
+use Rattle.oer_rows.specs.declared.lists.ListOf.{ListOf}
+use Rattle.oer_knots.specs.Knots.{Knotted, knot_tree, IsKnot, knot_typed, knot_is_layer, layer_in_knot}
+use Rattle.oer_knots.specs.Lists.{list_tied, list_ties}
+use Rattle.oer_knots.specs.Ties.{held_tied, held_weight, held_ties}
+use Rattle.oer_knots.specs.declared.held.Bare.{Bare}
+use Rattle.oer_types.specs.declared.nests.Nest.{Nest, size-Nest, size_is-Nest}
 use Rattle.oer_types.specs.declared.nests.Nest.TheOpen.{Nest-F}
-use Rattle.oer_types.specs.declared.nests.Nest.TheViews.{out-Nest, roll-Nest}
-use Rattle.oer_types.specs.declared.nests.Nest.TheFolds.{fold-Nest, fold-roll-Nest, fold_out-Nest, ind-Nest}
+use Rattle.oer_types.specs.declared.nests.Nest.TheViews.{out-Nest, roll-Nest, out-roll-Nest}
 
--- a list of the trees of its items
-abbrev pub nest_step : Nest-F Tree → Tree
-nest_step f = ListOf true (trees_of (λ t. t) f.items.items)
+abbrev pub nest_weight : {K : Type 0} → (K → ℕ) → ListOf (Bare K) → ℕ
+nest_weight size v = most (λ h. size h.0) v.0.items
 
-unfoldable pub nest_tree : Nest → Tree
-nest_tree = fold-Nest Tree nest_step
+abbrev pub nest_content : Nest → ListOf (Bare Nest)
+nest_content v = (out-Nest v).0
 
--- a nest of items, and the items of a nest
-pub nest_of : (x : Nest-F Nest) → nest_tree (roll-Nest x) ≡ list_of true nest_tree x.items.items
-unfolding nest_tree list_of
-nest_of x = fold-roll-Nest Tree nest_step x ∙ ap (λ (ts : Trees). ListOf true ts) (trees_of_map (fold-Nest Tree nest_step) x.items.items)
+-- what a nest holds weighs less than the nest
+pub nest_smaller : (v : Nest) → nest_weight size-Nest (nest_content v) < size-Nest v
+nest_smaller v = grind (arith, size_is-Nest v)
 
-pub nest_items : (v : Nest) → nest_tree v ≡ list_of true nest_tree (out-Nest v).items.items
-unfolding nest_tree list_of
-nest_items v = fold_out-Nest Tree nest_step v ∙ ap (λ (ts : Trees). ListOf true ts) (trees_of_map (fold-Nest Tree nest_step) (out-Nest v).items.items)
+abbrev pub nest_tied : Typed Nest → Typed (ListOf (Bare Nest))
+nest_tied = list_tied (λ v. v.0.items) (held_tied (λ h. h.0)) (held_weight (λ h. h.0))
 
--- ---- every nest has a tree
-list_has_tree : (vs : List Nest) → AreTrees (trees_of nest_tree vs) → IsTree (list_of true nest_tree vs)
-unfolding IsTree list_of
-list_has_tree vs h = h
+abbrev pub nest_knotted : Knotted size-Nest nest_content nest_tied nest_weight
+nest_knotted = record { ties = list_ties (λ v. v.0.items) (held_tied (λ h. h.0)) (held_weight (λ h. h.0)) (held_ties (λ h. h.0)); smaller = nest_smaller }
+
+abbrev pub nest_tree : Nest → Tree
+nest_tree = knot_tree size-Nest nest_content nest_tied
+
+abbrev pub IsNest : Nest → Type 0
+IsNest = IsKnot size-Nest nest_content nest_tied
+
+abbrev pub item_tree : Bare Nest → Tree
+item_tree h = nest_tree h.0
+
+abbrev pub nest_items : Nest → List (Bare Nest)
+nest_items v = (nest_content v).0.items
+
+-- a nest's tree is that of the list of its items
+pub nest_is_list : (v : Nest) → nest_tree v ≡ list_of true item_tree (nest_items v)
+nest_is_list v = knot_is_layer size-Nest nest_content nest_tied nest_weight nest_knotted v
+
+pub nest_of : (x : Nest-F Nest) → nest_tree (roll-Nest x) ≡ list_of true item_tree x.0.0.items
+nest_of x = nest_is_list (roll-Nest x) ∙ ap (λ (z : Nest-F Nest). list_of true item_tree z.0.0.items) (out-roll-Nest x)
+
+-- ---- each nest is one of its values
+
+each_item : (n : ℕ) (vs : List (Bare Nest)) → most (λ h. size-Nest h.0) vs < n → ((v : Nest) → size-Nest v < n → IsNest v) → EachValue (λ h. IsNest h.0) vs
+each_item n [] l every = tt
+each_item n (v ∷ vs) l every = (every v.0 (omega (arith, l)), each_item n vs (omega (arith, l)) every)
+
+each_within : (n : ℕ) (v : Nest) → size-Nest v < n → IsNest v
+each_within zero v l = absurd (omega (arith, l))
+each_within (suc n) v l =
+    let s : nest_weight size-Nest (nest_content v) < size-Nest v = nest_smaller v in
+    layer_in_knot size-Nest nest_content nest_tied nest_weight nest_knotted v (each_item n (nest_items v) (omega (arith, l, s)) (each_within n))
+
+pub each_nest : (v : Nest) → IsNest v
+each_nest v = each_within (suc (size-Nest v)) v (omega arith)
+
+-- ---- it has a tree, and any two are alike
 
 pub nest_is : (v : Nest) → IsTree (nest_tree v)
-nest_is = ind-Nest (HasTree nest_tree) (λ x y is.
-    subst IsTree (sym (nest_of x)) (list_has_tree x.items.items (subst (λ (z : Nest-F Nest). AreTrees (trees_of nest_tree z.items.items)) is (have_trees nest_tree y.items.items))))
-
--- ---- any two are alike
-lists_of_alike : (vs ws : List Nest) → AlikeTrees (trees_of nest_tree vs) (trees_of nest_tree ws) → Alike (list_of true nest_tree vs) (list_of true nest_tree ws)
-unfolding Alike list_of
-lists_of_alike vs ws h = (refl, h)
+nest_is v = (knot_typed size-Nest nest_content nest_tied nest_weight nest_knotted).is v (each_nest v)
 
 pub nests_alike : (v w : Nest) → Alike (nest_tree v) (nest_tree w)
-nests_alike = ind-Nest (IsAlikeAll nest_tree) (λ x y is w.
-    let items = subst (λ (z : Nest-F Nest). AlikeTrees (trees_of nest_tree z.items.items) (trees_of nest_tree (out-Nest w).items.items)) is (items_alike nest_tree y.items.items (out-Nest w).items.items) in
-    subst (λ (t : Tree). Alike t (nest_tree w)) (sym (nest_of x)) (subst (λ (t : Tree). Alike (list_of true nest_tree x.items.items) t) (sym (nest_items w)) (lists_of_alike x.items.items (out-Nest w).items.items items)))
+nests_alike v w = (knot_typed size-Nest nest_content nest_tied nest_weight nest_knotted).like v w (each_nest v) (each_nest w)

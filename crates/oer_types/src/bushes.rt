@@ -1,68 +1,116 @@
-//! A set that holds a list of itself.
-ghost use Rattle.std.specs.Prelude.{◌≡◌, ◌<◌, true, OnOk, IfErr};
-ghost use Rattle.oer_spec.specs.Spelled.{IsAny};
-ghost use Rattle.oer_spec.specs.Tree.{NoRows};
-ghost use Rattle.oer_types.specs.Bushes.{bush_tree, bushes_tree, list_tree, bush_rows, AreAny, bush_field_tree, IsBushAt, bush_put, BushSoFar, BushIs, BushAnswer};
-ghost use Rattle.oer_types.specs.declared.bushes.Bush.{size-Bush};
-ghost use Rattle.oer_rows.specs.Schema.{universal};
-ghost use Rattle.oer_write.specs.Rows.{InSet, SetDone, RowsRefused, required};
-ghost use Rattle.oer_write.specs.Written.{WritesTree, Encodes, Refused};
-ghost use Rattle.oer_read.specs.Law.{Decodes};
+//! A set with a list of itself.
+ghost use Rattle.std.specs.Prelude.{OnOk, IfErr};
+ghost use Rattle.oer_write.specs.Written.{Encodes, Refused};
+ghost use Rattle.asn1_core.specs.declared.constraints.TheConstants.Constraints.{NONE};
 
-use asn1_core::{
-    AsnType, Class, Codec, Constraints, Constructed, DecodeError, DecodeErrorKind, EncodeError,
-    Field, FieldPresence, Fields, Tag,
-};
-use asn1_ints::Integer;
-use oer_read::{Decode, Decoder};
-use oer_spec::Spelled;
-use oer_write::{Encode, Encoder};
+use rasn_oer::prelude::*;
 use std::alloc::Global;
 
 /// `Bush ::= SET { a INTEGER, b SEQUENCE OF Bush }`
 #[derive(Debug, PartialEq, Eq, Drop)]
-pub struct Bush {
+pub struct Bush(pub BushContent<Bush>);
+
+/// What a `Bush` holds.
+pub type BushContent<K> = Set<BushComponents<K>, 2, 0>;
+
+/// The components of a `Bush`.
+#[derive(Debug, PartialEq, Eq, Drop)]
+pub struct BushComponents<K> {
     pub a: Integer,
-    pub b: Vec<Bush>,
+    pub b: ListOf<Bare<K>>,
 }
 
-/// A component of a `Bush`.
-#[derive(Drop)]
-enum BushField {
-    A(Integer),
-    B(Vec<Bush>),
-}
+type BushRow<K> = Needs<Universal<2>, Integer, NeedsKnot<Universal<16>, ListOf<Bare<K>>, NoMore>>;
 
-/// The components of a `Bush` so far.
-#[derive(Drop)]
-struct BushParts {
-    a: Option<Integer>,
-    b: Option<Vec<Bush>>,
-}
-
-const BUSH_FIELDS: &'static [Field<'static>] = &[
-    Field {
-        index: 0,
-        tag: Tag {
-            class: Class::Universal,
-            value: 2,
-        },
-        presence: FieldPresence::Required,
-        name: "a",
-    },
-    Field {
-        index: 1,
-        tag: Tag {
-            class: Class::Universal,
-            value: 16,
-        },
-        presence: FieldPresence::Required,
-        name: "b",
-    },
+const BUSH_FIELDS: &'static [Field<'static>] = fields![
+    0 Required Universal 2 "a", 1 Required Universal 16 "b"
 ];
 
+impl<K> KnotRowed<K> for BushComponents<K> {
+    ghost use Rattle.rasn_oer.specs.Values.{both};
+
+    type KnotValues = <BushRow<K> as KnotRow<K>>::Values;
+
+    ghost extended = { ⟦<BushRow<K> as KnotRow<K>>⟧.EXTENSIBLE };
+
+    ghost knot_schema = { ⟦<BushRow<K> as KnotRow<K>>⟧.schema };
+
+    ghost knot_weight = { ⟦<BushRow<K> as KnotRow<K>>⟧.weight };
+
+    ghost knot_ties = { ⟦<BushRow<K> as KnotRow<K>>⟧.ties };
+
+    ghost knot_components = { λ v. both v.a (both v.b tt) };
+}
+
+impl<K: Spelled> Rowed for BushComponents<K> {
+    ghost use Rattle.rasn_oer.specs.Values.{both};
+
+    type Values = <BushRow<K> as Components>::Values;
+
+    ghost EXTENSIBLE = { ⟦<BushRow<K> as Components>⟧.EXTENSIBLE };
+
+    const EXTENSIBLE: bool = false;
+
+    ghost row_schema = { ⟦<BushRow<K> as Components>⟧.schema };
+
+    ghost row_is_schema = { ⟦<BushRow<K> as Components>⟧.is_schema };
+
+    ghost components = { λ v. both v.a (both v.b tt) };
+
+    fn from_row(row: <BushRow<K> as Components>::Values) -> BushComponents<K> {
+        let Both(a, Both(b, ())) = row;
+        BushComponents { a, b }
+    }
+}
+
+impl<K: Decode> Takes for BushComponents<K> {
+    fn take(alloc: Global, decoder: &mut Decoder<'_>) -> Result<Self, DecodeError> {
+        read_row::<Self, BushRow<K>>(alloc, decoder)
+    }
+}
+
+impl<K: Spelled> TakesKnot<K> for BushComponents<K> {
+    fn take_knot<F: Fn(&mut Decoder<'_>) -> Result<K, DecodeError>>(
+        alloc: Global,
+        decoder: &mut Decoder<'_>,
+        knot: &F,
+    ) -> Result<Self, DecodeError> {
+        read_knot_row::<K, Self, BushRow<K>, F>(alloc, decoder, knot)
+    }
+}
+
+impl<K: Encode> Tabled<2, 0> for BushComponents<K> {
+    ghost use Rattle.std.specs.Prelude.{refl};
+
+    const FIELDS: Fields<2> = Fields {
+        fields: BUSH_FIELDS,
+    };
+
+    const EXTENDED_FIELDS: Option<Fields<0>> = None;
+
+    fn root_fields() -> &'static [Field<'static>] {
+        BUSH_FIELDS
+    }
+
+    fn addition_fields() -> &'static [Field<'static>] {
+        &[]
+    }
+
+    fn put(&self, encoder: &mut Encoder<'_>) -> Result<(), EncodeError> {
+        BushRow::<K>::write(&views![self: a, b], encoder)
+    }
+
+    ghost counts = { (refl, refl) };
+}
+
+impl<K: Encode> InTagOrder<2, 0> for BushComponents<K> {
+    ghost use Rattle.std.specs.Prelude.{refl};
+
+    ghost in_order = { refl };
+}
+
 impl AsnType for Bush {
-    ghost use Rattle.std.specs.Prelude.{false, refl};
+    ghost use Rattle.std.specs.Prelude.{refl};
     ghost use Rattle.asn1_core.specs.declared.tag.TheConstants.Tag.{SET};
     ghost use Rattle.asn1_core.specs.declared.constraints.TheConstants.Constraints.{NONE};
 
@@ -77,241 +125,67 @@ impl AsnType for Bush {
     ghost consistent = { refl };
 }
 
-impl Constructed<2, 0> for Bush {
-    ghost use Rattle.std.specs.Prelude.{false, true, refl, []};
-    ghost use Rattle.oer_types.specs.Bushes.{bush_table};
-
-    ghost is_set = { true };
-
-    ghost root_rows = { bush_table };
-
-    ghost addition_rows = { [] };
-
-    ghost IS_EXTENSIBLE = { false };
-
-    const IS_EXTENSIBLE: bool = false;
-
-    const FIELDS: Fields<2> = Fields {
-        fields: BUSH_FIELDS,
-    };
-
-    const EXTENDED_FIELDS: Option<Fields<0>> = None;
-
-    fn root_fields() -> &'static [Field<'static>] {
-        Self::FIELDS.fields
-    }
-
-    fn addition_fields() -> &'static [Field<'static>] {
-        match Self::EXTENDED_FIELDS {
-            Some(table) => table.fields,
-            None => &[],
-        }
-    }
-
-    ghost tables = { record { root_count = refl; addition_count = refl; root_indexes = (refl, (refl, tt)); addition_indexes = tt; only = λ e. refl; distinct = λ e. (refl, (refl, tt)) } };
-}
-
 impl Spelled for Bush {
-    ghost use Rattle.oer_types.specs.Bushes.{bush_is, bushes_alike};
+    ghost use Rattle.rasn_oer.specs.Knots.{knot_tree, IsKnot, knot_typed};
+    ghost use Rattle.oer_types.specs.Bushes.{bush_smaller};
+    ghost use Rattle.oer_types.specs.declared.bushes.Bush.{out-Bush, size-Bush};
 
-    ghost tree = { λ c v. bush_tree v };
+    ghost tree = { λ c v. knot_tree size-Bush (λ v. (out-Bush v).0) ⟦<BushContent<Bush> as HoldsKnot<Bush>>⟧.tied v };
 
-    ghost IsValue = { IsAny };
+    ghost IsValue = { IsKnot size-Bush (λ v. (out-Bush v).0) ⟦<BushContent<Bush> as HoldsKnot<Bush>>⟧.tied };
 
-    ghost is_tree = { λ c k v i. bush_is v };
+    ghost is_tree = { λ c k v i. (knot_typed size-Bush (λ v. (out-Bush v).0) ⟦<BushContent<Bush> as HoldsKnot<Bush>>⟧.tied ⟦<BushContent<Bush> as HoldsKnot<Bush>>⟧.weight (record { ties = ⟦<BushContent<Bush> as HoldsKnot<Bush>>⟧.ties; smaller = bush_smaller })).is v i };
 
-    ghost alike = { λ c k v w i j. bushes_alike v w };
+    ghost alike = { λ c k v w i j. (knot_typed size-Bush (λ v. (out-Bush v).0) ⟦<BushContent<Bush> as HoldsKnot<Bush>>⟧.tied ⟦<BushContent<Bush> as HoldsKnot<Bush>>⟧.weight (record { ties = ⟦<BushContent<Bush> as HoldsKnot<Bush>>⟧.ties; smaller = bush_smaller })).like v w i j };
 }
 
-/// Writes a bush: by its depth.
-#[cycle(encode_bush)]
-fn encode_bush(value: &Bush, encoder: &mut Encoder<'_>) -> Result<(), EncodeError>
-    ensures done { OnOk result (Encodes (bush_tree value.now) encoder.old encoder.new) }
-    ensures refused { IfErr result (λ x. Refused (bush_tree value.now) x encoder.old encoder.new) }
-{
-    encoder.encode_set::<2, 0, Bush, _>(
-        Tag::SET,
-        |encoder: &mut Encoder<'_>| -> Result<(), EncodeError>
-            ensures { InSet (bush_rows value.entry.now) NoRows encoder.old result encoder.new }
-        {
-            encoder.encode_component(
-                Tag::new(Class::Universal, 2),
-                Integer::CONSTRAINTS,
-                &value.a,
-            )?;
-            put_list(value, encoder)?;
-            Ok(())
-        },
-    )
+impl Layered for Bush {
+    ghost use Rattle.rasn_oer.specs.Knots.{knot, knot_layers, layer};
+    ghost use Rattle.oer_types.specs.Bushes.{bush_smaller};
+    ghost use Rattle.oer_types.specs.declared.bushes.Bush.{out-Bush, size-Bush};
+
+    ghost inner = { layer size-Bush (λ v. (out-Bush v).0) ⟦<BushContent<Bush> as HoldsKnot<Bush>>⟧.tied (knot size-Bush (λ v. (out-Bush v).0) ⟦<BushContent<Bush> as HoldsKnot<Bush>>⟧.tied) };
+
+    ghost layers = { knot_layers size-Bush (λ v. (out-Bush v).0) ⟦<BushContent<Bush> as HoldsKnot<Bush>>⟧.tied ⟦<BushContent<Bush> as HoldsKnot<Bush>>⟧.weight (record { ties = ⟦<BushContent<Bush> as HoldsKnot<Bush>>⟧.ties; smaller = bush_smaller }) };
 }
 
-/// Writes the list in a bush, as a component of the set: by its depth.
-#[cycle(encode_bush)]
-fn put_list(value: &Bush, encoder: &mut Encoder<'_>) -> Result<(), EncodeError>
-    ensures in_set { encoder.old.frame.is_set ≡ true → OnOk result (SetDone (required (universal 16) (list_tree value.now)) NoRows encoder.old encoder.new) }
-    ensures refused { IfErr result (λ x. RowsRefused (required (universal 16) (list_tree value.now)) NoRows x encoder.old encoder.new) }
+/// Writes what a `Bush` holds.
+fn encode_content<K: Encode>(
+    inner: &BushContent<K>,
+    encoder: &mut Encoder<'_>,
+    tag: Tag,
+) -> Result<(), EncodeError>
+    ensures done { OnOk result (Encodes (⟦<BushContent<K> as Spelled>⟧.tree NONE inner.now) encoder.old encoder.new) }
+    ensures value { OnOk result (⟦<BushContent<K> as Spelled>⟧.IsValue inner.now) }
+    ensures refused { IfErr result (λ x. Refused (⟦<BushContent<K> as Spelled>⟧.tree NONE inner.now) x encoder.old encoder.new) }
 {
-    encoder.encode_component_with(
-        Tag::new(Class::Universal, 16),
-        |encoder: &mut Encoder<'_>| -> Result<(), EncodeError>
-            ensures { WritesTree (list_tree value.entry.now) encoder.old result encoder.new }
-        { encode_list(value, encoder) },
-    )
-}
-
-/// Writes the list in a bush: by its depth.
-#[cycle(encode_bush)]
-fn encode_list(value: &Bush, encoder: &mut Encoder<'_>) -> Result<(), EncodeError>
-    ensures done { OnOk result (Encodes (list_tree value.now) encoder.old encoder.new) }
-    ensures refused { IfErr result (λ x. Refused (list_tree value.now) x encoder.old encoder.new) }
-{
-    encoder.encode_sequence_of_with(
-        Tag::SEQUENCE,
-        Constraints::NONE,
-        &value.b,
-        |encoder: &mut Encoder<'_>, item: &Bush| -> Result<(), EncodeError>
-            requires { size-Bush item.now < size-Bush value.now }
-            ensures { WritesTree (bush_tree item.now) encoder.old result encoder.new }
-        {
-            let _whole = value;
-            encode_bush(item, encoder)
-        },
-    )
+    inner.encode_with_tag(encoder, tag)
 }
 
 impl Encode for Bush {
     fn encode_with_tag_and_constraints(
         &self,
         encoder: &mut Encoder<'_>,
-        _tag: Tag,
+        tag: Tag,
         _constraints: Constraints,
     ) -> Result<(), EncodeError> {
-        encode_bush(self, encoder)
+        layer_of::<Bush>(self);
+        encode_content::<Bush>(&self.0, encoder, tag)
     }
 }
 
-/// Reads a bush: by the levels left.
-#[cycle(decode_bush)]
-fn decode_bush(alloc: Global, decoder: &mut Decoder<'_>) -> Result<Bush, DecodeError>
-    ensures { Decodes bush_tree IsAny decoder.old result decoder.new }
-{
-    let codec = decoder.codec();
-    let levels = decoder.levels();
-    decoder.decode_set::<2, 0, BushField, Bush, _, _>(
-        alloc,
-        Tag::SET,
-        |decoder: &mut Decoder<'_>, index: usize, tag: Tag| -> Result<BushField, DecodeError>
-            requires level { decoder.old.levels < levels }
-            requires row { index < 2 }
-            ensures { Decodes bush_field_tree (IsBushAt index) decoder.old result decoder.new }
-        {
-            let _bound = levels;
-            read_bush_field(alloc, decoder, index, tag)
-        },
-        |fields: Vec<BushField>| -> Result<Bush, DecodeError>
-            ensures { BushAnswer fields.items result }
-        { bush_of(codec, bush_parts(fields)) },
-    )
-}
+impl Knot<BushContent<Bush>> for Bush {
+    ghost use Rattle.rasn_oer.specs.Knots.{knot_layered};
+    ghost use Rattle.oer_types.specs.Bushes.{bush_smaller};
+    ghost use Rattle.oer_types.specs.declared.bushes.Bush.{out-Bush, size-Bush};
 
-/// Reads the component of that index: by the levels left.
-#[cycle(decode_bush)]
-fn read_bush_field(
-    alloc: Global,
-    decoder: &mut Decoder<'_>,
-    index: usize,
-    tag: Tag,
-) -> Result<BushField, DecodeError>
-    requires { index < 2 }
-    ensures { Decodes bush_field_tree (IsBushAt index) decoder.old result decoder.new }
-{
-    match index {
-        0 => match Integer::decode_with_tag(alloc, decoder, tag) {
-            Err(e) => Err(e),
-            Ok(value) => Ok(BushField::A(value)),
-        },
-        _ => match decode_bushes(alloc, decoder, tag) {
-            Err(e) => Err(e),
-            Ok(bushes) => Ok(BushField::B(bushes)),
-        },
+    ghost content = { λ v. (out-Bush v).0 };
+
+    fn from_content(inner: BushContent<Bush>) -> Bush {
+        Bush(inner)
     }
-}
 
-/// Reads a list of bushes: by the levels left.
-#[cycle(decode_bush)]
-fn decode_bushes(
-    alloc: Global,
-    decoder: &mut Decoder<'_>,
-    tag: Tag,
-) -> Result<Vec<Bush>, DecodeError>
-    ensures { Decodes bushes_tree AreAny decoder.old result decoder.new }
-{
-    let levels = decoder.levels();
-    decoder.decode_sequence_of_with::<Bush, _>(
-        alloc,
-        tag,
-        Constraints::NONE,
-        |inner: &mut Decoder<'_>| -> Result<Bush, DecodeError>
-            requires { inner.old.levels < levels }
-            ensures { Decodes bush_tree IsAny inner.old result inner.new }
-        {
-            let _bound = levels;
-            decode_bush(alloc, inner)
-        },
-    )
-}
-
-/// The components with one more.
-fn put_bush_field(parts: BushParts, field: BushField) -> BushParts
-    ensures { result ≡ bush_put parts field }
-{
-    match field {
-        BushField::A(value) => BushParts {
-            a: Some(value),
-            b: parts.b,
-        },
-        BushField::B(bushes) => BushParts {
-            a: parts.a,
-            b: Some(bushes),
-        },
-    }
-}
-
-/// These components, of several for one row the last.
-fn bush_parts(fields: Vec<BushField>) -> BushParts
-    ensures { BushSoFar fields.items result }
-{
-    let mut parts = BushParts { a: None, b: None };
-    for field in fields {
-        parts = put_bush_field(parts, field);
-    }
-    parts
-}
-
-/// The refusal of a bush without the component of that universal tag.
-fn missing(codec: Codec, value: u32) -> DecodeError {
-    DecodeError {
-        kind: DecodeErrorKind::MissingTagClassOrValueInSequenceOrSet {
-            class: Class::Universal,
-            value,
-        },
-        codec,
-    }
-}
-
-/// The bush of these components; refused without either, as `MissingTagClassOrValueInSequenceOrSet`.
-fn bush_of(codec: Codec, parts: BushParts) -> Result<Bush, DecodeError>
-    ensures { BushIs parts result }
-{
-    let number = parts.a;
-    let list = parts.b;
-    match number {
-        None => Err(missing(codec, 2)),
-        Some(a) => match list {
-            None => Err(missing(codec, 16)),
-            Some(b) => Ok(Bush { a, b }),
-        },
-    }
+    ghost layered = { knot_layered size-Bush (λ v. (out-Bush v).0) ⟦<BushContent<Bush> as HoldsKnot<Bush>>⟧.tied ⟦<BushContent<Bush> as HoldsKnot<Bush>>⟧.weight (record { ties = ⟦<BushContent<Bush> as HoldsKnot<Bush>>⟧.ties; smaller = bush_smaller }) };
 }
 
 impl Decode for Bush {
@@ -322,9 +196,9 @@ impl Decode for Bush {
     fn decode_with_tag_and_constraints(
         alloc: Global,
         decoder: &mut Decoder<'_>,
-        _tag: Tag,
+        tag: Tag,
         _constraints: Constraints,
     ) -> Result<Bush, DecodeError> {
-        decode_bush(alloc, decoder)
+        decode_knotted::<BushContent<Bush>, Bush>(alloc, decoder, tag)
     }
 }

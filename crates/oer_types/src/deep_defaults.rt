@@ -12,7 +12,9 @@ use asn1_core::{
     AsnType, Class, Constraints, Constructed, DecodeError, DecodeErrorKind, EncodeError,
     EncodeErrorKind, Field, FieldPresence, Fields, Tag,
 };
+use oer_knots::Bare;
 use oer_read::{Decode, Decoder};
+use oer_rows::ListOf;
 use oer_spec::Spelled;
 use oer_write::{Encode, Encoder};
 use std::alloc::{AllocError, Global};
@@ -33,13 +35,11 @@ impl DeepDefault {
     pub fn default_n(alloc: Global) -> Result<Nest, AllocError>
         ensures { IfOk result (λ n. nest_tree n ≡ deep_lists) }
     {
-        let mut nest = Nest {
-            items: Vec::new(alloc),
-        };
+        let mut nest = Nest(ListOf(Vec::new(alloc)));
         for _ in 0..127_usize {
             let mut items = Vec::new(alloc);
-            items.push(nest)?;
-            nest = Nest { items };
+            items.push(Bare(nest))?;
+            nest = Nest(ListOf(items));
         }
         Ok(nest)
     }
@@ -131,7 +131,7 @@ impl Encode for DeepDefault {
             |encoder: &mut Encoder<'_>| -> Result<(), EncodeError>
                 ensures { InSequence (deep_default_rows self.entry.now) NoRows encoder.old result encoder.new }
             {
-                let default = match DeepDefault::default_n(*self.n.items.allocator()) {
+                let default = match DeepDefault::default_n(*self.n.0.0.allocator()) {
                     Ok(default) => default,
                     Err(_) => return Err(EncodeError {
                         kind: EncodeErrorKind::OutOfMemory,

@@ -28,7 +28,7 @@ mod top_levels;
 mod versions;
 mod wrappers;
 
-pub use bushes::Bush;
+pub use bushes::{Bush, BushComponents, BushContent};
 pub use choices::{
     BoolAlternatives, BoolChoice, OnlyAlternatives, OnlyChoice, PriorityAlternatives,
     PriorityChoice, WideAlternatives, WideChoice,
@@ -41,18 +41,21 @@ pub use extensible::{EmptyExtensible, Outer, Sequence1, Sequence2, Sequence5};
 pub use extension_defaults::{AddDef, Holder1, Holder2};
 pub use groups::{Group6, Sequence3, Sequence4, Sequence6};
 pub use holders::{Adding, AddingComponents, Holding, HoldingComponents};
-pub use links::{Link, LinkChoice};
+pub use links::{Link, LinkAlternatives, LinkChoice, LinkComponents, LinkContent};
 pub use many::ManyOptional;
 pub use mixed::{Mixed, MixedComponents};
 pub use mixed_sets::{MixedSet, MixedSet2};
-pub use nests::Nest;
+pub use nests::{Nest, NestContent};
 pub use octet_additions::{Omitted, SequenceDuplicatesExtended};
 pub use pairs::Pair;
 pub use ranges::{FiveAroundZero, FromZeroTo64Bits, GreatPositive, Small};
-pub use rasn_oer::prelude::{ListOf, OneOf, Sequence, Set};
+pub use rasn_oer::prelude::{Bare, Held, ListOf, OneOf, Sequence, Set};
 pub use required_additions::{Sure, SureComponents};
 pub use sequences::{AllDefault, AllOptional, DefaultAndOptional, DefaultInteger, Empty, Nested};
 pub use sets::Foo;
-pub use top_levels::{TestChoice, TopLevel};
+pub use top_levels::{
+    OneToEight, OneToEightLimits, TestAlternatives, TestChoice, TopLevel, TopLevelComponents,
+    TopLevelContent,
+};
 pub use versions::{Addition7, Addition7Components, Sequence7, Sequence7Components};
 pub use wrappers::{HashedId3, Negative, Positive};

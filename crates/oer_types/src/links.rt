@@ -1,79 +1,207 @@
 //! Two types that contain each other.
-ghost use Rattle.std.specs.Prelude.{◌<◌, OnOk, IfErr};
-ghost use Rattle.oer_spec.specs.Spelled.{IsAny};
-ghost use Rattle.oer_spec.specs.Tree.{NoRows};
-ghost use Rattle.oer_types.specs.Links.{link_tree, link_rows, link_choice_tree, link_parts, link_child, link_tag};
-ghost use Rattle.oer_rows.specs.Integers.{none_of};
-ghost use Rattle.oer_rows.specs.Schema.{context};
-ghost use Rattle.oer_write.specs.Choices.{WritesAlternative};
-ghost use Rattle.oer_write.specs.Rows.{InSequence};
+ghost use Rattle.std.specs.Prelude.{OnOk, IfErr};
 ghost use Rattle.oer_write.specs.Written.{Encodes, Refused};
-ghost use Rattle.oer_read.specs.Choices.{ReadsAlternative};
-ghost use Rattle.oer_read.specs.Law.{Decodes};
-ghost use Rattle.oer_read.specs.Parts.{NoParts, ReadsParts};
+ghost use Rattle.asn1_core.specs.declared.constraints.TheConstants.Constraints.{NONE};
 
-use asn1_core::{
-    AsnType, Choice, Class, Constraints, Constructed, DecodeError, DecodeErrorKind, EncodeError,
-    Field, FieldPresence, Fields, Tag,
-};
-use asn1_ints::Integer;
-use oer_choices::put_alternative;
-use oer_read::{Decode, Decoder};
-use oer_rows::put_optional;
-use oer_spec::Spelled;
-use oer_write::{Encode, Encoder};
+use rasn_oer::prelude::*;
 use std::alloc::Global;
 
-/// `SEQUENCE { a INTEGER OPTIONAL, b LinkChoice }`
-#[cycle(link)]
+/// `Link ::= SEQUENCE { a INTEGER OPTIONAL, b LinkChoice }`
 #[derive(Debug, PartialEq, Eq, Drop)]
-pub struct Link {
+pub struct Link(pub LinkContent<Link>);
+
+/// What a `Link` holds.
+pub type LinkContent<K> = Sequence<LinkComponents<K>, 2, 0>;
+
+/// The components of a `Link`.
+#[derive(Debug, PartialEq, Eq, Drop)]
+pub struct LinkComponents<K> {
     pub a: Option<Integer>,
-    pub b: LinkChoice,
+    pub b: LinkChoice<K>,
 }
 
-/// `CHOICE { a BOOLEAN, b Link }`
-#[cycle(link)]
+type LinkRow<K> = MayHave<Context<0>, Integer, NeedsKnot<Context<1>, LinkChoice<K>, NoMore>>;
+
+const LINK_FIELDS: &'static [Field<'static>] = fields![
+    0 Optional Context 0 "a", 1 Required Context 1 "b"
+];
+
+impl<K> KnotRowed<K> for LinkComponents<K> {
+    ghost use Rattle.rasn_oer.specs.Values.{both};
+
+    type KnotValues = <LinkRow<K> as KnotRow<K>>::Values;
+
+    ghost extended = { ⟦<LinkRow<K> as KnotRow<K>>⟧.EXTENSIBLE };
+
+    ghost knot_schema = { ⟦<LinkRow<K> as KnotRow<K>>⟧.schema };
+
+    ghost knot_weight = { ⟦<LinkRow<K> as KnotRow<K>>⟧.weight };
+
+    ghost knot_ties = { ⟦<LinkRow<K> as KnotRow<K>>⟧.ties };
+
+    ghost knot_components = { λ v. both v.a (both v.b tt) };
+}
+
+impl<K: Encode> Rowed for LinkComponents<K> {
+    ghost use Rattle.rasn_oer.specs.Values.{both};
+
+    type Values = <LinkRow<K> as Components>::Values;
+
+    ghost EXTENSIBLE = { ⟦<LinkRow<K> as Components>⟧.EXTENSIBLE };
+
+    const EXTENSIBLE: bool = false;
+
+    ghost row_schema = { ⟦<LinkRow<K> as Components>⟧.schema };
+
+    ghost row_is_schema = { ⟦<LinkRow<K> as Components>⟧.is_schema };
+
+    ghost components = { λ v. both v.a (both v.b tt) };
+
+    fn from_row(row: <LinkRow<K> as Components>::Values) -> LinkComponents<K> {
+        let Both(a, Both(b, ())) = row;
+        LinkComponents { a, b }
+    }
+}
+
+impl<K: Encode + Decode> Takes for LinkComponents<K> {
+    fn take(alloc: Global, decoder: &mut Decoder<'_>) -> Result<Self, DecodeError> {
+        read_row::<Self, LinkRow<K>>(alloc, decoder)
+    }
+}
+
+impl<K: Encode> TakesKnot<K> for LinkComponents<K> {
+    fn take_knot<F: Fn(&mut Decoder<'_>) -> Result<K, DecodeError>>(
+        alloc: Global,
+        decoder: &mut Decoder<'_>,
+        knot: &F,
+    ) -> Result<Self, DecodeError> {
+        read_knot_row::<K, Self, LinkRow<K>, F>(alloc, decoder, knot)
+    }
+}
+
+impl<K: Encode> Tabled<2, 0> for LinkComponents<K> {
+    ghost use Rattle.std.specs.Prelude.{refl};
+
+    const FIELDS: Fields<2> = Fields {
+        fields: LINK_FIELDS,
+    };
+
+    const EXTENDED_FIELDS: Option<Fields<0>> = None;
+
+    fn root_fields() -> &'static [Field<'static>] {
+        LINK_FIELDS
+    }
+
+    fn addition_fields() -> &'static [Field<'static>] {
+        &[]
+    }
+
+    fn put(&self, encoder: &mut Encoder<'_>) -> Result<(), EncodeError> {
+        LinkRow::<K>::write(&views![self: a, b], encoder)
+    }
+
+    ghost counts = { (refl, refl) };
+}
+
+/// `LinkChoice ::= CHOICE { a BOOLEAN, b Link }`
+pub type LinkChoice<K> = OneOf<LinkAlternatives<K>>;
+
+/// The alternatives of a `LinkChoice`.
 #[derive(Debug, PartialEq, Eq, Drop)]
-pub enum LinkChoice {
+pub enum LinkAlternatives<K> {
     A(bool),
-    B(Box<Link>),
+    B(Held<K>),
 }
 
-const LINK_FIELDS: &'static [Field<'static>] = &[
-    Field {
-        index: 0,
-        tag: Tag {
-            class: Class::Context,
-            value: 0,
-        },
-        presence: FieldPresence::Optional,
-        name: "a",
-    },
-    Field {
-        index: 1,
-        tag: Tag {
-            class: Class::Context,
-            value: 1,
-        },
-        presence: FieldPresence::Required,
-        name: "b",
-    },
-];
+type LinkChoiceRow<K> = Offers<Context<0>, bool, OffersKnot<Context<1>, Held<K>, NoMore>>;
 
-const LINK_ROOTS: &'static [Tag] = &[
-    Tag {
-        class: Class::Context,
-        value: 0,
-    },
-    Tag {
-        class: Class::Context,
-        value: 1,
-    },
-];
+const LINK_ROOTS: &'static [Tag] = tags![Context 0, Context 1];
+
+impl<K> KnotAlternating<K> for LinkAlternatives<K> {
+    ghost use Rattle.std.specs.Prelude.{refl};
+    ghost use Rattle.rasn_oer.specs.Alternative.{First, Rest};
+    ghost use Rattle.oer_types.specs.Links.{link_choice_weight};
+    ghost use Rattle.oer_types.specs.declared.links.LinkAlternatives.TheVariants.{A, B};
+
+    type KnotValues = <LinkChoiceRow<K> as KnotAlternatives<K>>::Values;
+
+    ghost knot_choices = { ⟦<LinkChoiceRow<K> as KnotAlternatives<K>>⟧.choices };
+
+    ghost knot_weight = { ⟦<LinkChoiceRow<K> as KnotAlternatives<K>>⟧.weight };
+
+    ghost knot_ties = { ⟦<LinkChoiceRow<K> as KnotAlternatives<K>>⟧.ties };
+
+    ghost knot_alternative = { elim [ A a ↦ First a | B h ↦ Rest (First h) ] };
+
+    ghost variant_weight = { link_choice_weight };
+
+    ghost weighs = { λ size. elim [ A a ↦ refl | B h ↦ refl ] };
+}
+
+impl<K: Encode> Alternating for LinkAlternatives<K> {
+    ghost use Rattle.std.specs.Prelude.{refl};
+    ghost use Rattle.rasn_oer.specs.Alternative.{First, Rest};
+    ghost use Rattle.oer_types.specs.declared.links.LinkAlternatives.TheVariants.{A, B};
+
+    type Values = <LinkChoiceRow<K> as Alternatives>::Values;
+
+    ghost row_choices = { ⟦<LinkChoiceRow<K> as Alternatives>⟧.choices };
+
+    ghost row_are_choices = { ⟦<LinkChoiceRow<K> as Alternatives>⟧.are_choices };
+
+    ghost alternative = { elim [ A a ↦ First a | B h ↦ Rest (First h) ] };
+
+    const VARIANTS: &'static [Tag] = LINK_ROOTS;
+
+    const EXTENDED_VARIANTS: Option<&'static [Tag]> = None;
+
+    fn root_tags() -> &'static [Tag] {
+        LINK_ROOTS
+    }
+
+    fn addition_tags() -> Option<&'static [Tag]> {
+        None
+    }
+
+    fn from_alternative(value: <LinkChoiceRow<K> as Alternatives>::Values) -> LinkAlternatives<K> {
+        from_row!(value => LinkAlternatives: A, B)
+    }
+
+    fn put<E: Choice>(
+        &self,
+        encoder: &mut Encoder<'_>,
+        constraints: Constraints,
+    ) -> Result<(), EncodeError> {
+        let view = to_row!(self => LinkAlternatives: A, B);
+        LinkChoiceRow::<K>::write_alternative::<E>(&view, encoder, constraints)
+    }
+
+    ghost apart = { refl };
+}
+
+impl<K: Encode + Decode> TakesAlternative for LinkAlternatives<K> {
+    fn take<D: Choice>(
+        alloc: Global,
+        decoder: &mut Decoder<'_>,
+        tag: Tag,
+    ) -> Result<Self, DecodeError> {
+        read_alternative::<Self, LinkChoiceRow<K>, D>(alloc, decoder, tag)
+    }
+}
+
+impl<K: Encode> TakesKnotAlternative<K> for LinkAlternatives<K> {
+    fn take_knot<D: Choice, F: Fn(&mut Decoder<'_>) -> Result<K, DecodeError>>(
+        alloc: Global,
+        decoder: &mut Decoder<'_>,
+        tag: Tag,
+        knot: &F,
+    ) -> Result<Self, DecodeError> {
+        read_knot_alternative::<K, Self, LinkChoiceRow<K>, D, F>(alloc, decoder, tag, knot)
+    }
+}
 
 impl AsnType for Link {
-    ghost use Rattle.std.specs.Prelude.{false, refl};
+    ghost use Rattle.std.specs.Prelude.{refl};
     ghost use Rattle.asn1_core.specs.declared.tag.TheConstants.Tag.{SEQUENCE};
     ghost use Rattle.asn1_core.specs.declared.constraints.TheConstants.Constraints.{NONE};
 
@@ -88,173 +216,67 @@ impl AsnType for Link {
     ghost consistent = { refl };
 }
 
-impl Constructed<2, 0> for Link {
-    ghost use Rattle.std.specs.Prelude.{false, refl, []};
-    ghost use Rattle.oer_types.specs.Links.{link_table};
-
-    ghost is_set = { false };
-
-    ghost root_rows = { link_table };
-
-    ghost addition_rows = { [] };
-
-    ghost IS_EXTENSIBLE = { false };
-
-    const IS_EXTENSIBLE: bool = false;
-
-    const FIELDS: Fields<2> = Fields {
-        fields: LINK_FIELDS,
-    };
-
-    const EXTENDED_FIELDS: Option<Fields<0>> = None;
-
-    fn root_fields() -> &'static [Field<'static>] {
-        Self::FIELDS.fields
-    }
-
-    fn addition_fields() -> &'static [Field<'static>] {
-        match Self::EXTENDED_FIELDS {
-            Some(table) => table.fields,
-            None => &[],
-        }
-    }
-
-    ghost tables = { record { root_count = refl; addition_count = refl; root_indexes = (refl, (refl, tt)); addition_indexes = tt; only = λ e. refl; distinct = λ e. absurd (cc e) } };
-}
-
 impl Spelled for Link {
-    ghost use Rattle.oer_types.specs.Links.{link_is, links_alike};
+    ghost use Rattle.rasn_oer.specs.Knots.{knot_tree, IsKnot, knot_typed};
+    ghost use Rattle.oer_types.specs.Links.{link_smaller};
+    ghost use Rattle.oer_types.specs.declared.links.Link.{out-Link, size-Link};
 
-    ghost tree = { λ c v. link_tree v };
+    ghost tree = { λ c v. knot_tree size-Link (λ v. (out-Link v).0) ⟦<LinkContent<Link> as HoldsKnot<Link>>⟧.tied v };
 
-    ghost IsValue = { IsAny };
+    ghost IsValue = { IsKnot size-Link (λ v. (out-Link v).0) ⟦<LinkContent<Link> as HoldsKnot<Link>>⟧.tied };
 
-    ghost is_tree = { λ c k v i. link_is v };
+    ghost is_tree = { λ c k v i. (knot_typed size-Link (λ v. (out-Link v).0) ⟦<LinkContent<Link> as HoldsKnot<Link>>⟧.tied ⟦<LinkContent<Link> as HoldsKnot<Link>>⟧.weight (record { ties = ⟦<LinkContent<Link> as HoldsKnot<Link>>⟧.ties; smaller = link_smaller })).is v i };
 
-    ghost alike = { λ c k v w i j. links_alike v w };
+    ghost alike = { λ c k v w i j. (knot_typed size-Link (λ v. (out-Link v).0) ⟦<LinkContent<Link> as HoldsKnot<Link>>⟧.tied ⟦<LinkContent<Link> as HoldsKnot<Link>>⟧.weight (record { ties = ⟦<LinkContent<Link> as HoldsKnot<Link>>⟧.ties; smaller = link_smaller })).like v w i j };
 }
 
-impl AsnType for LinkChoice {
-    ghost use Rattle.std.specs.Prelude.{true, refl};
-    ghost use Rattle.asn1_core.specs.declared.tag.TheConstants.Tag.{EOC};
-    ghost use Rattle.asn1_core.specs.declared.constraints.TheConstants.Constraints.{NONE};
+impl Layered for Link {
+    ghost use Rattle.rasn_oer.specs.Knots.{knot, knot_layers, layer};
+    ghost use Rattle.oer_types.specs.Links.{link_smaller};
+    ghost use Rattle.oer_types.specs.declared.links.Link.{out-Link, size-Link};
 
-    ghost TAG = { EOC };
+    ghost inner = { layer size-Link (λ v. (out-Link v).0) ⟦<LinkContent<Link> as HoldsKnot<Link>>⟧.tied (knot size-Link (λ v. (out-Link v).0) ⟦<LinkContent<Link> as HoldsKnot<Link>>⟧.tied) };
 
-    const TAG: Tag = Tag::EOC;
-
-    ghost CONSTRAINTS = { NONE };
-
-    const CONSTRAINTS: Constraints = Constraints::NONE;
-
-    ghost consistent = { refl };
-
-    const IS_CHOICE: bool = true;
+    ghost layers = { knot_layers size-Link (λ v. (out-Link v).0) ⟦<LinkContent<Link> as HoldsKnot<Link>>⟧.tied ⟦<LinkContent<Link> as HoldsKnot<Link>>⟧.weight (record { ties = ⟦<LinkContent<Link> as HoldsKnot<Link>>⟧.ties; smaller = link_smaller }) };
 }
 
-impl Choice for LinkChoice {
-    ghost use Rattle.std.specs.Prelude.{[], false, refl};
-    ghost use Rattle.oer_types.specs.Links.{link_roots};
-
-    ghost root_tags = { link_roots };
-
-    ghost addition_tags = { [] };
-
-    ghost is_extensible = { false };
-
-    const VARIANTS: &'static [Tag] = LINK_ROOTS;
-
-    const EXTENDED_VARIANTS: Option<&'static [Tag]> = None;
-
-    fn root_tags() -> &'static [Tag] {
-        Self::VARIANTS
-    }
-
-    fn addition_tags() -> Option<&'static [Tag]> {
-        Self::EXTENDED_VARIANTS
-    }
-
-    ghost distinct = { (refl, (refl, tt)) };
-}
-
-impl Spelled for LinkChoice {
-    ghost use Rattle.oer_types.specs.Links.{link_choice_is, link_choices_alike};
-
-    ghost tree = { λ c v. link_choice_tree v };
-
-    ghost IsValue = { IsAny };
-
-    ghost is_tree = { λ c k v i. link_choice_is v };
-
-    ghost alike = { λ c k v w i j. link_choices_alike v w };
-}
-
-/// Writes a link: by its depth.
-#[cycle(encode_link)]
-#[tactic(auto, unfolding(crate::specs::Links::link_tree))]
-fn encode_link(value: &Link, encoder: &mut Encoder<'_>) -> Result<(), EncodeError>
-    ensures done { OnOk result (Encodes (link_tree value.now) encoder.old encoder.new) }
-    ensures refused { IfErr result (λ x. Refused (link_tree value.now) x encoder.old encoder.new) }
+/// Writes what a `Link` holds.
+fn encode_content<K: Encode>(
+    inner: &LinkContent<K>,
+    encoder: &mut Encoder<'_>,
+    tag: Tag,
+) -> Result<(), EncodeError>
+    ensures done { OnOk result (Encodes (⟦<LinkContent<K> as Spelled>⟧.tree NONE inner.now) encoder.old encoder.new) }
+    ensures value { OnOk result (⟦<LinkContent<K> as Spelled>⟧.IsValue inner.now) }
+    ensures refused { IfErr result (λ x. Refused (⟦<LinkContent<K> as Spelled>⟧.tree NONE inner.now) x encoder.old encoder.new) }
 {
-    encoder.encode_sequence::<2, 0, Link, _>(
-        Tag::SEQUENCE,
-        |encoder: &mut Encoder<'_>| -> Result<(), EncodeError>
-            ensures { InSequence (link_rows value.entry.now) NoRows encoder.old result encoder.new }
-        {
-            put_optional(encoder, Tag::new(Class::Context, 0), &value.a)?;
-            encode_link_choice(&value.b, encoder)?;
-            Ok(())
-        },
-    )
-}
-
-/// Writes the choice in a link: by its depth.
-#[cycle(encode_link)]
-#[tactic(auto, unfolding(crate::specs::Links::link_choice_tree, crate::specs::Links::link_tree))]
-fn encode_link_choice(value: &LinkChoice, encoder: &mut Encoder<'_>) -> Result<(), EncodeError>
-    ensures done { OnOk result (Encodes (link_choice_tree value.now) encoder.old encoder.new) }
-    ensures refused { IfErr result (λ x. Refused (link_choice_tree value.now) x encoder.old encoder.new) }
-{
-    match value {
-        LinkChoice::A(value) => put_alternative::<LinkChoice, bool>(
-            encoder,
-            Constraints::NONE,
-            Tag::new(Class::Context, 0),
-            value,
-        ),
-        LinkChoice::B(link) => encoder.encode_choice::<LinkChoice, _>(
-            Constraints::NONE,
-            Tag::new(Class::Context, 1),
-            |encoder: &mut Encoder<'_>| -> Result<Tag, EncodeError>
-                ensures { WritesAlternative (link_tree link.entry.now.value) (context 1) encoder.old result encoder.new }
-            {
-                encode_link(link, encoder)?;
-                Ok(Tag::new(Class::Context, 1))
-            },
-        ),
-    }
+    inner.encode_with_tag(encoder, tag)
 }
 
 impl Encode for Link {
     fn encode_with_tag_and_constraints(
         &self,
         encoder: &mut Encoder<'_>,
-        _tag: Tag,
+        tag: Tag,
         _constraints: Constraints,
     ) -> Result<(), EncodeError> {
-        encode_link(self, encoder)
+        layer_of::<Link>(self);
+        encode_content::<Link>(&self.0, encoder, tag)
     }
 }
 
-impl Encode for LinkChoice {
-    fn encode_with_tag_and_constraints(
-        &self,
-        encoder: &mut Encoder<'_>,
-        _tag: Tag,
-        _constraints: Constraints,
-    ) -> Result<(), EncodeError> {
-        encode_link_choice(self, encoder)
+impl Knot<LinkContent<Link>> for Link {
+    ghost use Rattle.rasn_oer.specs.Knots.{knot_layered};
+    ghost use Rattle.oer_types.specs.Links.{link_smaller};
+    ghost use Rattle.oer_types.specs.declared.links.Link.{out-Link, size-Link};
+
+    ghost content = { λ v. (out-Link v).0 };
+
+    fn from_content(inner: LinkContent<Link>) -> Link {
+        Link(inner)
     }
+
+    ghost layered = { knot_layered size-Link (λ v. (out-Link v).0) ⟦<LinkContent<Link> as HoldsKnot<Link>>⟧.tied ⟦<LinkContent<Link> as HoldsKnot<Link>>⟧.weight (record { ties = ⟦<LinkContent<Link> as HoldsKnot<Link>>⟧.ties; smaller = link_smaller }) };
 }
 
 impl Decode for Link {
@@ -265,81 +287,9 @@ impl Decode for Link {
     fn decode_with_tag_and_constraints(
         alloc: Global,
         decoder: &mut Decoder<'_>,
-        _tag: Tag,
+        tag: Tag,
         _constraints: Constraints,
     ) -> Result<Link, DecodeError> {
-        decode_link(alloc, decoder)
+        decode_knotted::<LinkContent<Link>, Link>(alloc, decoder, tag)
     }
-}
-
-impl Decode for LinkChoice {
-    ghost use Rattle.std.specs.Prelude.{⊤};
-
-    ghost Answered = { λ c s r t. ⊤ };
-
-    fn decode_with_tag_and_constraints(
-        alloc: Global,
-        decoder: &mut Decoder<'_>,
-        _tag: Tag,
-        _constraints: Constraints,
-    ) -> Result<LinkChoice, DecodeError> {
-        decode_link_choice(alloc, decoder)
-    }
-}
-
-/// Reads a link: by the levels left.
-#[cycle(decode_link)]
-fn decode_link(alloc: Global, decoder: &mut Decoder<'_>) -> Result<Link, DecodeError>
-    ensures { Decodes link_tree IsAny decoder.old result decoder.new }
-{
-    let levels = decoder.levels();
-    decoder.decode_sequence::<2, 0, Link, _>(
-        Tag::SEQUENCE,
-        |decoder: &mut Decoder<'_>| -> Result<Link, DecodeError>
-            requires { decoder.old.levels < levels }
-            ensures { ReadsParts link_parts NoParts link_rows none_of decoder.old result decoder.new }
-        {
-            let _bound = levels;
-            let a = decoder.decode_optional_with_tag::<Integer>(
-                alloc,
-                Tag {
-                    class: Class::Context,
-                    value: 0,
-                },
-            )?;
-            let b = decode_link_choice(alloc, decoder)?;
-            Ok(Link { a, b })
-        },
-    )
-}
-
-/// Reads the choice in a link: by the levels left.
-#[cycle(decode_link)]
-fn decode_link_choice(alloc: Global, decoder: &mut Decoder<'_>) -> Result<LinkChoice, DecodeError>
-    ensures { Decodes link_choice_tree IsAny decoder.old result decoder.new }
-{
-    let levels = decoder.levels();
-    decoder.decode_choice_with::<LinkChoice, _>(
-        Constraints::NONE,
-        |decoder: &mut Decoder<'_>, tag: Tag| -> Result<LinkChoice, DecodeError>
-            requires { decoder.old.levels < levels }
-            ensures { ReadsAlternative link_child IsAny link_tag tag decoder.old result decoder.new }
-        {
-            let _bound = levels;
-            match (tag.class, tag.value) {
-                (Class::Context, 0) => Ok(LinkChoice::A(bool::decode(alloc, decoder)?)),
-                (Class::Context, 1) => {
-                    let link = decode_link(alloc, decoder)?;
-                    match Box::new(alloc, link) {
-                        Ok(link) => Ok(LinkChoice::B(link)),
-                        Err(_) => Err(DecodeError {
-                            kind: DecodeErrorKind::OutOfMemory,
-                            codec: decoder.codec(),
-                        }),
-                    }
-                }
-                _ => Err(decoder.unknown_tag::<LinkChoice>(tag)),
-            }
-        },
-    )
 }

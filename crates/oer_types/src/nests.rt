@@ -1,25 +1,20 @@
 //! A list of itself.
-ghost use Rattle.std.specs.Prelude.{◌<◌, OnOk, IfErr};
-ghost use Rattle.oer_spec.specs.Spelled.{IsAny};
-ghost use Rattle.oer_types.specs.Nests.{nest_tree};
-ghost use Rattle.oer_types.specs.declared.nests.Nest.{size-Nest};
-ghost use Rattle.oer_write.specs.Written.{WritesTree, Encodes, Refused};
-ghost use Rattle.oer_read.specs.Law.{Decodes};
+ghost use Rattle.std.specs.Prelude.{OnOk, IfErr};
+ghost use Rattle.oer_write.specs.Written.{Encodes, Refused};
+ghost use Rattle.asn1_core.specs.declared.constraints.TheConstants.Constraints.{NONE};
 
-use asn1_core::{AsnType, Constraints, DecodeError, EncodeError, Tag};
-use oer_read::{Decode, Decoder};
-use oer_spec::{EqualAsSpelled, Spelled};
-use oer_write::{Encode, Encoder};
+use rasn_oer::prelude::*;
 use std::alloc::Global;
 
 /// `Nest ::= SEQUENCE OF Nest`
 #[derive(Debug, PartialEq, Eq, Drop)]
-pub struct Nest {
-    pub items: Vec<Nest>,
-}
+pub struct Nest(pub NestContent<Nest>);
+
+/// What a `Nest` holds.
+pub type NestContent<K> = ListOf<Bare<K>>;
 
 impl AsnType for Nest {
-    ghost use Rattle.std.specs.Prelude.{false, refl};
+    ghost use Rattle.std.specs.Prelude.{refl};
     ghost use Rattle.asn1_core.specs.declared.tag.TheConstants.Tag.{SEQUENCE};
     ghost use Rattle.asn1_core.specs.declared.constraints.TheConstants.Constraints.{NONE};
 
@@ -35,11 +30,11 @@ impl AsnType for Nest {
 }
 
 impl Spelled for Nest {
-    ghost use Rattle.oer_types.specs.Nests.{nest_is, nests_alike};
+    ghost use Rattle.oer_types.specs.Nests.{nest_tree, IsNest, nest_is, nests_alike};
 
     ghost tree = { λ c v. nest_tree v };
 
-    ghost IsValue = { IsAny };
+    ghost IsValue = { IsNest };
 
     ghost is_tree = { λ c k v i. nest_is v };
 
@@ -52,54 +47,53 @@ impl EqualAsSpelled for Nest {
     ghost eq_is_same = { λ c k v w i j. nests_same v w };
 }
 
-/// Writes a nest: by its depth.
-fn encode_nest(value: &Nest, encoder: &mut Encoder<'_>) -> Result<(), EncodeError>
-    ensures done { OnOk result (Encodes (nest_tree value.now) encoder.old encoder.new) }
-    ensures refused { IfErr result (λ x. Refused (nest_tree value.now) x encoder.old encoder.new) }
+impl Layered for Nest {
+    ghost use Rattle.rasn_oer.specs.Knots.{knot, knot_layers, layer};
+    ghost use Rattle.oer_types.specs.Nests.{nest_content, nest_tied, nest_weight, nest_knotted};
+    ghost use Rattle.oer_types.specs.declared.nests.Nest.{size-Nest};
+
+    ghost inner = { layer size-Nest nest_content nest_tied (knot size-Nest nest_content nest_tied) };
+
+    ghost layers = { knot_layers size-Nest nest_content nest_tied nest_weight nest_knotted };
+}
+
+/// Writes what a `Nest` holds.
+fn encode_content<K: Encode>(
+    inner: &NestContent<K>,
+    encoder: &mut Encoder<'_>,
+    tag: Tag,
+) -> Result<(), EncodeError>
+    ensures done { OnOk result (Encodes (⟦<NestContent<K> as Spelled>⟧.tree NONE inner.now) encoder.old encoder.new) }
+    ensures value { OnOk result (⟦<NestContent<K> as Spelled>⟧.IsValue inner.now) }
+    ensures refused { IfErr result (λ x. Refused (⟦<NestContent<K> as Spelled>⟧.tree NONE inner.now) x encoder.old encoder.new) }
 {
-    encoder.encode_sequence_of_with(
-        Tag::SEQUENCE,
-        Constraints::NONE,
-        &value.items,
-        |encoder: &mut Encoder<'_>, item: &Nest| -> Result<(), EncodeError>
-            requires { size-Nest item.now < size-Nest value.now }
-            ensures { WritesTree (nest_tree item.now) encoder.old result encoder.new }
-        {
-            let _whole = value;
-            encode_nest(item, encoder)
-        },
-    )
+    inner.encode_with_tag(encoder, tag)
 }
 
 impl Encode for Nest {
     fn encode_with_tag_and_constraints(
         &self,
         encoder: &mut Encoder<'_>,
-        _tag: Tag,
+        tag: Tag,
         _constraints: Constraints,
     ) -> Result<(), EncodeError> {
-        encode_nest(self, encoder)
+        layer_of::<Nest>(self);
+        encode_content::<Nest>(&self.0, encoder, tag)
     }
 }
 
-/// Reads a nest: by the levels left.
-fn decode_nest(alloc: Global, decoder: &mut Decoder<'_>) -> Result<Nest, DecodeError>
-    ensures { Decodes nest_tree IsAny decoder.old result decoder.new }
-{
-    let levels = decoder.levels();
-    let items = decoder.decode_sequence_of_with::<Nest, _>(
-        alloc,
-        Tag::SEQUENCE,
-        Constraints::NONE,
-        |inner: &mut Decoder<'_>| -> Result<Nest, DecodeError>
-            requires { inner.old.levels < levels }
-            ensures { Decodes nest_tree IsAny inner.old result inner.new }
-        {
-            let _bound = levels;
-            decode_nest(alloc, inner)
-        },
-    )?;
-    Ok(Nest { items })
+impl Knot<NestContent<Nest>> for Nest {
+    ghost use Rattle.rasn_oer.specs.Knots.{knot_layered};
+    ghost use Rattle.oer_types.specs.Nests.{nest_content, nest_tied, nest_weight, nest_knotted};
+    ghost use Rattle.oer_types.specs.declared.nests.Nest.{size-Nest};
+
+    ghost content = { nest_content };
+
+    fn from_content(inner: NestContent<Nest>) -> Nest {
+        Nest(inner)
+    }
+
+    ghost layered = { knot_layered size-Nest nest_content nest_tied nest_weight nest_knotted };
 }
 
 impl Decode for Nest {
@@ -110,9 +104,9 @@ impl Decode for Nest {
     fn decode_with_tag_and_constraints(
         alloc: Global,
         decoder: &mut Decoder<'_>,
-        _tag: Tag,
+        tag: Tag,
         _constraints: Constraints,
     ) -> Result<Nest, DecodeError> {
-        decode_nest(alloc, decoder)
+        decode_knotted::<NestContent<Nest>, Nest>(alloc, decoder, tag)
     }
 }

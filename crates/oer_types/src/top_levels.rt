@@ -1,94 +1,235 @@
 //! A sequence and the choice in it, which may hold such a sequence.
-ghost use Rattle.std.specs.Prelude.{◌≡◌, ◌<◌, OnOk, IfErr};
-ghost use Rattle.oer_spec.specs.Spelled.{IsAny};
-ghost use Rattle.oer_spec.specs.Tree.{NoRows};
-ghost use Rattle.oer_rows.specs.Integers.{none_of};
-ghost use Rattle.oer_rows.specs.Schema.{context};
-ghost use Rattle.oer_types.specs.TopLevels.{top_tree, top_rows, top_parts, test_tree, test_child, test_tag, small_number};
-ghost use Rattle.oer_write.specs.Choices.{WritesAlternative};
-ghost use Rattle.oer_write.specs.Rows.{InSequence};
+ghost use Rattle.std.specs.Prelude.{OnOk, IfErr};
 ghost use Rattle.oer_write.specs.Written.{Encodes, Refused};
-ghost use Rattle.oer_read.specs.Choices.{ReadsAlternative};
-ghost use Rattle.oer_read.specs.Law.{Decodes};
-ghost use Rattle.oer_read.specs.Parts.{NoParts, ReadsParts};
+ghost use Rattle.asn1_core.specs.declared.constraints.TheConstants.Constraints.{NONE};
 
-use asn1_core::{
-    AsnType, Bounded, Choice, Class, Constraints, Constructed, DecodeError, DecodeErrorKind,
-    EncodeError, Field, FieldPresence, Fields, Tag,
-};
-use oer_choices::put_alternative;
-use oer_read::{Decode, Decoder};
-use oer_spec::Spelled;
-use oer_write::{Encode, Encoder};
+use rasn_oer::prelude::*;
 use std::alloc::Global;
 
-/// `SEQUENCE { test INTEGER (1..8), choice TestChoice }`
-#[cycle(top_level)]
-#[derive(Debug, PartialEq, Eq, Drop)]
-pub struct TopLevel {
-    pub test: u8,
-    pub choice: TestChoice,
-}
-
-/// `CHOICE { number1 NULL, number2 BOOLEAN, number3 TopLevel }`
-#[cycle(top_level)]
-#[derive(Debug, PartialEq, Eq, Drop)]
-pub enum TestChoice {
-    Number1(()),
-    Number2(bool),
-    Number3(Box<TopLevel>),
-}
+/// `INTEGER (1..8)`
+pub type OneToEight = Limited<u8, OneToEightLimits>;
 
 /// From 1 to 8.
-const ONE_TO_EIGHT: Constraints = Constraints {
-    value: Some((
-        Bounded::Range {
-            start: Some(1),
-            end: Some(8),
-        },
-        false,
-    )),
-    size: None,
-};
+#[derive(Drop)]
+pub enum OneToEightLimits {}
 
-const TOP_FIELDS: &'static [Field<'static>] = &[
-    Field {
-        index: 0,
-        tag: Tag {
-            class: Class::Context,
-            value: 0,
-        },
-        presence: FieldPresence::Required,
-        name: "test",
-    },
-    Field {
-        index: 1,
-        tag: Tag {
-            class: Class::Context,
-            value: 1,
-        },
-        presence: FieldPresence::Required,
-        name: "choice",
-    },
+impl Limits for OneToEightLimits {
+    ghost use Rattle.std.specs.Prelude.{None, Some, false, pos, refl};
+    ghost use Rattle.rasn_oer.specs.Bounded.{Range};
+
+    ghost LIMITS = { record { value = Some (Range (Some (pos 1)) (Some (pos 8)), false); size = None } };
+
+    const LIMITS: Constraints = Constraints {
+        value: Some((
+            Bounded::Range {
+                start: Some(1),
+                end: Some(8),
+            },
+            false,
+        )),
+        size: None,
+    };
+
+    ghost consistent = { refl };
+}
+
+/// `TopLevel ::= SEQUENCE { test INTEGER (1..8), choice TestChoice }`
+#[derive(Debug, PartialEq, Eq, Drop)]
+pub struct TopLevel(pub TopLevelContent<TopLevel>);
+
+/// What a `TopLevel` holds.
+pub type TopLevelContent<K> = Sequence<TopLevelComponents<K>, 2, 0>;
+
+/// The components of a `TopLevel`.
+#[derive(Debug, PartialEq, Eq, Drop)]
+pub struct TopLevelComponents<K> {
+    pub test: OneToEight,
+    pub choice: TestChoice<K>,
+}
+
+type TopRow<K> = Needs<Context<0>, OneToEight, NeedsKnot<Context<1>, TestChoice<K>, NoMore>>;
+
+const TOP_FIELDS: &'static [Field<'static>] = fields![
+    0 Required Context 0 "test", 1 Required Context 1 "choice"
 ];
 
-const TEST_ROOTS: &'static [Tag] = &[
-    Tag {
-        class: Class::Context,
-        value: 0,
-    },
-    Tag {
-        class: Class::Context,
-        value: 1,
-    },
-    Tag {
-        class: Class::Context,
-        value: 2,
-    },
-];
+impl<K> KnotRowed<K> for TopLevelComponents<K> {
+    ghost use Rattle.rasn_oer.specs.Values.{both};
+
+    type KnotValues = <TopRow<K> as KnotRow<K>>::Values;
+
+    ghost extended = { ⟦<TopRow<K> as KnotRow<K>>⟧.EXTENSIBLE };
+
+    ghost knot_schema = { ⟦<TopRow<K> as KnotRow<K>>⟧.schema };
+
+    ghost knot_weight = { ⟦<TopRow<K> as KnotRow<K>>⟧.weight };
+
+    ghost knot_ties = { ⟦<TopRow<K> as KnotRow<K>>⟧.ties };
+
+    ghost knot_components = { λ v. both v.test (both v.choice tt) };
+}
+
+impl<K: Encode> Rowed for TopLevelComponents<K> {
+    ghost use Rattle.rasn_oer.specs.Values.{both};
+
+    type Values = <TopRow<K> as Components>::Values;
+
+    ghost EXTENSIBLE = { ⟦<TopRow<K> as Components>⟧.EXTENSIBLE };
+
+    const EXTENSIBLE: bool = false;
+
+    ghost row_schema = { ⟦<TopRow<K> as Components>⟧.schema };
+
+    ghost row_is_schema = { ⟦<TopRow<K> as Components>⟧.is_schema };
+
+    ghost components = { λ v. both v.test (both v.choice tt) };
+
+    fn from_row(row: <TopRow<K> as Components>::Values) -> TopLevelComponents<K> {
+        let Both(test, Both(choice, ())) = row;
+        TopLevelComponents { test, choice }
+    }
+}
+
+impl<K: Encode + Decode> Takes for TopLevelComponents<K> {
+    fn take(alloc: Global, decoder: &mut Decoder<'_>) -> Result<Self, DecodeError> {
+        read_row::<Self, TopRow<K>>(alloc, decoder)
+    }
+}
+
+impl<K: Encode> TakesKnot<K> for TopLevelComponents<K> {
+    fn take_knot<F: Fn(&mut Decoder<'_>) -> Result<K, DecodeError>>(
+        alloc: Global,
+        decoder: &mut Decoder<'_>,
+        knot: &F,
+    ) -> Result<Self, DecodeError> {
+        read_knot_row::<K, Self, TopRow<K>, F>(alloc, decoder, knot)
+    }
+}
+
+impl<K: Encode> Tabled<2, 0> for TopLevelComponents<K> {
+    ghost use Rattle.std.specs.Prelude.{refl};
+
+    const FIELDS: Fields<2> = Fields { fields: TOP_FIELDS };
+
+    const EXTENDED_FIELDS: Option<Fields<0>> = None;
+
+    fn root_fields() -> &'static [Field<'static>] {
+        TOP_FIELDS
+    }
+
+    fn addition_fields() -> &'static [Field<'static>] {
+        &[]
+    }
+
+    fn put(&self, encoder: &mut Encoder<'_>) -> Result<(), EncodeError> {
+        TopRow::<K>::write(&views![self: test, choice], encoder)
+    }
+
+    ghost counts = { (refl, refl) };
+}
+
+/// `TestChoice ::= CHOICE { number1 NULL, number2 BOOLEAN, number3 TopLevel }`
+pub type TestChoice<K> = OneOf<TestAlternatives<K>>;
+
+/// The alternatives of a `TestChoice`.
+#[derive(Debug, PartialEq, Eq, Drop)]
+pub enum TestAlternatives<K> {
+    Number1(()),
+    Number2(bool),
+    Number3(Held<K>),
+}
+
+type TestRow<K> = Offers<Context<0>, (), Offers<Context<1>, bool, TestNumber3<K>>>;
+
+type TestNumber3<K> = OffersKnot<Context<2>, Held<K>, NoMore>;
+
+const TEST_ROOTS: &'static [Tag] = tags![Context 0, Context 1, Context 2];
+
+impl<K> KnotAlternating<K> for TestAlternatives<K> {
+    ghost use Rattle.std.specs.Prelude.{refl};
+    ghost use Rattle.rasn_oer.specs.Alternative.{First, Rest};
+    ghost use Rattle.oer_types.specs.TopLevels.{test_weight};
+    ghost use Rattle.oer_types.specs.declared.top_levels.TestAlternatives.TheVariants.{Number1, Number2, Number3};
+
+    type KnotValues = <TestRow<K> as KnotAlternatives<K>>::Values;
+
+    ghost knot_choices = { ⟦<TestRow<K> as KnotAlternatives<K>>⟧.choices };
+
+    ghost knot_weight = { ⟦<TestRow<K> as KnotAlternatives<K>>⟧.weight };
+
+    ghost knot_ties = { ⟦<TestRow<K> as KnotAlternatives<K>>⟧.ties };
+
+    ghost knot_alternative = { elim [ Number1 u ↦ First u | Number2 b ↦ Rest (First b) | Number3 h ↦ Rest (Rest (First h)) ] };
+
+    ghost variant_weight = { test_weight };
+
+    ghost weighs = { λ size. elim [ Number1 u ↦ refl | Number2 b ↦ refl | Number3 h ↦ refl ] };
+}
+
+impl<K: Encode> Alternating for TestAlternatives<K> {
+    ghost use Rattle.std.specs.Prelude.{refl};
+    ghost use Rattle.rasn_oer.specs.Alternative.{First, Rest};
+    ghost use Rattle.oer_types.specs.declared.top_levels.TestAlternatives.TheVariants.{Number1, Number2, Number3};
+
+    type Values = <TestRow<K> as Alternatives>::Values;
+
+    ghost row_choices = { ⟦<TestRow<K> as Alternatives>⟧.choices };
+
+    ghost row_are_choices = { ⟦<TestRow<K> as Alternatives>⟧.are_choices };
+
+    ghost alternative = { elim [ Number1 u ↦ First u | Number2 b ↦ Rest (First b) | Number3 h ↦ Rest (Rest (First h)) ] };
+
+    const VARIANTS: &'static [Tag] = TEST_ROOTS;
+
+    const EXTENDED_VARIANTS: Option<&'static [Tag]> = None;
+
+    fn root_tags() -> &'static [Tag] {
+        TEST_ROOTS
+    }
+
+    fn addition_tags() -> Option<&'static [Tag]> {
+        None
+    }
+
+    fn from_alternative(value: <TestRow<K> as Alternatives>::Values) -> TestAlternatives<K> {
+        from_row!(value => TestAlternatives: Number1, Number2, Number3)
+    }
+
+    fn put<E: Choice>(
+        &self,
+        encoder: &mut Encoder<'_>,
+        constraints: Constraints,
+    ) -> Result<(), EncodeError> {
+        let view = to_row!(self => TestAlternatives: Number1, Number2, Number3);
+        TestRow::<K>::write_alternative::<E>(&view, encoder, constraints)
+    }
+
+    ghost apart = { refl };
+}
+
+impl<K: Encode + Decode> TakesAlternative for TestAlternatives<K> {
+    fn take<D: Choice>(
+        alloc: Global,
+        decoder: &mut Decoder<'_>,
+        tag: Tag,
+    ) -> Result<Self, DecodeError> {
+        read_alternative::<Self, TestRow<K>, D>(alloc, decoder, tag)
+    }
+}
+
+impl<K: Encode> TakesKnotAlternative<K> for TestAlternatives<K> {
+    fn take_knot<D: Choice, F: Fn(&mut Decoder<'_>) -> Result<K, DecodeError>>(
+        alloc: Global,
+        decoder: &mut Decoder<'_>,
+        tag: Tag,
+        knot: &F,
+    ) -> Result<Self, DecodeError> {
+        read_knot_alternative::<K, Self, TestRow<K>, D, F>(alloc, decoder, tag, knot)
+    }
+}
 
 impl AsnType for TopLevel {
-    ghost use Rattle.std.specs.Prelude.{false, refl};
+    ghost use Rattle.std.specs.Prelude.{refl};
     ghost use Rattle.asn1_core.specs.declared.tag.TheConstants.Tag.{SEQUENCE};
     ghost use Rattle.asn1_core.specs.declared.constraints.TheConstants.Constraints.{NONE};
 
@@ -103,183 +244,67 @@ impl AsnType for TopLevel {
     ghost consistent = { refl };
 }
 
-impl Constructed<2, 0> for TopLevel {
-    ghost use Rattle.std.specs.Prelude.{false, refl, []};
-    ghost use Rattle.oer_rows.specs.Integers.{two_rows};
-
-    ghost is_set = { false };
-
-    ghost root_rows = { two_rows };
-
-    ghost addition_rows = { [] };
-
-    ghost IS_EXTENSIBLE = { false };
-
-    const IS_EXTENSIBLE: bool = false;
-
-    const FIELDS: Fields<2> = Fields { fields: TOP_FIELDS };
-
-    const EXTENDED_FIELDS: Option<Fields<0>> = None;
-
-    fn root_fields() -> &'static [Field<'static>] {
-        Self::FIELDS.fields
-    }
-
-    fn addition_fields() -> &'static [Field<'static>] {
-        match Self::EXTENDED_FIELDS {
-            Some(table) => table.fields,
-            None => &[],
-        }
-    }
-
-    ghost tables = { record { root_count = refl; addition_count = refl; root_indexes = (refl, (refl, tt)); addition_indexes = tt; only = λ e. refl; distinct = λ e. absurd (cc e) } };
-}
-
 impl Spelled for TopLevel {
-    ghost use Rattle.oer_types.specs.TopLevels.{top_is, tops_alike};
+    ghost use Rattle.rasn_oer.specs.Knots.{knot_tree, IsKnot, knot_typed};
+    ghost use Rattle.oer_types.specs.TopLevels.{top_smaller};
+    ghost use Rattle.oer_types.specs.declared.top_levels.TopLevel.{out-TopLevel, size-TopLevel};
 
-    ghost tree = { λ c v. top_tree v };
+    ghost tree = { λ c v. knot_tree size-TopLevel (λ v. (out-TopLevel v).0) ⟦<TopLevelContent<TopLevel> as HoldsKnot<TopLevel>>⟧.tied v };
 
-    ghost IsValue = { IsAny };
+    ghost IsValue = { IsKnot size-TopLevel (λ v. (out-TopLevel v).0) ⟦<TopLevelContent<TopLevel> as HoldsKnot<TopLevel>>⟧.tied };
 
-    ghost is_tree = { λ c k v i. top_is v };
+    ghost is_tree = { λ c k v i. (knot_typed size-TopLevel (λ v. (out-TopLevel v).0) ⟦<TopLevelContent<TopLevel> as HoldsKnot<TopLevel>>⟧.tied ⟦<TopLevelContent<TopLevel> as HoldsKnot<TopLevel>>⟧.weight (record { ties = ⟦<TopLevelContent<TopLevel> as HoldsKnot<TopLevel>>⟧.ties; smaller = top_smaller })).is v i };
 
-    ghost alike = { λ c k v w i j. tops_alike v w };
+    ghost alike = { λ c k v w i j. (knot_typed size-TopLevel (λ v. (out-TopLevel v).0) ⟦<TopLevelContent<TopLevel> as HoldsKnot<TopLevel>>⟧.tied ⟦<TopLevelContent<TopLevel> as HoldsKnot<TopLevel>>⟧.weight (record { ties = ⟦<TopLevelContent<TopLevel> as HoldsKnot<TopLevel>>⟧.ties; smaller = top_smaller })).like v w i j };
 }
 
-impl AsnType for TestChoice {
-    ghost use Rattle.std.specs.Prelude.{true, refl};
-    ghost use Rattle.asn1_core.specs.declared.tag.TheConstants.Tag.{EOC};
-    ghost use Rattle.asn1_core.specs.declared.constraints.TheConstants.Constraints.{NONE};
+impl Layered for TopLevel {
+    ghost use Rattle.rasn_oer.specs.Knots.{knot, knot_layers, layer};
+    ghost use Rattle.oer_types.specs.TopLevels.{top_smaller};
+    ghost use Rattle.oer_types.specs.declared.top_levels.TopLevel.{out-TopLevel, size-TopLevel};
 
-    ghost TAG = { EOC };
+    ghost inner = { layer size-TopLevel (λ v. (out-TopLevel v).0) ⟦<TopLevelContent<TopLevel> as HoldsKnot<TopLevel>>⟧.tied (knot size-TopLevel (λ v. (out-TopLevel v).0) ⟦<TopLevelContent<TopLevel> as HoldsKnot<TopLevel>>⟧.tied) };
 
-    const TAG: Tag = Tag::EOC;
-
-    ghost CONSTRAINTS = { NONE };
-
-    const CONSTRAINTS: Constraints = Constraints::NONE;
-
-    ghost consistent = { refl };
-
-    const IS_CHOICE: bool = true;
+    ghost layers = { knot_layers size-TopLevel (λ v. (out-TopLevel v).0) ⟦<TopLevelContent<TopLevel> as HoldsKnot<TopLevel>>⟧.tied ⟦<TopLevelContent<TopLevel> as HoldsKnot<TopLevel>>⟧.weight (record { ties = ⟦<TopLevelContent<TopLevel> as HoldsKnot<TopLevel>>⟧.ties; smaller = top_smaller }) };
 }
 
-impl Choice for TestChoice {
-    ghost use Rattle.std.specs.Prelude.{[], false, refl};
-    ghost use Rattle.oer_types.specs.TopLevels.{test_roots};
-
-    ghost root_tags = { test_roots };
-
-    ghost addition_tags = { [] };
-
-    ghost is_extensible = { false };
-
-    const VARIANTS: &'static [Tag] = TEST_ROOTS;
-
-    const EXTENDED_VARIANTS: Option<&'static [Tag]> = None;
-
-    fn root_tags() -> &'static [Tag] {
-        Self::VARIANTS
-    }
-
-    fn addition_tags() -> Option<&'static [Tag]> {
-        Self::EXTENDED_VARIANTS
-    }
-
-    ghost distinct = { (refl, (refl, (refl, tt))) };
-}
-
-impl Spelled for TestChoice {
-    ghost use Rattle.oer_types.specs.TopLevels.{test_is, tests_alike};
-
-    ghost tree = { λ c v. test_tree v };
-
-    ghost IsValue = { IsAny };
-
-    ghost is_tree = { λ c k v i. test_is v };
-
-    ghost alike = { λ c k v w i j. tests_alike v w };
-}
-
-/// Writes a sequence: by its depth.
-#[cycle(encode_top)]
-#[tactic(auto, unfolding(crate::specs::TopLevels::top_tree))]
-fn encode_top(value: &TopLevel, encoder: &mut Encoder<'_>) -> Result<(), EncodeError>
-    ensures done { OnOk result (Encodes (top_tree value.now) encoder.old encoder.new) }
-    ensures refused { IfErr result (λ x. Refused (top_tree value.now) x encoder.old encoder.new) }
+/// Writes what a `TopLevel` holds.
+fn encode_content<K: Encode>(
+    inner: &TopLevelContent<K>,
+    encoder: &mut Encoder<'_>,
+    tag: Tag,
+) -> Result<(), EncodeError>
+    ensures done { OnOk result (Encodes (⟦<TopLevelContent<K> as Spelled>⟧.tree NONE inner.now) encoder.old encoder.new) }
+    ensures value { OnOk result (⟦<TopLevelContent<K> as Spelled>⟧.IsValue inner.now) }
+    ensures refused { IfErr result (λ x. Refused (⟦<TopLevelContent<K> as Spelled>⟧.tree NONE inner.now) x encoder.old encoder.new) }
 {
-    encoder.encode_sequence::<2, 0, TopLevel, _>(
-        Tag::SEQUENCE,
-        |encoder: &mut Encoder<'_>| -> Result<(), EncodeError>
-            ensures { InSequence (top_rows value.entry.now) NoRows encoder.old result encoder.new }
-        {
-            value
-                .test
-                .encode_with_tag_and_constraints(
-                    encoder,
-                    Tag::new(Class::Context, 0),
-                    ONE_TO_EIGHT,
-                )?;
-            encode_test(&value.choice, encoder)?;
-            Ok(())
-        },
-    )
-}
-
-/// Writes the choice in a sequence: by its depth.
-#[cycle(encode_top)]
-#[tactic(auto, unfolding(crate::specs::TopLevels::test_tree, crate::specs::TopLevels::top_tree))]
-fn encode_test(value: &TestChoice, encoder: &mut Encoder<'_>) -> Result<(), EncodeError>
-    ensures done { OnOk result (Encodes (test_tree value.now) encoder.old encoder.new) }
-    ensures refused { IfErr result (λ x. Refused (test_tree value.now) x encoder.old encoder.new) }
-{
-    match value {
-        TestChoice::Number1(value) => put_alternative::<TestChoice, ()>(
-            encoder,
-            Constraints::NONE,
-            Tag::new(Class::Context, 0),
-            value,
-        ),
-        TestChoice::Number2(value) => put_alternative::<TestChoice, bool>(
-            encoder,
-            Constraints::NONE,
-            Tag::new(Class::Context, 1),
-            value,
-        ),
-        TestChoice::Number3(top) => encoder.encode_choice::<TestChoice, _>(
-            Constraints::NONE,
-            Tag::new(Class::Context, 2),
-            |encoder: &mut Encoder<'_>| -> Result<Tag, EncodeError>
-                ensures { WritesAlternative (top_tree top.entry.now.value) (context 2) encoder.old result encoder.new }
-            {
-                encode_top(top, encoder)?;
-                Ok(Tag::new(Class::Context, 2))
-            },
-        ),
-    }
+    inner.encode_with_tag(encoder, tag)
 }
 
 impl Encode for TopLevel {
     fn encode_with_tag_and_constraints(
         &self,
         encoder: &mut Encoder<'_>,
-        _tag: Tag,
+        tag: Tag,
         _constraints: Constraints,
     ) -> Result<(), EncodeError> {
-        encode_top(self, encoder)
+        layer_of::<TopLevel>(self);
+        encode_content::<TopLevel>(&self.0, encoder, tag)
     }
 }
 
-impl Encode for TestChoice {
-    fn encode_with_tag_and_constraints(
-        &self,
-        encoder: &mut Encoder<'_>,
-        _tag: Tag,
-        _constraints: Constraints,
-    ) -> Result<(), EncodeError> {
-        encode_test(self, encoder)
+impl Knot<TopLevelContent<TopLevel>> for TopLevel {
+    ghost use Rattle.rasn_oer.specs.Knots.{knot_layered};
+    ghost use Rattle.oer_types.specs.TopLevels.{top_smaller};
+    ghost use Rattle.oer_types.specs.declared.top_levels.TopLevel.{out-TopLevel, size-TopLevel};
+
+    ghost content = { λ v. (out-TopLevel v).0 };
+
+    fn from_content(inner: TopLevelContent<TopLevel>) -> TopLevel {
+        TopLevel(inner)
     }
+
+    ghost layered = { knot_layered size-TopLevel (λ v. (out-TopLevel v).0) ⟦<TopLevelContent<TopLevel> as HoldsKnot<TopLevel>>⟧.tied ⟦<TopLevelContent<TopLevel> as HoldsKnot<TopLevel>>⟧.weight (record { ties = ⟦<TopLevelContent<TopLevel> as HoldsKnot<TopLevel>>⟧.ties; smaller = top_smaller }) };
 }
 
 impl Decode for TopLevel {
@@ -290,83 +315,9 @@ impl Decode for TopLevel {
     fn decode_with_tag_and_constraints(
         alloc: Global,
         decoder: &mut Decoder<'_>,
-        _tag: Tag,
+        tag: Tag,
         _constraints: Constraints,
     ) -> Result<TopLevel, DecodeError> {
-        decode_top(alloc, decoder)
+        decode_knotted::<TopLevelContent<TopLevel>, TopLevel>(alloc, decoder, tag)
     }
-}
-
-impl Decode for TestChoice {
-    ghost use Rattle.std.specs.Prelude.{⊤};
-
-    ghost Answered = { λ c s r t. ⊤ };
-
-    fn decode_with_tag_and_constraints(
-        alloc: Global,
-        decoder: &mut Decoder<'_>,
-        _tag: Tag,
-        _constraints: Constraints,
-    ) -> Result<TestChoice, DecodeError> {
-        decode_test(alloc, decoder)
-    }
-}
-
-/// Reads a number from 1 to 8.
-fn decode_small_number(alloc: Global, decoder: &mut Decoder<'_>) -> Result<u8, DecodeError>
-    ensures { Decodes small_number IsAny decoder.old result decoder.new }
-{
-    u8::decode_with_tag_and_constraints(alloc, decoder, Tag::new(Class::Context, 0), ONE_TO_EIGHT)
-}
-
-/// Reads a sequence: by the levels left.
-#[cycle(decode_top)]
-fn decode_top(alloc: Global, decoder: &mut Decoder<'_>) -> Result<TopLevel, DecodeError>
-    ensures { Decodes top_tree IsAny decoder.old result decoder.new }
-{
-    let levels = decoder.levels();
-    decoder.decode_sequence::<2, 0, TopLevel, _>(
-        Tag::SEQUENCE,
-        |decoder: &mut Decoder<'_>| -> Result<TopLevel, DecodeError>
-            requires { decoder.old.levels < levels }
-            ensures { ReadsParts top_parts NoParts top_rows none_of decoder.old result decoder.new }
-        {
-            let _bound = levels;
-            let test = decode_small_number(alloc, decoder)?;
-            let choice = decode_test(alloc, decoder)?;
-            Ok(TopLevel { test, choice })
-        },
-    )
-}
-
-/// Reads the choice in a sequence: by the levels left.
-#[cycle(decode_top)]
-fn decode_test(alloc: Global, decoder: &mut Decoder<'_>) -> Result<TestChoice, DecodeError>
-    ensures { Decodes test_tree IsAny decoder.old result decoder.new }
-{
-    let levels = decoder.levels();
-    decoder.decode_choice_with::<TestChoice, _>(
-        Constraints::NONE,
-        |decoder: &mut Decoder<'_>, tag: Tag| -> Result<TestChoice, DecodeError>
-            requires { decoder.old.levels < levels }
-            ensures { ReadsAlternative test_child IsAny test_tag tag decoder.old result decoder.new }
-        {
-            let _bound = levels;
-            match (tag.class, tag.value) {
-                (Class::Context, 0) => Ok(TestChoice::Number1(<()>::decode(alloc, decoder)?)),
-                (Class::Context, 1) => Ok(TestChoice::Number2(bool::decode(alloc, decoder)?)),
-                (Class::Context, 2) => {
-                    let top = decode_top(alloc, decoder)?;
-                    match Box::new(alloc, top) {
-                        Ok(top) => Ok(TestChoice::Number3(top)),
-                        Err(_) => Err(DecodeError {
-                            kind: DecodeErrorKind::OutOfMemory,
-                            codec: decoder.codec(),
-                        }),
-                    }
-                }
-                _ => Err(decoder.unknown_tag::<TestChoice>(tag)),
-            }
-        },
-    )
 }
