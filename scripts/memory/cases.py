@@ -56,6 +56,11 @@ EXTENDED = (
     "integer4: Some({}), octet4: Some({}), integer5: None, octet5: None }}"
 )
 NODE = "Node(NodeComponents {{ value: {}, next: {}, last: {} }})"
+LINK = "Link(LinkComponents {{ a: Some({}), b: {} }})"
+TOP = "TopLevel(TopLevelComponents {{ test: Limited({}, PhantomData<_>), choice: {} }})"
+NEST = "Nest(ListOf([%s]))"
+BUSH = "Bush(BushComponents {{ a: {}, b: ListOf([{}]) }})"
+CHAIN = "Chain(ChainComponents {{ ok: {}, next: {} }})"
 SEQ2 = "Sequence2 {{ a: {}, b: {}, c: {} }}"
 MOST = "[" + ", ".join(["()"] * 65536) + "]"
 
@@ -106,13 +111,14 @@ ROWS = [
     Row("choice", "80 02 01 4d", f"Normal({number(333)})"),
     Row("choice", "82 03 02 01 4d", f"Medium({number(333)})"),
     Row("ints", "01 02 01 01 01 02", f"[{number(1)}, {number(2)}]"),
-    Row("nest", "01 01 01 02 01 00 01 00", "Nest { items: [Nest { items: [Nest { items: [] }, Nest { items: [] }] }] }"),
+    Row("nest", "01 01 01 02 01 00 01 00", NEST % ("Bare(%s)" % (NEST % ", ".join(["Bare(%s)" % (NEST % "")] * 2)))),
     Row("SetOfOctets", "01 02 01 61 02 61 62", f"SetOf {{ items: [{octets('a')}, {octets('ab')}] }}"),
-    Row("toplevel", "01 82 02 80", "TopLevel { test: 1, choice: Number3(TopLevel { test: 2, choice: Number1(()) }) }"),
-    Row("Bush", "01 05 01 01 01 ff 01 00", f"Bush {{ a: {number(5)}, b: [Bush {{ a: {number(-1)}, b: [] }}] }}"),
-    Row("Link", "80 01 01 81 80 01 02 80 ff", f"Link {{ a: Some({number(1)}), b: B(Link {{ a: Some({number(2)}), b: A(true) }}) }}"),
+    Row("toplevel", "01 82 02 80", TOP.format(1, "Number3(Held(%s))" % TOP.format(2, "Number1(())"))),
+    Row("Bush", "01 05 01 01 01 ff 01 00", BUSH.format(number(5), "Bare(%s)" % BUSH.format(number(-1), ""))),
+    Row("Link", "80 01 01 81 80 01 02 80 ff", LINK.format(number(1), "B(Held(%s))" % LINK.format(number(2), "A(true)"))),
     Row("Node", "80 01 01 00 01 05 ff 00", NODE.format(number(1), "Some(Held(%s))" % NODE.format(number(5), "None", "true"), "false")),
-    Row("deepdef", "80 01 00", "DeepDefault { n: Nest { items: [] } }"),
+    Row("deepdef", "80 01 00", "DeepDefault { n: %s }" % (NEST % "")),
+    Row("Chain", "80 00 02 07 80 02 00 ff", CHAIN.format("false", "Some(Held(%s))" % CHAIN.format("true", "None"))),
     Row("seq6", "80 ff 02 07 80 02 80 ff", "Sequence6 { a: true, b: Some(Group6 { a: Some(true) }) }"),
     Row("AddDef", "80 ff 02 07 80 02 01 08", f"AddDef {{ a: true, b: {number(8)} }}"),
     Row("defint", "80 01 05", f"DefaultInteger {{ a: {number(5)} }}"),
@@ -143,8 +149,8 @@ ROWS = [
     Row("choice", f"80 {G}", f"Normal({number(GREAT)})"),
     Row("choice", f"82 {OPEN_G}", f"Medium({number(GREAT)})"),
     Row("tagmax", "bf 8f ff ff ff 7f 02 01 4d", f"Medium({number(333)})"),
-    Row("Bush", f"{G} 01 01 01 ff 01 00", f"Bush {{ a: {number(GREAT)}, b: [Bush {{ a: {number(-1)}, b: [] }}] }}"),
-    Row("Link", f"80 {G} 81 80 01 02 80 ff", f"Link {{ a: Some({number(GREAT)}), b: B(Link {{ a: Some({number(2)}), b: A(true) }}) }}"),
+    Row("Bush", f"{G} 01 01 01 ff 01 00", BUSH.format(number(GREAT), "Bare(%s)" % BUSH.format(number(-1), ""))),
+    Row("Link", f"80 {G} 81 80 01 02 80 ff", LINK.format(number(GREAT), "B(Held(%s))" % LINK.format(number(2), "A(true)"))),
     Row("Node", f"80 {G} 00 01 05 ff 00", NODE.format(number(GREAT), "Some(Held(%s))" % NODE.format(number(5), "None", "true"), "false")),
     Row("ints", f"01 02 {G} {G}", f"[{number(GREAT)}, {number(GREAT)}]"),
     Row("intset", f"01 02 {G} {G}", f"SetOf {{ items: [{number(GREAT)}, {number(GREAT)}] }}"),
@@ -270,7 +276,7 @@ def methods():
 
 
 def asking():
-    """Methods that ask a component, in a sequence of that component alone, and lists by their methods."""
+    """Methods that ask a component, in a sequence of that component alone, and sets and lists by their methods."""
     great = G.replace(" ", "")
     ways = ("", "_with_tag", "_with_constraints", "_with_tag_and_constraints")
     elements = f"[{number(1)}, {number(GREAT)}]"
@@ -282,6 +288,8 @@ def asking():
         for way in ("with_tag_and_constraints", "with_explicit_tag_and_constraints", "default"):
             yield on_decoder(mode, f"decode_extension_addition_{way}", "-", "800207808182" + great,
                              f"OneAddition {{ n: Some({number(GREAT)}) }}", "")  # fmt: skip
+        yield on_decoder(mode, "decode_set", "-", f"e0{great}01060105",
+                         f"Foo {{ a: Some({number(5)}), b: Some({number(6)}), c: Some({number(GREAT)}) }}", "")  # fmt: skip
         yield on_decoder(mode, "decode_sequence_of", "int", "01020101" + great, elements, "")
         yield on_decoder(mode, "decode_set_of", "int", "01020101" + great, f"SetOf {{ items: {elements} }}", "")
 
@@ -387,11 +395,11 @@ def values():
 # what no case calls by its own word: a row that goes through it, with a request for memory in it
 THROUGH = {
     "decode_sequence": ("defopt", f"c0 {G} {G}"),
-    "decode_set": ("Bush", f"{G} 01 01 01 ff 01 00"),
     "decode_choice_with": ("Link", f"80 {G} 81 80 01 02 80 ff"),
     "decode_sequence_of_with": ("Bush", f"{G} 01 01 01 ff 01 00"),
     "decode_optional_with": ("Node", f"80 {G} 00 01 05 ff 00"),
     "decode_boxed_with": ("Node", f"80 {G} 00 01 05 ff 00"),
+    "decode_extension_addition_with": ("Chain", "80 00 02 07 80 02 00 ff"),
     "decode_extension_addition_group": ("seq7", f"80 ff 02 04 30 {OPEN_G} 81 83 40 {G}"),
 }
 # calls of tables, rules and options, which have no allocator

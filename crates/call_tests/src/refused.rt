@@ -1,17 +1,17 @@
 //! Values that aren't written, and values that can't be read again.
 ghost use Rattle.oer_spec.specs.Spelled.{IsConsistent};
 
-use asn1_core::{Constraints, EncodeError, Tag};
+use asn1_core::{Bounded, Constraints, EncodeError, Tag};
 use asn1_ints::{ConstrainedInteger, Integer, IntegerRange};
 use asn1_strings::{BitString, BmpString, OctetString};
 use asn1_times::{Date, GeneralizedTime, UtcTime};
 use jiff::civil;
-use oer_types::{DeepDefault, HashedId3, Negative, Nest, Positive, Set, components};
-use oer_words::constrained::{sizes, values};
+use oer_types::{Bare, DeepDefault, HashedId3, ListOf, Negative, Nest, Positive, Set, components};
 use oer_write::enc::EncoderOptions;
 use oer_write::{Encode, Encoder};
-use rasn_oer::{coer, oer};
+use rasn_oer::{Decode, coer, oer};
 use std::alloc::Global;
+use std::fmt::Debug;
 use std::process::Abort;
 use std::test::Fail;
 
@@ -73,22 +73,46 @@ Coer TimeNotRepresentable: the time is not representable\n\
 Coer ValueConstraintNotSatisfied: the value constraint isn't satisfied\n\
 Coer ValueConstraintNotSatisfied: the value constraint isn't satisfied\n";
 
+fn tell_signs(alloc: Global, told: &mut String) -> Result<(), Fail> {
+    tell_both(alloc, told, &Positive(Integer::from_i128(-1)))
+}
+
+fn tell_negative(alloc: Global, told: &mut String) -> Result<(), Fail> {
+    tell_both(alloc, told, &Negative(Positive(Integer::from_i128(1))))
+}
+
+fn tell_short(alloc: Global, told: &mut String) -> Result<(), Fail> {
+    let short = HashedId3(OctetString::from_slice(alloc, &[1])?);
+    tell_both(alloc, told, &short)
+}
+
+/// The year 2050, which has no UTC time.
+fn tell_late(alloc: Global, told: &mut String) -> Result<(), Fail> {
+    let year_2050 = civil::DateTime::new(2050, 1, 1, 0, 0, 0, 0)?;
+    tell_both(alloc, told, &UtcTime::new(year_2050))
+}
+
+/// The year before 0.
+fn tell_early(alloc: Global, told: &mut String) -> Result<(), Fail> {
+    let before = civil::DateTime::new(-1, 12, 31, 23, 59, 59, 0)?;
+    tell_both(alloc, told, &GeneralizedTime::new(before))
+}
+
+fn tell_great(alloc: Global, told: &mut String) -> Result<(), Fail> {
+    tell_both(alloc, told, &ConstrainedInteger::<OneOctet>::new(256))
+}
+
+/// One type a function: what the check looks at in one grows with the types that it names.
 #[test]
 fn values_outside_their_types_are_not_written(rt: HostRuntime) -> Result<(), Fail> {
     let alloc = rt.alloc();
     let mut told = String::new(alloc);
-    tell_both(alloc, &mut told, &Positive(Integer::from_i128(-1)))?;
-    tell_both(alloc, &mut told, &Negative(Positive(Integer::from_i128(1))))?;
-    tell_both(
-        alloc,
-        &mut told,
-        &HashedId3(OctetString::from_slice(alloc, &[1])?),
-    )?;
-    let year_2050 = civil::DateTime::new(2050, 1, 1, 0, 0, 0, 0)?;
-    tell_both(alloc, &mut told, &UtcTime::new(year_2050))?;
-    let before = civil::DateTime::new(-1, 12, 31, 23, 59, 59, 0)?;
-    tell_both(alloc, &mut told, &GeneralizedTime::new(before))?;
-    tell_both(alloc, &mut told, &ConstrainedInteger::<OneOctet>::new(256))?;
+    tell_signs(alloc, &mut told)?;
+    tell_negative(alloc, &mut told)?;
+    tell_short(alloc, &mut told)?;
+    tell_late(alloc, &mut told)?;
+    tell_early(alloc, &mut told)?;
+    tell_great(alloc, &mut told)?;
     assert_eq!(rt; told.as_str(), OUTSIDE);
     Ok(())
 }
@@ -103,17 +127,45 @@ written\n\
 Coer ValueConstraintNotSatisfied: the value constraint isn't satisfied\n\
 Coer ValueConstraintNotSatisfied: the value constraint isn't satisfied\n";
 
+/// Sizes from 3 to 6.
+fn sizes() -> Constraints {
+    Constraints::NONE.with_size(Bounded::Range {
+        start: Some(3),
+        end: Some(6),
+    })
+}
+
+fn tell_octets(alloc: Global, told: &mut String) -> Result<(), Fail> {
+    let octets = OctetString::from_slice(alloc, &[1, 2, 3, 4, 5, 6, 7])?;
+    tell_under(alloc, told, sizes(), &octets)
+}
+
+fn tell_bits(alloc: Global, told: &mut String) -> Result<(), Fail> {
+    let bits = BitString::from_octets(alloc, &[0xfe], 7)?.ok_or("bits")?;
+    tell_under(alloc, told, sizes(), &bits)
+}
+
+fn tell_characters(alloc: Global, told: &mut String) -> Result<(), Fail> {
+    let three = BmpString::from_units(alloc, &[1, 2, 3])?;
+    tell_under(alloc, told, sizes(), &three)
+}
+
+fn tell_number(alloc: Global, told: &mut String) -> Result<(), Fail> {
+    let octet = Constraints::NONE.with_value(Bounded::Range {
+        start: Some(0),
+        end: Some(255),
+    });
+    tell_under(alloc, told, octet, &Integer::from_i128(256))
+}
+
 #[test]
 fn values_outside_constraints_are_not_written(rt: HostRuntime) -> Result<(), Fail> {
     let alloc = rt.alloc();
     let mut told = String::new(alloc);
-    let octets = OctetString::from_slice(alloc, &[1, 2, 3, 4, 5, 6, 7])?;
-    tell_under(alloc, &mut told, sizes(3, 6), &octets)?;
-    let bits = BitString::from_octets(alloc, &[0xfe], 7)?.ok_or("bits")?;
-    tell_under(alloc, &mut told, sizes(3, 6), &bits)?;
-    let three = BmpString::from_units(alloc, &[1, 2, 3])?;
-    tell_under(alloc, &mut told, sizes(3, 6), &three)?;
-    tell_under(alloc, &mut told, values(0, 255), &Integer::from_i128(256))?;
+    tell_octets(alloc, &mut told)?;
+    tell_bits(alloc, &mut told)?;
+    tell_characters(alloc, &mut told)?;
+    tell_number(alloc, &mut told)?;
     assert_eq!(rt; told.as_str(), SIZES);
     Ok(())
 }
@@ -131,21 +183,29 @@ const MANY: &str = "\
 written\n\
 written\n\
 Coer TooManyEmptyElements: too many elements without octets\n\
-Coer TooManyEmptyElements: too many elements without octets\n\
-Coer InvalidObjectIdentifier: invalid object identifier\n";
+Coer TooManyEmptyElements: too many elements without octets\n";
 
 #[test]
-fn lists_of_nothing_and_arcs_of_no_identifier_are_not_written(rt: HostRuntime) -> Result<(), Fail> {
+fn lists_of_nothing_are_not_written(rt: HostRuntime) -> Result<(), Fail> {
     let alloc = rt.alloc();
     let mut told = String::new(alloc);
     tell_both(alloc, &mut told, &nulls(alloc, 65536)?)?;
     tell_both(alloc, &mut told, &nulls(alloc, 65537)?)?;
+    assert_eq!(rt; told.as_str(), MANY);
+    Ok(())
+}
+
+#[test]
+fn arcs_of_no_identifier_are_not_written(rt: HostRuntime) -> Result<(), Fail> {
+    let alloc = rt.alloc();
     let mut output = Vec::new(alloc);
     let mut worker = Vec::new(alloc);
     let mut encoder = Encoder::from_buffer(alloc, EncoderOptions::coer(), &mut output, &mut worker);
     let answer = encoder.encode_object_identifier(Tag::OBJECT_IDENTIFIER, &[1, 40]);
+    let mut told = String::new(alloc);
     tell(alloc, &mut told, answer)?;
-    assert_eq!(rt; told.as_str(), MANY);
+    let expected = "Coer InvalidObjectIdentifier: invalid object identifier\n";
+    assert_eq!(rt; told.as_str(), expected);
     Ok(())
 }
 
@@ -167,33 +227,48 @@ impl IntegerRange for OneOctet {
     ghost holds_number = { refl };
 }
 
-#[test]
-fn a_refused_value_leaves_the_buffer_as_it_was(rt: HostRuntime) -> Result<(), Fail> {
-    let alloc = rt.alloc();
+/// Appends, with each module, a value that is refused to a buffer of two octets.
+fn append_outside(
+    alloc: Global,
+    lenient: &mut Vec<u8>,
+    canonical: &mut Vec<u8>,
+) -> Result<String, Fail> {
+    let outside = ConstrainedInteger::<OneOctet>::new(256);
+    let mut told = String::new(alloc);
+    let answer = oer::encode_buf(alloc, &outside, lenient);
+    tell(alloc, &mut told, answer)?;
+    let answer = coer::encode_buf(alloc, &outside, canonical);
+    tell(alloc, &mut told, answer)?;
+    Ok(told)
+}
+
+/// Appends a set with each module.
+fn append_set(
+    alloc: Global,
+    lenient: &mut Vec<u8>,
+    canonical: &mut Vec<u8>,
+) -> Result<(), EncodeError> {
     let set = Set(components::Foo {
         a: Some(Integer::from_i128(5)),
         b: Some(Integer::from_i128(6)),
         c: Some(Integer::from_i128(7)),
     });
-    let outside = ConstrainedInteger::<OneOctet>::new(256);
-    let expected = [0xaa, 0xbb, 0xe0, 1, 7, 1, 6, 1, 5];
-    let mut told = String::new(alloc);
+    oer::encode_buf(alloc, &set, lenient)?;
+    coer::encode_buf(alloc, &set, canonical)
+}
+
+#[test]
+fn a_refused_value_leaves_the_buffer_as_it_was(rt: HostRuntime) -> Result<(), Fail> {
+    let alloc = rt.alloc();
     let mut lenient = vec![in alloc; 0xaa, 0xbb]?;
-    tell(
-        alloc,
-        &mut told,
-        oer::encode_buf(alloc, &outside, &mut lenient),
-    )?;
-    oer::encode_buf(alloc, &set, &mut lenient)?;
     let mut canonical = vec![in alloc; 0xaa, 0xbb]?;
-    tell(
-        alloc,
-        &mut told,
-        coer::encode_buf(alloc, &outside, &mut canonical),
-    )?;
-    coer::encode_buf(alloc, &set, &mut canonical)?;
+    let told = append_outside(alloc, &mut lenient, &mut canonical)?;
+    append_set(alloc, &mut lenient, &mut canonical)?;
     assert!(rt; lenient == canonical);
-    assert_eq!(rt; canonical.as_slice(), expected.as_slice());
+    assert_eq!(rt;
+        canonical.as_slice(),
+        b"\xaa\xbb\xe0\x01\x07\x01\x06\x01\x05".as_slice()
+    );
     assert_eq!(rt; told.as_str(), TWICE);
     Ok(())
 }
@@ -204,13 +279,11 @@ Coer ValueConstraintNotSatisfied: the value constraint isn't satisfied\n";
 
 /// So many nested lists, of which each but the last holds one.
 fn nested(alloc: Global, count: u8) -> Result<Nest, Fail> {
-    let mut nest = Nest {
-        items: Vec::new(alloc),
-    };
+    let mut nest = Nest(ListOf(Vec::new(alloc)));
     for _ in 1..count {
         let mut items = Vec::new(alloc);
-        items.push(nest)?;
-        nest = Nest { items };
+        items.push(Bare(nest))?;
+        nest = Nest(ListOf(items));
     }
     Ok(nest)
 }
@@ -225,45 +298,80 @@ fn nested_octets(alloc: Global, count: u8) -> Result<Vec<u8>, Fail> {
     Ok(octets)
 }
 
+/// Whether both modules write the lists as these octets.
+fn are_written(alloc: Global, value: &Nest, octets: &Vec<u8>) -> Result<bool, EncodeError> {
+    let canonical = coer::encode(alloc, value)?;
+    let lenient = oer::encode(alloc, value)?;
+    Ok(canonical == *octets && lenient == *octets)
+}
+
+/// Whether both modules write the sequence, whose default is 128 lists, as these octets.
+fn is_written(alloc: Global, n: Nest, octets: &[u8]) -> Result<bool, EncodeError> {
+    let value = DeepDefault { n };
+    let canonical = coer::encode(alloc, &value)?;
+    let lenient = oer::encode(alloc, &value)?;
+    Ok(canonical.as_slice() == octets && lenient.as_slice() == octets)
+}
+
 #[test]
 fn lists_are_written_at_any_depth(rt: HostRuntime) -> Result<(), Fail> {
     let alloc = rt.alloc();
     let nest = nested(alloc, 129)?;
     let octets = nested_octets(alloc, 129)?;
-    assert!(rt; coer::encode(alloc, &nest)? == octets && oer::encode(alloc, &nest)? == octets);
+    assert!(rt; are_written(alloc, &nest, &octets)?);
     let mut whole = vec![in alloc; 0x80]?;
     whole.extend_from_slice(octets.as_slice())?;
-    let value = DeepDefault { n: nest };
-    assert!(rt; coer::encode(alloc, &value)? == whole && oer::encode(alloc, &value)? == whole);
-    let n = nested(alloc, 128)?;
-    let value = DeepDefault { n };
-    assert!(rt; coer::encode(alloc, &value)?.as_slice() == [0].as_slice());
-    let n = DeepDefault::default_n(alloc)?;
-    let value = DeepDefault { n };
-    assert!(rt; oer::encode(alloc, &value)?.as_slice() == [0].as_slice());
+    assert!(rt; is_written(alloc, nest, whole.as_slice())?);
     Ok(())
 }
 
 #[test]
-fn times_are_written_from_their_fields(rt: HostRuntime) -> Result<(), Fail> {
+fn a_default_of_lists_is_left_out(rt: HostRuntime) -> Result<(), Fail> {
     let alloc = rt.alloc();
+    assert!(rt; is_written(alloc, nested(alloc, 128)?, &[0])?);
+    let n = DeepDefault::default_n(alloc)?;
+    assert!(rt; is_written(alloc, n, &[0])?);
+    Ok(())
+}
+
+/// The octets of a value, which `oer` and `coer` write alike, and the value of these octets, which both read alike.
+fn passed<T: Encode + Decode + Debug + PartialEq>(
+    alloc: Global,
+    value: &T,
+) -> Result<String, Fail> {
+    let octets = coer::encode(alloc, value)?;
+    let same = oer::encode(alloc, value)?;
+    let lenient: T = oer::decode(alloc, octets.as_slice())?;
+    let canonical: T = coer::decode(alloc, octets.as_slice())?;
+    if same != octets || lenient != canonical {
+        return Err(Fail::from("the modules differ"));
+    }
+    let octets = String::from_utf8(octets)?;
+    Ok(format!(in alloc; "{} {:?}", octets, lenient)?)
+}
+
+#[test]
+fn a_utc_time_is_written_from_its_fields(rt: HostRuntime) -> Result<(), Fail> {
     let time = UtcTime::new(civil::DateTime::new(2019, 10, 9, 13, 0, 5, 0)?);
-    let octets = coer::encode(alloc, &time)?;
-    assert_eq!(rt; octets.as_slice(), b"\x0d191009130005Z".as_slice());
-    assert!(rt; oer::decode::<UtcTime>(alloc, octets.as_slice())?.value() == time.value());
+    let told = passed(rt.alloc(), &time)?;
+    let expected = "\x0d191009130005Z UtcTime { value: 2019-10-09T13:00:05 }";
+    assert_eq!(rt; told.as_str(), expected);
+    Ok(())
+}
+
+#[test]
+fn a_generalized_time_is_written_from_its_fields(rt: HostRuntime) -> Result<(), Fail> {
     let time = GeneralizedTime::new(civil::DateTime::new(2080, 10, 9, 13, 0, 5, 342_000_000)?);
-    let octets = oer::encode(alloc, &time)?;
-    assert_eq!(rt; octets.as_slice(), b"\x1320801009130005.342Z".as_slice());
-    let read: GeneralizedTime = coer::decode(alloc, octets.as_slice())?;
-    let read = read.value();
-    assert!(rt; read.year() == 2080 && read.month() == 10 && read.day() == 9);
-    assert!(rt; read.hour() == 13 && read.second() == 5);
-    assert!(rt; read.subsec_nanosecond() == 342_000_000);
+    let told = passed(rt.alloc(), &time)?;
+    let expected = "\x1320801009130005.342Z GeneralizedTime { value: 2080-10-09T13:00:05.342 }";
+    assert_eq!(rt; told.as_str(), expected);
+    Ok(())
+}
+
+#[test]
+fn a_date_is_written_from_its_fields(rt: HostRuntime) -> Result<(), Fail> {
     let day = Date::new(civil::Date::new(2024, 2, 29)?);
-    let octets = coer::encode(alloc, &day)?;
-    assert_eq!(rt; octets.as_slice(), b"\x0820240229".as_slice());
-    let read: Date = oer::decode(alloc, octets.as_slice())?;
-    let read = read.value();
-    assert!(rt; read.year() == 2024 && read.month() == 2 && read.day() == 29);
+    let told = passed(rt.alloc(), &day)?;
+    assert_eq!(rt; told.as_str(), "\x0820240229 Date { value: 2024-02-29 }");
     Ok(())
 }

@@ -1,4 +1,5 @@
-//! The constants of tables, beside the functions that clauses see.
+//! The constants of tables, beside the functions that clauses see. One type a function: what the check looks at in one grows with
+//! the types that it names.
 use asn1_core::{AsnType, Choice, Constructed};
 use oer_types::{
     AddDef, BoolChoice, ExtendedOptional, MixedSet, OnlyChoice, Pair, PriorityChoice, Sequence3,
@@ -27,16 +28,51 @@ fn is_chosen<T: Choice>(roots: usize, additions: Option<usize>) -> bool {
         && T::IS_CHOICE
 }
 
+fn pair() -> bool {
+    is_tabled::<2, 0, Pair>(false)
+}
+
+fn add_def() -> bool {
+    is_tabled::<1, 1, AddDef>(true)
+}
+
+fn sequence3() -> bool {
+    is_tabled::<1, 1, Sequence3>(true)
+}
+
+fn extended_optional() -> bool {
+    is_tabled::<7, 4, ExtendedOptional>(true)
+}
+
+fn mixed_set() -> bool {
+    is_tabled::<3, 1, MixedSet>(true)
+}
+
+fn priority_choice() -> bool {
+    is_chosen::<PriorityChoice>(2, Some(1))
+}
+
+fn wide_choice() -> bool {
+    is_chosen::<WideChoice>(3, None)
+}
+
+fn only_choice() -> bool {
+    is_chosen::<OnlyChoice>(1, None)
+}
+
+fn bool_choice() -> bool {
+    is_chosen::<BoolChoice>(2, Some(1))
+}
+
 #[test]
 fn constants_are_the_tables(rt: HostRuntime) {
-    assert!(rt; is_tabled::<2, 0, Pair>(false));
-    assert!(rt; is_tabled::<1, 1, AddDef>(true));
-    assert!(rt; is_tabled::<1, 1, Sequence3>(true));
-    assert!(rt; is_tabled::<7, 4, ExtendedOptional>(true));
-    assert!(rt; is_tabled::<3, 1, MixedSet>(true));
-    assert!(rt; is_chosen::<PriorityChoice>(2, Some(1)));
-    assert!(rt; is_chosen::<WideChoice>(3, None));
-    assert!(rt; is_chosen::<OnlyChoice>(1, None));
-    assert!(rt; is_chosen::<BoolChoice>(2, Some(1)));
+    assert!(rt; pair() && add_def() && sequence3());
+    assert!(rt; extended_optional() && mixed_set());
+}
+
+#[test]
+fn constants_are_the_tags(rt: HostRuntime) {
+    assert!(rt; priority_choice() && wide_choice());
+    assert!(rt; only_choice() && bool_choice());
     assert!(rt; !Pair::IS_CHOICE && !bool::IS_CHOICE);
 }

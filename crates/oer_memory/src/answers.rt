@@ -79,7 +79,10 @@ pub fn left<T: Debug>(
     let rest = hex::encode(alloc, decoder.remaining())?;
     match answer {
         Ok(value) => Ok(format!(in alloc; "{:?}; {}", value, rest)?),
-        Err(e) => Ok(format!(in alloc; "refused: {}; {}", e.kind.name(), rest)?),
+        Err(e) if e.codec == decoder.codec() => {
+            Ok(format!(in alloc; "refused: {}; {}", e.kind.name(), rest)?)
+        }
+        Err(e) => Ok(format!(in alloc; "refused in another mode: {}", e.kind.name())?),
     }
 }
 

@@ -2,9 +2,10 @@
 use crate::answers::left;
 use crate::entry::{Call, options_of};
 use crate::marks::begin;
+use crate::one_row::{Way, read_addition, read_default, read_default_addition, read_optional};
 use anyhow::Result;
-use call_tests::one_row::{Way, read_addition, read_default, read_default_addition, read_optional};
 use rasn_oer::{Decode, Decoder};
+use std::alloc::Global;
 
 /// Which component is asked, and how.
 #[derive(Clone, Copy)]
@@ -46,6 +47,26 @@ fn asked_by(word: &str) -> Option<Asked> {
     }
 }
 
+fn optional(alloc: Global, decoder: &mut Decoder<'_>, way: Way) -> Result<String> {
+    let answer = read_optional(alloc, decoder, way);
+    left(alloc, decoder, &answer)
+}
+
+fn default(alloc: Global, decoder: &mut Decoder<'_>, way: Way) -> Result<String> {
+    let answer = read_default(alloc, decoder, way);
+    left(alloc, decoder, &answer)
+}
+
+fn addition(alloc: Global, decoder: &mut Decoder<'_>, has_prefix: bool) -> Result<String> {
+    let answer = read_addition(alloc, decoder, has_prefix);
+    left(alloc, decoder, &answer)
+}
+
+fn default_addition(alloc: Global, decoder: &mut Decoder<'_>) -> Result<String> {
+    let answer = read_default_addition(alloc, decoder);
+    left(alloc, decoder, &answer)
+}
+
 /// What a method answers, by its word; nothing where it asks no component.
 pub fn component_method(call: Call<'_>) -> Result<Option<String>> {
     let alloc = call.alloc;
@@ -56,22 +77,10 @@ pub fn component_method(call: Call<'_>) -> Result<Option<String>> {
     let _boolean = bool::decode(alloc, &mut decoder)?;
     begin(alloc)?;
     let line = match asked {
-        Asked::Optional(way) => {
-            let answer = read_optional(alloc, &mut decoder, way);
-            left(alloc, &decoder, &answer)?
-        }
-        Asked::Default(way) => {
-            let answer = read_default(alloc, &mut decoder, way);
-            left(alloc, &decoder, &answer)?
-        }
-        Asked::Addition(has_prefix) => {
-            let answer = read_addition(alloc, &mut decoder, has_prefix);
-            left(alloc, &decoder, &answer)?
-        }
-        Asked::DefaultAddition => {
-            let answer = read_default_addition(alloc, &mut decoder);
-            left(alloc, &decoder, &answer)?
-        }
+        Asked::Optional(way) => optional(alloc, &mut decoder, way)?,
+        Asked::Default(way) => default(alloc, &mut decoder, way)?,
+        Asked::Addition(has_prefix) => addition(alloc, &mut decoder, has_prefix)?,
+        Asked::DefaultAddition => default_addition(alloc, &mut decoder)?,
     };
     Ok(Some(line))
 }

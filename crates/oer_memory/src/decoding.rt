@@ -2,6 +2,7 @@
 use crate::answers::left;
 use crate::entry::{Call, one, options_of};
 use crate::marks::begin;
+use crate::one_row::read_set;
 use anyhow::{Error, Result};
 use asn1_core::{Constraints, DecodeError, Tag};
 use asn1_ints::Integer;
@@ -10,7 +11,7 @@ use rasn_oer::{Decode, Decoder};
 
 const NONE: Constraints = Constraints::NONE;
 
-/// Those of the leaves that take memory, and of choices.
+/// Those of the leaves that take memory, of choices and of a set.
 fn with_memory(call: Call<'_>, d: &mut Decoder<'_>) -> Result<Option<String>> {
     let alloc = call.alloc;
     let line = match call.word {
@@ -26,12 +27,25 @@ fn with_memory(call: Call<'_>, d: &mut Decoder<'_>) -> Result<Option<String>> {
             let it = d.decode_integer::<Integer>(alloc, Tag::INTEGER, NONE);
             left(alloc, d, &it)?
         }
+        _ => return further_with_memory(call, d),
+    };
+    Ok(Some(line))
+}
+
+/// The others.
+fn further_with_memory(call: Call<'_>, d: &mut Decoder<'_>) -> Result<Option<String>> {
+    let alloc = call.alloc;
+    let line = match call.word {
         "decode_integer::<GreatPositive>" => {
             let it = d.decode_integer::<GreatPositive>(alloc, Tag::INTEGER, NONE);
             left(alloc, d, &it)?
         }
         "decode_object_identifier" => {
             let it = d.decode_object_identifier(alloc, Tag::OBJECT_IDENTIFIER);
+            left(alloc, d, &it)?
+        }
+        "decode_set" => {
+            let it = read_set(alloc, d);
             left(alloc, d, &it)?
         }
         "decode_choice" => {
@@ -59,6 +73,15 @@ fn texts(call: Call<'_>, d: &mut Decoder<'_>) -> Result<Option<String>> {
             let it = d.decode_general_string(alloc, Tag::GENERAL_STRING, NONE);
             left(alloc, d, &it)?
         }
+        _ => return other_texts(call, d),
+    };
+    Ok(Some(line))
+}
+
+/// Two others.
+fn other_texts(call: Call<'_>, d: &mut Decoder<'_>) -> Result<Option<String>> {
+    let alloc = call.alloc;
+    let line = match call.word {
         "decode_graphic_string" => {
             let it = d.decode_graphic_string(alloc, Tag::GRAPHIC_STRING, NONE);
             left(alloc, d, &it)?
@@ -84,6 +107,15 @@ fn further_texts(call: Call<'_>, d: &mut Decoder<'_>) -> Result<Option<String>> 
             let it = d.decode_numeric_string(alloc, Tag::NUMERIC_STRING, NONE);
             left(alloc, d, &it)?
         }
+        _ => return last_texts(call, d),
+    };
+    Ok(Some(line))
+}
+
+/// The last two.
+fn last_texts(call: Call<'_>, d: &mut Decoder<'_>) -> Result<Option<String>> {
+    let alloc = call.alloc;
+    let line = match call.word {
         "decode_teletex_string" => {
             let it = d.decode_teletex_string(alloc, Tag::TELETEX_STRING, NONE);
             left(alloc, d, &it)?
@@ -113,6 +145,15 @@ fn without_memory(call: Call<'_>, d: &mut Decoder<'_>) -> Result<Option<String>>
             let it = d.decode_null(Tag::NULL);
             left(alloc, d, &it)?
         }
+        _ => return further_without_memory(call, d),
+    };
+    Ok(Some(line))
+}
+
+/// The others.
+fn further_without_memory(call: Call<'_>, d: &mut Decoder<'_>) -> Result<Option<String>> {
+    let alloc = call.alloc;
+    let line = match call.word {
         "decode_enumerated" => {
             let it = d.decode_enumerated::<Enum4>(Tag::ENUMERATED);
             left(alloc, d, &it)?
@@ -194,6 +235,15 @@ fn short_numbers(call: Call<'_>, d: &mut Decoder<'_>) -> Result<Option<String>> 
             let it = d.decode_integer::<i32>(alloc, Tag::INTEGER, NONE);
             left(alloc, d, &it)?
         }
+        _ => return short_unsigned(call, d),
+    };
+    Ok(Some(line))
+}
+
+/// `decode_integer` into those without a sign.
+fn short_unsigned(call: Call<'_>, d: &mut Decoder<'_>) -> Result<Option<String>> {
+    let alloc = call.alloc;
+    let line = match call.word {
         "decode_integer::<u8>" => {
             let it = d.decode_integer::<u8>(alloc, Tag::INTEGER, NONE);
             left(alloc, d, &it)?
@@ -227,6 +277,15 @@ fn long_numbers(call: Call<'_>, d: &mut Decoder<'_>) -> Result<Option<String>> {
             let it = d.decode_integer::<isize>(alloc, Tag::INTEGER, NONE);
             left(alloc, d, &it)?
         }
+        _ => return long_unsigned(call, d),
+    };
+    Ok(Some(line))
+}
+
+/// `decode_integer` into those without a sign.
+fn long_unsigned(call: Call<'_>, d: &mut Decoder<'_>) -> Result<Option<String>> {
+    let alloc = call.alloc;
+    let line = match call.word {
         "decode_integer::<u64>" => {
             let it = d.decode_integer::<u64>(alloc, Tag::INTEGER, NONE);
             left(alloc, d, &it)?

@@ -31,6 +31,19 @@ fn plain(alloc: Global, word: &str, d: &mut Decoder<'_>, e: &mut Encoder<'_>) ->
             begin(alloc)?;
             e.encode_enumerated(Tag::ENUMERATED, &value)
         }
+        _ => return numbers_and_strings(alloc, word, d, e),
+    };
+    Ok(Some(done))
+}
+
+/// Numbers, octets and bits.
+fn numbers_and_strings(
+    alloc: Global,
+    word: &str,
+    d: &mut Decoder<'_>,
+    e: &mut Encoder<'_>,
+) -> Result<Done> {
+    let done = match word {
         "encode_integer" => {
             let value: Integer = d.decode_integer(alloc, Tag::INTEGER, NONE)?;
             begin(alloc)?;
@@ -69,6 +82,14 @@ fn octets_and_times(
             begin(alloc)?;
             e.encode_object_identifier(Tag::OBJECT_IDENTIFIER, value.arcs())
         }
+        _ => return times(alloc, word, d, e),
+    };
+    Ok(Some(done))
+}
+
+/// Times.
+fn times(alloc: Global, word: &str, d: &mut Decoder<'_>, e: &mut Encoder<'_>) -> Result<Done> {
+    let done = match word {
         "encode_utc_time" => {
             let value = d.decode_utc_time(Tag::UTC_TIME)?;
             begin(alloc)?;
@@ -107,6 +128,19 @@ fn texts(alloc: Global, word: &str, d: &mut Decoder<'_>, e: &mut Encoder<'_>) ->
             begin(alloc)?;
             e.encode_general_string(Tag::GENERAL_STRING, NONE, &text)
         }
+        _ => return other_texts(alloc, word, d, e),
+    };
+    Ok(Some(done))
+}
+
+/// Two others.
+fn other_texts(
+    alloc: Global,
+    word: &str,
+    d: &mut Decoder<'_>,
+    e: &mut Encoder<'_>,
+) -> Result<Done> {
+    let done = match word {
         "encode_graphic_string" => {
             let text = d.decode_graphic_string(alloc, Tag::GRAPHIC_STRING, NONE)?;
             begin(alloc)?;
@@ -140,6 +174,14 @@ fn further_texts(
             begin(alloc)?;
             e.encode_numeric_string(Tag::NUMERIC_STRING, NONE, &text)
         }
+        _ => return last_texts(alloc, word, d, e),
+    };
+    Ok(Some(done))
+}
+
+/// The last two.
+fn last_texts(alloc: Global, word: &str, d: &mut Decoder<'_>, e: &mut Encoder<'_>) -> Result<Done> {
+    let done = match word {
         "encode_teletex_string" => {
             let text = d.decode_teletex_string(alloc, Tag::TELETEX_STRING, NONE)?;
             begin(alloc)?;
@@ -166,10 +208,27 @@ fn components(alloc: Global, word: &str, e: &mut Encoder<'_>) -> Result<Done> {
         }
         "encode_none" => e.encode_none::<bool>(),
         "encode_none_with_tag" => e.encode_none_with_tag(one()),
+        _ => return defaults(word, e),
+    };
+    Ok(Some(done))
+}
+
+/// Components with defaults.
+fn defaults(word: &str, e: &mut Encoder<'_>) -> Result<Done> {
+    let done = match word {
         "encode_default" => e.encode_default(&true, &false),
+        "encode_default_left_out" => e.encode_default(&true, &true),
         "encode_default_with_tag_and_constraints" => {
             e.encode_default_with_tag_and_constraints(one(), NONE, &true, &false)
         }
+        _ => return additions(word, e),
+    };
+    Ok(Some(done))
+}
+
+/// Additions.
+fn additions(word: &str, e: &mut Encoder<'_>) -> Result<Done> {
+    let done = match word {
         "encode_extension_addition" => e.encode_extension_addition(one(), NONE, Some(&true)),
         "encode_extension_addition_group" => {
             e.encode_extension_addition_group(Some(&Sequence(components::Sequence4 { a: true })))
@@ -177,6 +236,14 @@ fn components(alloc: Global, word: &str, e: &mut Encoder<'_>) -> Result<Done> {
         "encode_extension_addition_default" => {
             e.encode_extension_addition_default(one(), NONE, &true, &false)
         }
+        _ => return by_trait(word, e),
+    };
+    Ok(Some(done))
+}
+
+/// The calls of `Encode`, and a prefix.
+fn by_trait(word: &str, e: &mut Encoder<'_>) -> Result<Done> {
+    let done = match word {
         "encode_explicit_prefix" => e.encode_explicit_prefix(one(), &true),
         "Encode::encode" => true.encode(e),
         "Encode::encode_with_tag" => true.encode_with_tag(e, one()),

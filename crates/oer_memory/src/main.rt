@@ -1,6 +1,8 @@
 //! `oer_memory MODE CALL TYPE HEX` makes one call between two marks, and prints what it answers and what it leaves as it was.
 //! scripts/memory runs it again and again, and refuses one more request for memory in each run.
 //!
+//! Without words it does so for each row `MODE CALL TYPE HEX` of standard input, and prints the answer behind the row and ` => `.
+//!
 //! - MODE is `oer` or `coer`, the module and the rules of the decoder; `encoder`; or `value`, for the crates below.
 //! - CALL is the name of a call; TYPE is a word of a type, or `-` where the call needs none.
 //! - HEX is what is read: by a method of `Decoder` behind the octet of a boolean.
@@ -12,6 +14,7 @@ mod decoding;
 mod encoding;
 mod entry;
 mod marks;
+mod one_row;
 mod values;
 mod versions;
 mod writers;
@@ -25,6 +28,7 @@ use entry::Call;
 use oer_words::constrained::with_word;
 use std::alloc::Global;
 use std::env;
+use std::io::{BufRead, BufReader};
 use std::rt::Env;
 use values::value_call;
 use versions::other_version;
@@ -80,9 +84,36 @@ fn words<R: Env + AllocGlobal>(rt: &R) -> Result<Vec<String>> {
     Ok(words)
 }
 
+/// The words of a row.
+fn words_of(alloc: Global, row: &str) -> Result<Vec<String>> {
+    let mut words = Vec::new(alloc);
+    for word in row.split(' ') {
+        words.push(String::from_str(alloc, word)?)?;
+    }
+    Ok(words)
+}
+
+/// What is answered to a row.
+fn told(alloc: Global, row: &str) -> Result<String> {
+    let words = words_of(alloc, row)?;
+    match answer(alloc, words.as_slice()) {
+        Ok(line) => Ok(line),
+        Err(fault) => Ok(format!(in alloc; "fault: {}", fault)?),
+    }
+}
+
 fn main(rt: HostRuntime) -> Result<()> {
+    let alloc = rt.alloc();
     let words = words(&rt)?;
-    let answer = answer(rt.alloc(), words.as_slice())?;
-    println!(rt; "{answer}")?;
+    if !words.is_empty() {
+        let answer = answer(alloc, words.as_slice())?;
+        println!(rt; "{answer}")?;
+        return Ok(());
+    }
+    for line in BufReader::new(alloc, rt.reader())?.lines(alloc) {
+        let row = line?;
+        let answer = told(alloc, row.as_str())?;
+        println!(rt; "{row} => {answer}")?;
+    }
     Ok(())
 }

@@ -25,15 +25,39 @@ fn strings(alloc: Global, word: &str, octets: &[u8]) -> Result<Option<String>> {
                 &BitString::from_octets(alloc, octets, octets.len().saturating_mul(8)),
             )?
         }
+        _ => return characters(alloc, word, octets),
+    };
+    Ok(Some(line))
+}
+
+/// Strings of few characters.
+fn characters(alloc: Global, word: &str, octets: &[u8]) -> Result<Option<String>> {
+    let line = match word {
         "NumericString::from_bytes" => plain(alloc, &NumericString::from_bytes(alloc, octets))?,
         "PrintableString::from_bytes" => plain(alloc, &PrintableString::from_bytes(alloc, octets))?,
         "VisibleString::from_bytes" => plain(alloc, &VisibleString::from_bytes(alloc, octets))?,
         "Ia5String::from_bytes" => plain(alloc, &Ia5String::from_bytes(alloc, octets))?,
+        _ => return wide_characters(alloc, word, octets),
+    };
+    Ok(Some(line))
+}
+
+/// Strings of more.
+fn wide_characters(alloc: Global, word: &str, octets: &[u8]) -> Result<Option<String>> {
+    let line = match word {
         "GeneralString::from_bytes" => plain(alloc, &GeneralString::from_bytes(alloc, octets))?,
         "GraphicString::from_bytes" => plain(alloc, &GraphicString::from_bytes(alloc, octets))?,
         "TeletexString::from_bytes" => plain(alloc, &TeletexString::from_bytes(alloc, octets))?,
         "BmpString::from_bytes" => plain(alloc, &BmpString::from_bytes(alloc, octets))?,
         "BmpString::from_units" => made(alloc, &BmpString::from_units(alloc, &[0x41, 0x42]))?,
+        _ => return times_of_texts(alloc, word, octets),
+    };
+    Ok(Some(line))
+}
+
+/// Times.
+fn times_of_texts(alloc: Global, word: &str, octets: &[u8]) -> Result<Option<String>> {
+    let line = match word {
         "UtcTime::from_text" => plain(alloc, &UtcTime::from_text(octets))?,
         "GeneralizedTime::from_text" => plain(alloc, &GeneralizedTime::from_text(octets))?,
         "Date::from_text" => plain(alloc, &Date::from_text(octets))?,
@@ -57,6 +81,14 @@ fn identifiers(alloc: Global, word: &str, octets: &[u8]) -> Result<Option<String
             let answer = object_identifier_as_bytes(it.arcs(), Codec::Coer, &mut out);
             crate::answers::appended(alloc, answer, &out)?
         }
+        _ => return made_of_parts(alloc, word, octets),
+    };
+    Ok(Some(line))
+}
+
+/// Values of arcs, units and texts.
+fn made_of_parts(alloc: Global, word: &str, octets: &[u8]) -> Result<Option<String>> {
+    let line = match word {
         "ObjectIdentifier::new" => {
             let arcs = vec![in alloc; 2, 999]?;
             begin(alloc)?;
@@ -116,6 +148,14 @@ fn plain_numbers(alloc: Global, word: &str, octets: &[u8]) -> Result<Option<Stri
             let answer = 255u128.write_unsigned_bytes_be(&mut out);
             filled(alloc, answer, &out)?
         }
+        _ => return read_numbers(alloc, word, octets),
+    };
+    Ok(Some(line))
+}
+
+/// Numbers of octets, and of a range.
+fn read_numbers(alloc: Global, word: &str, octets: &[u8]) -> Result<Option<String>> {
+    let line = match word {
         "i64::try_from_signed_bytes" => {
             begin(alloc)?;
             plain(

@@ -19,7 +19,7 @@ use values::measure_word;
 
 const USAGE: &str = "usage: oer_speed WHAT COUNT encode|decode|lenient TIMES
 WHAT: ints, intset, mixed, nest, link, seq2, seqs, outer, extopt, foo, linked,
-  added, octets, text, bits, great, times or colors";
+  added, additions, octets, text, bits, great, times or colors";
 
 /// What is done with the value.
 #[derive(Clone, Copy)]

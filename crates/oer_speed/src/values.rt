@@ -1,13 +1,13 @@
 //! The values that are measured.
 
 use crate::leaves::{bits, colors, great, octets, outer, sequence, sequences, text, times};
-use crate::nested::{added, linked};
+use crate::nested::{added, chained, linked};
 use crate::{Figures, Plan, measure};
 use anyhow::Result;
 use asn1_core::SetOf;
 use asn1_ints::Integer;
 use asn1_strings::OctetString;
-use oer_types::{ExtendedOptional, Foo, Nest, Sequence, Set, components};
+use oer_types::{Bare, ExtendedOptional, Foo, ListOf, Nest, Sequence, Set, components};
 use std::alloc::Global;
 use std::rt::Clock;
 
@@ -32,13 +32,9 @@ fn mixed(alloc: Global, count: u32) -> Result<Vec<Integer>> {
 
 /// An empty list in lists of one element, `count` of these.
 fn nest(alloc: Global, count: u32) -> Result<Nest> {
-    let mut nest = Nest {
-        items: Vec::new(alloc),
-    };
+    let mut nest = Nest(ListOf(Vec::new(alloc)));
     for _ in 0..count {
-        nest = Nest {
-            items: vec![in alloc; nest]?,
-        };
+        nest = Nest(ListOf(vec![in alloc; Bare(nest)]?));
     }
     Ok(nest)
 }
@@ -74,39 +70,87 @@ fn foo() -> Foo {
     })
 }
 
+/// Measures sequences that end in a choice of the next.
+fn measure_link<C: Clock>(clock: &C, alloc: Global, plan: &Plan) -> Result<Option<Figures>> {
+    measure(clock, alloc, plan, &linked(alloc, None, plan.count)?)
+}
+
+/// Measures a list of small sequences.
+fn measure_list_of_sequences<C: Clock>(
+    clock: &C,
+    alloc: Global,
+    plan: &Plan,
+) -> Result<Option<Figures>> {
+    measure(clock, alloc, plan, &sequences(alloc, plan.count)?)
+}
+
+/// Measures a sequence of many components.
+fn measure_extended<C: Clock>(clock: &C, alloc: Global, plan: &Plan) -> Result<Option<Figures>> {
+    measure(clock, alloc, plan, &extended(alloc)?)
+}
+
 /// Measures the sequence or the set of that word; nothing where it is no such value's.
+///
+/// One or two types a function: what the check looks at in one grows with the types that it names.
 fn measure_sequence<C: Clock>(
     clock: &C,
     alloc: Global,
     what: &str,
     plan: &Plan,
 ) -> Result<Option<Figures>> {
-    let count = plan.count;
     match what {
-        "link" => measure(clock, alloc, plan, &linked(alloc, None, count)?),
+        "link" => measure_link(clock, alloc, plan),
+        "seqs" => measure_list_of_sequences(clock, alloc, plan),
+        "extopt" => measure_extended(clock, alloc, plan),
+        _ => measure_small_sequence(clock, alloc, what, plan),
+    }
+}
+
+/// The same of a small one.
+fn measure_small_sequence<C: Clock>(
+    clock: &C,
+    alloc: Global,
+    what: &str,
+    plan: &Plan,
+) -> Result<Option<Figures>> {
+    match what {
         "seq2" => measure(clock, alloc, plan, &sequence()),
-        "seqs" => measure(clock, alloc, plan, &sequences(alloc, count)?),
         "outer" => measure(clock, alloc, plan, &outer()),
-        "extopt" => measure(clock, alloc, plan, &extended(alloc)?),
+        _ => measure_set(clock, alloc, what, plan),
+    }
+}
+
+/// The same of a set.
+fn measure_set<C: Clock>(
+    clock: &C,
+    alloc: Global,
+    what: &str,
+    plan: &Plan,
+) -> Result<Option<Figures>> {
+    match what {
         "foo" => measure(clock, alloc, plan, &foo()),
         _ => Ok(None),
     }
 }
 
-/// Measures an integer within ten sequences, or octets as an addition; nothing where the word is none of these.
+/// Measures an integer within ten sequences.
+fn measure_linked<C: Clock>(clock: &C, alloc: Global, plan: &Plan) -> Result<Option<Figures>> {
+    let number = Some(great(alloc, plan.count)?);
+    measure(clock, alloc, plan, &linked(alloc, number, 10)?)
+}
+
+/// Measures an integer within ten sequences, octets as an addition, or additions in one another; nothing where the word is
+/// none of these.
 fn measure_nested<C: Clock>(
     clock: &C,
     alloc: Global,
     what: &str,
     plan: &Plan,
 ) -> Result<Option<Figures>> {
-    let count = plan.count;
     match what {
-        "linked" => {
-            let number = Some(great(alloc, count)?);
-            measure(clock, alloc, plan, &linked(alloc, number, 10)?)
-        }
-        "added" => measure(clock, alloc, plan, &added(octets(alloc, count)?)),
+        "linked" => measure_linked(clock, alloc, plan),
+        "added" => measure(clock, alloc, plan, &added(octets(alloc, plan.count)?)),
+        "additions" => measure(clock, alloc, plan, &chained(alloc, plan.count)?),
         _ => Ok(None),
     }
 }
@@ -161,7 +205,7 @@ pub(crate) fn measure_word<R: Clock + AllocGlobal>(
     let alloc = rt.alloc();
     match what {
         "ints" | "intset" | "mixed" | "nest" => measure_list(rt, alloc, what, plan),
-        "linked" | "added" => measure_nested(rt, alloc, what, plan),
+        "linked" | "added" | "additions" => measure_nested(rt, alloc, what, plan),
         "octets" | "text" | "bits" | "great" | "times" | "colors" => {
             measure_leaf(rt, alloc, what, plan)
         }

@@ -58,26 +58,35 @@ u8 ff => Coer IntegerOverflow\n\
 i8 0080 => Coer IntegerOverflow\n\
 u128 ff => Coer IntegerOverflow";
 
+/// The shortest unsigned octets of a number that isn't negative, which are read as the number; none of another.
+fn unsigned<T: IntegerType>(alloc: Global, value: &T) -> Result<String, Fail> {
+    let mut octets = Vec::new(alloc);
+    if !value.is_negative() {
+        value.write_unsigned_bytes_be(&mut octets)?;
+        let again = T::try_from_unsigned_bytes(alloc, octets.as_slice(), Codec::Oer)?;
+        if again.to_i128() != value.to_i128() {
+            return Err(Fail::from("unsigned octets are read as another number"));
+        }
+    }
+    Ok(hex::encode(alloc, octets.as_slice())?)
+}
+
+/// The shortest octets in two's complement.
+fn signed<T: IntegerType>(alloc: Global, value: &T) -> Result<String, Fail> {
+    let mut octets = Vec::new(alloc);
+    value.write_signed_bytes_be(&mut octets)?;
+    Ok(hex::encode(alloc, octets.as_slice())?)
+}
+
 /// Reads a number of octets in two's complement, writes it both ways, and reads what was written.
 fn both_ways<T: IntegerType>(alloc: Global, octets: &[u8]) -> Result<String, Fail> {
     let value = match T::try_from_signed_bytes(alloc, octets, Codec::Coer) {
         Ok(value) => value,
         Err(e) => return Ok(format!(in alloc; "{:?} {:?}", e.codec, e.kind)?),
     };
-    let mut signed = Vec::new(alloc);
-    value.write_signed_bytes_be(&mut signed)?;
-    let mut unsigned = Vec::new(alloc);
-    if !value.is_negative() {
-        value.write_unsigned_bytes_be(&mut unsigned)?;
-        let again = T::try_from_unsigned_bytes(alloc, unsigned.as_slice(), Codec::Oer)?;
-        if again.to_i128() != value.to_i128() {
-            return Err(Fail::from("unsigned octets are read as another number"));
-        }
-    }
-    let number = value.to_i128();
-    let signed = hex::encode(alloc, signed.as_slice())?;
-    let unsigned = hex::encode(alloc, unsigned.as_slice())?;
-    Ok(format!(in alloc; "{:?};{};{}", number, signed, unsigned)?)
+    let signed = signed(alloc, &value)?;
+    let unsigned = unsigned(alloc, &value)?;
+    Ok(format!(in alloc; "{:?};{};{}", value.to_i128(), signed, unsigned)?)
 }
 
 fn answer(alloc: Global, row: &str) -> Result<String, Fail> {

@@ -173,6 +173,13 @@ fn wide_text_of(alloc: Global, word: &str, octets: &[u8]) -> Result<String, Stri
             let text = TeletexString::from_bytes(alloc, octets)?;
             kept(alloc, text.len(), text.as_bytes())
         }
+        _ => octets_of_value(alloc, word, octets),
+    }
+}
+
+/// The same of types that keep octets.
+fn octets_of_value(alloc: Global, word: &str, octets: &[u8]) -> Result<String, StringError> {
+    match word {
         "bmp" => {
             let text = BmpString::from_bytes(alloc, octets)?;
             kept(alloc, text.len(), text.to_bytes(alloc)?.as_slice())

@@ -1,6 +1,9 @@
 //! Rows of standard input, one a line, and what is answered to each, behind ` => ` on standard output.
 //!
-//! - `run MODE WORD HEX`: what the program prints, a `|` for each line's end, and its status.
+//! - `run MODE WORD HEX`: what the program prints, a `|` for each line's end, and its status. `words` has words that are parted by
+//!   commas, or none.
+//! - `failing N WORDS`: the same where the Nth write fails: what was written before. `stopped KIND`: where the program's words are no
+//!   text, or found no memory.
 //! - `read MODE WORD HEX`: the octets that are written again and what is left; or the mode, the kind and the message of the
 //!   refusal. Every call that reads such octets answers so, both modules write the value so, and a decoder that refuses is left
 //!   as it was.
@@ -14,6 +17,7 @@
 
 mod depth;
 mod front;
+mod program;
 mod reading;
 mod values;
 
@@ -22,7 +26,7 @@ use asn1_core::Codec;
 use depth::WithOptions;
 use front::Front;
 use oer_words::constrained::with_word;
-use oer_words::run::run;
+use program::{broken, printed, stopped};
 use rasn_oer::DecoderOptions;
 use reading::Reading;
 use std::alloc::Global;
@@ -35,19 +39,6 @@ fn codec_of(word: &str) -> Result<Codec> {
         "coer" => Ok(Codec::Coer),
         _ => Err(Error::msg("no such mode")),
     }
-}
-
-/// What the program prints, a `|` for each line's end, and its status.
-fn printed(alloc: Global, row: &str) -> Result<String> {
-    let mut words = Vec::new(alloc);
-    for word in row.split(' ') {
-        words.push(String::from_str(alloc, word)?)?;
-    }
-    let mut out = Vec::new(alloc);
-    let status = run(alloc, words.as_slice(), &mut out);
-    let text = String::from_utf8(out)?;
-    let text = text.as_str().replace(alloc, "\n", "|")?;
-    Ok(format!(in alloc; "{};{}", text, status.code())?)
 }
 
 /// The octets, behind the octet of a boolean.
@@ -132,7 +123,10 @@ fn answer(alloc: Global, row: &str) -> Result<String> {
     let second = words.next().unwrap_or("");
     let third = words.next().unwrap_or("");
     match verb {
-        "run" => printed(alloc, row.strip_prefix("run ").unwrap_or("")),
+        "run" => printed(alloc, row.strip_prefix("run "), ' '),
+        "words" => printed(alloc, row.strip_prefix("words "), ','),
+        "failing" => broken(alloc, row.strip_prefix("failing ").unwrap_or("")),
+        "stopped" => stopped(alloc, first),
         "depth" => at_depth(alloc, row.strip_prefix("depth ").unwrap_or("")),
         "fronts" => fronts(alloc, first, second),
         _ => {

@@ -134,8 +134,19 @@ impl<'a> Reading<'a> {
             Codec::Oer => oer::decode_with_remainder(self.alloc, octets),
             Codec::Coer => coer::decode_with_remainder(self.alloc, octets),
         };
-        let with_options = oer::decode_with_options(self.alloc, self.options(), octets);
-        agree_but_for_rest(read, &alone) && agree(read, &with_rest) && agree(read, &with_options)
+        agree_but_for_rest(read, &alone)
+            && agree(read, &with_rest)
+            && self.options_agree(octets, read)
+    }
+
+    /// Whether both modules answer the same with the mode's options.
+    fn options_agree<T: Decode + PartialEq>(self, octets: &'a [u8], read: &Read<'a, T>) -> bool {
+        let options = self.options();
+        agree(read, &oer::decode_with_options(self.alloc, options, octets))
+            && agree(
+                read,
+                &coer::decode_with_options(self.alloc, options, octets),
+            )
     }
 
     /// What `canonicalise` answers.

@@ -11,7 +11,7 @@ use oer_types::{
     MixedSet, Negative, Nested, Pair, Positive,
 };
 use oer_write::Encode;
-use own_recursion::Node;
+use own_recursion::{Chain, Node};
 use rasn_oer::Decode;
 use std::fmt::Debug;
 
@@ -69,14 +69,35 @@ fn with_number<W: UnderConstraints + Drop>(word: &str, work: W) -> Option<W::Out
         "2..65535" => Some(work.under::<Integer>(values(2, 65535))),
         "-5..5" => Some(work.under::<Integer>(values(-5, 5))),
         "-129..0" => Some(work.under::<Integer>(values(-129, 0))),
+        _ => with_further_number(word, work),
+    }
+}
+
+/// Further ranges of an integer.
+fn with_further_number<W: UnderConstraints + Drop>(word: &str, work: W) -> Option<W::Output> {
+    match word {
         "5..5" => Some(work.under::<Integer>(Constraints::NONE.with_value(Bounded::Single(5)))),
         "0..i128max" => Some(work.under::<Integer>(values(0, i128::MAX))),
         "i16range" => Some(work.under::<Integer>(values(-32768, 32767))),
         "ext1..8" => Some(work.under::<Integer>(extensible())),
+        _ => with_rust_number(word, work),
+    }
+}
+
+/// Numbers of Rust.
+fn with_rust_number<W: UnderConstraints + Drop>(word: &str, work: W) -> Option<W::Output> {
+    match word {
         "i8in0..255" => Some(work.under::<i8>(values(0, 255))),
         "u8inext1..8" => Some(work.under::<u8>(extensible())),
         "i16inext1..8" => Some(work.under::<i16>(extensible())),
         "u128" => Some(work.under::<u128>(u128::CONSTRAINTS)),
+        _ => with_wrapped_number(word, work),
+    }
+}
+
+/// Structs around a number, and an enumerated value.
+fn with_wrapped_number<W: UnderConstraints + Drop>(word: &str, work: W) -> Option<W::Output> {
+    match word {
         "Positive" => Some(work.under::<Positive>(Positive::CONSTRAINTS)),
         "Negative<Integer>" => {
             Some(work.under::<Negative<Integer>>(<Negative<Integer>>::CONSTRAINTS))
@@ -125,6 +146,7 @@ fn with_recursive<W: UnderConstraints + Drop>(word: &str, work: W) -> Option<W::
         "Bush" => Some(work.under::<Bush>(Constraints::NONE)),
         "Link" => Some(work.under::<Link>(Constraints::NONE)),
         "Node" => Some(work.under::<Node>(Constraints::NONE)),
+        "Chain" => Some(work.under::<Chain>(Constraints::NONE)),
         _ => with_type(word, Own { work }),
     }
 }
@@ -137,11 +159,25 @@ pub fn with_word<W: UnderConstraints + Drop>(word: &str, work: W) -> Option<W::O
         "bits14" => Some(work.under::<BitString>(sizes(14, 14))),
         "utf8of3" => Some(work.under::<String>(sizes(3, 3))),
         "bmpof2" => Some(work.under::<BmpString>(sizes(2, 2))),
+        _ => with_text(word, work),
+    }
+}
+
+/// Character strings.
+fn with_text<W: UnderConstraints + Drop>(word: &str, work: W) -> Option<W::Output> {
+    match word {
         "bmp" => Some(work.under::<BmpString>(Constraints::NONE)),
         "numeric" => Some(work.under::<NumericString>(Constraints::NONE)),
         "printable" => Some(work.under::<PrintableString>(Constraints::NONE)),
         "visible" => Some(work.under::<VisibleString>(Constraints::NONE)),
         "ia5" => Some(work.under::<Ia5String>(Constraints::NONE)),
+        _ => with_wide_text(word, work),
+    }
+}
+
+/// Strings of any octets.
+fn with_wide_text<W: UnderConstraints + Drop>(word: &str, work: W) -> Option<W::Output> {
+    match word {
         "general" => Some(work.under::<GeneralString>(Constraints::NONE)),
         "graphic" => Some(work.under::<GraphicString>(Constraints::NONE)),
         "teletex" => Some(work.under::<TeletexString>(Constraints::NONE)),

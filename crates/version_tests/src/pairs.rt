@@ -40,6 +40,12 @@ fn with_sequence7<W: OnPair>(pair: &str, work: W) -> Result<W::Output, W> {
     match pair {
         "seq7/seq1" => Ok(work.on::<Sequence7, Sequence1>()),
         "seq7/seq5" => Ok(work.on::<Sequence7, Sequence5>()),
+        _ => with_further_sequence7(pair, work),
+    }
+}
+
+fn with_further_sequence7<W: OnPair>(pair: &str, work: W) -> Result<W::Output, W> {
+    match pair {
         "seq7/seq2" => Ok(work.on::<Sequence7, Sequence2>()),
         "seq7/seq7" => Ok(work.on::<Sequence7, Sequence7>()),
         _ => with_group(pair, work),
@@ -49,6 +55,12 @@ fn with_sequence7<W: OnPair>(pair: &str, work: W) -> Result<W::Output, W> {
 fn with_group<W: OnPair>(pair: &str, work: W) -> Result<W::Output, W> {
     match pair {
         "seq3/seq1" => Ok(work.on::<Sequence3, Sequence1>()),
+        _ => with_outer(pair, work),
+    }
+}
+
+fn with_outer<W: OnPair>(pair: &str, work: W) -> Result<W::Output, W> {
+    match pair {
         "outer/seq1" => Ok(work.on::<Outer, Sequence1>()),
         "outer/outer" => Ok(work.on::<Outer, Outer>()),
         _ => Err(work),
@@ -97,6 +109,12 @@ fn with_one_version<W: OnPair>(pair: &str, work: W) -> Result<W::Output, W> {
     match pair {
         "int/int" => Ok(work.on::<Integer, Integer>()),
         "ints/ints" => Ok(work.on::<Vec<Integer>, Vec<Integer>>()),
+        _ => with_choice_or_set(pair, work),
+    }
+}
+
+fn with_choice_or_set<W: OnPair>(pair: &str, work: W) -> Result<W::Output, W> {
+    match pair {
         "choice/choice" => Ok(work.on::<PriorityChoice, PriorityChoice>()),
         "foo/foo" => Ok(work.on::<Foo, Foo>()),
         _ => with_long_sequence(pair, work),
@@ -106,8 +124,26 @@ fn with_one_version<W: OnPair>(pair: &str, work: W) -> Result<W::Output, W> {
 fn with_long_sequence<W: OnPair>(pair: &str, work: W) -> Result<W::Output, W> {
     match pair {
         "dup/dup" => Ok(work.on::<SequenceDuplicatesExtended, SequenceDuplicatesExtended>()),
+        _ => with_many_components(pair, work),
+    }
+}
+
+fn with_many_components<W: OnPair>(pair: &str, work: W) -> Result<W::Output, W> {
+    match pair {
         "extopt/extopt" => Ok(work.on::<ExtendedOptional, ExtendedOptional>()),
+        _ => with_deep_default(pair, work),
+    }
+}
+
+fn with_deep_default<W: OnPair>(pair: &str, work: W) -> Result<W::Output, W> {
+    match pair {
         "deepdef/deepdef" => Ok(work.on::<DeepDefault, DeepDefault>()),
+        _ => with_top_level(pair, work),
+    }
+}
+
+fn with_top_level<W: OnPair>(pair: &str, work: W) -> Result<W::Output, W> {
+    match pair {
         "toplevel/toplevel" => Ok(work.on::<TopLevel, TopLevel>()),
         _ => Err(work),
     }

@@ -42,7 +42,19 @@ fn with_groups<W: OnType>(word: &str, work: W) -> Result<W::Output, W> {
 fn with_long_sequence<W: OnType>(word: &str, work: W) -> Result<W::Output, W> {
     match word {
         "dup" => Ok(work.on::<SequenceDuplicatesExtended>()),
+        _ => with_many_components(word, work),
+    }
+}
+
+fn with_many_components<W: OnType>(word: &str, work: W) -> Result<W::Output, W> {
+    match word {
         "extopt" => Ok(work.on::<ExtendedOptional>()),
+        _ => with_many_optional(word, work),
+    }
+}
+
+fn with_many_optional<W: OnType>(word: &str, work: W) -> Result<W::Output, W> {
+    match word {
         "manyopt" => Ok(work.on::<ManyOptional>()),
         _ => with_default(word, work),
     }
@@ -98,6 +110,12 @@ fn with_unordered_list<W: OnType>(word: &str, work: W) -> Result<W::Output, W> {
     match word {
         "intset" => Ok(work.on::<SetOf<Integer>>()),
         "bag1" => Ok(work.on::<SetOf<Sequence1>>()),
+        _ => with_further_bag(word, work),
+    }
+}
+
+fn with_further_bag<W: OnType>(word: &str, work: W) -> Result<W::Output, W> {
+    match word {
         "bag2" => Ok(work.on::<SetOf<Sequence2>>()),
         "bag3" => Ok(work.on::<SetOf<Sequence7>>()),
         _ => Err(work),

@@ -1,7 +1,7 @@
 use Rattle.std.specs.Result.{OnOk}
 use Rattle.oer_read.proofs.Promises.{promise_of}
 use Rattle.oer_read.specs.Law.{IsRear}
-use Rattle.call_tests.proofs.one_row.read_default_addition.Goals as goal
+use Rattle.oer_memory.proofs.one_row.read_optional.Goals as goal
 
 pub decode_sequence-requires-clause-keeps : goal.decode_sequence-requires-clause-keeps
 decode_sequence-requires-clause-keeps c lent after v opened k =

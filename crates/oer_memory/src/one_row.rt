@@ -1,10 +1,12 @@
-//! Types of one component that stands under its type's own tag, read by each method of `Decoder` that asks it.
+//! Types of one component that stands under its type's own tag, read by each method of `Decoder` that asks it; and a set by
+//! a closure.
 ghost use Rattle.std.specs.Prelude.{◌≡◌, OnErr, OnOk};
 ghost use Rattle.oer_read.specs.Law.{IsRear};
 
 use asn1_core::{AsnType, Constructed, DecodeError, Field, FieldPresence, Fields, Tag};
 use asn1_ints::Integer;
-use rasn_oer::Decoder;
+use oer_types::{Foo, Set, components};
+use rasn_oer::{Decode, Decoder};
 use std::alloc::Global;
 
 const OPTIONAL: &'static [Field<'static>] = &[Field {
@@ -42,7 +44,7 @@ pub struct OneAddition {
 impl Constructed<1, 0> for OneOptional {
     ghost use Rattle.std.specs.Prelude.{false, refl, []};
     ghost use Rattle.asn1_core.specs.declared.fields.FieldPresence.TheVariants.{Optional};
-    ghost use Rattle.call_tests.specs.OneRow.{one_row};
+    ghost use Rattle.oer_memory.specs.OneRow.{one_row};
 
     ghost is_set = { false };
 
@@ -72,7 +74,7 @@ impl Constructed<1, 0> for OneOptional {
 impl Constructed<1, 0> for OneDefault {
     ghost use Rattle.std.specs.Prelude.{false, refl, []};
     ghost use Rattle.asn1_core.specs.declared.fields.FieldPresence.TheVariants.{Default};
-    ghost use Rattle.call_tests.specs.OneRow.{one_row};
+    ghost use Rattle.oer_memory.specs.OneRow.{one_row};
 
     ghost is_set = { false };
 
@@ -102,7 +104,7 @@ impl Constructed<1, 0> for OneDefault {
 impl Constructed<0, 1> for OneAddition {
     ghost use Rattle.std.specs.Prelude.{false, true, refl, []};
     ghost use Rattle.asn1_core.specs.declared.fields.FieldPresence.TheVariants.{Optional};
-    ghost use Rattle.call_tests.specs.OneRow.{one_row};
+    ghost use Rattle.oer_memory.specs.OneRow.{one_row};
 
     ghost is_set = { false };
 
@@ -309,5 +311,45 @@ pub fn read_default_addition(
             let n = default_addition(alloc, inner)?;
             Ok(OneAddition { n: Some(n) })
         },
+    )
+}
+
+/// A component of a `Foo` by the number of its tag.
+type Numbered = (u32, Integer);
+
+/// The set of these components; `c` is each that is neither `a` nor `b`.
+fn foo_of(fields: Vec<Numbered>) -> Foo {
+    let mut foo = components::Foo {
+        a: None,
+        b: None,
+        c: None,
+    };
+    for (number, value) in fields {
+        match number {
+            444 => foo.a = Some(value),
+            5 => foo.b = Some(value),
+            _ => foo.c = Some(value),
+        }
+    }
+    Set(foo)
+}
+
+/// Reads a set by a closure that is asked for each component, as `decode_set` does.
+///
+/// A refusal leaves the decoder as it was.
+pub fn read_set(alloc: Global, decoder: &mut Decoder<'_>) -> Result<Foo, DecodeError>
+    ensures unchanged { OnErr result (decoder.new ≡ decoder.old) }
+    ensures rear { OnOk result (IsRear decoder.old.input decoder.new.input) }
+{
+    decoder.decode_set::<3, 0, Numbered, Foo, _, _>(
+        alloc,
+        Tag::SET,
+        |inner: &mut Decoder<'_>, _index: usize, tag: Tag| -> Result<Numbered, DecodeError>
+            ensures { OnOk result (IsRear inner.old.input inner.new.input) }
+        {
+            let value = Integer::decode(alloc, inner)?;
+            Ok((tag.value, value))
+        },
+        |fields: Vec<Numbered>| -> Result<Foo, DecodeError> { Ok(foo_of(fields)) },
     )
 }

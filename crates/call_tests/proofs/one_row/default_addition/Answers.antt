@@ -1,5 +1,0 @@
-use Rattle.call_tests.proofs.Rear.{added_defaults_rear}
-use Rattle.call_tests.proofs.one_row.default_addition.Goals as goal
-
-pub returns : goal.returns
-returns c = added_defaults_rear _ _ _ _ _ _ _ _ _ c.decode_extension_addition_default.ensures
