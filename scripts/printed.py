@@ -1,5 +1,6 @@
 #!/usr/bin/env python3
-"""Says where crates/sample_types, or its line of crates.txt, isn't what oergen prints of crates/oergen/data/samples.asn.
+"""Says where crates/sample_types or crates/recursive_types, or the line of one in crates.txt, isn't what oergen prints of its module
+in crates/oergen/data.
 
 usage: printed.py PROGRAM, for example: printed.py crates/oergen/out/oergen
 
@@ -11,30 +12,46 @@ import sys
 import tempfile
 
 top = pathlib.Path(__file__).resolve().parent.parent
-NAME = "sample_types"
+MODULES = {"sample_types": "samples.asn", "recursive_types": "recursive.asn"}
 
 
-def printed(program, folder):
+def printed(program, folder, name):
     """The lines for crates.txt, and each file below the folder with its text."""
-    words = [program, "--out", folder, "--name", NAME, str(top / "crates/oergen/data/samples.asn")]
+    words = [program, "--out", folder, "--name", name, str(top / "crates/oergen/data" / MODULES[name])]
     lines = subprocess.run(words, check=True, capture_output=True, text=True, timeout=60).stdout
     root = pathlib.Path(folder)
     return lines, {str(it.relative_to(root)): it.read_text() for it in root.rglob("*") if it.is_file()}
 
 
-def main(program):
+def kept(name):
+    """Each file that is kept of a crate, but what the check makes, with its text."""
+    root = top / "crates" / name
+    files = [it for folder in ("src", "specs", "proofs") for it in (root / folder).rglob("*") if it.is_file()]
+    return {str(it.relative_to(top / "crates")): it.read_text() for it in files}
+
+
+def faults_of(program, name):
+    """What isn't as it is printed, and how many files are."""
     with tempfile.TemporaryDirectory() as folder:
-        lines, files = printed(program, folder)
-        again = printed(program, folder)
+        lines, files = printed(program, folder, name)
+        again = printed(program, folder, name)
     faults = [] if again == (lines, files) else ["the same module is printed otherwise the second time"]
-    kept = {str(it.relative_to(top / "crates")): it.read_text() for it in (top / "crates" / NAME / "src").rglob("*.rt")}
-    faults += [f"crates/{it} isn't what is printed" for it in sorted(kept.keys() | files.keys()) if kept.get(it) != files.get(it)]
+    own = kept(name)
+    faults += [f"crates/{it} isn't what is printed" for it in sorted(own.keys() | files.keys()) if own.get(it) != files.get(it)]
     listed = (top / "crates.txt").read_text().split("\n")
     faults += [f"crates.txt has no line '{it}'" for it in lines.splitlines() if it not in listed]
-    for fault in faults:
-        print(f"printed: {fault}")
-    print(f"printed: {len(files)} files of {NAME}, {'as they are kept' if not faults else f'{len(faults)} faults'}")
-    return 1 if faults else 0
+    return faults, len(files)
+
+
+def main(program):
+    status = 0
+    for name in MODULES:
+        faults, count = faults_of(program, name)
+        for fault in faults:
+            print(f"printed: {fault}")
+        print(f"printed: {count} files of {name}, {'as they are kept' if not faults else f'{len(faults)} faults'}")
+        status = 1 if faults else status
+    return status
 
 
 if __name__ == "__main__":

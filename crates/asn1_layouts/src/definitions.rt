@@ -13,6 +13,26 @@ const MAX_LISTS: usize = 64;
 /// How many types there may be.
 const MAX_DEFINITIONS: usize = 1000000;
 
+/// A circle of types that contain one another.
+#[derive(Clone, Copy)]
+pub struct Circle {
+    /// No other circle has it.
+    pub number: usize,
+    /// The place of its knot, the type that it is cut at: without it none of the others contains itself. Nothing where there is none.
+    pub knot: Option<usize>,
+}
+
+/// How a part leads back into the circle of the type that has it.
+#[derive(Clone, Copy, PartialEq, Eq)]
+pub enum Tie {
+    /// It doesn't.
+    Plain,
+    /// To the knot.
+    Knot,
+    /// To another type, by its place, past names.
+    Member(usize),
+}
+
 /// What a type has: a component, an alternative, an element, or what it is a name of.
 #[derive(Drop)]
 pub struct Part<'m> {
@@ -25,6 +45,8 @@ pub struct Part<'m> {
     pub inner: Link<'m>,
     /// The place of its definition, where it has one.
     pub target: Option<usize>,
+    /// `Plain` until circles are found.
+    pub tie: Tie,
 }
 
 /// A Rust type.
@@ -33,6 +55,8 @@ pub struct Definition<'m> {
     pub rust_name: String,
     pub link: Link<'m>,
     pub parts: Vec<Part<'m>>,
+    /// The circle that it is of: nothing where it isn't, and until circles are found.
+    pub circle: Option<Circle>,
 }
 
 /// A type that waits to be defined.
@@ -100,6 +124,7 @@ fn make_part<'m>(
         lists,
         inner,
         target,
+        tie: Tie::Plain,
     })
 }
 
@@ -122,6 +147,7 @@ fn define<'m>(
         rust_name,
         link,
         parts,
+        circle: None,
     })
 }
 

@@ -46,7 +46,7 @@ impl Walk {
 }
 
 /// Past names of types, which hold nothing themselves, to the type that is named.
-fn behind_names(definitions: &[Definition<'_>], start: usize) -> usize {
+pub fn behind_names(definitions: &[Definition<'_>], start: usize) -> usize {
     let mut at = start;
     for _ in 0..MAX_CHAIN {
         match definitions.get(at) {
@@ -141,4 +141,56 @@ pub fn boxes(
     definitions: &[Definition<'_>],
 ) -> Result<Vec<(usize, usize)>, AllocError> {
     Ok(walked(alloc, definitions, true)?.back)
+}
+
+/// Marks by which a walk stays among the definitions that have one's number.
+fn marks_around(
+    alloc: Global,
+    numbers: &[Option<usize>],
+    one: usize,
+) -> Result<Vec<Mark>, AllocError> {
+    let own = numbers.get(one).copied();
+    let mut marks = Vec::new(alloc);
+    for number in numbers.iter() {
+        marks.push(if Some(*number) == own {
+            Mark::New
+        } else {
+            Mark::Done
+        })?;
+    }
+    Ok(marks)
+}
+
+/// Whether a part, by the places of definition and part, leads to a definition.
+fn leads_to(definitions: &[Definition<'_>], from: (usize, usize), to: usize) -> bool {
+    match definitions.get(from.0).and_then(|d| d.parts.get(from.1)) {
+        Some(part) => part.target == Some(to),
+        None => false,
+    }
+}
+
+/// The places of those that have one's number, in order of use but for that one, which is the last: nothing where others contain
+/// themselves without it.
+pub fn order_around(
+    alloc: Global,
+    definitions: &[Definition<'_>],
+    numbers: &[Option<usize>],
+    one: usize,
+) -> Result<Option<Vec<usize>>, AllocError> {
+    let mut walk = Walk {
+        marks: marks_around(alloc, numbers, one)?,
+        open: Vec::new(alloc),
+        done: Vec::new(alloc),
+        back: Vec::new(alloc),
+    };
+    walk_from(definitions, one, false, &mut walk)?;
+    if walk
+        .back
+        .iter()
+        .all(|from| leads_to(definitions, *from, one))
+    {
+        Ok(Some(walk.done))
+    } else {
+        Ok(None)
+    }
 }

@@ -5,7 +5,7 @@ use crate::items::push_limits;
 use crate::shapes::shape_of;
 use crate::text::Text;
 use asn1_core::{Class, Tag};
-use asn1_layouts::definitions::{Definition, Part};
+use asn1_layouts::definitions::{Definition, Part, Tie};
 use asn1_layouts::rows::Row;
 use asn1_layouts::scope::Scope;
 use asn1_modules::ast::Need;
@@ -27,6 +27,8 @@ pub struct Cell {
     pub arguments: Text,
     /// Its line in the table, less the index.
     pub entry: Text,
+    /// Whether the type holds knots of its circle.
+    pub holds_knot: bool,
 }
 
 impl Cell {
@@ -39,6 +41,25 @@ impl Cell {
             head,
             arguments: Text::new(alloc),
             entry: Text::new(alloc),
+            holds_knot: false,
+        }
+    }
+
+    /// The cell of a type that leads back into its circle so: one for what holds knots has a name of its own.
+    fn tied(self, tie: Tie) -> Cell {
+        if tie == Tie::Plain {
+            return self;
+        }
+        let head = match self.head {
+            "Needs" => "NeedsKnot",
+            "MayHave" => "MayHaveKnot",
+            "Offers" => "OffersKnot",
+            other => other,
+        };
+        Cell {
+            head,
+            holds_knot: true,
+            ..self
         }
     }
 
@@ -182,7 +203,8 @@ pub fn cell_of<'m>(
     let rust = push_shape(scope, all, out, own.as_str(), part, row)?;
     let default = push_own_default(scope, all, out, own.as_str(), row, rust.as_str())?;
     let names = (name, part.rust_name.as_str());
-    Ok(component_cell(scope.alloc, names, row, rust.as_str(), default, is_addition).end()?)
+    let cell = component_cell(scope.alloc, names, row, rust.as_str(), default, is_addition);
+    Ok(cell.tied(part.tie).end()?)
 }
 
 /// The cell of an addition group, whose sequence is a type of its own.
@@ -233,5 +255,6 @@ pub fn alternative_of<'m>(
     let rust = push_shape(scope, all, out, own.as_str(), part, row)?;
     let names = (name, part.rust_name.as_str());
     let tag = row.tag.unwrap_or(Tag::EOC);
-    Ok(alternative_cell(scope.alloc, names, tag, rust.as_str()).end()?)
+    let cell = alternative_cell(scope.alloc, names, tag, rust.as_str());
+    Ok(cell.tied(part.tie).end()?)
 }

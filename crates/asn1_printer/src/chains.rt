@@ -19,6 +19,18 @@ pub struct Chain<'c> {
     pub root_count: usize,
     pub is_extensible: bool,
     pub is_choice: bool,
+    /// The knot of its circle, where it is of one.
+    pub knot: Option<&'c str>,
+}
+
+/// Whether one of some cells holds knots.
+fn hold_knots(cells: &[Cell]) -> bool {
+    cells.iter().any(|cell| cell.holds_knot)
+}
+
+/// Appends the parameter of what holds knots.
+fn push_parameter(out: &mut Text, cells: &[Cell]) {
+    out.push(if hold_knots(cells) { "<K>" } else { "" });
 }
 
 impl<'c> Chain<'c> {
@@ -91,19 +103,6 @@ fn push_alias(alloc: Global, out: &mut Text, name: &Text, cells: &[Cell], end: &
     push_closing(out, broken);
 }
 
-/// The name of the alias that begins at a place behind the first cell; otherwise another, which stands there.
-fn name_at(alloc: Global, owner: &str, cells: &[Cell], start: usize, otherwise: &Text) -> Text {
-    let mut name = Text::new(alloc);
-    match cells.get(start) {
-        Some(cell) if start != 0 => {
-            name.push_all(&[owner, "From"]);
-            name.push_text(&cell.camel);
-        }
-        _ => name.push_text(otherwise),
-    }
-    name
-}
-
 /// What an alias that isn't the first of its row is.
 fn push_doc(out: &mut Text, of: Chain<'_>, cells: &[Cell]) {
     let parts = if of.is_choice {
@@ -119,33 +118,57 @@ fn push_doc(out: &mut Text, of: Chain<'_>, cells: &[Cell]) {
     }
 }
 
+/// Cells of a row: the place of the first, and the one behind the last.
+#[derive(Clone, Copy)]
+struct Span {
+    from: usize,
+    to: usize,
+}
+
+/// The name of the alias that begins at a place of a span; where the span begins or ends there, another.
+fn name_in(alloc: Global, of: Chain<'_>, span: Span, at: usize, otherwise: &Text) -> Text {
+    let behind = of.cells.get(at..).unwrap_or(&[]);
+    let mut name = Text::new(alloc);
+    match behind.first() {
+        Some(cell) if span.from < at && at < span.to => {
+            name.push_all(&[of.owner, "From"]);
+            name.push_text(&cell.camel);
+            push_parameter(&mut name, behind);
+        }
+        _ => name.push_text(otherwise),
+    }
+    name
+}
+
 /// Prints cells in aliases of few, of which the first is named, with `end` behind the last cell.
 fn push_aliases(
     alloc: Global,
     out: &mut Text,
     of: Chain<'_>,
-    cells: &[Cell],
+    span: Span,
     first: &Text,
     end: &Text,
 ) {
+    let cells = of.cells.get(span.from..span.to).unwrap_or(&[]);
     if cells.is_empty() {
         push_alias(alloc, out, first, cells, end);
     }
     for (number, part) in cells.chunks(CELLS).enumerate() {
-        let start = number.saturating_mul(CELLS);
-        let own = name_at(alloc, of.owner, cells, start, first);
-        let end = name_at(alloc, of.owner, cells, start.saturating_add(CELLS), end);
-        if start != 0 {
+        let start = span.from.saturating_add(number.saturating_mul(CELLS));
+        let own = name_in(alloc, of, span, start, first);
+        let end = name_in(alloc, of, span, start.saturating_add(CELLS), end);
+        if number != 0 {
             push_doc(out, of, part);
         }
         push_alias(alloc, out, &own, part, &end);
     }
 }
 
-/// A name with another behind it.
-fn named(alloc: Global, owner: &str, behind: &str) -> Text {
+/// A name with another behind it, and the parameter where cells hold knots.
+fn named(alloc: Global, owner: &str, behind: &str, cells: &[Cell]) -> Text {
     let mut name = Text::new(alloc);
     name.push_all(&[owner, behind]);
+    push_parameter(&mut name, cells);
     name
 }
 
@@ -157,19 +180,29 @@ fn end_of_roots(alloc: Global, of: Chain<'_>) -> Text {
     } else if of.additions().is_empty() {
         end.push("Extensible<NoMore>");
     } else {
-        end.push_all(&["Extensible<", of.owner, "Additions>"]);
+        end.push_all(&["Extensible<", of.owner, "Additions"]);
+        push_parameter(&mut end, of.additions());
+        end.push(">");
     }
     end
 }
 
 /// Prints the row of a type, `OWNERRow`: what stands in its root, and behind that its additions.
 pub fn push_row(alloc: Global, out: &mut Text, of: Chain<'_>) {
-    let row = named(alloc, of.owner, "Row");
+    let row = named(alloc, of.owner, "Row", of.cells);
     let end = end_of_roots(alloc, of);
-    push_aliases(alloc, out, of, of.roots(), &row, &end);
+    let roots = Span {
+        from: 0,
+        to: of.roots().len(),
+    };
+    push_aliases(alloc, out, of, roots, &row, &end);
     if !of.additions().is_empty() {
-        let name = named(alloc, of.owner, "Additions");
-        let end = named(alloc, "NoMore", "");
-        push_aliases(alloc, out, of, of.additions(), &name, &end);
+        let name = named(alloc, of.owner, "Additions", of.additions());
+        let end = named(alloc, "NoMore", "", &[]);
+        let additions = Span {
+            from: roots.to,
+            to: of.cells.len(),
+        };
+        push_aliases(alloc, out, of, additions, &name, &end);
     }
 }

@@ -2,6 +2,8 @@
 
 use crate::cells::{Cell, alternative_of};
 use crate::chains::{Chain, push_row};
+use crate::knot_rows::{push_knot_alternating, push_knot_enum, put_tag_names};
+use crate::knots::{knot_name, put_parameter};
 use crate::templates::{CHOICE, CHOICE_IMPLS, TAGS};
 use crate::text::{Text, Words};
 use asn1_layouts::definitions::Definition;
@@ -9,14 +11,14 @@ use asn1_layouts::layouts::is_extensible;
 use asn1_layouts::rows::Position;
 use asn1_layouts::scope::Scope;
 use asn1_modules::refusal::Refusal;
-use std::alloc::Global;
+use std::alloc::{AllocError, Global};
 use std::collections::BTreeSet;
 
 /// How many alternatives a printed CHOICE has at most.
 const MAX_ALTERNATIVES: usize = 16;
 
 /// Appends the name of the table of a CHOICE's tags.
-fn push_table_name(out: &mut Text, owner: &str, part: &str) {
+pub fn push_table_name(out: &mut Text, owner: &str, part: &str) {
     out.push_upper(owner);
     out.push_all(&["_", part]);
 }
@@ -43,7 +45,7 @@ fn push_table(alloc: Global, out: &mut Text, owner: &str, part: &str, cells: &[C
 }
 
 /// The variants of an enum, each with what it holds, a line each.
-fn push_variants(out: &mut Text, cells: &[Cell]) {
+pub fn push_variants(out: &mut Text, cells: &[Cell]) {
     for cell in cells.iter() {
         out.push_all(&[
             "    ",
@@ -65,14 +67,14 @@ fn push_enum(alloc: Global, out: &mut Text, doc: &str, of: Chain<'_>) {
 }
 
 /// The names of variants.
-fn push_names(out: &mut Text, cells: &[Cell]) {
+pub fn push_names(out: &mut Text, cells: &[Cell]) {
     for (at, cell) in cells.iter().enumerate() {
         out.push_all(&[if at == 0 { "" } else { ", " }, cell.camel.as_str()]);
     }
 }
 
 /// What each variant is in the row.
-fn push_cases(out: &mut Text, cells: &[Cell]) {
+pub fn push_cases(out: &mut Text, cells: &[Cell]) {
     for (at, cell) in cells.iter().enumerate() {
         out.push_all(&[
             if at == 0 { "" } else { " | " },
@@ -94,7 +96,7 @@ fn push_tables(alloc: Global, out: &mut Text, of: Chain<'_>) {
 }
 
 /// What names the tags of the additions.
-fn push_addition_name(out: &mut Text, of: Chain<'_>) {
+pub fn push_addition_name(out: &mut Text, of: Chain<'_>) {
     if !of.is_extensible {
         out.push("None");
         return;
@@ -104,17 +106,42 @@ fn push_addition_name(out: &mut Text, of: Chain<'_>) {
     out.push(")");
 }
 
-/// Prints the tags and the conversions of a CHOICE.
+/// Prints the conversions of a CHOICE.
 fn push_impls(alloc: Global, out: &mut Text, of: Chain<'_>) {
     let mut words = Words::new(alloc);
     words.put("HOME", "@HOME@");
     words.put("NAME", of.owner);
     push_names(words.begin("LIST"), of.cells);
     push_cases(words.begin("CASES"), of.cells);
-    push_tables(alloc, words.begin("TABLES"), of);
     push_table_name(words.begin("ROOTS"), of.owner, "ROOTS");
     push_addition_name(words.begin("ADDITIONS"), of);
+    put_tag_names(&mut words, of);
+    put_parameter(&mut words, of);
     out.fill(CHOICE_IMPLS, &words);
+}
+
+/// Prints a CHOICE by its cells.
+fn push_alternatives(
+    alloc: Global,
+    out: &mut Text,
+    doc: &str,
+    of: Chain<'_>,
+) -> Result<(), AllocError> {
+    match of.knot {
+        Some(knot) => {
+            push_knot_enum(alloc, out, doc, of, knot);
+            push_row(alloc, out, of);
+            push_tables(alloc, out, of);
+            push_knot_alternating(alloc, out, of, knot)?;
+        }
+        None => {
+            push_enum(alloc, out, doc, of);
+            push_row(alloc, out, of);
+            push_tables(alloc, out, of);
+        }
+    }
+    push_impls(alloc, out, of);
+    Ok(())
 }
 
 /// Puts the cells of the root alternatives, or of the others, behind others.
@@ -182,9 +209,8 @@ pub fn push_choice<'m>(
         root_count,
         is_extensible: is_extensible(definition.link.of),
         is_choice: true,
+        knot: knot_name(all, definition),
     };
-    push_enum(alloc, out, doc, of);
-    push_row(alloc, out, of);
-    push_impls(alloc, out, of);
+    push_alternatives(alloc, out, doc, of)?;
     Ok(())
 }

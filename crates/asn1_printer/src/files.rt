@@ -1,8 +1,12 @@
 //! The files of the crates that the types are put into.
 
+use crate::knot_files::{has_knots, push_circle_files, push_definition_names};
+use crate::knot_templates::KNOT_USES;
+use crate::outputs::{File, push_placed};
 use crate::printer::{LeftOut, Outcome, Printed, print_types};
 use crate::text::Text;
 use crate::uses::{Homes, Paths, path_lines, push_path, use_lines};
+use asn1_layouts::circles::find_circles;
 use asn1_layouts::definitions::definitions;
 use asn1_layouts::scope::{Scope, all_tokens};
 use asn1_modules::lexer::Token;
@@ -11,27 +15,23 @@ use asn1_modules::refusal::Refusal;
 use std::alloc::{AllocError, Global};
 use std::collections::BTreeMap;
 
-/// How many types a crate has: so that its check stays within a few minutes.
+/// How many types a crate has, but for the rest of a circle: so that its check stays within a few minutes.
 const TYPES_A_CRATE: usize = 40;
 
-/// How many lines a file has, but for its last type.
+/// How many lines a file has, but for its last type or circle.
 const LINES_A_FILE: usize = 500;
 
 /// The library that each printed crate uses.
 const LIBRARY: &str = "rasn_oer";
+
+/// Those that a crate with types that contain themselves uses.
+const KNOT_LIBRARIES: &str = "rasn_oer oer_write asn1_core";
 
 /// The module of a crate's first file.
 const FIRST_MODULE: &str = "types_01";
 
 /// The first line of each file.
 const HEAD: &str = "//! Types of ASN.1 modules, as oergen printed them.\n";
-
-/// A file: its path below the folder of crates, and its text.
-#[derive(Drop)]
-pub struct File {
-    pub path: String,
-    pub text: String,
-}
 
 /// What is written: files, lines of `crates.txt`, and a line for each type that was left out.
 #[derive(Drop)]
@@ -82,49 +82,87 @@ fn line_count(text: &str) -> usize {
     count
 }
 
-/// Where a section begins: its first type, and its file's number from 1.
+/// Where a file's types stand: the numbers of its crate and of its module, from 1, and the places of the types.
 #[derive(Clone, Copy)]
-struct Start {
+struct Cut {
+    library: usize,
+    module: usize,
     from: usize,
-    number: usize,
+    to: usize,
 }
 
-/// The section that ends with a type, of so many types.
-fn section_to(
-    alloc: Global,
-    name: &str,
-    start: Start,
-    last: usize,
-    count: usize,
-) -> Result<Section, AllocError> {
-    let number = (last / TYPES_A_CRATE).saturating_add(1);
-    Ok(Section {
-        library: library_name(alloc, name, number, count.div_ceil(TYPES_A_CRATE))?,
-        module: module_name(alloc, start.number)?,
-        from: start.from,
-        to: last.saturating_add(1),
-    })
+impl Cut {
+    /// Where the next file begins, in the same crate or in another.
+    fn next(self, ends_crate: bool) -> Cut {
+        let (library, module) = if ends_crate {
+            (self.library.saturating_add(1), 1)
+        } else {
+            (self.library, self.module.saturating_add(1))
+        };
+        Cut {
+            library,
+            module,
+            from: self.to,
+            to: self.to,
+        }
+    }
 }
 
-/// Cuts the types into crates and files.
-fn sections(alloc: Global, name: &str, types: &[Printed]) -> Result<Vec<Section>, AllocError> {
-    let mut all: Vec<Section> = Vec::new(alloc);
-    let mut start = Start { from: 0, number: 1 };
+/// Whether a type stands in the file of the one before.
+fn is_joined(types: &[Printed], at: usize) -> bool {
+    match types.get(at) {
+        Some(one) => one.is_joined,
+        None => false,
+    }
+}
+
+/// Cuts the types into crates and files; a circle isn't cut.
+fn cuts(alloc: Global, types: &[Printed]) -> Result<Vec<Cut>, AllocError> {
+    let mut all: Vec<Cut> = Vec::new(alloc);
+    let mut cut = Cut {
+        library: 1,
+        module: 1,
+        from: 0,
+        to: 0,
+    };
+    let mut crate_from = 0usize;
     let mut lines = 0usize;
     for (at, one) in types.iter().enumerate() {
         lines = lines.saturating_add(line_count(one.text.as_str()));
-        let to = at.saturating_add(1);
-        let ends_crate = to % TYPES_A_CRATE == 0 || to == types.len();
-        if !ends_crate && lines < LINES_A_FILE {
+        cut.to = at.saturating_add(1);
+        let count = cut.to.saturating_sub(crate_from);
+        let ends_crate = count >= TYPES_A_CRATE || cut.to == types.len();
+        if is_joined(types, cut.to) || !ends_crate && lines < LINES_A_FILE {
             continue;
         }
-        all.push(section_to(alloc, name, start, at, types.len())?)?;
-        let number = if ends_crate { 0 } else { start.number };
-        start = Start {
-            from: to,
-            number: number.saturating_add(1),
-        };
+        all.push(cut)?;
+        cut = cut.next(ends_crate);
+        crate_from = if ends_crate { cut.from } else { crate_from };
         lines = 0;
+    }
+    Ok(all)
+}
+
+/// The section of a cut, in one of so many crates.
+fn section_of(alloc: Global, name: &str, cut: Cut, count: usize) -> Result<Section, AllocError> {
+    Ok(Section {
+        library: library_name(alloc, name, cut.library, count)?,
+        module: module_name(alloc, cut.module)?,
+        from: cut.from,
+        to: cut.to,
+    })
+}
+
+/// The types by crates and files.
+fn sections(alloc: Global, name: &str, types: &[Printed]) -> Result<Vec<Section>, AllocError> {
+    let cuts = cuts(alloc, types)?;
+    let count = match cuts.last() {
+        Some(last) => last.library,
+        None => 0,
+    };
+    let mut all = Vec::new(alloc);
+    for cut in cuts.iter() {
+        all.push(section_of(alloc, name, *cut, count)?)?;
     }
     Ok(all)
 }
@@ -163,11 +201,6 @@ fn body_of(alloc: Global, types: &[Printed]) -> Result<String, AllocError> {
     body.end()
 }
 
-/// The name that a file's definitions have.
-fn push_home(out: &mut Text, library: &str, module: &str) {
-    out.push_all(&[library, ".specs.declared.", module]);
-}
-
 /// Appends what stands behind a mark: the home of the name there, and the rest.
 fn push_behind_mark(out: &mut Text, piece: &str, homes: &Homes) {
     let Some((name, rest)) = piece.split_once('@') else {
@@ -175,7 +208,7 @@ fn push_behind_mark(out: &mut Text, piece: &str, homes: &Homes) {
         return;
     };
     if let Some((library, module)) = homes.get(name) {
-        push_home(out, library.as_str(), module.as_str());
+        out.push_all(&[library.as_str(), ".specs.declared.", module.as_str()]);
     }
     out.push(rest);
 }
@@ -191,13 +224,6 @@ fn push_with_homes(out: &mut Text, text: &str, homes: &Homes) {
     }
 }
 
-/// The path of a crate's file.
-fn path_of(alloc: Global, library: &str, module: &str) -> Result<String, AllocError> {
-    let mut path = Text::new(alloc);
-    path.push_all(&[library, "/src/", module, ".rt"]);
-    path.end()
-}
-
 /// The text of a section's file: its types, behind the names that they take from elsewhere.
 fn section_text(
     alloc: Global,
@@ -207,17 +233,16 @@ fn section_text(
 ) -> Result<String, AllocError> {
     let library = section.library.as_str();
     let module = section.module.as_str();
+    let has_knot = has_knots(types_of(types, section));
     let types = body_of(alloc, types_of(types, section))?;
     let uses = use_lines(alloc, types.as_str(), homes, library, module)?;
-    let mut home = Text::new(alloc);
-    push_home(&mut home, library, module);
     let mut body = Text::new(alloc);
-    body.push_replaced(types.as_str().trim_end(), "@HOME@", home.as_str());
+    push_placed(&mut body, types.as_str().trim_end(), library, module);
     let mut out = Text::new(alloc);
-    out.push_all(&[HEAD, "\n", uses.as_str(), "\n"]);
+    out.push_all(&[HEAD, if has_knot { KNOT_USES } else { "" }, "\n"]);
+    out.push_all(&[uses.as_str(), "\n"]);
     push_with_homes(&mut out, body.as_str(), homes);
     out.push("\n");
-    home.end()?;
     body.end()?;
     out.end()
 }
@@ -229,10 +254,14 @@ fn section_file(
     homes: &Homes,
     section: &Section,
 ) -> Result<File, AllocError> {
-    Ok(File {
-        path: path_of(alloc, section.library.as_str(), section.module.as_str())?,
-        text: section_text(alloc, types, homes, section)?,
-    })
+    let text = section_text(alloc, types, homes, section)?;
+    let path = [
+        section.library.as_str(),
+        "/src/",
+        section.module.as_str(),
+        ".rt",
+    ];
+    File::at(alloc, &path, text)
 }
 
 /// Puts the paths of a section's names to others.
@@ -287,10 +316,42 @@ fn root_file(
     text.push_all(&[HEAD, "#![tactic(auto)]\n\n"]);
     push_modules(&mut text, all, library);
     text.push_all(&["\n", names.as_str()]);
-    Ok(File {
-        path: path_of(alloc, library, "lib")?,
-        text: text.end()?,
-    })
+    File::at(alloc, &[library, "/src/lib.rt"], text.end()?)
+}
+
+/// The file that names a crate's definitions; nothing where it has none.
+fn definitions_root(
+    alloc: Global,
+    types: &[Printed],
+    all: &[Section],
+    library: &str,
+) -> Result<Option<File>, AllocError> {
+    let mut text = Text::new(alloc);
+    for section in all.iter() {
+        if section.library.as_str() == library {
+            push_definition_names(&mut text, types_of(types, section));
+        }
+    }
+    let text = text.end()?;
+    if text.is_empty() {
+        return Ok(None);
+    }
+    Ok(Some(File::at(alloc, &[library, "/specs/Lib.antt"], text)?))
+}
+
+/// Puts the root files of a crate behind others.
+fn push_root_files(
+    alloc: Global,
+    files: &mut Vec<File>,
+    types: &[Printed],
+    all: &[Section],
+    library: &str,
+) -> Result<(), AllocError> {
+    files.push(root_file(alloc, types, all, library)?)?;
+    if let Some(root) = definitions_root(alloc, types, all, library)? {
+        files.push(root)?;
+    }
+    Ok(())
 }
 
 /// The files of all crates.
@@ -299,25 +360,35 @@ fn crate_files(alloc: Global, types: &[Printed], all: &[Section]) -> Result<Vec<
     let mut files = Vec::new(alloc);
     for section in all.iter() {
         files.push(section_file(alloc, types, &homes, section)?)?;
+        let place = (section.library.as_str(), section.module.as_str());
+        push_circle_files(alloc, &mut files, types_of(types, section), place)?;
         if section.module.as_str() == FIRST_MODULE {
-            files.push(root_file(alloc, types, all, section.library.as_str())?)?;
+            push_root_files(alloc, &mut files, types, all, section.library.as_str())?;
         }
     }
     Ok(files)
 }
 
+/// The libraries that a crate uses beside those that are printed.
+fn libraries_of(types: &[Printed], all: &[Section], library: &str) -> &'static str {
+    let needs_knots = all.iter().any(|section| section.library.as_str() == library
+        && has_knots(types_of(types, section)));
+    if needs_knots { KNOT_LIBRARIES } else { LIBRARY }
+}
+
 /// Appends the lines of `crates.txt`, lowest first.
-fn push_crates(alloc: Global, out: &mut Text, all: &[Section]) {
+fn push_crates(alloc: Global, out: &mut Text, types: &[Printed], all: &[Section]) {
     let mut lower = Text::new(alloc);
     for section in all.iter() {
         if section.module.as_str() == FIRST_MODULE {
             let library = section.library.as_str();
             out.push_all(&[library, ": "]);
             out.push_text(&lower);
-            out.push_all(&[LIBRARY, "\n"]);
+            out.push_all(&[libraries_of(types, all, library), "\n"]);
             lower.push_all(&[library, " "]);
         }
     }
+    out.heed(&lower);
 }
 
 /// What is asked for: the name of the crate, the names of the files that were handed in, and whether types that can't be printed
@@ -358,7 +429,7 @@ fn output_of(alloc: Global, outcome: &Outcome, wish: Wish<'_>) -> Result<Output,
     let types = outcome.printed.as_slice();
     let all = sections(alloc, wish.name, types)?;
     let mut lines = Text::new(alloc);
-    push_crates(alloc, &mut lines, all.as_slice());
+    push_crates(alloc, &mut lines, types, all.as_slice());
     push_left_out(alloc, &mut lines, outcome.left_out.as_slice(), wish.files)?;
     Ok(Output {
         files: crate_files(alloc, types, all.as_slice())?,
@@ -368,8 +439,9 @@ fn output_of(alloc: Global, outcome: &Outcome, wish: Wish<'_>) -> Result<Output,
 
 /// The crates of modules that were resolved.
 fn crates_of_scope(scope: Scope<'_, '_>, wish: Wish<'_>) -> Result<Output, Refusal> {
-    let all = definitions(scope)?;
-    let outcome = print_types(scope, all.as_slice(), wish.leaves_out)?;
+    let mut all = definitions(scope)?;
+    let order = find_circles(scope.alloc, &mut all)?;
+    let outcome = print_types(scope, all.as_slice(), order.as_slice(), wish.leaves_out)?;
     Ok(output_of(scope.alloc, &outcome, wish)?)
 }
 

@@ -2,16 +2,18 @@
 ghost use Rattle.std.specs.Prelude.{◌≡◌, ◌+◌, [], Err, false, IfOk, length};
 
 use crate::choices::push_choice;
+use crate::circles::{again, require_circle, run_of};
 use crate::enumerations::push_enumerated;
 use crate::items::push_limits;
+use crate::knots::{knot_name, push_knot, push_list};
 use crate::notation::push_notation;
 use crate::sequences::push_sequence;
 use crate::shapes::shape_of;
 use crate::templates::ALIAS;
 use crate::text::{Text, Words};
 use crate::uses::{KNOWN, declared_names};
-use asn1_layouts::definitions::Definition;
-use asn1_layouts::order::order_of_use;
+use crate::weights::{Knot, Weights, knot_of, weights_of};
+use asn1_layouts::definitions::{Circle, Definition, Tie};
 use asn1_layouts::scope::Scope;
 use asn1_modules::ast::Body;
 use asn1_modules::lexer::Token;
@@ -26,10 +28,11 @@ any asntype bitstring bmpstring bounded choice class codec constraints construct
 encodeerror encodeerrorkind enumerated field fieldpresence fields generalstring generalizedtime graphicstring ia5string \
 numericstring objectidentifier octetstring printablestring sequenceof setof tag teletexstring utctime utf8string \
 visiblestring constrainedinteger integer integerrange alternating alternativeviews alternatives either enumeration \
-numbered offers oneof decode decodechoice decoder decoderoptions adddefaults additionviews additions adds application \
-compared components context defaults extensible intagorder isfalse isnull isnumber istrue limited limits listof mayadd \
-mayaddgroup mayhave needs nomore place private reads readsadditions rowed schemed sequence set standard tabled takes \
-takesalternative universal views writes octets openoctets bmptext generaltext graphictext ia5text numerictext printabletext teletextext \
+numbered offers oneof decode decodechoice decodeinside decodeknot decoder decoderoptions adddefaults additionviews additions adds application \
+compared components context defaults extensible held holdsknot intagorder isfalse isnull isnumber istrue knot knotalternating knotalternatives knotrow knotrowed layered limited limits listof mayadd \
+mayaddgroup mayhave mayhaveknot needs needsknot nomore offersknot place private reads readsadditions readsalternatives \
+readsknot readsknotalternatives rowed schemed sequence set standard tabled takes \
+takesalternative takesknot takesknotalternative universal views writes octets openoctets bmptext generaltext graphictext ia5text numerictext printabletext teletextext \
 utf8text visibletext within equalasspelled spelled encode encoder are_bits bits_from bmp_from built fields from_row pairs tags to_row";
 
 /// A type that was printed: its text, and the names that others may use.
@@ -37,6 +40,12 @@ utf8text visibletext within equalasspelled spelled encode encoder are_bits bits_
 pub struct Printed {
     pub text: String,
     pub names: Vec<String>,
+    /// Whether it stands in the file of the type before: both are of one circle.
+    pub is_joined: bool,
+    /// What the definitions of its circle have of it.
+    pub weights: Weights,
+    /// What they have of it as their knot, which is the last of its circle.
+    pub knot: Option<Knot>,
 }
 
 /// A type that was left out, and why.
@@ -61,7 +70,25 @@ enum State {
     LeftOut,
 }
 
-/// Refuses a type that stands on one that isn't printed.
+/// What is known so far: what became of each type, the printed names in small letters, and what came of a circle's other types, which
+/// are printed with its first one, the next one last.
+#[derive(Drop)]
+struct Progress {
+    states: Vec<State>,
+    seen: BTreeSet<String>,
+    waiting: Vec<Result<Printed, Refusal>>,
+}
+
+impl Progress {
+    /// Says what became of a type.
+    fn set(&mut self, at: usize, state: State) {
+        if let Some(place) = self.states.get_mut(at) {
+            *place = state;
+        }
+    }
+}
+
+/// Refuses a type that stands on one that isn't printed, but for those of its own circle.
 fn require_targets<'m>(
     scope: Scope<'m, '_>,
     definition: &Definition<'m>,
@@ -71,17 +98,12 @@ fn require_targets<'m>(
         let Some(target) = part.target else {
             continue;
         };
+        if part.tie != Tie::Plain {
+            continue;
+        }
         match states.get(target).copied() {
             Some(State::Printed) => {}
-            Some(State::LeftOut) => {
-                return Err(scope.refused(part.inner.of.first, "a type that is printed"));
-            }
-            _ => {
-                return Err(scope.refused(
-                    part.inner.of.first,
-                    "a type that doesn't contain itself: recursion by rows isn't printed yet",
-                ));
-            }
+            _ => return Err(scope.refused(part.inner.of.first, "a type that is printed")),
         }
     }
     Ok(())
@@ -109,10 +131,30 @@ fn push_alias<'m>(
     };
     let name = definition.rust_name.as_str();
     let shape = shape_of(scope, all, part, definition.link, name)?;
+    if let Some(knot) = knot_name(all, definition) {
+        push_list(scope.alloc, out, doc, name, knot, &shape.text);
+        return Ok(());
+    }
     push_name(scope.alloc, out, name, doc, &shape.text);
     match shape.limits {
         Some(limits) => push_limits(scope, out, name, limits, definition.link.of.first),
         None => Ok(()),
+    }
+}
+
+/// A name of a type of its circle.
+fn push_circle_name(
+    alloc: Global,
+    all: &[Definition<'_>],
+    out: &mut Text,
+    definition: &Definition<'_>,
+    doc: &str,
+) {
+    let target = definition.parts.first().and_then(|part| part.target);
+    if let Some(target) = target.and_then(|at| all.get(at)) {
+        let mut rust = Text::new(alloc);
+        rust.push(target.rust_name.as_str());
+        push_name(alloc, out, definition.rust_name.as_str(), doc, &rust);
     }
 }
 
@@ -163,7 +205,13 @@ fn text_of<'m>(
             let items = (items.as_slice(), root.unwrap_or(items.len()));
             push_enumerated(scope, &mut out, definition, items, doc)?;
         }
+        Body::Reference(_) if definition.circle.is_some() => {
+            push_circle_name(scope.alloc, all, &mut out, definition, doc);
+        }
         _ => push_alias(scope, all, &mut out, definition, doc)?,
+    }
+    if knot_name(all, definition) == Some(definition.rust_name.as_str()) {
+        push_knot(scope.alloc, &mut out, definition)?;
     }
     Ok(out.end()?)
 }
@@ -220,12 +268,91 @@ fn print_one<'m>(
     scope: Scope<'m, '_>,
     all: &[Definition<'m>],
     definition: &Definition<'m>,
-    states: &[State],
-    seen: &mut BTreeSet<String>,
+    progress: &mut Progress,
 ) -> Result<Printed, Refusal> {
-    let text = text_of(scope, all, definition, states)?;
-    let names = names_of_text(scope, definition, text.as_str(), seen)?;
-    Ok(Printed { text, names })
+    let text = text_of(scope, all, definition, progress.states.as_slice())?;
+    let names = names_of_text(scope, definition, text.as_str(), &mut progress.seen)?;
+    Ok(Printed {
+        text,
+        names,
+        is_joined: false,
+        weights: weights_of(scope, all, definition)?,
+        knot: knot_of(scope.alloc, all, definition)?,
+    })
+}
+
+/// Prints the types of a circle, the last one first.
+fn print_members<'m>(
+    scope: Scope<'m, '_>,
+    all: &[Definition<'m>],
+    run: &[usize],
+    progress: &mut Progress,
+) -> Result<Vec<Result<Printed, Refusal>>, Refusal> {
+    let mut made = Vec::new(scope.alloc);
+    for (number, at) in run.iter().enumerate().rev() {
+        if let Some(definition) = all.get(*at) {
+            let one = print_one(scope, all, definition, progress)?;
+            made.push(Ok(Printed {
+                is_joined: number != 0,
+                ..one
+            }))?;
+        }
+    }
+    Ok(made)
+}
+
+/// A refusal for each of so many types.
+fn refuse_all(
+    alloc: Global,
+    why: &Refusal,
+    count: usize,
+) -> Result<Vec<Result<Printed, Refusal>>, Refusal> {
+    let mut made = Vec::new(alloc);
+    for _ in 0..count {
+        made.push(Err(again(alloc, why)))?;
+    }
+    Ok(made)
+}
+
+/// Prints the types of a circle, or refuses each as the first of them is that can't be printed.
+fn print_circle<'m>(
+    scope: Scope<'m, '_>,
+    all: &[Definition<'m>],
+    run: &[usize],
+    circle: Circle,
+    progress: &mut Progress,
+) -> Result<(), Refusal> {
+    let made = match require_circle(scope, all, circle, run) {
+        Ok(()) => print_members(scope, all, run, progress),
+        Err(why) => Err(why),
+    };
+    progress.waiting = match made {
+        Ok(made) => made,
+        Err(why) => refuse_all(scope.alloc, &why, run.len())?,
+    };
+    Ok(())
+}
+
+/// Prints the type whose turn it is. At the turn of the first type of a circle all of them are printed.
+fn print_at<'m>(
+    scope: Scope<'m, '_>,
+    all: &[Definition<'m>],
+    order: &[usize],
+    turn: usize,
+    definition: &Definition<'m>,
+    progress: &mut Progress,
+) -> Result<Printed, Refusal> {
+    let Some(circle) = definition.circle else {
+        return print_one(scope, all, definition, progress);
+    };
+    if progress.waiting.is_empty() {
+        let run = run_of(all, order, turn, circle);
+        print_circle(scope, all, run, circle, progress)?;
+    }
+    match progress.waiting.pop() {
+        Some(made) => made,
+        None => Err(scope.refused(definition.link.of.first, "a type that is printed")),
+    }
 }
 
 /// A type that is left out; the refusal itself, where types aren't left out or memory was refused.
@@ -244,8 +371,9 @@ fn left_out_by(
     Ok(LeftOut { name, why })
 }
 
-/// Prints the types in turn, by `order`, which has each place once; what can't be printed is refused, or left out.
-fn print_in_turn<'m>(
+/// Prints types in an order of use that has the types of a circle together: as many are printed and left out together as are handed
+/// in. Refused at the first that can't be printed; with `leaves_out` that one, its circle, and all that stand on them, are left out.
+pub fn print_types<'m>(
     scope: Scope<'m, '_>,
     all: &[Definition<'m>],
     order: &[usize],
@@ -255,14 +383,17 @@ fn print_in_turn<'m>(
     ensures each { IfOk result (λ it. length it.printed.items + length it.left_out.items ≡ length all.now) }
 {
     let alloc = scope.alloc;
-    let mut states = vec![in alloc; State::New; all.len()]?;
-    let mut seen = taken_names(alloc)?;
+    let mut progress = Progress {
+        states: vec![in alloc; State::New; all.len()]?,
+        seen: taken_names(alloc)?,
+        waiting: Vec::new(alloc),
+    };
     let mut printed = Vec::new(alloc);
     let mut left_out = Vec::new(alloc);
     for turn in 0..all.len() {
         let at = order.get(turn).copied().unwrap_or(turn);
         let definition = all.get(at).unwrap_or(&all[turn]);
-        let state = match print_one(scope, all, definition, states.as_slice(), &mut seen) {
+        let state = match print_at(scope, all, order, turn, definition, &mut progress) {
             Ok(one) => {
                 printed.push(one)?;
                 State::Printed
@@ -272,23 +403,7 @@ fn print_in_turn<'m>(
                 State::LeftOut
             }
         };
-        if let Some(place) = states.get_mut(at) {
-            *place = state;
-        }
+        progress.set(at, state);
     }
     Ok(Outcome { printed, left_out })
-}
-
-/// Prints types in order of use: as many are printed and left out together as are handed in. Refused at the first that can't be
-/// printed; with `leaves_out` that one, and all that stand on it, are left out.
-pub fn print_types<'m>(
-    scope: Scope<'m, '_>,
-    all: &[Definition<'m>],
-    leaves_out: bool,
-) -> Result<Outcome, Refusal>
-    ensures unasked { leaves_out ≡ false → IfOk result (λ it. it.left_out.items ≡ []) }
-    ensures each { IfOk result (λ it. length it.printed.items + length it.left_out.items ≡ length all.now) }
-{
-    let order = order_of_use(scope.alloc, all)?;
-    print_in_turn(scope, all, order.as_slice(), leaves_out)
 }

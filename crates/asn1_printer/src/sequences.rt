@@ -2,6 +2,8 @@
 
 use crate::cells::{Cell, cell_of, group_cell};
 use crate::chains::{Chain, push_row};
+use crate::knot_rows::{push_knot_rowed, push_knot_struct, push_knot_tables};
+use crate::knots::{knot_name, put_parameter};
 use crate::templates::{IN_TAG_ORDER, MEMBERS, TABLES, TYPE, USES_BOTH};
 use crate::text::{Text, Words};
 use asn1_core::Class;
@@ -15,7 +17,7 @@ use std::alloc::{AllocError, Global};
 use std::collections::{BTreeMap, BTreeSet};
 
 /// The fields of a struct, a line each.
-fn push_fields(out: &mut Text, cells: &[Cell]) {
+pub fn push_fields(out: &mut Text, cells: &[Cell]) {
     for cell in cells.iter() {
         out.push_all(&[
             "\n    pub ",
@@ -31,7 +33,7 @@ fn push_fields(out: &mut Text, cells: &[Cell]) {
 }
 
 /// The names of the fields, a line each.
-fn push_list(out: &mut Text, cells: &[Cell]) {
+pub fn push_list(out: &mut Text, cells: &[Cell]) {
     for (index, cell) in cells.iter().enumerate() {
         let between = if index == 0 { "" } else { ",\n" };
         out.push_all(&[between, "            ", cell.field.as_str()]);
@@ -39,13 +41,22 @@ fn push_list(out: &mut Text, cells: &[Cell]) {
 }
 
 /// A value's fields, one behind another as a row has them.
-fn push_pairs(out: &mut Text, cells: &[Cell]) {
+pub fn push_pairs(out: &mut Text, cells: &[Cell]) {
     for (index, cell) in cells.iter().enumerate() {
         let both = if index == 0 { "both v." } else { "(both v." };
         out.push_all(&[both, cell.field.as_str(), " "]);
     }
     out.push("tt");
     out.push_times(")", cells.len().saturating_sub(1));
+}
+
+/// The lines of a table of components, with what begins each.
+pub fn push_entries(out: &mut Text, cells: &[Cell], front: &str) {
+    for (index, cell) in cells.iter().enumerate() {
+        out.push_all(&[if index == 0 { "" } else { "," }, front]);
+        out.push_count(index);
+        out.push_all(&[" ", cell.entry.as_str()]);
+    }
 }
 
 /// A table of components.
@@ -55,15 +66,7 @@ fn push_table(out: &mut Text, cells: &[Cell]) {
         return;
     }
     out.push("Fields {\n        fields: fields![");
-    for (index, cell) in cells.iter().enumerate() {
-        out.push(if index == 0 {
-            "\n            "
-        } else {
-            ",\n            "
-        });
-        out.push_count(index);
-        out.push_all(&[" ", cell.entry.as_str()]);
-    }
+    push_entries(out, cells, "\n            ");
     out.push("\n        ],\n    }");
 }
 
@@ -79,7 +82,7 @@ fn push_additions(out: &mut Text, of: Chain<'_>) {
 }
 
 /// How many root components and additions a type has, in digits.
-fn put_counts(words: &mut Words, of: Chain<'_>) {
+pub fn put_counts(words: &mut Words, of: Chain<'_>) {
     words.begin("RC").push_count(of.roots().len());
     words.begin("EC").push_count(of.additions().len());
 }
@@ -103,6 +106,7 @@ fn push_conversions(alloc: Global, out: &mut Text, of: Chain<'_>) {
     push_pairs(words.begin("PAIRS"), of.cells);
     push_list(words.begin("LIST"), of.cells);
     words.put("EXT", if of.is_extensible { "true" } else { "false" });
+    put_parameter(&mut words, of);
     out.fill(MEMBERS, &words);
 }
 
@@ -120,10 +124,21 @@ fn push_tables(alloc: Global, out: &mut Text, of: Chain<'_>, is_set: bool) {
 
 /// Prints a type by its cells.
 fn push_members(alloc: Global, out: &mut Text, doc: &str, of: Chain<'_>, is_set: bool) {
-    push_struct(alloc, out, doc, of, is_set);
-    push_row(alloc, out, of);
-    push_conversions(alloc, out, of);
-    push_tables(alloc, out, of, is_set);
+    match of.knot {
+        Some(knot) => {
+            push_knot_struct(alloc, out, doc, of, knot);
+            push_row(alloc, out, of);
+            push_knot_rowed(alloc, out, of);
+            push_conversions(alloc, out, of);
+            push_knot_tables(alloc, out, of);
+        }
+        None => {
+            push_struct(alloc, out, doc, of, is_set);
+            push_row(alloc, out, of);
+            push_conversions(alloc, out, of);
+            push_tables(alloc, out, of, is_set);
+        }
+    }
 }
 
 /// The place of a class in the order of tags (X.680, 8.6).
@@ -191,12 +206,12 @@ fn cells_at<'m>(
 }
 
 /// Prints the sequence of an addition group by its cells.
-fn push_group_type(
+fn push_group_type<'c>(
     alloc: Global,
     out: &mut Text,
     owner: &str,
-    name: &str,
-    cells: &[Cell],
+    name: &'c str,
+    cells: &'c [Cell],
     number: usize,
 ) -> Result<(), AllocError> {
     let mut doc = Text::new(alloc);
@@ -209,6 +224,7 @@ fn push_group_type(
         root_count: cells.len(),
         is_extensible: false,
         is_choice: false,
+        knot: None,
     };
     let doc = doc.end()?;
     push_members(alloc, out, doc.as_str(), of, false);
@@ -325,6 +341,7 @@ pub fn push_sequence<'m>(
         root_count,
         is_extensible: is_extensible(definition.link.of),
         is_choice: false,
+        knot: knot_name(all, definition),
     };
     push_members(scope.alloc, out, doc, of, is_set);
     Ok(())

@@ -1,7 +1,7 @@
 //! The Rust type of a type without parts, of a name, and of lists of either.
 
 use crate::text::Text;
-use asn1_layouts::definitions::{Definition, Part};
+use asn1_layouts::definitions::{Definition, Part, Tie};
 use asn1_layouts::layouts::unit_of;
 use asn1_layouts::numbers::names_of;
 use asn1_layouts::scope::{Link, Scope};
@@ -157,6 +157,25 @@ fn base_shape<'m>(
     Ok(limited(scope.alloc, rust, own, limits, purpose, name))
 }
 
+/// A type of the circle, with the parameter of the knot.
+fn content(alloc: Global, name: &str) -> Shape {
+    let mut text = Text::new(alloc);
+    text.push_all(&[name, "Content<K>"]);
+    Shape { text, limits: None }
+}
+
+/// The Rust type of a part that leads back into its circle, without the lists around it; nothing of another.
+fn tied_shape(alloc: Global, all: &[Definition<'_>], tie: Tie) -> Option<Shape> {
+    match tie {
+        Tie::Plain => None,
+        Tie::Knot => Some(plain(alloc, "Held<K>")),
+        Tie::Member(at) => match all.get(at) {
+            Some(definition) => Some(content(alloc, definition.rust_name.as_str())),
+            None => None,
+        },
+    }
+}
+
 /// The Rust type of a part without the lists around it; `name` is that of its limits, where they need one.
 fn inner_shape<'m>(
     scope: Scope<'m, '_>,
@@ -164,6 +183,9 @@ fn inner_shape<'m>(
     part: &Part<'m>,
     name: &str,
 ) -> Result<Shape, Refusal> {
+    if let Some(tied) = tied_shape(scope.alloc, all, part.tie) {
+        return Ok(tied);
+    }
     let chain = scope.chain_of(part.inner)?;
     let base = chain.last().copied().unwrap_or(part.inner);
     match name_taken(scope, all, part.target, chain.as_slice(), base)? {

@@ -15,16 +15,16 @@ pub const USES_BOTH: &str = r#"    ghost use Rattle.rasn_oer.specs.Values.{both}
 "#;
 
 /// The components of a struct as a row.
-pub const MEMBERS: &str = r#"impl Rowed for @NAME@Components {
-@USES@    type Values = <@NAME@Row as Components>::Values;
+pub const MEMBERS: &str = r#"impl@WRITES@ Rowed for @NAME@Components@K@ {
+@USES@    type Values = <@NAME@Row@K@ as Components>::Values;
 
-    ghost EXTENSIBLE = { ⟦<@NAME@Row as Components>⟧.EXTENSIBLE };
+    ghost EXTENSIBLE = { ⟦<@NAME@Row@K@ as Components>⟧.EXTENSIBLE };
 
     const EXTENSIBLE: bool = @EXT@;
 
-    ghost row_schema = { ⟦<@NAME@Row as Components>⟧.schema };
+    ghost row_schema = { ⟦<@NAME@Row@K@ as Components>⟧.schema };
 
-    ghost row_is_schema = { ⟦<@NAME@Row as Components>⟧.is_schema };
+    ghost row_is_schema = { ⟦<@NAME@Row@K@ as Components>⟧.is_schema };
 
     ghost components = { λ v. @PAIRS@ };
 
@@ -35,9 +35,9 @@ pub const MEMBERS: &str = r#"impl Rowed for @NAME@Components {
     }
 }
 
-impl Takes for @NAME@Components {
+impl@READS@ Takes for @NAME@Components@K@ {
     fn take(alloc: Global, decoder: &mut Decoder<'_>) -> Result<Self, DecodeError> {
-        read_row::<Self, @NAME@Row>(alloc, decoder)
+        read_row::<Self, @NAME@Row@K@>(alloc, decoder)
     }
 }
 
@@ -142,16 +142,16 @@ pub enum @NAME@Alternatives {
 "#;
 
 /// The tables of a CHOICE, and what its alternatives have.
-pub const CHOICE_IMPLS: &str = r#"@TABLES@impl Alternating for @NAME@Alternatives {
+pub const CHOICE_IMPLS: &str = r#"impl@WRITES@ Alternating for @NAME@Alternatives@K@ {
     ghost use Rattle.std.specs.Prelude.{refl};
     ghost use Rattle.rasn_oer.specs.Alternative.{First, Rest};
     ghost use Rattle.@HOME@.@NAME@Alternatives.TheVariants.{@LIST@};
 
-    type Values = <@NAME@Row as Alternatives>::Values;
+    type Values = <@NAME@Row@K@ as Alternatives>::Values;
 
-    ghost row_choices = { ⟦<@NAME@Row as Alternatives>⟧.choices };
+    ghost row_choices = { ⟦<@NAME@Row@K@ as Alternatives>⟧.choices };
 
-    ghost row_are_choices = { ⟦<@NAME@Row as Alternatives>⟧.are_choices };
+    ghost row_are_choices = { ⟦<@NAME@Row@K@ as Alternatives>⟧.are_choices };
 
     ghost alternative = { elim [ @CASES@ ] };
 
@@ -160,11 +160,11 @@ pub const CHOICE_IMPLS: &str = r#"@TABLES@impl Alternating for @NAME@Alternative
     const EXTENDED_VARIANTS: Option<&'static [Tag]> = @ADDITIONS@;
 
     fn root_tags() -> &'static [Tag] {
-        Self::VARIANTS
+        @ROOT_TAGS@
     }
 
     fn addition_tags() -> Option<&'static [Tag]> {
-        Self::EXTENDED_VARIANTS
+        @ADDITION_TAGS@
     }
 
     fn from_alternative(value: Self::Values) -> Self {
@@ -177,19 +177,19 @@ pub const CHOICE_IMPLS: &str = r#"@TABLES@impl Alternating for @NAME@Alternative
         constraints: Constraints,
     ) -> Result<(), EncodeError> {
         let view = to_row!(self => @NAME@Alternatives: @LIST@);
-        @NAME@Row::write_alternative::<E>(&view, encoder, constraints)
+        @NAME@Row@TURBO@::write_alternative::<E>(&view, encoder, constraints)
     }
 
     ghost apart = { refl };
 }
 
-impl TakesAlternative for @NAME@Alternatives {
+impl@READS@ TakesAlternative for @NAME@Alternatives@K@ {
     fn take<D: Choice>(
         alloc: Global,
         decoder: &mut Decoder<'_>,
         tag: Tag,
     ) -> Result<Self, DecodeError> {
-        read_alternative::<Self, @NAME@Row, D>(alloc, decoder, tag)
+        read_alternative::<Self, @NAME@Row@K@, D>(alloc, decoder, tag)
     }
 }
 

@@ -22,6 +22,11 @@ impl Text {
         }
     }
 
+    /// Where its memory comes from.
+    pub fn alloc(&self) -> Global {
+        self.alloc
+    }
+
     /// Appends a piece.
     pub fn push(&mut self, piece: &str) {
         if self.text.push_str(piece).is_err() {

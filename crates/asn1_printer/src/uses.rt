@@ -13,12 +13,13 @@ const PRELUDE: &str = "rasn_oer::prelude";
 /// The names that printed text takes from elsewhere, each by its path.
 pub const KNOWN: &str = "std::alloc::AllocError std::alloc::Global std::marker::PhantomData";
 
-/// The part of a line that can take names from elsewhere: none of a comment, a ghost member, the type of an impl, or a list of
-/// variants; of a variant what it holds.
+/// The part of a line that can take names from elsewhere: none of a comment, a ghost member or clause, the type of an impl, or a
+/// list of variants; of a variant what it holds.
 fn code_of(line: &str) -> &str {
     let text = line.trim_start();
     let is_other = text.starts_with("//")
         || text.starts_with("ghost ")
+        || text.starts_with("ensures ")
         || text.contains("_row!(")
         || line.starts_with("    type ");
     if is_other { "" } else { behind_variant(line) }
@@ -167,7 +168,7 @@ fn push_line(alloc: Global, out: &mut Text, word: &str, home: &str, names: &[&st
     out.heed(&line);
     let (open, close) = if names.len() == 1 {
         ("", ";\n")
-    } else if line.len().saturating_add(3) <= WIDTH {
+    } else if line.len().saturating_add(5) <= WIDTH {
         ("{", "};\n")
     } else {
         ("{\n", "\n};\n")
@@ -254,7 +255,8 @@ fn declared(line: &str) -> Option<(&str, bool)> {
     }
     let (name, _) = after.split_once(|c: char| !(c.is_ascii_alphanumeric() || c == '_'))?;
     let is_limits = sort == "enum" && line.ends_with("{}");
-    let is_shown = is_public && !is_limits && (sort == "type" || !line.ends_with(';'));
+    let is_default = sort == "struct" && after.strip_prefix(name) == Some(";");
+    let is_shown = is_public && !is_limits && !is_default;
     Some((name, is_shown))
 }
 

@@ -7,7 +7,8 @@ mod tests;
 
 use asn1_layouts::listing::list;
 use asn1_modules::refusal::Refusal;
-use asn1_printer::files::{File, Output, Wish, crates_of};
+use asn1_printer::files::{Output, Wish, crates_of};
+use asn1_printer::outputs::File;
 use clap::{Arg, ArgAction, ArgMatches, Command};
 use std::alloc::{AllocError, Global};
 use std::process::ExitCode;

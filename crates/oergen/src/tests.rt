@@ -4,12 +4,12 @@ mod refused;
 mod unprinted;
 
 use asn1_layouts::listing::list;
-use asn1_printer::files::{Wish, crates_of};
+use asn1_printer::files::{Output, Wish, crates_of};
 use refused::REFUSED;
 use std::alloc::Global;
 use std::process::Abort;
 use std::test::Fail;
-use unprinted::{LEFT_OUT, LEFT_OUT_LINES, UNPRINTED};
+use unprinted::{CIRCLE, CIRCLE_WEIGHTS, LEFT_OUT, LEFT_OUT_LINES, UNPRINTED};
 
 /// The module of a row, and its message: typed from the place of what is met and from what can be read there.
 fn parts_of<'r>(alloc: Global, row: &'r str) -> Result<(String, &'r str), Fail> {
@@ -75,5 +75,38 @@ fn types_are_left_out_with_those_that_stand_on_them(rt: HostRuntime) -> Result<(
     let output = crates_of(rt.alloc(), &[LEFT_OUT], wish)?;
     assert_eq!(rt; output.lines.as_str(), LEFT_OUT_LINES);
     assert_eq!(rt; output.files.len(), 2);
+    Ok(())
+}
+
+/// The text of a file that is written.
+fn text_at<'o>(output: &'o Output, path: &str) -> Result<&'o str, Fail> {
+    for file in output.files.iter() {
+        if file.path.as_str() == path {
+            return Ok(file.text.as_str());
+        }
+    }
+    Err(Fail::from("no such file"))
+}
+
+#[test]
+fn types_that_contain_each_other_are_printed_with_their_definitions(
+    rt: HostRuntime,
+) -> Result<(), Fail> {
+    let wish = Wish {
+        name: "m",
+        files: &["m.asn"],
+        leaves_out: false,
+    };
+    let output = crates_of(rt.alloc(), &[CIRCLE], wish)?;
+    assert_eq!(rt; output.lines.as_str(), "m: rasn_oer oer_write asn1_core\n");
+    assert_eq!(rt; output.files.len(), 5);
+    assert_eq!(rt;
+        text_at(&output, "m/specs/Lib.antt")?,
+        "pub mod BoxOfWeights\n"
+    );
+    assert_eq!(rt;
+        text_at(&output, "m/specs/BoxOfWeights.antt")?,
+        CIRCLE_WEIGHTS
+    );
     Ok(())
 }

@@ -1,5 +1,5 @@
 use Rattle.std.proofs.Common.{◌≡◌, ◌+◌, [], false, length}
-use Rattle.asn1_printer.proofs.printer.print_in_turn.Given as goal
+use Rattle.asn1_printer.proofs.printer.print_types.Given as goal
 
 abbrev pub invariant-loop-turn : goal.invariant-loop-turn
 invariant-loop-turn l = record {

@@ -1,0 +1,89 @@
+//! The files beside a crate's types that contain themselves: definitions, and proofs.
+
+use crate::knot_templates::ANSWERS;
+use crate::outputs::{File, push_placed};
+use crate::printer::Printed;
+use crate::text::{Text, Words};
+use crate::weights::{Knot, push_definitions};
+use std::alloc::{AllocError, Global};
+
+/// Whether one of some types is a knot.
+pub fn has_knots(types: &[Printed]) -> bool {
+    types.iter().any(|one| one.knot.is_some())
+}
+
+/// A text in its place, a module of a crate.
+fn placed(alloc: Global, text: &Text, library: &str, module: &str) -> Result<String, AllocError> {
+    let mut out = Text::new(alloc);
+    push_placed(&mut out, text.as_str(), library, module);
+    out.heed(text);
+    out.end()
+}
+
+/// The file of a circle's definitions.
+fn definitions_file(
+    alloc: Global,
+    place: (&str, &str),
+    knot: &Knot,
+    uses: &Text,
+    lines: &Text,
+) -> Result<File, AllocError> {
+    let (library, module) = place;
+    let mut text = Text::new(alloc);
+    push_definitions(&mut text, knot, uses, lines);
+    let text = placed(alloc, &text, library, module)?;
+    let path = [library, "/specs/", knot.name.as_str(), "Weights.antt"];
+    File::at(alloc, &path, text)
+}
+
+/// The file of the proof that a knot writes what it says.
+fn proof_file(alloc: Global, place: (&str, &str), knot: &Knot) -> Result<File, AllocError> {
+    let (library, module) = place;
+    let mut words = Words::new(alloc);
+    words.put("NAME", knot.name.as_str());
+    words.put("SNAKE", knot.snake.as_str());
+    words.put("CRATE", library);
+    words.put("MODULE", module);
+    let mut text = Text::new(alloc);
+    text.fill(ANSWERS, &words);
+    let path = [
+        library,
+        "/proofs/",
+        module,
+        "/",
+        knot.name.as_str(),
+        "Encode/+encode_with_tag_and_constraints/Answers.antt",
+    ];
+    File::at(alloc, &path, text.end()?)
+}
+
+/// Puts the files of the circles among the types of a module behind others.
+pub fn push_circle_files(
+    alloc: Global,
+    files: &mut Vec<File>,
+    types: &[Printed],
+    place: (&str, &str),
+) -> Result<(), AllocError> {
+    let mut uses = Text::new(alloc);
+    let mut lines = Text::new(alloc);
+    for one in types.iter() {
+        uses.push(one.weights.uses.as_str());
+        lines.push(one.weights.lines.as_str());
+        if let Some(knot) = &one.knot {
+            files.push(definitions_file(alloc, place, knot, &uses, &lines)?)?;
+            files.push(proof_file(alloc, place, knot)?)?;
+            uses = Text::new(alloc);
+            lines = Text::new(alloc);
+        }
+    }
+    Ok(())
+}
+
+/// Appends the names of the definitions of the circles among types.
+pub fn push_definition_names(out: &mut Text, types: &[Printed]) {
+    for one in types.iter() {
+        if let Some(knot) = &one.knot {
+            out.push_all(&["pub mod ", knot.name.as_str(), "Weights\n"]);
+        }
+    }
+}

@@ -1,0 +1,3 @@
+pub mod NodeWeights
+pub mod EnvelopeWeights
+pub mod TreeWeights

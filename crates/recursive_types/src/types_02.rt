@@ -1,0 +1,295 @@
+//! Types of ASN.1 modules, as oergen printed them.
+ghost use Rattle.std.specs.Prelude.{OnOk, IfErr};
+ghost use Rattle.oer_write.specs.Written.{Encodes, Refused};
+ghost use Rattle.asn1_core.specs.declared.constraints.TheConstants.Constraints.{NONE};
+
+use crate::{Body, Envelope};
+use rasn_oer::prelude::*;
+use std::alloc::Global;
+
+/// `Forest ::= SEQUENCE OF Tree`
+pub type Forest = ForestContent<Tree>;
+
+/// A `Forest` with `K` in the place of `Tree`.
+pub type ForestContent<K> = ListOf<Held<K>>;
+
+/// `Tree ::= SEQUENCE { label IA5String, leaves Forest, shade Forest OPTIONAL }`
+#[derive(Debug, PartialEq, Eq, Drop)]
+pub struct Tree(pub TreeContent<Tree>);
+
+/// What a `Tree` holds.
+pub type TreeContent<K> = Sequence<TreeComponents<K>, 3, 0>;
+
+/// The components of `Tree`.
+#[derive(Debug, PartialEq, Eq, Drop)]
+pub struct TreeComponents<K> {
+    pub label: Ia5Text,
+    pub leaves: ForestContent<K>,
+    pub shade: Option<ForestContent<K>>,
+}
+
+type TreeRow<K> = Needs<
+    Context<0>,
+    Ia5Text,
+    NeedsKnot<Context<1>, ForestContent<K>, MayHaveKnot<Context<2>, ForestContent<K>, NoMore>>,
+>;
+
+impl<K> KnotRowed<K> for TreeComponents<K> {
+    ghost use Rattle.rasn_oer.specs.Values.{both};
+
+    type KnotValues = <TreeRow<K> as KnotRow<K>>::Values;
+
+    ghost extended = { ⟦<TreeRow<K> as KnotRow<K>>⟧.EXTENSIBLE };
+
+    ghost knot_schema = { ⟦<TreeRow<K> as KnotRow<K>>⟧.schema };
+
+    ghost knot_weight = { ⟦<TreeRow<K> as KnotRow<K>>⟧.weight };
+
+    ghost knot_ties = { ⟦<TreeRow<K> as KnotRow<K>>⟧.ties };
+
+    ghost knot_components = { λ v. both v.label (both v.leaves (both v.shade tt)) };
+}
+
+impl<K: Encode> TakesKnot<K> for TreeComponents<K> {
+    fn take_knot<F: Fn(&mut Decoder<'_>) -> Result<K, DecodeError>>(
+        alloc: Global,
+        decoder: &mut Decoder<'_>,
+        knot: &F,
+    ) -> Result<Self, DecodeError> {
+        read_knot_row::<K, Self, TreeRow<K>, F>(alloc, decoder, knot)
+    }
+}
+
+impl<K: Encode> Rowed for TreeComponents<K> {
+    ghost use Rattle.rasn_oer.specs.Values.{both};
+
+    type Values = <TreeRow<K> as Components>::Values;
+
+    ghost EXTENSIBLE = { ⟦<TreeRow<K> as Components>⟧.EXTENSIBLE };
+
+    const EXTENSIBLE: bool = false;
+
+    ghost row_schema = { ⟦<TreeRow<K> as Components>⟧.schema };
+
+    ghost row_is_schema = { ⟦<TreeRow<K> as Components>⟧.is_schema };
+
+    ghost components = { λ v. both v.label (both v.leaves (both v.shade tt)) };
+
+    fn from_row(row: Self::Values) -> Self {
+        built![TreeComponents from row:
+            label,
+            leaves,
+            shade
+        ]
+    }
+}
+
+impl<K: Encode + Decode> Takes for TreeComponents<K> {
+    fn take(alloc: Global, decoder: &mut Decoder<'_>) -> Result<Self, DecodeError> {
+        read_row::<Self, TreeRow<K>>(alloc, decoder)
+    }
+}
+
+const TREE_COMPONENTS: &'static [Field<'static>] = fields![
+    0 Required Context 0 "label",
+    1 Required Context 1 "leaves",
+    2 Optional Context 2 "shade"
+];
+
+impl<K: Encode> Tabled<3, 0> for TreeComponents<K> {
+    ghost use Rattle.std.specs.Prelude.{refl};
+
+    const FIELDS: Fields<3> = Fields {
+        fields: TREE_COMPONENTS,
+    };
+
+    const EXTENDED_FIELDS: Option<Fields<0>> = None;
+
+    fn root_fields() -> &'static [Field<'static>] {
+        TREE_COMPONENTS
+    }
+
+    fn addition_fields() -> &'static [Field<'static>] {
+        &[]
+    }
+
+    fn put(&self, encoder: &mut Encoder<'_>) -> Result<(), EncodeError> {
+        let view = views![self:
+            label,
+            leaves,
+            shade
+        ];
+        TreeRow::<K>::write(&view, encoder)
+    }
+
+    ghost counts = { (refl, refl) };
+}
+
+impl AsnType for Tree {
+    ghost use Rattle.std.specs.Prelude.{refl};
+    ghost use Rattle.asn1_core.specs.declared.tag.TheConstants.Tag.{SEQUENCE};
+    ghost use Rattle.asn1_core.specs.declared.constraints.TheConstants.Constraints.{NONE};
+
+    ghost TAG = { SEQUENCE };
+
+    const TAG: Tag = Tag::SEQUENCE;
+
+    ghost CONSTRAINTS = { NONE };
+
+    const CONSTRAINTS: Constraints = Constraints::NONE;
+
+    ghost consistent = { refl };
+}
+
+impl Spelled for Tree {
+    ghost use Rattle.rasn_oer.specs.Knots.{knot_tree, IsKnot, knot_typed};
+    ghost use Rattle.recursive_types.specs.TreeWeights.{tree_smaller};
+    ghost use Rattle.recursive_types.specs.declared.types_02.Tree.{out-Tree, size-Tree};
+
+    ghost tree = { λ c v. knot_tree size-Tree (λ v. (out-Tree v).0) ⟦<TreeContent<Tree> as HoldsKnot<Tree>>⟧.tied v };
+
+    ghost IsValue = { IsKnot size-Tree (λ v. (out-Tree v).0) ⟦<TreeContent<Tree> as HoldsKnot<Tree>>⟧.tied };
+
+    ghost is_tree = { λ c k v i. (knot_typed size-Tree (λ v. (out-Tree v).0) ⟦<TreeContent<Tree> as HoldsKnot<Tree>>⟧.tied ⟦<TreeContent<Tree> as HoldsKnot<Tree>>⟧.weight (record { ties = ⟦<TreeContent<Tree> as HoldsKnot<Tree>>⟧.ties; smaller = tree_smaller })).is v i };
+
+    ghost alike = { λ c k v w i j. (knot_typed size-Tree (λ v. (out-Tree v).0) ⟦<TreeContent<Tree> as HoldsKnot<Tree>>⟧.tied ⟦<TreeContent<Tree> as HoldsKnot<Tree>>⟧.weight (record { ties = ⟦<TreeContent<Tree> as HoldsKnot<Tree>>⟧.ties; smaller = tree_smaller })).like v w i j };
+}
+
+impl Layered for Tree {
+    ghost use Rattle.rasn_oer.specs.Knots.{knot, knot_layers, layer};
+    ghost use Rattle.recursive_types.specs.TreeWeights.{tree_smaller};
+    ghost use Rattle.recursive_types.specs.declared.types_02.Tree.{out-Tree, size-Tree};
+
+    ghost inner = { layer size-Tree (λ v. (out-Tree v).0) ⟦<TreeContent<Tree> as HoldsKnot<Tree>>⟧.tied (knot size-Tree (λ v. (out-Tree v).0) ⟦<TreeContent<Tree> as HoldsKnot<Tree>>⟧.tied) };
+
+    ghost layers = { knot_layers size-Tree (λ v. (out-Tree v).0) ⟦<TreeContent<Tree> as HoldsKnot<Tree>>⟧.tied ⟦<TreeContent<Tree> as HoldsKnot<Tree>>⟧.weight (record { ties = ⟦<TreeContent<Tree> as HoldsKnot<Tree>>⟧.ties; smaller = tree_smaller }) };
+}
+
+/// Writes what a `Tree` holds.
+fn encode_tree<K: Encode>(
+    inner: &TreeContent<K>,
+    encoder: &mut Encoder<'_>,
+    tag: Tag,
+) -> Result<(), EncodeError>
+    ensures done { OnOk result (Encodes (⟦<TreeContent<K> as Spelled>⟧.tree NONE inner.now) encoder.old encoder.new) }
+    ensures value { OnOk result (⟦<TreeContent<K> as Spelled>⟧.IsValue inner.now) }
+    ensures refused { IfErr result (λ x. Refused (⟦<TreeContent<K> as Spelled>⟧.tree NONE inner.now) x encoder.old encoder.new) }
+{
+    inner.encode_with_tag(encoder, tag)
+}
+
+impl Encode for Tree {
+    fn encode_with_tag_and_constraints(
+        &self,
+        encoder: &mut Encoder<'_>,
+        tag: Tag,
+        _constraints: Constraints,
+    ) -> Result<(), EncodeError> {
+        layer_of::<Tree>(self);
+        encode_tree::<Tree>(&self.0, encoder, tag)
+    }
+}
+
+impl Knot<TreeContent<Tree>> for Tree {
+    ghost use Rattle.rasn_oer.specs.Knots.{knot_layered};
+    ghost use Rattle.recursive_types.specs.TreeWeights.{tree_smaller};
+    ghost use Rattle.recursive_types.specs.declared.types_02.Tree.{out-Tree, size-Tree};
+
+    ghost content = { λ v. (out-Tree v).0 };
+
+    fn from_content(inner: TreeContent<Tree>) -> Tree {
+        Tree(inner)
+    }
+
+    ghost layered = { knot_layered size-Tree (λ v. (out-Tree v).0) ⟦<TreeContent<Tree> as HoldsKnot<Tree>>⟧.tied ⟦<TreeContent<Tree> as HoldsKnot<Tree>>⟧.weight (record { ties = ⟦<TreeContent<Tree> as HoldsKnot<Tree>>⟧.ties; smaller = tree_smaller }) };
+}
+
+impl Decode for Tree {
+    ghost use Rattle.std.specs.Prelude.{⊤};
+
+    ghost Answered = { λ c s r t. ⊤ };
+
+    fn decode_with_tag_and_constraints(
+        alloc: Global,
+        decoder: &mut Decoder<'_>,
+        tag: Tag,
+        _constraints: Constraints,
+    ) -> Result<Tree, DecodeError> {
+        decode_knotted::<TreeContent<Self>, Self>(alloc, decoder, tag)
+    }
+}
+
+/// `Post ::= SEQUENCE { letter Envelope, answer Body OPTIONAL }`
+pub type Post = Sequence<PostComponents, 2, 0>;
+
+/// The components of `Post`.
+#[derive(Debug, PartialEq, Eq, Drop)]
+pub struct PostComponents {
+    pub letter: Envelope,
+    pub answer: Option<Body>,
+}
+
+type PostRow = Needs<Context<0>, Envelope, MayHave<Context<1>, Body, NoMore>>;
+
+impl Rowed for PostComponents {
+    ghost use Rattle.rasn_oer.specs.Values.{both};
+
+    type Values = <PostRow as Components>::Values;
+
+    ghost EXTENSIBLE = { ⟦<PostRow as Components>⟧.EXTENSIBLE };
+
+    const EXTENSIBLE: bool = false;
+
+    ghost row_schema = { ⟦<PostRow as Components>⟧.schema };
+
+    ghost row_is_schema = { ⟦<PostRow as Components>⟧.is_schema };
+
+    ghost components = { λ v. both v.letter (both v.answer tt) };
+
+    fn from_row(row: Self::Values) -> Self {
+        built![PostComponents from row:
+            letter,
+            answer
+        ]
+    }
+}
+
+impl Takes for PostComponents {
+    fn take(alloc: Global, decoder: &mut Decoder<'_>) -> Result<Self, DecodeError> {
+        read_row::<Self, PostRow>(alloc, decoder)
+    }
+}
+
+impl Tabled<2, 0> for PostComponents {
+    ghost use Rattle.std.specs.Prelude.{refl};
+
+    const FIELDS: Fields<2> = Fields {
+        fields: fields![
+            0 Required Context 0 "letter",
+            1 Optional Context 1 "answer"
+        ],
+    };
+
+    const EXTENDED_FIELDS: Option<Fields<0>> = None;
+
+    fn root_fields() -> &'static [Field<'static>] {
+        Self::FIELDS.fields
+    }
+
+    fn addition_fields() -> &'static [Field<'static>] {
+        match Self::EXTENDED_FIELDS {
+            Some(table) => table.fields,
+            None => &[],
+        }
+    }
+
+    fn put(&self, encoder: &mut Encoder<'_>) -> Result<(), EncodeError> {
+        let view = views![self:
+            letter,
+            answer
+        ];
+        PostRow::write(&view, encoder)
+    }
+
+    ghost counts = { (refl, refl) };
+}
