@@ -10,6 +10,7 @@ one run more, counted by the library of scripts/memory/refuse.c. Run it on a mac
 import os
 import pathlib
 import re
+import resource
 import subprocess
 import sys
 import tempfile
@@ -21,11 +22,12 @@ import run  # noqa: E402  the library that counts
 SECONDS = 0.5
 ROWS = [("ints", 1000), ("ints", 10000), ("ints", 100000), ("octets", 1048576), ("nest", 32), ("nest", 64), ("nest", 127)]
 ROWS += [("link", 16), ("link", 64), ("link", 1000), ("link", 8000), ("linked", 1048576), ("added", 1048576)]
+ROWS += [("additions", 10), ("additions", 30), ("additions", 100), ("additions", 1000)]
 ROWS += [("seq2", 1), ("outer", 1), ("extopt", 1), ("foo", 1), ("seqs", 1000), ("seqs", 100000)]
 ROWS += [("intset", 1000), ("intset", 10000), ("intset", 100000), ("mixed", 1000), ("mixed", 10000), ("mixed", 100000)]
 ROWS += [("text", 1048576), ("bits", 8388608), ("great", 1048576), ("times", 1000), ("colors", 1000)]
 # past the levels that are read
-WRITTEN_ONLY = {("link", 1000), ("link", 8000)}
+WRITTEN_ONLY = {("link", 1000), ("link", 8000), ("additions", 1000)}
 
 
 def spent(words):
@@ -58,6 +60,8 @@ def main():
     top = pathlib.Path(sys.argv[1]) if len(sys.argv) > 1 else HERE.parent / "crates"
     runs = int(sys.argv[2]) if len(sys.argv) > 2 else 15
     program = str(top / "oer_speed/out/oer_speed")
+    # 8,000 links outgrow 8 MiB
+    resource.setrlimit(resource.RLIMIT_STACK, (1 << 26, resource.getrlimit(resource.RLIMIT_STACK)[1]))
     print("| value | octets | write, µs | MB/s | requests | read, µs | MB/s | requests | read leniently, µs |\n|---|---|---|---|---|---|---|---|---|")
     with tempfile.TemporaryDirectory() as folder:
         preload = run.library(folder)
