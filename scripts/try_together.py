@@ -5,8 +5,8 @@ usage: try_together.py NAME..., in a copy of the repository whose crates/NAME/mu
 
 A function is proved from its own body and the contracts of what it calls, so a body that another edit changes doesn't bear on
 it. An edit counts as refused where the check, over a text with all edits of its group, says of the function that it changes
-that it isn't proved. Each other edit, and all that change more than one function's body, are tried alone, by rt must-fail. The
-exit status is 0 if each was refused.
+that its own answers don't prove it. Each other edit, and all that change more than one function's body, are tried alone, by
+rt must-fail. The exit status is 0 if each was refused.
 """
 import os
 import re
@@ -110,7 +110,8 @@ def together(folder, group):
                 it.write(text)
     if "logic=not-proved" not in said:
         return {}, said
-    failed = re.findall(r"^fn (\S+): (?!proved)(.*)$", said, re.M)
+    # (a function that calls one which isn't proved isn't said to be proved either, whatever its own body)
+    failed = re.findall(r"^fn (\S+): (no proof: expected answers .*)$", said, re.M)
     return {path.split("::")[-1].lstrip("+"): why for path, why in failed}, said
 
 
