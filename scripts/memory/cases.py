@@ -403,7 +403,7 @@ THROUGH = {
     "decode_extension_addition_group": ("seq7", f"80 ff 02 04 30 {OPEN_G} 81 83 40 {G}"),
 }
 # calls of tables, rules and options, which have no allocator
-WITHOUT = {"is_among", "is_oer", "is_coer", "oer", "coer", "with_depth"}
+WITHOUT = {"is_oer", "is_coer", "oer", "coer", "with_depth"}
 # helpers of asn1_ints in a module of its own, which the writers of its integers call
 INNER = {"write_i128", "write_u128", "write_with_sign", "write_signed_u128"}
 

@@ -6,8 +6,7 @@ use Rattle.asn1_core.specs.declared.fields.FieldPresence.TheVariants as presence
 use Rattle.oer_spec.specs.Encoding.{IsTree}
 use Rattle.oer_spec.specs.Same.{Alike}
 use Rattle.oer_spec.specs.Spelled.{IsAny, boolean, boolean_is, booleans_alike, booleans_same}
-use Rattle.oer_spec.specs.Tree.{Tree, Rows, NoRows, Optional, Default, Struct, Slot}
-use Rattle.oer_write.specs.Rows.{present_unless}
+use Rattle.oer_spec.specs.Tree.{Tree, Rows, NoRows, Optional, Default, Struct, Slot, present_unless}
 use Rattle.oer_read.specs.Defaults.{IsDefault}
 use Rattle.oer_read.specs.Parts.{Parts, NoParts, OptionalPart, DefaultPart, Admits, AreOf}
 use Rattle.oer_rows.specs.DefaultSlots.{default_slot_is, default_slot_differs, default_slot_admitted, default_slots_alike}

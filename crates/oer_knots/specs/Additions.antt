@@ -2,8 +2,7 @@
 use Rattle.std.specs.Prelude.{◌≡◌, ℕ, true, Option, max, refl}
 use Rattle.std.proofs.Common.{ap, ◌∙◌}
 use Rattle.asn1_core.specs.declared.tag.Tag.{Tag}
-use Rattle.oer_spec.specs.Tree.{Slot, Optional}
-use Rattle.oer_read.specs.Components.{slot_of}
+use Rattle.oer_spec.specs.Tree.{Slot, Optional, slot_of}
 use Rattle.oer_rows.specs.Schema.{Typed, IsTyped, Table, IsTable, optional, optional_is, added, added_is}
 use Rattle.oer_rows.specs.declared.both.Both.{Both}
 use Rattle.oer_knots.specs.Rows.{TiesRow, no_weight, slot_agrees, there_agrees}

@@ -4,9 +4,7 @@ use Rattle.std.proofs.Common.{ap, ◌∙◌, subst}
 use Rattle.asn1_core.specs.Rows.{Row, tags}
 use Rattle.asn1_core.specs.declared.fields.FieldPresence.TheVariants as presence
 use Rattle.asn1_core.specs.declared.tag.Tag.{Tag}
-use Rattle.oer_spec.specs.Tree.{Tree, Rows, Slot, Required, Optional, Default, Present, Struct}
-use Rattle.oer_write.specs.Rows.{present_unless}
-use Rattle.oer_read.specs.Components.{slot_of}
+use Rattle.oer_spec.specs.Tree.{Tree, Rows, Slot, Required, Optional, Default, Present, Struct, present_unless, slot_of}
 use Rattle.oer_rows.specs.Schema.{Typed, IsTyped, Schema, IsSchema, IsOf, tree_of, schema_is, schema_like, needed_then, needed_then_is, optional_then, optional_then_is, default_then, default_then_is}
 use Rattle.oer_rows.specs.Sets.{are_in_order, IsInSet, set_of, set_is, set_like}
 use Rattle.oer_rows.specs.Slots.{IfThere}

@@ -12,10 +12,8 @@ use Rattle.asn1_core.specs.declared.tag.Tag.{Tag}
 use Rattle.oer_spec.specs.Encoding.{IsEncoding, AreItems}
 use Rattle.oer_spec.specs.Mode.{mode_of, InStrict}
 use Rattle.oer_spec.specs.Places.{Item, needed, present, absent}
-use Rattle.oer_spec.specs.Tree.{Tree, Rows, NoRows, Required, Optional, Default, Slot, Absent, Present}
-use Rattle.oer_write.specs.Rows.{present_unless}
+use Rattle.oer_spec.specs.Tree.{Tree, Rows, NoRows, Required, Optional, Default, Slot, Absent, Present, present_unless, slot_of}
 use Rattle.oer_read.specs.Additions.{addition_at, OpenRead, OpenRefused, Within, LeftOver, Added, AddRefused, NotThere, Inside, Adds}
-use Rattle.oer_read.specs.Components.{slot_of}
 use Rattle.oer_read.specs.Defaults.{Defaulted, Unset, Set, DefaultRefused, NotRead, SpelledOut, AddsDefault, IsDefault}
 use Rattle.oer_read.specs.Law.{IsForMemory}
 use Rattle.oer_read.specs.Parts.{Comes, Admits, AreOf, Parts, NoParts, NeededPart, OptionalPart, DefaultPart, part_places, OnPresent, Takes, Refuses, Stops, ReadsParts}

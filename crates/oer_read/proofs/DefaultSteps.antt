@@ -12,8 +12,7 @@ use Rattle.oer_spec.specs.Encoding.{IsEncoding}
 use Rattle.oer_spec.specs.Mode.{InLenient, mode_of}
 use Rattle.oer_spec.specs.Places.{Item, present, absent}
 use Rattle.oer_spec.specs.Same.{Same, SameSlot}
-use Rattle.oer_spec.specs.Tree.{Tree, Rows, NoRows, Required, Optional, Default, Slot, Absent, Present}
-use Rattle.oer_write.specs.Rows.{present_unless}
+use Rattle.oer_spec.specs.Tree.{Tree, Rows, NoRows, Required, Optional, Default, Slot, Absent, Present, present_unless}
 use Rattle.oer_read.specs.Components.{asking, AskedAbsent, AskedPresent, Asked, AskRefused, NotNext, Inside}
 use Rattle.oer_read.specs.Defaults.{Defaulted, Unset, Set, DefaultRefused, NotRead, SpelledOut, AsksDefault, IsDefault}
 use Rattle.oer_read.specs.Law.{IsForMemory, IsRear}

@@ -8,8 +8,8 @@ use Rattle.asn1_core.specs.declared.tag.Tag.{Tag}
 use Rattle.oer_spec.specs.Encoding.{IsEncoding}
 use Rattle.oer_spec.specs.Mode.{mode_of}
 use Rattle.oer_spec.specs.Places.{present, absent}
-use Rattle.oer_spec.specs.Tree.{Tree, Rows, NoRows, Required, Optional, Default, Slot, Absent, Present}
-use Rattle.oer_read.specs.Components.{asking, slot_of, AskedAbsent, AskedPresent, Asked, AskRefused, NotNext, Inside, Asks}
+use Rattle.oer_spec.specs.Tree.{Tree, Rows, NoRows, Required, Optional, Default, Slot, Absent, Present, slot_of}
+use Rattle.oer_read.specs.Components.{asking, AskedAbsent, AskedPresent, Asked, AskRefused, NotNext, Inside, Asks}
 use Rattle.oer_read.specs.Law.{Fronts, IsForMemory, IsRear}
 use Rattle.oer_read.specs.Parts.{Comes, Admits, AreOf, Parts, OptionalPart, OnPresent, Takes, Refuses, Stops}
 use Rattle.oer_read.specs.State.{Ask, State}

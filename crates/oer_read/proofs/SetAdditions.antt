@@ -4,9 +4,8 @@ use Rattle.asn1_core.specs.Octets.{Octets}
 use Rattle.asn1_core.specs.Rows.{Row}
 use Rattle.asn1_core.specs.declared.error.DecodeError.{DecodeError}
 use Rattle.asn1_core.specs.declared.tag.Tag.{Tag}
-use Rattle.oer_spec.specs.Tree.{Tree, Rows, NoRows, Optional}
+use Rattle.oer_spec.specs.Tree.{Tree, Rows, NoRows, Optional, slot_of}
 use Rattle.oer_read.specs.Additions.{AddRefused, Adds}
-use Rattle.oer_read.specs.Components.{slot_of}
 use Rattle.oer_read.specs.Law.{IsForMemory, IsRear}
 use Rattle.oer_read.specs.Parts.{Comes, Parts, NoParts, OptionalPart, Admits, Takes, Refuses}
 use Rattle.oer_read.specs.SetRows.{held_as, AsksAddition}

@@ -16,8 +16,7 @@ use Rattle.oer_spec.specs.Encoding.{IsEncoding}
 use Rattle.oer_spec.specs.Mode.{mode_of}
 use Rattle.oer_spec.specs.Reading.{◌>>=◌, ◌>>◌}
 use Rattle.oer_spec.specs.ReadingBits.{preamble_at}
-use Rattle.oer_spec.specs.Tree.{Tree, Struct, Rows, NoRows, Required, Optional, Default, Slot, Absent, Present}
-use Rattle.oer_write.specs.Rows.{present_unless}
+use Rattle.oer_spec.specs.Tree.{Tree, Struct, Rows, NoRows, Required, Optional, Default, Slot, Absent, Present, present_unless}
 use Rattle.asn1_core.specs.declared.codec.Codec.TheVariants.{Coer}
 use Rattle.oer_read.specs.Components.{AskedAbsent, AskedPresent, Asked, AskRefused, Inside}
 use Rattle.oer_read.specs.Defaults.{only_lenient, DefaultRefused, Unset, Set, NotRead, SpelledOut, IsDefault}

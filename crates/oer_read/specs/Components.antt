@@ -2,7 +2,7 @@
 use Rattle.std.specs.Prelude.{◌≡◌, Bool, true, false, List, ◌∷◌, Option, Some, None, Result, Ok, Err, IfOk, IfErr}
 use Rattle.asn1_core.specs.declared.error.DecodeError.{DecodeError}
 use Rattle.asn1_core.specs.declared.tag.Tag.{Tag}
-use Rattle.oer_spec.specs.Tree.{Tree, Slot, Absent, Present}
+use Rattle.oer_spec.specs.Tree.{Tree}
 use Rattle.oer_read.specs.Law.{Reads, NoFront, IsForMemory}
 use Rattle.oer_read.specs.Scopes.{missing}
 use Rattle.oer_read.specs.State.{Ask, State}
@@ -10,11 +10,6 @@ use Rattle.oer_read.specs.State.{Ask, State}
 -- the same decoder with these rows left to ask
 abbrev pub asking : State → List Ask → State
 asking s ks = record s { frame = record s.frame { asks = ks } }
-
--- the slot of an optional component
-abbrev pub slot_of : {A : Type 0} → (A → Tree) → Option A → Slot
-slot_of tree None = Absent
-slot_of tree (Some v) = Present (tree v)
 
 module _ {A : Type 0} (tree : A → Tree) (IsValue : A → Type 0) (Answered : State → Result A DecodeError → State → Type 0) (s : State) (g : Tag) where
   -- the next row has that tag, and its bit is 0

@@ -14,8 +14,7 @@ use crate::decoder::{Decoder, OpenScope};
 use crate::scopes::one_level_less;
 use asn1_core::{Choice, Constraints, DecodeError, DecodeErrorKind, Tag};
 use oer_leaf_read::{read_content, read_tag, require_canonical};
-use oer_spec::Spelled;
-use oer_write::is_among;
+use oer_spec::{Spelled, is_among};
 use std::alloc::Global;
 
 /// Whether the tag is one of a root alternative; one of neither table is refused.

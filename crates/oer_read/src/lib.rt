@@ -26,4 +26,3 @@ pub use de::DecoderOptions;
 pub use decode::Decode;
 pub use decoder::Decoder;
 pub use oer_spec::{Spelled, laws};
-pub use oer_write::{Encode, Encoder};

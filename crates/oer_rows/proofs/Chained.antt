@@ -13,8 +13,7 @@ use Rattle.asn1_core.specs.declared.error.DecodeErrorKind.TheVariants.{NotValidC
 use Rattle.oer_spec.specs.Encoding.{IsTree}
 use Rattle.oer_spec.specs.Same.{Same, Alike}
 use Rattle.oer_spec.specs.Spelled.{IsConsistent}
-use Rattle.oer_spec.specs.Tree.{Tree, Rows, NoRows, Required, Optional, Default, Slot}
-use Rattle.oer_write.specs.Rows.{present_unless}
+use Rattle.oer_spec.specs.Tree.{Tree, Rows, NoRows, Required, Optional, Default, Slot, present_unless, slot_of}
 use Rattle.oer_read.specs.Law.{Decodes, WantsMemory}
 use Rattle.oer_read.specs.Parts.{Parts, NoParts, NeededPart, OptionalPart, DefaultPart, Admits, AreOf, IsTableOf, Takes, Stops, ReadsParts}
 use Rattle.oer_read.specs.State.{State}
@@ -22,7 +21,7 @@ use Rattle.oer_rows.specs.Schema.{Schema, Table, IsSchema, IsOf, HasTables, tree
 use Rattle.oer_read.specs.Additions.{Adds, Added, AddRefused}
 use Rattle.oer_rows.specs.Slots.{IfThere}
 use Rattle.oer_rows.specs.Standards.{Settles, AsksStandard, AddsStandard}
-use Rattle.oer_read.specs.Components.{slot_of, Asked, AskRefused, Asks}
+use Rattle.oer_read.specs.Components.{Asked, AskRefused, Asks}
 use Rattle.oer_read.specs.Defaults.{AsksDefault, AddsDefault, IsDefault, Defaulted, Unset, Set, DefaultRefused, NotRead, SpelledOut}
 use Rattle.oer_read.specs.Scopes.{SequenceRead, SequenceRefused}
 use Rattle.oer_read.proofs.DefaultSteps.{default_read, default_passed, default_stops}

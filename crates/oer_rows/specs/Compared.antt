@@ -5,8 +5,7 @@ use Rattle.std.specs.Option.{option_eq}
 use Rattle.std.proofs.lemmas.Bool.Decides.{Decides-and}
 use Rattle.asn1_core.specs.declared.tag.Tag.{Tag}
 use Rattle.oer_spec.specs.Same.{Same, SameRows, SameSlot}
-use Rattle.oer_spec.specs.Tree.{Tree, Rows, NoRows, Required, Optional, Struct}
-use Rattle.oer_read.specs.Components.{slot_of}
+use Rattle.oer_spec.specs.Tree.{Tree, Rows, NoRows, Required, Optional, Struct, slot_of}
 use Rattle.oer_rows.specs.Slots.{IfThere}
 
 -- a required component alone

@@ -2,8 +2,7 @@
 use Rattle.std.specs.Prelude.{◌≡◌, Bool, true, false, refl}
 use Rattle.oer_spec.specs.Encoding.{IsTree, AreSlot}
 use Rattle.oer_spec.specs.Same.{SameSlot, Alike, AlikeSlot, OnSlot}
-use Rattle.oer_spec.specs.Tree.{Tree, Slot, Present}
-use Rattle.oer_write.specs.Rows.{present_unless}
+use Rattle.oer_spec.specs.Tree.{Tree, Slot, Present, present_unless}
 use Rattle.oer_read.specs.Defaults.{IsDefault}
 use Rattle.oer_read.specs.Parts.{Admits, OnPresent}
 

@@ -7,9 +7,7 @@ use Rattle.asn1_core.specs.declared.constraints.TheConstants.Constraints.{NONE}
 use Rattle.oer_spec.specs.Encoding.{AreSlot}
 use Rattle.oer_spec.specs.Same.{AlikeSlot, SameSlot}
 use Rattle.oer_spec.specs.Spelled.{integer, integer_is, integers_alike, integers_same}
-use Rattle.oer_spec.specs.Tree.{Tree, Rows, NoRows, Slot, Present}
-use Rattle.oer_write.specs.Rows.{present_unless}
-use Rattle.oer_read.specs.Components.{slot_of}
+use Rattle.oer_spec.specs.Tree.{Tree, Rows, NoRows, Slot, Present, present_unless, slot_of}
 use Rattle.oer_read.specs.Defaults.{IsDefault}
 use Rattle.oer_read.specs.Parts.{Admits, OnPresent}
 use Rattle.oer_rows.specs.DefaultSlots.{AlikeDefaults, default_slot_is, default_slot_differs, default_slot_admitted, default_slots_alike}

@@ -8,9 +8,7 @@ use Rattle.asn1_core.specs.declared.tag.Tag.{Tag}
 use Rattle.oer_spec.specs.Encoding.{IsTree, AreRows, AreSlot}
 use Rattle.oer_spec.specs.Same.{Same, SameSlot, Alike, AlikeRows, AlikeSlot}
 use Rattle.oer_spec.specs.Spelled.{IsConsistent}
-use Rattle.oer_spec.specs.Tree.{Tree, Rows, NoRows, Required, Optional, Default, Struct}
-use Rattle.oer_write.specs.Rows.{present_unless}
-use Rattle.oer_read.specs.Components.{slot_of}
+use Rattle.oer_spec.specs.Tree.{Tree, Rows, NoRows, Required, Optional, Default, Struct, present_unless, slot_of}
 use Rattle.oer_read.specs.Defaults.{IsDefault}
 use Rattle.oer_read.specs.Parts.{Parts, NoParts, NeededPart, OptionalPart, DefaultPart, Admits, AreOf, IsTableOf}
 use Rattle.oer_rows.specs.declared.both.Both.{Both}

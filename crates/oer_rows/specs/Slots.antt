@@ -3,8 +3,7 @@ use Rattle.std.specs.Prelude.{◌≡◌, Option, Some, None, ⊤, refl}
 use Rattle.std.proofs.Common.{ap, ◌∙◌}
 use Rattle.oer_spec.specs.Encoding.{IsTree, AreSlot}
 use Rattle.oer_spec.specs.Same.{Alike, AlikeSlot}
-use Rattle.oer_spec.specs.Tree.{Tree}
-use Rattle.oer_read.specs.Components.{slot_of}
+use Rattle.oer_spec.specs.Tree.{Tree, slot_of}
 use Rattle.oer_read.specs.Parts.{Admits, OnPresent}
 use Rattle.oer_rows.specs.declared.both.Both.{Both}
 use Rattle.oer_rows.specs.Values.{both}

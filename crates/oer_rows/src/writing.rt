@@ -1,9 +1,9 @@
 //! The components of a sequence, written one by one.
 ghost use Rattle.std.specs.Prelude.{◌≡◌, true, false, OnOk, IfErr, IfSome};
-ghost use Rattle.oer_spec.specs.Tree.{NoRows, Struct};
+ghost use Rattle.oer_spec.specs.Tree.{NoRows, Struct, slot_of, present_unless};
 ghost use Rattle.oer_write.specs.Written.{Encodes, Refused};
 ghost use Rattle.oer_read.specs.Defaults.{IsDefault};
-ghost use Rattle.oer_write.specs.Rows.{InSequence, RowsDone, SetDone, RowsRefused, required, optional, defaulted, slot_of, present_unless};
+ghost use Rattle.oer_write.specs.Rows.{InSequence, RowsDone, SetDone, RowsRefused, required, optional, defaulted};
 
 use crate::places::Standard;
 use asn1_core::{Constructed, EncodeError, Tag};

@@ -1,5 +1,9 @@
 -- Octets in ascending order.
-use Rattle.std.proofs.Common.{◌≡◌, ℕ, ◌<◌, true, false, cond, ◌==◌, nat_lt, List, [], ◌∷◌, ◌⊎◌, inl, inr, refl, sym, ap, ap₂, ◌∙◌, subst, arith}
+use Rattle.std.proofs.Common.{◌≡◌, ℕ, ◌<◌, Bool, true, false, cond, not, ◌==◌, nat_lt, List, [], ◌∷◌, ◌⊎◌, inl, inr, refl, sym, ap, ap₂, ◌∙◌, subst, arith}
+use Rattle.std.specs.Cmp.Lexicographic.{slice_cmp}
+use Rattle.std.specs.Ordering.{is_lt, nat_cmp, ordering_then}
+use Rattle.std.specs.declared.cmp.Ordering.{Ordering}
+use Rattle.std.specs.declared.cmp.Ordering.TheVariants.{Less, Equal, Greater}
 use Rattle.std.proofs.lemmas.Bool.{lt-ltb, le-ltb, eq-eqb, ne_eqb, cases_order, cond-true, cond-false, cases_Bool}
 use Rattle.asn1_core.specs.Octets.{Octets}
 use Rattle.oer_spec.specs.Orders.{Stands, Reorders, octets_le, Ascends}
@@ -150,3 +154,21 @@ put_stands o (p ∷ os) = go (cases_Bool (octets_le o p)) (put_stands o os)
 pub mixed_sorted : (os : List Octets) → Reorders os (sorted os)
 mixed_sorted [] = refl
 mixed_sorted (o ∷ os) = (sorted os, put_stands o (sorted os), mixed_sorted os)
+
+-- the order of octets, as a sort by it tests it
+compares : (x y : ℕ) (r : Ordering) → (x ≡ y) ⊎ ((x < y) ⊎ (y < x)) → (k : Bool) → is_lt r ≡ not k → is_lt (ordering_then (nat_cmp y x) r) ≡ not (cond (nat_lt x y) true (cond (x == y) k false))
+compares x y r (inl e) k h =
+    let left : nat_cmp y x ≡ Equal = cond-false (nat_lt y x) _ _ (le-ltb y x (omega (arith, e))) ∙ cond-true (y == x) _ _ (eq-eqb y x (sym e)) in
+    ap (λ (o : Ordering). is_lt (ordering_then o r)) left ∙ h ∙ sym (ap not (cond-false (nat_lt x y) true (cond (x == y) k false) (le-ltb x y (omega (arith, e))) ∙ cond-true (x == y) k false (eq-eqb x y e)))
+compares x y r (inr (inl l)) k h =
+    let left : nat_cmp y x ≡ Greater = cond-false (nat_lt y x) _ _ (le-ltb y x (omega arith)) ∙ cond-false (y == x) _ _ (ne_eqb y x (λ e. omega (arith, e, l))) in
+    ap (λ (o : Ordering). is_lt (ordering_then o r)) left ∙ sym (ap not (cond-true (nat_lt x y) true (cond (x == y) k false) (lt-ltb x y l)))
+compares x y r (inr (inr l)) k h =
+    let left : nat_cmp y x ≡ Less = cond-true (nat_lt y x) _ _ (lt-ltb y x l) in
+    ap (λ (o : Ordering). is_lt (ordering_then o r)) left ∙ sym (ap not (cond-false (nat_lt x y) true (cond (x == y) k false) (le-ltb x y (omega arith)) ∙ cond-false (x == y) k false (ne_eqb x y (λ e. omega (arith, e, l)))))
+
+pub less_is : (o p : Octets) → is_lt (slice_cmp nat_cmp p o) ≡ not (octets_le o p)
+less_is [] [] = refl
+less_is [] (y ∷ p) = refl
+less_is (x ∷ o) [] = refl
+less_is (x ∷ o) (y ∷ p) = compares x y (slice_cmp nat_cmp p o) (cases_order x y) (octets_le o p) (less_is o p)

@@ -1,5 +1,5 @@
 -- The tree of a value: what the value, its type and the constraints say, without the type.
-use Rattle.std.specs.Prelude.{ℕ, Bool, List, ℤ, Option}
+use Rattle.std.specs.Prelude.{ℕ, Bool, true, false, List, ℤ, Option, Some, None}
 use Rattle.asn1_core.specs.Bounds.{Range, Size}
 use Rattle.asn1_core.specs.Octets.{Octets}
 use Rattle.asn1_core.specs.Texts.{Rule}
@@ -44,3 +44,13 @@ mutual
   pub data Trees : Type 0 where
     NoTrees : Trees
     More : Tree → Trees → Trees
+
+-- the slot of a component that a value may have
+abbrev pub slot_of : {A : Type 0} → (A → Tree) → Option A → Slot
+slot_of tree None = Absent
+slot_of tree (Some v) = Present (tree v)
+
+-- the slot of a component that is left out where that is so
+abbrev pub present_unless : Bool → Tree → Slot
+present_unless true t = Absent
+present_unless false t = Present t

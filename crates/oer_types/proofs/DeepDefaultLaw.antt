@@ -3,8 +3,8 @@ use Rattle.std.proofs.Common.{◌≡◌, Result, Ok, Err, ap, ap₂, sym, ◌∙
 use Rattle.std.specs.Result.{IsErrAnd}
 use Rattle.asn1_core.specs.declared.error.EncodeError.{EncodeError}
 use Rattle.asn1_core.specs.declared.tag.Tag.{Tag}
-use Rattle.oer_spec.specs.Tree.{Tree, Rows, NoRows, Default, Slot}
-use Rattle.oer_write.specs.Rows.{RowsDone, RowsRefused, WritesRows, defaulted, present_unless}
+use Rattle.oer_spec.specs.Tree.{Tree, Rows, NoRows, Default, Slot, present_unless}
+use Rattle.oer_write.specs.Rows.{RowsDone, RowsRefused, WritesRows, defaulted}
 use Rattle.oer_write.specs.Written.{Written}
 use Rattle.oer_types.specs.DeepDefaults.{deep_lists, deep_slot, deep_default_rows, nest_compared}
 use Rattle.oer_types.specs.Nests.{nest_tree}

@@ -6,8 +6,7 @@ use Rattle.asn1_core.specs.declared.fields.FieldPresence.TheVariants as presence
 use Rattle.oer_spec.specs.Encoding.{IsTree, AreSlot}
 use Rattle.oer_spec.specs.Same.{Same, SameSlot, Alike, AlikeSlot, OnSlot}
 use Rattle.oer_spec.specs.Spelled.{IsAny}
-use Rattle.oer_spec.specs.Tree.{Tree, Rows, NoRows, Default, Struct, Slot, Present}
-use Rattle.oer_write.specs.Rows.{present_unless}
+use Rattle.oer_spec.specs.Tree.{Tree, Rows, NoRows, Default, Struct, Slot, Present, present_unless}
 use Rattle.oer_read.specs.Defaults.{IsDefault}
 use Rattle.oer_read.specs.Parts.{Parts, NoParts, DefaultPart, Admits, OnPresent, AreOf}
 use Rattle.oer_types.specs.NestedLists.{nested_lists, is_nested, nested_decided, equal_to_nested, nested_is, nested_alike, nest_like_nested, nested_like_nest}

@@ -169,14 +169,6 @@ optional g s = Optional g s NoRows
 abbrev pub defaulted : Tag → Tree → Slot → Rows
 defaulted g u s = Default g u s NoRows
 
-abbrev pub slot_of : {A : Type 0} → (A → Tree) → Option A → Slot
-slot_of tree None = Absent
-slot_of tree (Some x) = Present (tree x)
-
-abbrev pub present_unless : Bool → Tree → Slot
-present_unless true t = Absent
-present_unless false t = Present t
-
 -- the rows of both, one after the other
 abbrev pub join : Rows → Rows → Rows
 join NoRows more = more

@@ -6,8 +6,8 @@ ghost use Rattle.oer_spec.specs.Encoding.{canonical_octets};
 ghost use Rattle.oer_spec.specs.Failures.{Fails};
 ghost use Rattle.oer_spec.specs.Spelled.{IsConsistent};
 ghost use Rattle.oer_spec.specs.Writing.{BeginsWith};
-ghost use Rattle.oer_spec.specs.Tree.{NoRows, Present, Absent};
-ghost use Rattle.oer_write.specs.Rows.{RowsDone, SetDone, RowsRefused, IsOpenEncodable, optional, defaulted, present_unless, slot_of, open_type};
+ghost use Rattle.oer_spec.specs.Tree.{NoRows, Present, Absent, slot_of, present_unless};
+ghost use Rattle.oer_write.specs.Rows.{RowsDone, SetDone, RowsRefused, IsOpenEncodable, optional, defaulted, open_type};
 ghost use Rattle.oer_write.specs.Seen.{around, within, IsLaid};
 ghost use Rattle.oer_write.specs.Written.{Keeps, WantsMemory};
 

@@ -12,19 +12,8 @@ use crate::encoder::Encoder;
 use crate::holes::{close_open, keep_free};
 use asn1_core::{Choice, Constraints, EncodeError, Tag};
 use oer_leaf_write::write_tag;
+use oer_spec::is_among;
 use std::alloc::Global;
-
-/// Whether the tag is one of a table of alternatives.
-pub fn is_among(tags: &[Tag], tag: Tag) -> bool
-    ensures { result ≡ holds tags.now tag }
-{
-    for known in tags {
-        if *known == tag {
-            return true;
-        }
-    }
-    false
-}
 
 /// Lends an encoder to a closure that answers a tag.
 fn lend_pick<F: FnOnce(&mut Encoder<'_>) -> Result<Tag, EncodeError>>(

@@ -25,7 +25,6 @@ mod texts;
 mod times;
 mod unordered;
 
-pub use choices::is_among;
 pub use encode::Encode;
 pub use encoder::Encoder;
 pub use rules::EncodingRules;

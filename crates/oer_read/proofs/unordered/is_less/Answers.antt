@@ -1,6 +1,6 @@
 use Rattle.std.proofs.Common.{◌∙◌, ap}
 use Rattle.std.specs.Ordering.{is_lt}
-use Rattle.oer_write.proofs.OctetOrder.{less_is}
+use Rattle.oer_spec.proofs.Sorted.{less_is}
 use Rattle.oer_read.proofs.unordered.is_less.Goals as goal
 
 pub returns : goal.returns

@@ -5,7 +5,8 @@ use Rattle.std.specs.Borrow.{Bor}
 use Rattle.asn1_core.specs.Octets.{Octets}
 use Rattle.oer_write.specs.Unordered.{octets_in}
 use Rattle.oer_write.proofs.Arranging.{arranged_is}
-use Rattle.oer_write.proofs.OctetOrder.{arranged_octets, by_octets, octet_order, less_is}
+use Rattle.oer_spec.proofs.Sorted.{less_is}
+use Rattle.oer_write.proofs.OctetOrder.{arranged_octets, by_octets, octet_order}
 use Rattle.oer_write.proofs.unordered.arrange_octets.Goals as goal
 
 pub returns-clause-done : goal.returns-clause-done
