@@ -50,7 +50,8 @@ pub fn encode_buf<T: Encode>(
     append_value(alloc, T::CONSTRAINTS, value, buffer)
 }
 
-/// The value whose lenient encoding begins the input, within 128 levels; what follows it is ignored.
+/// The value whose lenient encoding begins the input, within 128 levels; what follows it is ignored. Of what a newer version
+/// wrote, the value without the additions that the type doesn't know (X.696, 16.5).
 ///
 /// Refused exactly where no such encoding begins the input (docs/REFUSALS.md has the kinds and their order), or for want
 /// of memory.

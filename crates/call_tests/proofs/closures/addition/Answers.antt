@@ -1,4 +1,4 @@
-use Rattle.call_tests.proofs.Rear.{adds_rear}
+use Rattle.oer_read.proofs.Rears.{adds_rear}
 use Rattle.call_tests.proofs.closures.addition.Goals as goal
 
 pub returns : goal.returns

@@ -1,4 +1,4 @@
-use Rattle.call_tests.proofs.Rear.{asks_rear}
+use Rattle.oer_read.proofs.Rears.{asks_rear}
 use Rattle.call_tests.proofs.closures.ask.Goals as goal
 
 pub returns : goal.returns

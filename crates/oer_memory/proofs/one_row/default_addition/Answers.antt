@@ -1,4 +1,4 @@
-use Rattle.oer_memory.proofs.Rear.{added_defaults_rear}
+use Rattle.oer_read.proofs.Rears.{added_defaults_rear}
 use Rattle.oer_memory.proofs.one_row.default_addition.Goals as goal
 
 pub returns : goal.returns

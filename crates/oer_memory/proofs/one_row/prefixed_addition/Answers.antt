@@ -1,4 +1,4 @@
-use Rattle.oer_memory.proofs.Rear.{adds_rear}
+use Rattle.oer_read.proofs.Rears.{adds_rear}
 use Rattle.oer_memory.proofs.one_row.prefixed_addition.Goals as goal
 
 pub returns : goal.returns

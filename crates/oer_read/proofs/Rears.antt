@@ -1,4 +1,4 @@
--- What is left of what a closure was lent.
+-- What a component, or an addition, leaves of the octets that its reader was lent: what a closure by hand has to say of its answer.
 use Rattle.std.proofs.Common.{List, [], Bool, Option, Some, None, Result, Ok, Err, sym, ap}
 use Rattle.std.specs.Result.{OnOk}
 use Rattle.asn1_core.specs.Octets.{AreOctets}
