@@ -49,7 +49,7 @@ fn messages_are_written_and_read(rt: HostRuntime) -> Result<(), Fail> {
         sent: Some(2),
         level: Integer::from_i128(5),
         key: Limited::new(OctetString::from_slice(alloc, &[0xAA, 0xBB, 0xCC])?),
-        path: ListOf(Vec::from_array(alloc, [OctetString::from_slice(alloc, &[0xDD])?])?),
+        path: ListOf(Vec::from_array(alloc, [Octets(OctetString::from_slice(alloc, &[0xDD])?)])?),
     });
     let octets = [
         0x80, 0x01, 0, 0, 0, 0, 0, 0, 0, 2, 0xAA, 0xBB, 0xCC, 0x01, 0x01, 0x01, 0xDD,

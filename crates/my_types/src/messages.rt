@@ -34,14 +34,14 @@ pub struct MessageComponents {
     pub sent: Option<u64>,
     pub level: Integer,
     pub key: Key,
-    pub path: ListOf<OctetString>,
+    pub path: ListOf<Octets>,
 }
 
 type MessageRow = Needs<Context<0>, u8, MayHave<Context<1>, u64, FromLevel>>;
 
 type FromLevel = Defaults<Context<2>, Integer, IsNumber<5>, FromKey>;
 
-type FromKey = Needs<Context<3>, Key, Needs<Context<4>, ListOf<OctetString>, NoMore>>;
+type FromKey = Needs<Context<3>, Key, Needs<Context<4>, ListOf<Octets>, NoMore>>;
 
 impl Rowed for MessageComponents {
     ghost use Rattle.rasn_oer.specs.Values.{both};

@@ -30,10 +30,8 @@ impl Rowed for ReportComponents {
 
     ghost components = { λ v. both v.urgent (both v.number tt) };
 
-    fn from_row(
-        Both(urgent, Both(number, ())): <ReportRow as Components>::Values,
-    ) -> ReportComponents {
-        ReportComponents { urgent, number }
+    fn from_row(row: <ReportRow as Components>::Values) -> ReportComponents {
+        built![ReportComponents from row: urgent, number]
     }
 }
 
@@ -64,7 +62,7 @@ impl Tabled<2, 0> for ReportComponents {
     }
 
     fn put(&self, encoder: &mut Encoder<'_>) -> Result<(), EncodeError> {
-        ReportRow::write(&Both(&self.urgent, Both(&self.number, ())), encoder)
+        ReportRow::write(&views![self: urgent, number], encoder)
     }
 
     ghost counts = { (refl, refl) };
