@@ -13,11 +13,6 @@ pub octets_from_each : (o : Octets) → ((i : ℕ) → get_or o i 0 < 256) → A
 octets_from_each [] f = tt
 octets_from_each (x ∷ o) f = (f 0, octets_from_each o (λ i. f (suc i)))
 
-pub each_octet : (o : Octets) → AreOctets o → (i : ℕ) → get_or o i 0 < 256
-each_octet [] f i = omega arith
-each_octet (x ∷ o) (f, fs) zero = f
-each_octet (x ∷ o) (f, fs) (suc i) = each_octet o fs i
-
 pub append_octets : (o p : Octets) → AreOctets o → AreOctets p → AreOctets (o ++ p)
 append_octets [] p f g = g
 append_octets (x ∷ o) p (f, fs) g = (f, append_octets o p fs g)

@@ -1,5 +1,5 @@
 -- Arcs, the parts that they make, and the octets of these.
-use Rattle.std.proofs.Common.{◌≡◌, ℕ, suc, ◌+◌, ◌-◌, ◌*◌, ◌/◌, ◌%◌, ◌^◌, ◌<◌, ◌≤◌, Bool, true, false, cond, eqb, ltb, not, List, [], ◌∷◌, ◌++◌, length, map, take, get_or, Option, Some, None, refl, subst, sym, ap, ap₂, ◌∙◌, arith, append_assoc}
+use Rattle.std.proofs.Common.{◌≡◌, ℕ, suc, ◌+◌, ◌-◌, ◌*◌, ◌/◌, ◌%◌, ◌^◌, ◌<◌, ◌≤◌, Bool, true, false, cond, eqb, ltb, not, List, [], ◌∷◌, ◌++◌, length, map, get_or, Option, Some, None, refl, subst, sym, ap, ap₂, ◌∙◌, arith, append_assoc}
 use Rattle.std.specs.Prelude.{◌&&◌, ⊤}
 use Rattle.std.specs.List.{list_all, flat_map}
 use Rattle.std.specs.Int.Digits.{digits_of}
@@ -7,7 +7,7 @@ use Rattle.std.proofs.Math.Bool.{and-true}
 use Rattle.std.proofs.lemmas.Bool.{true≢false, eqb-false, and_from, ltb-true, ltb-false, lt-ltb, le-ltb, le-leb, lt-leb}
 use Rattle.std.proofs.lemmas.Int.Digits.{digits_of_step}
 use Rattle.std.proofs.lemmas.Nat.{div-mul-add, mod-mul-add}
-use Rattle.std.proofs.lemmas.List.{map-append, append-nil, take_more, flat_map_more}
+use Rattle.std.proofs.lemmas.List.{map-append}
 use Rattle.asn1_core.specs.Octets.{Octets, AreOctets}
 use Rattle.asn1_core.specs.Texts.{one_more, parts_from}
 use Rattle.asn1_strings.specs.Identifiers.{is_arc, is_start, is_identifier, high_groups, part_octets, last_part, part_arcs, with_parts, is_zero_group, then_parts}
@@ -31,10 +31,6 @@ some_is x y e = cc
 one_more_some : (n : ℕ) (r : Option (List ℕ)) (ps : List ℕ) → one_more n r ≡ Some ps → (qs : List ℕ) × (r ≡ Some qs) × (n ∷ qs ≡ ps)
 one_more_some n None ps e = absurd cc
 one_more_some n (Some qs) ps e = (qs, refl, some_is (n ∷ qs) ps e)
-
--- one octet of a part
-abbrev pub octet_step : Bool → ℕ → ℕ → Octets → Bool → Bool → Option (List ℕ)
-octet_step inside n x xs first last = cond first None (cond last (one_more (n * 128 + x) (parts_from false 0 xs)) (parts_from true (n * 128 + (x - 128)) xs))
 
 -- so much of a part is read: nothing where it has no octet yet
 abbrev pub IsBegun : Bool → ℕ → Type 0
@@ -98,17 +94,8 @@ start_is (x ∷ y ∷ arcs) two each = sym (and-true (is_start x y)) ∙ ap (λ 
 
 -- ---- what is appended
 
-pub nothing_more : (octets old : Octets) → (more : Octets) × (old ≡ old ++ more)
-nothing_more octets old = ([], sym (append-nil old))
-
-pub some_more : (old new more : Octets) → new ≡ old ++ more → (more : Octets) × (new ≡ old ++ more)
-some_more old new more e = (more, e)
-
 pub high_groups-step : (n : ℕ) → (n ≡ 0 → ⊥) → high_groups (n / 128) ++ ((n % 128 + 128) ∷ []) ≡ high_groups n
 high_groups-step n some = let whole : n / 128 * 128 + n % 128 ≡ n = omega arith in sym (groups_step (n / 128) (n % 128) (omega arith) (omega arith)) ∙ ap high_groups whole
-
-pub parts_more : (parts : List ℕ) (i : ℕ) → i < length parts → flat_map part_octets (take i parts) ++ part_octets (get_or parts i 0) ≡ flat_map part_octets (take (i + 1) parts)
-parts_more parts i lt = flat_map_more part_octets [] (take i parts) (get_or parts i 0) ∙ ap (flat_map part_octets) (sym (take_more parts i 0 lt))
 
 -- ---- reading, octet by octet
 
@@ -148,10 +135,6 @@ octet_goes_on inside n x xs is above fits =
     (λ h. absurd (true≢false (sym h ∙ is)))
     (λ _ h. absurd (true≢false (sym h ∙ le-ltb x 128 above)))
     (λ _ _. ap (λ z. parts_from true (n * 128 + z) xs) (sym low))
-
-pub octet_refused : (inside : Bool) (n x : ℕ) (xs : Octets) → is_zero_group inside x ≡ true → parts_from inside n (x ∷ xs) ≡ None
-octet_refused inside n x xs is =
-    by_octet (λ r. r ≡ None) inside n x xs (λ _. refl) (λ h _. absurd (true≢false (sym is ∙ h))) (λ h _. absurd (true≢false (sym is ∙ h)))
 
 -- a part that is begun is finished by a number that is not less
 abbrev pub IsAtLeast : ℕ → Option (List ℕ) → Type 0

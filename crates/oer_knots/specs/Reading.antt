@@ -20,9 +20,6 @@ pub record ReadsInside {F K : Type 0} (g : Shared F (MutBor State × Unit {0}) (
   pub law : (s t : State) (r : Result K DecodeError) → FnReturnsAtMut g f s r t → Decodes tree IsValue s r t
 
 module _ {F K : Type 0} (g : Shared F (MutBor State × Unit {0}) (Result K DecodeError × (MutBor State × Unit {0}))) (f : F) (tree : K → Tree) (IsValue : K → Type 0) where
-  pub reads_inside : (n : ℕ) → ReadsKnots g f tree IsValue n → ReadsInside g f tree IsValue n
-  reads_inside n k = record { callable = λ s l. k.callable s (omega arith); law = k.law }
-
   pub inside_reads : (m n : ℕ) → m < n → ReadsInside g f tree IsValue n → ReadsKnots g f tree IsValue m
   inside_reads m n h k = record { callable = λ s l. k.callable s (omega arith); law = k.law }
 

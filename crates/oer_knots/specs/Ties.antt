@@ -32,20 +32,6 @@ le_left a b = omega arith
 pub le_right : (a b : ℕ) → b ≤ max a b
 le_right a b = omega arith
 
--- ---- a value of another type in its place: a struct of one field
-module _ {K A B : Type 0} (content : A → B) (tied : Typed K → Typed B) (weight : (K → ℕ) → B → ℕ) where
-  abbrev pub through_tied : Typed K → Typed A
-  through_tied of = record { tree = λ v. (tied of).tree (content v); IsPart = λ v. (tied of).IsPart (content v) }
-
-  abbrev pub through_weight : (K → ℕ) → A → ℕ
-  through_weight size v = weight size (content v)
-
-  pub through_ties : Ties tied weight → Ties through_tied through_weight
-  through_ties t = record {
-    is = λ of i. record { is = λ v. (t.is of i).is (content v); like = λ v w. (t.is of i).like (content v) (content w) };
-    local = λ size of to v a. record { tree = (t.local size of to (content v) a).tree; part = (t.local size of to (content v) a).part };
-  }
-
 -- ---- the knot itself, in a box or not
 module _ {K B : Type 0} (content : B → K) where
   abbrev pub held_tied : Typed K → Typed B

@@ -1,5 +1,5 @@
 -- Bit strings are read exactly where a front of the octets spells them.
-use Rattle.std.proofs.Common.{◌≡◌, ℕ, zero, suc, ◌+◌, ◌-◌, ◌*◌, ◌/◌, ◌<◌, ◌≤◌, Bool, true, false, cond, ltb, eqb, List, [], ◌∷◌, ◌++◌, length, take, drop, Result, Ok, Err, Option, Some, None, refl, sym, ap, subst, ◌∙◌, arith, append_assoc, append-nil, length-append, inl, inr, ◌⊎◌}
+use Rattle.std.proofs.Common.{◌≡◌, ℕ, zero, suc, ◌+◌, ◌-◌, ◌*◌, ◌/◌, ◌<◌, ◌≤◌, Bool, true, false, cond, ltb, eqb, List, [], ◌∷◌, ◌++◌, length, take, Result, Ok, Option, Some, None, refl, sym, ap, subst, ◌∙◌, arith, append_assoc, append-nil, length-append, inl, inr}
 use Rattle.std.specs.Prelude.{not}
 use Rattle.std.proofs.lemmas.Bool.{ltb-false, le-ltb, ne_eqb}
 use Rattle.std.proofs.lemmas.List.{length-take-le}
@@ -11,16 +11,16 @@ use Rattle.asn1_core.specs.declared.error.DecodeErrorKind.{DecodeErrorKind}
 use Rattle.asn1_core.specs.declared.error.DecodeErrorKind.TheVariants.{InvalidBitString, LengthExceedsPlatformWidth, SizeConstraintNotSatisfied}
 use Rattle.oer_spec.specs.Bits.{front_bits, has_set_fill}
 use Rattle.oer_spec.specs.Leaves.{Failure, BadValue, BadSize, BadIdentifier, BadTime, TooManyEmpty, TooLong, leaf_fails, string_too_long, IsBitString, IsLeafEncoding}
-use Rattle.oer_spec.specs.Lengths.{IsLength, IsBehindLength, AreCountedBits}
-use Rattle.oer_spec.specs.Mode.{mode_of, InLenient, InStrict}
-use Rattle.oer_spec.specs.Reading.{◌>>=◌, ◌>>◌, octet_at, octets_at, canonical, is_coer, length_at}
+use Rattle.oer_spec.specs.Lengths.{IsLength}
+use Rattle.oer_spec.specs.Mode.{mode_of, InStrict}
+use Rattle.oer_spec.specs.Reading.{◌>>=◌, ◌>>◌, octets_at, canonical, is_coer, length_at}
 use Rattle.oer_spec.specs.ReadingBits.{refuse_if, size_test, unused_for, is_overfull, fixed_bits_at, counted_from, counted_bits_at, sized_bits_at, bit_string_at}
-use Rattle.oer_spec.specs.Tree.{Leaf, Bits}
+use Rattle.oer_spec.specs.Tree.{Bits}
 use Rattle.oer_leaf_read.proofs.Fill.{unused_bits, all_unset, parts_of_bits, length-unused, front_is, unused_enough, unset_again}
 use Rattle.oer_leaf_read.proofs.ReadLengths.{length_reads}
 use Rattle.oer_leaf_read.proofs.ReadPlaces.{refuse_ok, octets_found, fewest_octets, IsCounted, counted_is, overfull_not, not_overfull}
 use Rattle.oer_leaf_read.proofs.ReadTexts.{not_not, fixed_only, fixed_fits}
-use Rattle.oer_spec.proofs.Steps.{Reads, bind_ok, then_ok, ok_is, pair_is, octets_again, canonical_ok, canonical_again, strict_is, strict_has, front_octets, rear_octets}
+use Rattle.oer_spec.proofs.Steps.{Reads, bind_ok, then_ok, pair_is, octets_again, canonical_ok, canonical_again, strict_is, strict_has, front_octets, rear_octets}
 use Rattle.oer_spec.proofs.Unique.{length-bits_of}
 
 pub fixed_front : (n : ℕ) (o : Octets) → length o ≡ octets_for n → take n (bits_of o) ≡ front_bits (unused_for n) o
@@ -69,15 +69,6 @@ fixed_found codec n input rest b fits e =
     let count : length b ≡ n = omega (arith, length-bits_of a.0.0, ap length split, length-append b (unused_bits (unused_for n) a.0.0), size, p.0) in
     let strict : is_coer codec ≡ true → AllFalse (unused_bits (unused_for n) a.0.0) = λ z. all_unset (unused_for n) a.0.0 (few_unused n) enough octets (canonical_ok codec (has_set_fill (unused_for n) a.0.0) t.0 t.1 z) in
     (a.0.0, whole, record { octets = octets; unused = unused_bits (unused_for n) a.0.0; few = subst (λ z. z < 8) (sym size) (few_unused n); split = split; strict = strict_is codec strict }, count)
-
-fixed_again : (codec : Codec) (n : ℕ) (o rest : Octets) (b : List Bool) → Hold codec o b → length b ≡ n → fixed_bits_at n codec (o ++ rest) ≡ Ok (b, rest)
-unfolding fixed_bits_at
-fixed_again codec n o rest b h count =
-    let sizes = fewest_octets o b h.unused h.few h.split in
-    let size : length o ≡ octets_for n = sizes.0 ∙ ap octets_for count in
-    let unused : unused_for n ≡ length h.unused = sym (sizes.1 ∙ ap unused_for count) in
-    let fill : is_coer codec ≡ true → has_set_fill (length h.unused) o ≡ false = λ z. unset_again o b h.unused h.octets h.few h.split (strict_has codec h.strict z) in
-    rw (octets_again o rest (octets_for n) size, unused, canonical_again codec (has_set_fill (length h.unused) o) fill, front_is o b h.unused h.split) refl
 
 -- ---- behind a length
 -- the octets behind a length that isn't 0

@@ -35,9 +35,6 @@ octets_found n input x e =
 few_unused : (n : ℕ) → unused_for n < 8
 few_unused n = omega arith
 
-count_for : (c n u : ℕ) → c ≡ octets_for n → u ≡ unused_for n → 8 * c - u ≡ n
-count_for c n u e f = omega arith
-
 -- octets of so many bits and less than eight unused ones are the fewest
 pub fewest_octets : (o : Octets) (b v : List Bool) → length v < 8 → bits_of o ≡ b ++ v → (length o ≡ octets_for (length b)) × (length v ≡ unused_for (length b))
 fewest_octets o b v few e =

@@ -8,7 +8,7 @@ use Rattle.oer_spec.specs.Encoding.{IsEncoding}
 use Rattle.oer_spec.specs.Mode.{mode_of}
 use Rattle.oer_spec.specs.Tree.{Tree}
 use Rattle.oer_read.specs.Choices.{ReadsAlternative}
-use Rattle.oer_read.specs.Law.{Decodes, Fronts, WantsMemory}
+use Rattle.oer_read.specs.Law.{Decodes, Fronts}
 use Rattle.oer_read.specs.State.{State}
 
 -- ---- where each value with some tag holds a value of the part
@@ -64,6 +64,3 @@ module _ {A B : Type 0} (child : A → Tree) (IsHere : A → Type 0) (tree : B �
 pub alternative_law : {A : Type 0} (child : A → Tree) (IsValue : A → Type 0) (tag_of : A → Tag) (g : Tag) (s : State) (r : Result A DecodeError) (t : State) → Decodes child (λ v. IsValue v × (tag_of v ≡ g)) s r t → ReadsAlternative child IsValue tag_of g s r t
 alternative_law child IsValue tag_of g s (Ok v) t d = record { read = d.read; mode = tt; none = tt }
 alternative_law child IsValue tag_of g s (Err e) t d = record { read = tt; mode = d.refused.mode; none = d.refused.none }
-
-pub memory_was_refused : {A : Type 0} (child : A → Tree) (IsValue : A → Type 0) (tag_of : A → Tag) (g : Tag) (s : State) (e : DecodeError) (t : State) → WantsMemory s e → ReadsAlternative child IsValue tag_of g s (Err e) t
-memory_was_refused child IsValue tag_of g s e t m = record { read = tt; mode = m.1; none = λ n. absurd (n m.0) }

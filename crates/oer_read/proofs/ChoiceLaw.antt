@@ -141,11 +141,6 @@ picked_lent s roots additions chosen p = go (holds roots p.tag) p.placed
     go true h = lent_is p.rest (ap (λ (c : Chosen). c.lent) h)
     go false (q, content, behind, e, f, h) = lent_is content (ap (λ (c : Chosen). c.lent) h)
 
-pub chosen_known : (s : State) (roots additions : List Tag) (extensible : Bool) (chosen : Chosen) → AreOctets s.input → chosen_at s roots additions extensible ≡ Ok chosen → (holds roots chosen.tag || holds additions chosen.tag) ≡ true
-chosen_known s roots additions extensible chosen fits e =
-    let p = chosen_picks s roots additions extensible chosen fits e in
-    subst (λ (g : Tag). (holds roots g || holds additions g) ≡ true) (sym (picked_tag s roots additions chosen p)) p.known
-
 -- ---- from an encoding of an alternative to that of the choice, and back
 
 is_nil : (o : Octets) → ltb 0 (length o) ≡ false → o ≡ []

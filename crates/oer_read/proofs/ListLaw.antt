@@ -153,10 +153,6 @@ module _ {A : Type 0} (tree : A → Tree) (IsPart : A → Type 0) (Ran : State �
         counted = a.counted ∙ ap (λ (z : ℕ). z + empties ps) c ∙ count_more n o ps ∙ ap (λ (z : List Octets). n + empties z) (sym same);
       }
 
-  nil_octets : (o : Octets) → is_nil o ≡ true → o ≡ []
-  nil_octets [] e = refl
-  nil_octets (x ∷ o) e = absurd cc
-
   module _ (is_tree : (v : A) → IsPart v → IsTree (tree v)) where
     -- as many elements have no octets as are written without
     pub same_empties : (m : Mode) (d : ℕ) (os : List Octets) (vs : List A) → EachValue IsPart vs → AreElements m d os (trees_of tree vs) → empties (canonical_elements (trees_of tree vs)) ≡ empties os

@@ -1,5 +1,5 @@
 -- What the rest of the components was read as, or why it was refused, of a call that reads all of them.
-use Rattle.std.proofs.Common.{◌≡◌, Bool, true, false, List, Option, Some, None, ◌⊎◌, inl, inr, Result, Ok, Err, Continue, Break, refl, ap, ◌∙◌, subst, sym}
+use Rattle.std.proofs.Common.{◌≡◌, Bool, false, List, Option, Some, None, ◌⊎◌, inl, inr, Result, Ok, Err, Continue, Break, refl, ap, ◌∙◌, subst, sym}
 use Rattle.std.specs.Bool.{Decides}
 use Rattle.std.specs.Result.{IfOk, IfErr, OnErr, IsErrAnd, result_from_control_flow}
 use Rattle.asn1_core.specs.Octets.{AreOctets}
@@ -17,7 +17,7 @@ use Rattle.oer_spec.specs.Tree.{Tree, Rows, NoRows, Required, Optional, Default,
 use Rattle.oer_read.specs.Law.{Decodes, WantsMemory}
 use Rattle.oer_read.specs.Parts.{Parts, NoParts, NeededPart, OptionalPart, DefaultPart, Admits, AreOf, IsTableOf, Takes, Stops, ReadsParts}
 use Rattle.oer_read.specs.State.{State}
-use Rattle.oer_rows.specs.Schema.{Schema, Table, IsSchema, IsOf, HasTables, tree_of}
+use Rattle.oer_rows.specs.Schema.{Schema, IsSchema, IsOf, HasTables, tree_of}
 use Rattle.oer_read.specs.Additions.{Adds, Added, AddRefused}
 use Rattle.oer_rows.specs.Slots.{IfThere}
 use Rattle.oer_rows.specs.Standards.{Settles, AsksStandard, AddsStandard}
@@ -230,10 +230,6 @@ made_read k of s t row v e d = record {
 
 pub made_value : {A R : Type 0} (k : Schema R) (of : A → R) (row : R) (v : A) → of v ≡ row → IsOf k row → IsOf k (of v)
 made_value k of row v e i = subst (λ (z : _). IsOf k z) (sym e) i
-
-pub no_value : {A E : Type 0} (Q : E → Type 0) (r : Result A E) (P : A → Type 0) → IsErrAnd r Q → IfOk r P
-no_value Q (Ok v) P h = absurd h
-no_value Q (Err e) P h = tt
 
 -- ---- the law of a sequence by its schema
 

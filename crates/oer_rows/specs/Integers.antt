@@ -10,7 +10,7 @@ use Rattle.oer_spec.specs.Spelled.{integer, integer_is, integers_alike, integers
 use Rattle.oer_spec.specs.Tree.{Tree, Rows, NoRows, Slot, Present, present_unless, slot_of}
 use Rattle.oer_read.specs.Defaults.{IsDefault}
 use Rattle.oer_read.specs.Parts.{Admits, OnPresent}
-use Rattle.oer_rows.specs.DefaultSlots.{AlikeDefaults, default_slot_is, default_slot_differs, default_slot_admitted, default_slots_alike}
+use Rattle.oer_rows.specs.DefaultSlots.{default_slot_is, default_slot_differs, default_slot_admitted}
 use Rattle.oer_rows.specs.Schema.{context}
 use Rattle.oer_rows.specs.Slots.{IfThere, slot_is, slots_alike, slot_made}
 
@@ -47,9 +47,6 @@ unless_differs d n = default_slot_differs plain_integer IsWhole int_eq d (whole_
 
 pub unless_admitted : (d n : ℤ) → OnPresent WholePart (integer_unless d n)
 unless_admitted d n = default_slot_admitted plain_integer IsWhole int_eq d (whole_default d) n (λ e. refl)
-
-pub unless_alike : (d m n : ℤ) → AlikeDefaults plain_integer IsWhole int_eq d (whole_default d) m n
-unless_alike d m n = default_slots_alike plain_integer IsWhole int_eq d (whole_default d) m n (λ e. refl) (λ e. refl)
 
 -- ---- optional integers
 

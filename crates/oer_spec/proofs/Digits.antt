@@ -4,8 +4,7 @@ use Rattle.std.specs.Int.Digits.{number_from_digits_after}
 use Rattle.std.proofs.lemmas.Int.Digits.{number_more, number_after_append, number_after_ge}
 use Rattle.std.proofs.lemmas.List.{take-append-drop}
 use Rattle.std.proofs.lemmas.Bool.{le-ltb, cond-false}
-use Rattle.std.proofs.Math.Arith.{mod-mul}
-use Rattle.std.specs.Int.{byte_at, bytes_high_first, to_be_bytes, cast_unsigned, w64, w128}
+use Rattle.std.specs.Int.{bytes_high_first, to_be_bytes, cast_unsigned, w128}
 use Rattle.std.specs.Prelude.{◌-◌, ℤ, pos, negsuc, FitsSigned}
 use Rattle.asn1_core.proofs.Fixed.{bytes_are_low_octets}
 use Rattle.asn1_core.specs.Numbers.{complement, low_octets}
@@ -13,7 +12,7 @@ use Rattle.oer_spec.specs.Leaves.{fixed_octets}
 use Rattle.std.specs.Int.Digits.{digits_of}
 use Rattle.asn1_core.specs.Octets.{Octets, AreOctets, unsigned}
 use Rattle.oer_spec.specs.Lengths.{length_octets}
-use Rattle.asn1_core.proofs.Digits.{digits_unsigned, powers, power_pos, unsigned_cons}
+use Rattle.asn1_core.proofs.Digits.{digits_unsigned, powers, unsigned_cons}
 
 pub unsigned_none : unsigned [] ≡ 0
 unsigned_none = refl
@@ -45,27 +44,6 @@ digits_no_zero (x ∷ o) f h = sym (digits_unsigned x o f h)
 pub tail_octets : (o : Octets) → AreOctets o → AreOctets (drop 1 o)
 tail_octets [] f = tt
 tail_octets (x ∷ o) (f, fs) = fs
-
-length-bytes : (k n : ℕ) → length (bytes_high_first k n) ≡ k
-length-bytes zero n = refl
-length-bytes (suc k) n = ap suc (length-bytes k n)
-
-byte_is : (k n : ℕ) → byte_at k n ≡ n / 256 ^ k % 256
-byte_is zero n = omega arith
-byte_is (suc k) n = refl
-
--- the lowest octets of a number
-pub unsigned_bytes : (k n : ℕ) → unsigned (bytes_high_first k n) ≡ n % 256 ^ k
-unsigned_bytes zero n = omega arith
-unsigned_bytes (suc k) n =
-    unsigned_cons (byte_at k n) (bytes_high_first k n)
-    ∙ ap (λ l. byte_at k n * 256 ^ l + unsigned (bytes_high_first k n)) (length-bytes k n)
-    ∙ ap₂ (λ b u. b * 256 ^ k + u) (byte_is k n) (unsigned_bytes k n)
-    ∙ sym (mod-mul n {m = 256} {c = 256 ^ k} (omega arith) (power_pos k))
-    ∙ ap (λ p. n % p) (powers k)
-
-pub unsigned_u64 : (n : ℕ) → n < 2 ^ 64 → unsigned (to_be_bytes w64 n) ≡ n
-unsigned_u64 n h = unsigned_bytes 8 n ∙ omega arith
 
 pub long_length : (n : ℕ) (octets front old new : Octets) → 128 ≤ n → octets ≡ digits_of 256 n → front ≡ old ++ (128 + length octets) ∷ [] → new ≡ front ++ octets → new ≡ old ++ length_octets n
 long_length n octets front old new large same pushed extended =

@@ -150,10 +150,6 @@ leaf_same_nil l z _ i j f = absurd f
 same_nil : (t : Tree) → SameNil t
 same_nil t = by_parts SameNil leaf_same_nil struct_same_nil items_same_nil choice_same_nil t
 
--- ---- a list's own faults
-one_if : Bool → ℕ
-one_if b = cond b 1 0
-
 empties_cons : (o : Octets) (ps : List Octets) → empties (o ∷ ps) ≡ cond (is_nil o) 1 0 + empties ps
 empties_cons [] ps = omega arith
 empties_cons (x ∷ o) ps = omega arith

@@ -7,9 +7,9 @@ use Rattle.asn1_core.specs.Octets.{Octets, AreOctets}
 use Rattle.asn1_core.specs.declared.codec.Codec.{Codec}
 use Rattle.asn1_core.specs.declared.codec.Codec.TheVariants.{Oer, Coer}
 use Rattle.asn1_core.specs.declared.error.DecodeErrorKind.{DecodeErrorKind}
-use Rattle.asn1_core.specs.declared.error.DecodeErrorKind.TheVariants.{Incomplete, OutOfMemory}
+use Rattle.asn1_core.specs.declared.error.DecodeErrorKind.TheVariants.{Incomplete}
 use Rattle.oer_spec.specs.Mode.{mode_of, InStrict}
-use Rattle.oer_spec.specs.Reading.{◌>>=◌, ◌>>◌, Gives, seen, ReadsFront, NoFront, octets_at, canonical, is_coer, if_below}
+use Rattle.oer_spec.specs.Reading.{◌>>=◌, ◌>>◌, Gives, seen, ReadsFront, octets_at, canonical, is_coer, if_below}
 
 -- A reading answers exactly what a front of the octets spells, and what is left.
 pub record Reads {V : Type 0} (read : Octets → Result (V × Octets) DecodeErrorKind) (Spells : Octets → V → Type 0) : Type 0 where
@@ -47,10 +47,6 @@ front_of reads view input (Err d) f e = front_is reads input (Err d) (are_octets
 pub front_ok : {V : Type 0} {read : Octets → Result (V × Octets) DecodeErrorKind} {Spells : Octets → V → Type 0} → Reads read Spells → (input rest : Octets) (v : V) → ((k : ℕ) → Fits w8 (get_or input k 0))
     → read input ≡ Ok (v, rest) → (o : Octets) × (input ≡ o ++ rest) × Spells o v
 front_ok reads input rest v f e = reads.found input rest v (are_octets input f) e
-
-pub front_err : {V : Type 0} {read : Octets → Result (V × Octets) DecodeErrorKind} {Spells : Octets → V → Type 0} → Reads read Spells → (input : Octets) (d : DecodeErrorKind) → ((k : ℕ) → Fits w8 (get_or input k 0))
-    → read input ≡ Err d → (d ≡ OutOfMemory → ⊥) → NoFront Spells input
-front_err reads input d f e = front_is reads input (Err d) (are_octets input f) e
 
 -- the value of a step that was not refused
 pub bind_ok : {A B : Type 0} (r : Result A DecodeErrorKind) (f : A → Result B DecodeErrorKind) (y : B) → (r >>= f) ≡ Ok y → (x : A) × (r ≡ Ok x) × (f x ≡ Ok y)

@@ -82,9 +82,6 @@ none_is : (is : List Item) → any_bit is ≡ false → AllByRecursion (λ i. i.
 none_is [] e = tt
 none_is (i ∷ is) e = let s = or_parts i.bit (any_bit is) e in (s.0, none_is is s.1)
 
-abbrev TailWritten : Bool → Octets → List Item → Type 0
-TailWritten b o is = IsExtension OwnSized b o is × AreOctets o
-
 tail_form : (is : List Item) → AllOctets is → opens_fail is TooLong ≡ false → bitmap_fails is TooLong ≡ false → IsExtension OwnSized (any_bit is) (extension_octets is) is × AreOctets (extension_octets is)
 tail_form is f e k = go (any_bit is) refl
   where

@@ -239,14 +239,6 @@ unfolding identifier Rattle.oer_spec.specs.Same.Same
 identifiers_same arcs others i j =
     (λ e. ap identifier_leaf ((bytes_decides arcs others).0 e), λ s. (bytes_decides arcs others).1 (same_arcs arcs others i j (cc s)))
 
--- values are equal where their numbers are, where each number has one value
-pub enumerated_same : {E : Type 0} (eq : E → E → Bool) (number : E → ℤ) (of_number : ℤ → Option E) → ((v w : E) → Decides (eq v w) (v ≡ w)) → ((v : E) → of_number (number v) ≡ Some v)
-    → (v w : E) → Decides (eq v w) (Same (enumerated (number v)) (enumerated (number w)))
-unfolding enumerated Rattle.oer_spec.specs.Same.Same
-enumerated_same {E} eq number of_number decides known v w =
-    let one : number v ≡ number w → v ≡ w = λ e. let both : Some v ≡ Some w = sym (known v) ∙ ap of_number e ∙ known w in cc in
-    (λ e. ap (λ u. Enum (number u)) ((decides v w).0 e), λ s. (decides v w).1 (one (cc s)))
-
 module _ {A : Type 0} (tree : A → Tree) (IsValue : A → Type 0) where
   trees_are : ((v : A) → IsValue v → IsTree (tree v)) → (vs : List A) → EachValue IsValue vs → AreTrees (trees_of tree vs)
   unfolding Rattle.oer_spec.specs.Encoding.IsTree

@@ -7,12 +7,11 @@ use Rattle.asn1_core.specs.declared.tag.Tag.{Tag}
 use Rattle.oer_spec.specs.Encoding.{IsEncodable, canonical_octets}
 use Rattle.oer_spec.specs.Places.{needed}
 use Rattle.oer_spec.specs.Tree.{Tree, NoRows}
-use Rattle.oer_spec.specs.Writing.{BeginsWith}
-use Rattle.oer_write.specs.ByClosure.{AppendedBy, RefusedBy, PutBy, KeptBy, ComponentBroken, IsKnownToWriteTree}
+use Rattle.oer_write.specs.ByClosure.{PutBy, KeptBy, ComponentBroken, IsKnownToWriteTree}
 use Rattle.oer_write.specs.Lists.{WroteElement}
 use Rattle.oer_write.specs.Rows.{RowsDone, SetDone, RowsRefused, required}
 use Rattle.oer_write.specs.Scopes.{Runs}
-use Rattle.oer_write.specs.Written.{Written, append, Keeps, Encodes}
+use Rattle.oer_write.specs.Written.{Written, append, Encodes}
 
 -- what was written has the octets of the tree
 tree_octets : {runs : Runs} (t : Tree) (o : Octets) → IsKnownToWriteTree runs t → WroteElement runs o → (o ≡ canonical_octets t) × IsEncodable t
@@ -61,19 +60,3 @@ row_refused {runs} {old} {new} tag t known x broken = record {
 }
 
 -- ---- in a sequence
-
-inside_keeps : (old new : Written) → new ≡ record old { octets = new.octets } → BeginsWith old.octets new.octets → Keeps old new
-inside_keeps old new rest begins = record {
-  octets = begins;
-  is_open = ap (λ (e : Written). e.frame.is_open) rest;
-  is_set = ap (λ (e : Written). e.frame.is_set) rest;
-  extensible = ap (λ (e : Written). e.frame.extensible) rest;
-  start = ap (λ (e : Written). e.frame.start) rest;
-  outer = ap (λ (e : Written). e.outer) rest;
-}
-
-pub inside_done : {runs : Runs} (old new : Written) → new ≡ record old { octets = new.octets } → AppendedBy runs old.octets new.octets → PutBy runs old new
-inside_done old new rest h = record { content = h.content; wrote = h.wrote; appended = rest ∙ ap (λ (o : Octets). record old { octets = o }) h.appended }
-
-pub inside_broken : {runs : Runs} (x : EncodeError) (old new : Written) → new ≡ record old { octets = new.octets } → BeginsWith old.octets new.octets → RefusedBy runs x → ComponentBroken runs x old new
-inside_broken x old new rest begins h = record { keeps = inside_keeps old new rest begins; reason = inr h }

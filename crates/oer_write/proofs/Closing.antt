@@ -1,6 +1,6 @@
 -- How a scope whose additions lie in the output is closed.
 use Rattle.std.proofs.Common.{◌≡◌, ℕ, ◌+◌, ◌-◌, ◌≤◌, Bool, true, false, cond, not, ◌&&◌, List, [], ◌++◌, length, take, drop, refl, ap, ap₂, sym, ◌∙◌, ◌<◌, ◌^◌, Ok, arith, append-nil, length-append}
-use Rattle.std.proofs.lemmas.List.{take-append-le, drop-append-le, take-append-drop, length-take-le, take_at, take_all, drop_all, take-take}
+use Rattle.std.proofs.lemmas.List.{take-append-le, drop-append-le, take-append-drop, length-take-le, take_all, drop_all, take-take}
 use Rattle.asn1_core.specs.Octets.{Octets, pack}
 use Rattle.oer_spec.specs.Lengths.{counted_bits}
 use Rattle.oer_spec.specs.Places.{extension_bit}
@@ -78,12 +78,6 @@ sequence_closed s start size o mid new sequence h k e f =
     f ∙ ap₂ (λ (x y : Octets). x ++ (header ++ y)) a b
     ∙ ap (λ (c : Bool). take start o ++ (header ++ (drop (start + size) (around s.region o) ++ extension_of s.bitmap (cond c (within s.region o) s.opens.items)))) (sym sequence)
 
--- ---- what a closure leaves of the output
-pub begins_run : (r : Region) (old new : Octets) (seen : Octets) → around r new ≡ seen → BeginsWith old seen → length old ≤ r.start → r.start ≤ length new → BeginsWith old new
-begins_run r old new seen same b h k =
-    let whole : take (length old) new ≡ old = sym (front_of r new (length old) h k) ∙ ap (take (length old)) (same ∙ b.1) ∙ take_at old b.0 (length old) refl in
-    (drop (length old) new, sym (take-append-drop (length old) new) ∙ ap (λ (o : Octets). o ++ drop (length old) new) whole)
-
 -- ---- scopes
 
 pub is_sequence : (s : Scope) → s.is_open ≡ true → s.is_set ≡ false → (s.is_open && not s.is_set) ≡ true
@@ -108,9 +102,6 @@ sequence_written s old free mid all new o start size h n m sound e g =
     let within_all : s.region.start ≤ length all = (let l = sound.laid in omega arith) in
     g ∙ ap (λ (x : Octets). x ++ sequence_octets (frame_of all s) (drop (start + size) (around s.region all))) (sym (front_of s.region all start begun within_all) ∙ ap (take start) laid ∙ p.0)
     ∙ ap (λ (x : Octets). old ++ sequence_octets (frame_of all s) (drop (start + size) x)) laid ∙ ap (λ (x : Octets). old ++ sequence_octets (frame_of all s) x) p.1
-
-pub starts_behind : (old free mid : Octets) (start size n : ℕ) → start ≡ length old → length free ≡ size → mid ≡ old ++ free → length mid ≤ n → start + size ≤ n
-starts_behind old free mid start size n h k m l = omega (arith, ap length m, length-append old free, h, k, l)
 
 -- a closure that keeps the octets before its scope leaves them in the output
 pub begins_left : (is_set extensible : Bool) (old new : Octets) (e e' : Written) (s : Scope) → e ≡ record { octets = old; frame = fresh is_set extensible (length old); outer = [] } → Keeps e e' → around s.region new ≡ e'.octets → frame_of new s ≡ e'.frame

@@ -1,15 +1,14 @@
 -- Elements' octets one behind the other, cut by how many each has.
-use Rattle.std.proofs.Common.{◌≡◌, ℕ, ◌+◌, ◌-◌, ◌<◌, ◌≤◌, ◌==◌, cond, List, [], ◌∷◌, ◌++◌, length, take, drop, get_or, map, ap, ap₂, sym, ◌∙◌, arith, append_assoc, length-append, length-drop}
+use Rattle.std.proofs.Common.{◌≡◌, ℕ, ◌+◌, ◌-◌, ◌<◌, ◌≤◌, ◌==◌, cond, List, [], ◌∷◌, ◌++◌, length, drop, ap, ap₂, ◌∙◌, arith, length-append, length-drop}
 use Rattle.std.specs.Prelude.{sum}
-use Rattle.std.specs.Borrow.{Bor}
 use Rattle.std.proofs.lemmas.Bool.{eq-eqb, ne_eqb}
 use Rattle.std.proofs.lemmas.List.Sums.{sum_by-cons, sum_by_push}
-use Rattle.std.proofs.lemmas.List.{take_all, take-append-le, drop-append-le, drop_more, map-append}
+use Rattle.std.proofs.lemmas.List.{take_all, take-append-le, drop-append-le}
 use Rattle.asn1_core.specs.Octets.{Octets}
 use Rattle.oer_spec.specs.Encoding.{IsEncodable, canonical_octets}
 use Rattle.oer_spec.specs.Tree.{Tree}
 use Rattle.oer_write.specs.Lists.{is_nil}
-use Rattle.oer_write.specs.Unordered.{octets_in, parts, OneMore}
+use Rattle.oer_write.specs.Unordered.{parts, OneMore}
 
 parts_push : (ns : List ℕ) (n : ℕ) (o x : Octets) → sum ns ≡ length o → n ≡ length x → parts (ns ++ n ∷ []) (o ++ x) ≡ parts ns o ++ x ∷ []
 parts_push [] n [] x s e = ap (λ (z : Octets). z ∷ []) (take_all n x (omega (arith, e)))
@@ -45,15 +44,3 @@ module _ {E : Type 0} (tree : E → Tree) (IsValue : E → Type 0) where
     counted = c ∙ ap (λ b. count + cond b 1 0) (empty_is old new _ size e s);
     few = few;
   }
-
--- one more part was cut off
-pub parts_more : (sizes : List ℕ) (i n : ℕ) (cs newer : List (Bor Octets)) (c : Bor Octets) (rest more : Octets) (whole : List Octets) → i < length sizes → n ≡ get_or sizes i n → c.now ≡ take n rest → more ≡ drop n rest → newer ≡ cs ++ c ∷ []
-    → map octets_in cs ++ parts (drop i sizes) rest ≡ whole → map octets_in newer ++ parts (drop (i + 1) sizes) more ≡ whole
-parts_more sizes i n cs newer c rest more whole short there here behind pushed h =
-    let split : drop i sizes ≡ n ∷ drop (i + 1) sizes = drop_more sizes i n short ∙ ap (λ m. m ∷ drop (i + 1) sizes) (sym there) in
-    ap₂ (λ (vs : List (Bor Octets)) (o : Octets). map octets_in vs ++ parts (drop (i + 1) sizes) o) pushed behind
-    ∙ ap (λ (os : List Octets). os ++ parts (drop (i + 1) sizes) (drop n rest)) (map-append octets_in cs (c ∷ []))
-    ∙ append_assoc (map octets_in cs) (c.now ∷ []) (parts (drop (i + 1) sizes) (drop n rest))
-    ∙ ap (λ (o : Octets). map octets_in cs ++ o ∷ parts (drop (i + 1) sizes) (drop n rest)) here
-    ∙ ap (λ (ms : List ℕ). map octets_in cs ++ parts ms rest) (sym split)
-    ∙ h

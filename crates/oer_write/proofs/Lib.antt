@@ -10,7 +10,6 @@ pub mod SetRows
 pub mod OctetOrder
 pub mod Gathering
 pub mod AnyOrder
-pub mod Joined
 pub mod ByClosure
 pub mod Words
 pub mod Filling

@@ -5,17 +5,13 @@ use Rattle.asn1_core.specs.Octets.{Octets}
 use Rattle.asn1_core.specs.declared.error.EncodeError.{EncodeError}
 use Rattle.asn1_core.specs.declared.error.EncodeErrorKind.{EncodeErrorKind}
 use Rattle.oer_spec.specs.Encoding.{fails, rows_fail, canonical_octets, IsEncodable}
-use Rattle.oer_spec.specs.Places.{Item, any_bit, extension_octets}
+use Rattle.oer_spec.specs.Places.{Item, any_bit}
 use Rattle.oer_spec.specs.Tree.{Rows, Struct}
 use Rattle.oer_spec.specs.Failures.{Fails, SizeFails}
 use Rattle.oer_write.specs.Rows.{RowsDone, IsKnownToWrite, presence_of, octets_of, items_of, bitmap_of, opens_of, AreEncodable, AreOpenEncodable, SomeFails, recorded}
-use Rattle.oer_write.specs.Scopes.{Runs, Closed, Broken, sequence_octets, extension_of, any_true}
+use Rattle.oer_write.specs.Scopes.{Runs, Closed, Broken, sequence_octets, any_true}
 use Rattle.oer_write.specs.Written.{Written, Frame, fresh, append, Encodes, Refused}
 use Rattle.oer_write.proofs.Items.{items_are, presence_is, bodies_are, bitmap_is, any_is, opens_are, none_fails, encodable_of_open, no_open_fails, short_bitmap, rows_fail_by, or_false, or_left, or_right}
-
--- the additions' octets, by what was recorded of them
-pub extension_is : (r : Rows) → extension_octets (items_of r) ≡ extension_of (bitmap_of r) (opens_of r)
-extension_is r = rw (← any_is (items_of r), bitmap_is r, opens_are r) refl
 
 pub extended_is : (r : Rows) → any_bit (items_of r) ≡ any_true (bitmap_of r)
 extended_is r = rw (← any_is (items_of r), bitmap_is r) refl

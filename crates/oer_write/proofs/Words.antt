@@ -39,9 +39,6 @@ pushed_set n w = let half : (w * 2 + 1) / 2 ≡ w = omega arith in one_more n (w
 pub pushed_unset : (n w : ℕ) → low_bits (n + 1) (w * 2) ≡ low_bits n w ++ (false ∷ [])
 pushed_unset n w = let half : w * 2 / 2 ≡ w = omega arith in one_more n (w * 2) ∙ ap₂ (λ x y. low_bits n x ++ (y ∷ [])) half (even (w * 2) (omega arith))
 
-pub doubled : (n : ℕ) → 2 ^ (n + 1) ≡ 2 * 2 ^ n
-doubled n = let e : n + 1 ≡ suc n = omega arith in ap (λ z. 2 ^ z) e ∙ pow-succ' 2 n
-
 pub spelled_more : (n w : ℕ) (old mid new : List Bool) → n ≢ 0 → mid ≡ old ++ low_bits (n - 1) (w / 2) → new ≡ mid ++ (is_odd w ∷ []) → new ≡ old ++ low_bits n w
 spelled_more n w old mid new h a b =
     let e : n ≡ suc (n - 1) = omega (arith, h) in
