@@ -1,12 +1,14 @@
 #!/usr/bin/env python3
-"""Proves a crate and those below it ahead of the gate, without their must-fail edits.
+"""Proves crates, each with those below it, ahead of the gate, without their must-fail edits.
 
-usage: ahead.py CRATE, for example: ahead.py oer_types
+usage: ahead.py CRATE.., for example: ahead.py oer_types oergen
 
-The crates are copied to a folder of their own, and `rt ci` runs there: it gives each proof the processors that no other task
-takes, and keeps beside the kit what it proved, which the gate's own `rt ci` then takes. So the proofs that wait for one another
-each get all processors; where edits and other crates run beside them, each gets one. The exit status is that of `rt ci`.
+Each crate and those below it are copied to a folder of their own, and `rt ci` runs there, all at the same time. It gives a proof
+the processors that no other task of its run asks for, and keeps beside the kit what it proved, which another run takes, the
+gate's own among them. So the proofs that wait for one another each get two processors or more; with edits and other crates in
+one run they get one. The exit status is 0 where each run's is.
 """
+import concurrent.futures
 import pathlib
 import shutil
 import subprocess
@@ -17,7 +19,7 @@ top = pathlib.Path(__file__).resolve().parent.parent
 
 
 def lines_below(name):
-    """The lines of crates.txt of a crate and of those below it, the lowest first."""
+    """The libraries that a crate and each of those below it use, the lowest first."""
     lines = {}
     for line in (top / "crates.txt").read_text(encoding="utf-8").splitlines():
         crate, colon, uses = line.partition(":")
@@ -30,9 +32,10 @@ def lines_below(name):
     return {crate: uses for crate, uses in lines.items() if crate in wanted}
 
 
-def main(name):
+def prove(name):
+    """Runs `rt ci` over a copy of the crate and of those below it; its exit status."""
     below = lines_below(name)
-    with tempfile.TemporaryDirectory(prefix="ahead-") as room:
+    with tempfile.TemporaryDirectory(prefix=f"ahead-{name}-") as room:
         room = pathlib.Path(room)
         for crate in below:
             skip = shutil.ignore_patterns("out", "must-fail")
@@ -43,5 +46,10 @@ def main(name):
         return subprocess.run(["rt", "ci"], cwd=room, check=False).returncode
 
 
+def main(names):
+    with concurrent.futures.ThreadPoolExecutor(len(names)) as pool:
+        return 1 if any(pool.map(prove, names)) else 0
+
+
 if __name__ == "__main__":
-    sys.exit(main(*sys.argv[1:]))
+    sys.exit(main(sys.argv[1:]))
