@@ -11,7 +11,7 @@ abbrev pub number_in : (ℤ → Bool) → Octets → ℤ → Result ℤ DecodeEr
 number_in admits octets n = cond (length octets == 0) (Err EmptyInteger) (cond (admits n) (Ok n) (Err IntegerOverflow))
 
 -- want of memory is an answer of types that take memory alone
-abbrev pub RefusesBy : Bool → DecodeErrorKind → Result ℤ DecodeErrorKind → Type 0
+abbrev pub RefusesBy : {Y : Type 0} → Bool → DecodeErrorKind → Result Y DecodeErrorKind → Type 0
 RefusesBy takes_memory OutOfMemory read = IsTrue takes_memory
 RefusesBy takes_memory kind read = read ≡ Err kind
 

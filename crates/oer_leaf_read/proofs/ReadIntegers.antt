@@ -14,7 +14,7 @@ use Rattle.asn1_ints.specs.Reading.{number_in}
 use Rattle.oer_spec.specs.Leaves.{Failure, BadValue, BadSize, BadIdentifier, BadTime, TooManyEmpty, TooLong, Width, Fixed, Counted, signed_width, unsigned_width, width_of, value_of, IsShort, IsInteger, leaf_fails, count_too_long, holds_signed}
 use Rattle.oer_spec.specs.Mode.{mode_of, InStrict}
 use Rattle.oer_spec.specs.Reading.{◌>>=◌, ◌>>◌, seen, ReadsFront, canonical}
-use Rattle.oer_spec.specs.ReadingIntegers.{GivesOrMemory, is_superfluous, is_signed, number_content_in, number_content_at, number_octets_at, IsNumberContent, in_range_only, integer_at, IsIntegerOf}
+use Rattle.oer_spec.specs.ReadingIntegers.{GivesBy, is_superfluous, is_signed, number_content_in, number_content_at, number_octets_at, IsNumberContent, in_range_only, integer_at, IsIntegerOf}
 use Rattle.oer_spec.specs.Tree.{Int}
 use Rattle.oer_spec.proofs.Canonical.{tight, plain}
 use Rattle.oer_leaf_read.proofs.ReadLengths.{Decodes, behind_reads}
@@ -25,7 +25,7 @@ use Rattle.oer_spec.proofs.WrittenLeaves.{short_from_tight, plain_short}
 
 -- ---- readers that may ask for memory
 pub front_or_memory : {V X : Type 0} {read : Octets → Result (V × Octets) DecodeErrorKind} {Spells : Octets → V → Type 0} → Reads read Spells → (takes_memory : Bool) (view : X → V × Octets) (input : Octets) (r : Result X DecodeErrorKind) → ((k : ℕ) → Fits w8 (get_or input k 0))
-    → GivesOrMemory takes_memory view r (read input) → ReadsFront Spells input (seen view r)
+    → GivesBy takes_memory view r (read input) → ReadsFront Spells input (seen view r)
 front_or_memory reads t view input (Ok x) f e = front_is reads input (Ok (view x)) (are_octets input f) e
 front_or_memory reads t view input (Err OutOfMemory) f e = λ m. absurd (m refl)
 front_or_memory reads t view input (Err kind) f e = front_is reads input (Err kind) (are_octets input f) e

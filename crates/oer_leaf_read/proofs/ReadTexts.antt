@@ -14,7 +14,7 @@ use Rattle.oer_spec.specs.Mode.{mode_of}
 use Rattle.oer_spec.specs.Reading.{◌>>=◌, ◌>>◌, Gives, seen, ReadsFront, octets_at, length_at}
 use Rattle.oer_spec.specs.ReadingBits.{refuse_if, size_test}
 use Rattle.oer_spec.specs.ReadingTexts.{string_at, sized_octets_at, octet_string_at, text_at, sized_units_at, units_at, characters_at}
-use Rattle.oer_spec.specs.Tree.{Leaf, Text, Written}
+use Rattle.oer_spec.specs.Tree.{Leaf, Text, InOctets}
 use Rattle.oer_leaf_read.proofs.ReadLengths.{length_reads}
 use Rattle.oer_leaf_read.proofs.ReadPlaces.{refuse_ok, octets_found, reads_like}
 use Rattle.oer_spec.proofs.Steps.{Reads, are_octets, bind_ok, then_ok, ok_is, pair_is, octets_again, front_octets, rear_octets}
@@ -70,7 +70,7 @@ string_again codec o rest c (l, whole, len, octets) few =
 
 -- ---- what fails of a text
 module _ (r : Rule) (s : Size) (c : Octets) where
-  pub text_fine : size_fits s (length c / unit_of r) ≡ true → string_too_long (fixed_size s) (length c) ≡ false → (k : Failure) → leaf_fails (Text r s (Written c)) k ≡ false
+  pub text_fine : size_fits s (length c / unit_of r) ≡ true → string_too_long (fixed_size s) (length c) ≡ false → (k : Failure) → leaf_fails (Text r s (InOctets c)) k ≡ false
   text_fine size long BadValue = refl
   text_fine size long BadSize = ap not size
   text_fine size long BadIdentifier = refl
@@ -78,7 +78,7 @@ module _ (r : Rule) (s : Size) (c : Octets) where
   text_fine size long TooManyEmpty = refl
   text_fine size long TooLong = long
 
-  pub text_size : ((k : Failure) → leaf_fails (Text r s (Written c)) k ≡ false) → size_fits s (length c / unit_of r) ≡ true
+  pub text_size : ((k : Failure) → leaf_fails (Text r s (InOctets c)) k ≡ false) → size_fits s (length c / unit_of r) ≡ true
   text_size fine = not_not (size_fits s (length c / unit_of r)) (fine BadSize)
 
 -- ---- octet strings
@@ -86,11 +86,11 @@ by_ones : (n u : ℕ) → u ≡ 1 → n / u ≡ n
 by_ones n u e = rw e (omega arith)
 
 module _ (r : Rule) (one : unit_of r ≡ 1) (s : Size) (codec : Codec) where
-  sized_found : (f : Option ℕ) → fixed_size s ≡ f → (input rest c : Octets) → AreOctets input → sized_octets_at f s codec input ≡ Ok (c, rest) → (o : Octets) × (input ≡ o ++ rest) × IsLeafEncoding (mode_of codec) o (Text r s (Written c))
+  sized_found : (f : Option ℕ) → fixed_size s ≡ f → (input rest c : Octets) → AreOctets input → sized_octets_at f s codec input ≡ Ok (c, rest) → (o : Octets) × (input ≡ o ++ rest) × IsLeafEncoding (mode_of codec) o (Text r s (InOctets c))
   sized_found (Some n) f input rest c fits e =
       let p = octets_found n input (c, rest) e in
       let size : size_fits s (length c / unit_of r) ≡ true = ap (size_fits s) (by_ones (length c) (unit_of r) one ∙ p.0) ∙ fixed_fits s n f in
-      (c, p.1, (text_fine r s c size (ap (λ z. string_too_long z (length c)) f), subst (λ z. IsText (mode_of codec) c z (Written c)) (sym f) (refl, front_octets c rest (subst AreOctets p.1 fits))))
+      (c, p.1, (text_fine r s c size (ap (λ z. string_too_long z (length c)) f), subst (λ z. IsText (mode_of codec) c z (InOctets c)) (sym f) (refl, front_octets c rest (subst AreOctets p.1 fits))))
   sized_found None f input rest c fits e =
       let a = bind_ok (string_at codec input) (λ octets. size_test s (length octets.0) >> Ok octets) (c, rest) e in
       let t = then_ok (size_test s (length a.0.0)) (Ok a.0) (c, rest) a.2 in
@@ -98,21 +98,21 @@ module _ (r : Rule) (one : unit_of r ≡ 1) (s : Size) (codec : Codec) where
       let k = string_found codec input rest c fits (a.1 ∙ t.2) in
       let plain : size_fits s (length a.0.0) ≡ true = not_not (size_fits s (length a.0.0)) (refuse_ok (not (size_fits s (length a.0.0))) (SizeConstraintNotSatisfied (length a.0.0)) t.0 t.1) in
       let size : size_fits s (length c / unit_of r) ≡ true = ap (size_fits s) (by_ones (length c) (unit_of r) one) ∙ subst (λ z. size_fits s (length z) ≡ true) same.0 plain in
-      (k.0, k.1, (text_fine r s c size (ap (λ z. string_too_long z (length c)) f ∙ le-ltb (usize_max / 8) (length c) k.3), subst (λ z. IsText (mode_of codec) k.0 z (Written c)) (sym f) k.2))
+      (k.0, k.1, (text_fine r s c size (ap (λ z. string_too_long z (length c)) f ∙ le-ltb (usize_max / 8) (length c) k.3), subst (λ z. IsText (mode_of codec) k.0 z (InOctets c)) (sym f) k.2))
 
-  sized_again : (f : Option ℕ) → fixed_size s ≡ f → (o rest c : Octets) → IsLeafEncoding (mode_of codec) o (Text r s (Written c)) → sized_octets_at f s codec (o ++ rest) ≡ Ok (c, rest)
+  sized_again : (f : Option ℕ) → fixed_size s ≡ f → (o rest c : Octets) → IsLeafEncoding (mode_of codec) o (Text r s (InOctets c)) → sized_octets_at f s codec (o ++ rest) ≡ Ok (c, rest)
   sized_again (Some n) f o rest c (fine, spells) =
-      let text : (o ≡ c) × AreOctets c = subst (λ z. IsText (mode_of codec) o z (Written c)) f spells in
+      let text : (o ≡ c) × AreOctets c = subst (λ z. IsText (mode_of codec) o z (InOctets c)) f spells in
       let size : size_fits s (length c) ≡ true = ap (size_fits s) (sym (by_ones (length c) (unit_of r) one)) ∙ text_size r s c fine in
       let count : length o ≡ n = ap length text.0 ∙ fixed_only s n (length c) f size in
       octets_again o rest n count ∙ ap (λ z. Ok (z, rest)) text.0
   sized_again None f o rest c (fine, spells) =
-      let text : IsBehindLength (mode_of codec) o c = subst (λ z. IsText (mode_of codec) o z (Written c)) f spells in
+      let text : IsBehindLength (mode_of codec) o c = subst (λ z. IsText (mode_of codec) o z (InOctets c)) f spells in
       let size : size_fits s (length c) ≡ true = ap (size_fits s) (sym (by_ones (length c) (unit_of r) one)) ∙ text_size r s c fine in
       let long : ltb (usize_max / 8) (length c) ≡ false = ap (λ z. string_too_long z (length c)) (sym f) ∙ fine TooLong in
       rw (string_again codec o rest c text (ltb-false (usize_max / 8) (length c) long), size) refl
 
-  pub octet_string_reads : Reads (octet_string_at s codec) (λ o c. IsLeafEncoding (mode_of codec) o (Text r s (Written c)))
+  pub octet_string_reads : Reads (octet_string_at s codec) (λ o c. IsLeafEncoding (mode_of codec) o (Text r s (InOctets c)))
   unfolding octet_string_at
   octet_string_reads = record { found = sized_found (fixed_size s) refl; again = sized_again (fixed_size s) refl }
 
@@ -122,7 +122,7 @@ abbrev pub Tells : (Octets → Bool) → Rule → Type 0
 Tells is_text r = (c : Octets) → (is_text c ≡ true) ↔ Obeys r c
 
 module _ (is_text : Octets → Bool) (kind : DecodeErrorKind) (r : Rule) (one : unit_of r ≡ 1) (tells : Tells is_text r) (s : Size) (codec : Codec) where
-  text_found : (input rest c : Octets) → AreOctets input → text_at is_text kind s codec input ≡ Ok (c, rest) → (o : Octets) × (input ≡ o ++ rest) × (IsLeafEncoding (mode_of codec) o (Text r s (Written c)) × Obeys r c)
+  text_found : (input rest c : Octets) → AreOctets input → text_at is_text kind s codec input ≡ Ok (c, rest) → (o : Octets) × (input ≡ o ++ rest) × (IsLeafEncoding (mode_of codec) o (Text r s (InOctets c)) × Obeys r c)
   unfolding text_at
   text_found input rest c fits e =
       let a = bind_ok (octet_string_at s codec input) (λ octets. refuse_if (not (is_text octets.0)) kind >> Ok octets) (c, rest) e in
@@ -132,11 +132,11 @@ module _ (is_text : Octets → Bool) (kind : DecodeErrorKind) (r : Rule) (one : 
       let passes : is_text a.0.0 ≡ true = not_not (is_text a.0.0) (refuse_ok (not (is_text a.0.0)) kind t.0 t.1) in
       (f.0, f.1, (f.2, (tells c).0 (subst (λ z. is_text z ≡ true) same.0 passes)))
 
-  text_again : (o rest c : Octets) → (IsLeafEncoding (mode_of codec) o (Text r s (Written c)) × Obeys r c) → text_at is_text kind s codec (o ++ rest) ≡ Ok (c, rest)
+  text_again : (o rest c : Octets) → (IsLeafEncoding (mode_of codec) o (Text r s (InOctets c)) × Obeys r c) → text_at is_text kind s codec (o ++ rest) ≡ Ok (c, rest)
   unfolding text_at
   text_again o rest c (spells, obeys) = rw ((octet_string_reads r one s codec).again o rest c spells, (tells c).1 obeys) refl
 
-  pub text_reads : Reads (text_at is_text kind s codec) (λ o c. IsLeafEncoding (mode_of codec) o (Text r s (Written c)) × Obeys r c)
+  pub text_reads : Reads (text_at is_text kind s codec) (λ o c. IsLeafEncoding (mode_of codec) o (Text r s (InOctets c)) × Obeys r c)
   text_reads = record { found = text_found; again = text_again }
 
 -- ---- two octets a character
@@ -158,12 +158,12 @@ halves : (n k : ℕ) → n ≡ 2 * k → n / 2 ≡ k
 halves n k e = omega arith
 
 module _ (is_text : Octets → Bool) (tells : Tells is_text Bmp) (s : Size) (codec : Codec) where
-  units_found : (f : Option ℕ) → fixed_size s ≡ f → (input rest c : Octets) → AreOctets input → sized_units_at is_text f s codec input ≡ Ok (c, rest) → (o : Octets) × (input ≡ o ++ rest) × (IsLeafEncoding (mode_of codec) o (Text Bmp s (Written c)) × Obeys Bmp c)
+  units_found : (f : Option ℕ) → fixed_size s ≡ f → (input rest c : Octets) → AreOctets input → sized_units_at is_text f s codec input ≡ Ok (c, rest) → (o : Octets) × (input ≡ o ++ rest) × (IsLeafEncoding (mode_of codec) o (Text Bmp s (InOctets c)) × Obeys Bmp c)
   units_found (Some n) f input rest c fits e =
       let t = then_ok (refuse_if (ltb usize_max (2 * n)) LengthExceedsPlatformWidth) (octets_at (2 * n) input) (c, rest) e in
       let p = octets_found (2 * n) input (c, rest) t.2 in
       let size : size_fits s (length c / 2) ≡ true = ap (size_fits s) (halves (length c) n p.0) ∙ fixed_fits s n f in
-      (c, p.1, ((text_fine Bmp s c size (ap (λ z. string_too_long z (length c)) f), subst (λ z. IsText (mode_of codec) c z (Written c)) (sym f) (refl, front_octets c rest (subst AreOctets p.1 fits))), (n, p.0)))
+      (c, p.1, ((text_fine Bmp s c size (ap (λ z. string_too_long z (length c)) f), subst (λ z. IsText (mode_of codec) c z (InOctets c)) (sym f) (refl, front_octets c rest (subst AreOctets p.1 fits))), (n, p.0)))
   units_found None f input rest c fits e =
       let a = bind_ok (string_at codec input) (λ octets. refuse_if (not (is_text octets.0)) PermittedAlphabetError >> (size_test s (length octets.0 / 2) >> Ok octets)) (c, rest) e in
       let t = then_ok (refuse_if (not (is_text a.0.0)) PermittedAlphabetError) (size_test s (length a.0.0 / 2) >> Ok a.0) (c, rest) a.2 in
@@ -175,22 +175,22 @@ module _ (is_text : Octets → Bool) (tells : Tells is_text Bmp) (s : Size) (cod
       let size : size_fits s (length c / 2) ≡ true = subst (λ z. size_fits s (length z / 2) ≡ true) same.0 plain in (
         k.0,
         k.1,
-        ((text_fine Bmp s c size (ap (λ z. string_too_long z (length c)) f ∙ le-ltb (usize_max / 8) (length c) k.3), subst (λ z. IsText (mode_of codec) k.0 z (Written c)) (sym f) k.2), (tells c).0 (subst (λ z. is_text z ≡ true) same.0 passes)),
+        ((text_fine Bmp s c size (ap (λ z. string_too_long z (length c)) f ∙ le-ltb (usize_max / 8) (length c) k.3), subst (λ z. IsText (mode_of codec) k.0 z (InOctets c)) (sym f) k.2), (tells c).0 (subst (λ z. is_text z ≡ true) same.0 passes)),
       )
 
-  units_again : (f : Option ℕ) → fixed_size s ≡ f → (o rest c : Octets) → length (o ++ rest) ≤ usize_max → (IsLeafEncoding (mode_of codec) o (Text Bmp s (Written c)) × Obeys Bmp c) → sized_units_at is_text f s codec (o ++ rest) ≡ Ok (c, rest)
+  units_again : (f : Option ℕ) → fixed_size s ≡ f → (o rest c : Octets) → length (o ++ rest) ≤ usize_max → (IsLeafEncoding (mode_of codec) o (Text Bmp s (InOctets c)) × Obeys Bmp c) → sized_units_at is_text f s codec (o ++ rest) ≡ Ok (c, rest)
   units_again (Some n) f o rest c small ((fine, spells), (k, twice)) =
-      let text : (o ≡ c) × AreOctets c = subst (λ z. IsText (mode_of codec) o z (Written c)) f spells in
+      let text : (o ≡ c) × AreOctets c = subst (λ z. IsText (mode_of codec) o z (InOctets c)) f spells in
       let half : length c / 2 ≡ n = fixed_only s n (length c / 2) f (text_size Bmp s c fine) in
       let count : length o ≡ 2 * n = omega (arith, ap length text.0, twice, half) in
       let fits : 2 * n ≤ usize_max = omega (arith, count, length-append o rest, small) in
       rw (le-ltb usize_max (2 * n) fits) (octets_again o rest (2 * n) count ∙ ap (λ z. Ok (z, rest)) text.0)
   units_again None f o rest c small ((fine, spells), obeys) =
-      let text : IsBehindLength (mode_of codec) o c = subst (λ z. IsText (mode_of codec) o z (Written c)) f spells in
+      let text : IsBehindLength (mode_of codec) o c = subst (λ z. IsText (mode_of codec) o z (InOctets c)) f spells in
       let long : ltb (usize_max / 8) (length c) ≡ false = ap (λ z. string_too_long z (length c)) (sym f) ∙ fine TooLong in
       rw (string_again codec o rest c text (ltb-false (usize_max / 8) (length c) long), (tells c).1 obeys, text_size Bmp s c fine) refl
 
-  units_reads : ReadsWithin usize_max (units_at is_text s codec) (λ o c. IsLeafEncoding (mode_of codec) o (Text Bmp s (Written c)) × Obeys Bmp c)
+  units_reads : ReadsWithin usize_max (units_at is_text s codec) (λ o c. IsLeafEncoding (mode_of codec) o (Text Bmp s (InOctets c)) × Obeys Bmp c)
   unfolding units_at
   units_reads = record { found = units_found (fixed_size s) refl; again = units_again (fixed_size s) refl }
 
@@ -211,15 +211,15 @@ unit_cases Utc = inl refl
 unit_cases Generalized = inl refl
 unit_cases Date = inl refl
 
-pub characters_reads : (is_text : Octets → Bool) (r : Rule) → Tells is_text r → (s : Size) (codec : Codec) → ReadsWithin usize_max (characters_at (unit_of r) is_text s codec) (λ o c. IsLeafEncoding (mode_of codec) o (Text r s (Written c)) × Obeys r c)
+pub characters_reads : (is_text : Octets → Bool) (r : Rule) → Tells is_text r → (s : Size) (codec : Codec) → ReadsWithin usize_max (characters_at (unit_of r) is_text s codec) (λ o c. IsLeafEncoding (mode_of codec) o (Text r s (InOctets c)) × Obeys r c)
 unfolding characters_at
 characters_reads is_text r tells s codec = go (unit_cases r) tells
   where
-    go : (unit_of r ≡ 1) ⊎ (r ≡ Bmp) → Tells is_text r → ReadsWithin usize_max (characters_at (unit_of r) is_text s codec) (λ o c. IsLeafEncoding (mode_of codec) o (Text r s (Written c)) × Obeys r c)
+    go : (unit_of r ≡ 1) ⊎ (r ≡ Bmp) → Tells is_text r → ReadsWithin usize_max (characters_at (unit_of r) is_text s codec) (λ o c. IsLeafEncoding (mode_of codec) o (Text r s (InOctets c)) × Obeys r c)
     go (inl one) tells =
         let reads = text_reads is_text PermittedAlphabetError r one tells s codec in
-        subst (λ u. ReadsWithin usize_max (λ input. cond (u == 1) (text_at is_text PermittedAlphabetError s codec input) (units_at is_text s codec input)) (λ o c. IsLeafEncoding (mode_of codec) o (Text r s (Written c)) × Obeys r c)) (sym one)
+        subst (λ u. ReadsWithin usize_max (λ input. cond (u == 1) (text_at is_text PermittedAlphabetError s codec input) (units_at is_text s codec input)) (λ o c. IsLeafEncoding (mode_of codec) o (Text r s (InOctets c)) × Obeys r c)) (sym one)
         (record { found = reads.found; again = λ o rest v small spells. reads.again o rest v spells })
     go (inr bmp) tells =
-        subst (λ q. Tells is_text q → ReadsWithin usize_max (λ input. cond (unit_of q == 1) (text_at is_text PermittedAlphabetError s codec input) (units_at is_text s codec input)) (λ o c. IsLeafEncoding (mode_of codec) o (Text q s (Written c)) × Obeys q c)) (sym bmp)
+        subst (λ q. Tells is_text q → ReadsWithin usize_max (λ input. cond (unit_of q == 1) (text_at is_text PermittedAlphabetError s codec input) (units_at is_text s codec input)) (λ o c. IsLeafEncoding (mode_of codec) o (Text q s (InOctets c)) × Obeys q c)) (sym bmp)
         (λ t. units_reads is_text t s codec) tells

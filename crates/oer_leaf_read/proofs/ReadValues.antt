@@ -12,7 +12,7 @@ use Rattle.oer_spec.specs.Mode.{mode_of}
 use Rattle.oer_spec.specs.Reading.{Gives, seen, ReadsFront}
 use Rattle.oer_spec.specs.ReadingTexts.{text_at, tested, are_contents}
 use Rattle.oer_spec.specs.TimeTexts.{time_at, time_content}
-use Rattle.oer_spec.specs.Tree.{Text, Written}
+use Rattle.oer_spec.specs.Tree.{Text, InOctets}
 use Rattle.oer_leaf_read.proofs.ReadTexts.{Tells, text_reads}
 use Rattle.oer_spec.proofs.Steps.{Reads, bind_ok, pair_is, front_of}
 
@@ -44,7 +44,7 @@ identifier_err o k f (inr (is, none)) = inr (identifier_none o f none ∙ ap (λ
 module _ (is_text : Octets → Bool) (r : Rule) (one : unit_of r ≡ 1) (tells : Tells is_text r) (codec : Codec) where
   -- octets of a text
   SpellsText : Octets → Option Octets → Type 0
-  SpellsText o k = (c : Octets) × (k ≡ Some c) × (IsLeafEncoding (mode_of codec) o (Text r None (Written c)) × Obeys r c)
+  SpellsText o k = (c : Octets) × (k ≡ Some c) × (IsLeafEncoding (mode_of codec) o (Text r None (InOctets c)) × Obeys r c)
 
   time_reads : Reads (time_at is_text codec) SpellsText
   unfolding time_at SpellsText

@@ -7,7 +7,7 @@ ghost use Rattle.oer_spec.specs.Mode.{mode_of};
 ghost use Rattle.oer_spec.specs.Reading.{seen, ReadsFront};
 ghost use Rattle.oer_leaf_read.specs.ReadingMemory.{GivesOrMemory};
 ghost use Rattle.oer_spec.specs.ReadingTexts.{text_at, tested, are_contents};
-ghost use Rattle.oer_spec.specs.Tree.{Text, Written};
+ghost use Rattle.oer_spec.specs.Tree.{Text, InOctets};
 
 use crate::texts::read_any;
 use asn1_core::{Codec, DecodeError, DecodeErrorKind};
@@ -55,7 +55,7 @@ pub fn read_object_identifier(
 ) -> Result<(ObjectIdentifier, &[u8]), DecodeErrorKind>
     ensures function { GivesOrMemory (λ x. (arcs_octets x.0, x.1.now)) result (text_at are_contents InvalidObjectIdentifier None codec input.now) }
     ensures relation { ReadsFront
-        (λ o arcs. IsLeafEncoding (mode_of codec) o (Text Identifier None (Written (arcs_octets arcs))) × (is_identifier arcs ≡ true))
+        (λ o arcs. IsLeafEncoding (mode_of codec) o (Text Identifier None (InOctets (arcs_octets arcs))) × (is_identifier arcs ≡ true))
         input.now (seen (λ x. (x.0, x.1.now)) result) }
 {
     identifier(alloc, codec, input)

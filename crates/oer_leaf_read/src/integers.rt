@@ -5,7 +5,7 @@ ghost use Rattle.asn1_ints.specs.Reading.{number_in};
 ghost use Rattle.oer_spec.specs.Leaves.{value_of};
 ghost use Rattle.oer_spec.specs.Mode.{mode_of};
 ghost use Rattle.oer_spec.specs.Reading.{Gives, seen, ReadsFront, IsNotForMemory};
-ghost use Rattle.oer_spec.specs.ReadingIntegers.{GivesOrMemory, IsForMemoryOf, is_superfluous, number_content_in, number_content_at, number_octets_at, IsNumberContent, in_range_only, integer_at, IsIntegerOf};
+ghost use Rattle.oer_spec.specs.ReadingIntegers.{GivesBy, IsForMemoryOf, is_superfluous, number_content_in, number_content_at, number_octets_at, IsNumberContent, in_range_only, integer_at, IsIntegerOf};
 ghost use Rattle.oer_spec.specs.Widths.{width_view};
 
 use crate::lengths::read_content;
@@ -90,7 +90,7 @@ fn number_of<I: IntegerType>(
     codec: Codec,
     octets: &[u8],
 ) -> Result<I, DecodeErrorKind>
-    ensures function { GivesOrMemory I.TAKES_MEMORY I.number result (number_in I.admits octets.now (value_of signed octets.now)) }
+    ensures function { GivesBy I.TAKES_MEMORY I.number result (number_in I.admits octets.now (value_of signed octets.now)) }
     ensures memory { IfErr result (IsForMemoryOf I.TAKES_MEMORY) }
 {
     let read = if signed {
@@ -139,7 +139,7 @@ pub fn read_integer<I: IntegerType>(
     constraints: Constraints,
     input: &[u8],
 ) -> Result<(I, &[u8]), DecodeErrorKind>
-    ensures function { GivesOrMemory I.TAKES_MEMORY (λ x. (I.number x.0, x.1.now)) result (integer_at I.admits (value_bounds constraints) codec input.now) }
+    ensures function { GivesBy I.TAKES_MEMORY (λ x. (I.number x.0, x.1.now)) result (integer_at I.admits (value_bounds constraints) codec input.now) }
     ensures relation { ReadsFront (IsIntegerOf I.admits (value_bounds constraints) (mode_of codec)) input.now (seen (λ x. (I.number x.0, x.1.now)) result) }
     ensures memory { IfErr result (IsForMemoryOf I.TAKES_MEMORY) }
 {

@@ -8,7 +8,7 @@ ghost use Rattle.oer_spec.specs.Mode.{mode_of};
 ghost use Rattle.oer_spec.specs.Reading.{Gives, seen, ReadsFront, IsNotForMemory};
 ghost use Rattle.oer_spec.specs.ReadingTexts.{string_at, octet_string_at, text_at, many_units_at, units_at, characters_at, tested};
 ghost use Rattle.std.specs.Str.{is_utf8};
-ghost use Rattle.oer_spec.specs.Tree.{Text, Written};
+ghost use Rattle.oer_spec.specs.Tree.{Text, InOctets};
 
 use crate::lengths::read_length;
 use crate::parts::read_octets;
@@ -64,7 +64,7 @@ pub fn read_octet_string(
 ) -> Result<(&[u8], &[u8]), DecodeErrorKind>
     ensures function { Gives (λ x. (x.0.now, x.1.now)) result (octet_string_at (size_bounds constraints) codec input.now) }
     ensures relation { ReadsFront
-        (λ o c. IsLeafEncoding (mode_of codec) o (Text AnyOctets (size_bounds constraints) (Written c)))
+        (λ o c. IsLeafEncoding (mode_of codec) o (Text AnyOctets (size_bounds constraints) (InOctets c)))
         input.now (seen (λ x. (x.0.now, x.1.now)) result) }
     ensures memory { IfErr result IsNotForMemory }
 {
@@ -77,7 +77,7 @@ pub fn read_octet_string(
 pub fn read_any(codec: Codec, input: &[u8]) -> Result<(&[u8], &[u8]), DecodeErrorKind>
     ensures function { Gives (λ x. (x.0.now, x.1.now)) result (octet_string_at None codec input.now) }
     ensures relation { ReadsFront
-        (λ o c. IsLeafEncoding (mode_of codec) o (Text AnyOctets None (Written c)))
+        (λ o c. IsLeafEncoding (mode_of codec) o (Text AnyOctets None (InOctets c)))
         input.now (seen (λ x. (x.0.now, x.1.now)) result) }
     ensures memory { IfErr result IsNotForMemory }
 {
@@ -119,7 +119,7 @@ pub fn read_utf8(
 ) -> Result<(&str, &[u8]), DecodeErrorKind>
     ensures function { Gives (λ x. (x.0.now, x.1.now)) result (text_at is_utf8 StringConversionFailed (size_bounds constraints) codec input.now) }
     ensures relation { ReadsFront
-        (λ o c. IsLeafEncoding (mode_of codec) o (Text Utf8 (size_bounds constraints) (Written c)) × Obeys Utf8 c)
+        (λ o c. IsLeafEncoding (mode_of codec) o (Text Utf8 (size_bounds constraints) (InOctets c)) × Obeys Utf8 c)
         input.now (seen (λ x. (x.0.now, x.1.now)) result) }
     ensures memory { IfErr result IsNotForMemory }
 {
@@ -215,7 +215,7 @@ pub fn read_text<C: CharacterSet>(
     ensures function { Gives (λ x. (x.0.now, x.1.now)) result
         (characters_at (unit_of C.rule) (are_characters (unit_of C.rule) C.permitted) (size_bounds constraints) codec input.now) }
     ensures relation { ReadsFront
-        (λ o c. IsLeafEncoding (mode_of codec) o (Text C.rule (size_bounds constraints) (Written c)) × Obeys C.rule c)
+        (λ o c. IsLeafEncoding (mode_of codec) o (Text C.rule (size_bounds constraints) (InOctets c)) × Obeys C.rule c)
         input.now (seen (λ x. (x.0.now, x.1.now)) result) }
     ensures memory { IfErr result IsNotForMemory }
 {

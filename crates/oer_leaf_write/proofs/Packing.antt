@@ -6,7 +6,7 @@ use Rattle.asn1_core.specs.Bounds.{Size}
 use Rattle.oer_spec.specs.Failures.{first_failure}
 use Rattle.oer_spec.specs.Tree.{Bits}
 use Rattle.oer_spec.specs.WritingTexts.{string_failure}
-use Rattle.oer_spec.specs.Writing.{Appends}
+use Rattle.oer_spec.specs.Writing.{AppendsOrMemory}
 use Rattle.std.proofs.lemmas.List.{take-append-drop, length-take-le, take_at, drop_at}
 use Rattle.asn1_core.specs.Octets.{Octets, octet_of, pack_into, octets_for, pack}
 
@@ -33,7 +33,7 @@ pack_step old mid new more whole x b d some octet rest before packed after = (
 )
 
 -- ---- writing one part after another
-pub appends_after : {T : Type 0} (r : Result T EncodeErrorKind) (p q whole old mid new : Octets) → mid ≡ old ++ p → whole ≡ p ++ q → Appends r q mid new → Appends r whole old new
+pub appends_after : {T : Type 0} (r : Result T EncodeErrorKind) (p q whole old mid new : Octets) → mid ≡ old ++ p → whole ≡ p ++ q → AppendsOrMemory r q mid new → AppendsOrMemory r whole old new
 appends_after (Ok x) p q whole old mid new e w a = a ∙ ap (λ z. z ++ q) e ∙ append_assoc old p q ∙ ap (λ z. old ++ z) (sym w)
 appends_after (Err k) p q whole old mid new e w (a, (more, b)) = (a, (p ++ more, b ∙ ap (λ z. z ++ more) e ∙ append_assoc old p more))
 

@@ -8,10 +8,10 @@ use Rattle.asn1_core.specs.Tags.{class_number}
 use Rattle.asn1_core.specs.declared.error.EncodeErrorKind.{EncodeErrorKind}
 use Rattle.asn1_core.specs.declared.tag.Tag.{Tag}
 use Rattle.oer_spec.specs.Lengths.{with_top_bits, tag_octets}
-use Rattle.oer_spec.specs.Writing.{Appends, group_octets}
+use Rattle.oer_spec.specs.Writing.{AppendsOrMemory, group_octets}
 
 -- more octets behind those that stand at the end already
-pub appends_more : {T : Type 0} (r : Result T EncodeErrorKind) (o p old mid new : Octets) → mid ≡ old ++ o → Appends r p mid new → Appends r (o ++ p) old new
+pub appends_more : {T : Type 0} (r : Result T EncodeErrorKind) (o p old mid new : Octets) → mid ≡ old ++ o → AppendsOrMemory r p mid new → AppendsOrMemory r (o ++ p) old new
 appends_more (Ok x) o p old mid new e h = h ∙ ap (λ z. z ++ p) e ∙ append_assoc old o p
 appends_more (Err d) o p old mid new e (m, (more, h)) = (m, (o ++ more, h ∙ ap (λ z. z ++ more) e ∙ append_assoc old o more))
 

@@ -3,7 +3,7 @@ ghost use Rattle.asn1_core.specs.Bounds.{size_bounds};
 ghost use Rattle.oer_spec.specs.Failures.{first_failure};
 ghost use Rattle.oer_spec.specs.Lengths.{behind_length};
 ghost use Rattle.oer_spec.specs.Tree.{Bits};
-ghost use Rattle.oer_spec.specs.Writing.{Appends, AppendsLeaf};
+ghost use Rattle.oer_spec.specs.Writing.{AppendsOrMemory, AppendsLeaf};
 
 use crate::lengths::write_length;
 use crate::texts::check_string;
@@ -15,7 +15,7 @@ use oer_spec::leaf::unused_for;
 #[tactic(auto, using(crate::proofs::Packing::behind_first))]
 fn write_behind(first: u8, octets: &[u8], out: &mut Vec<u8>) -> Result<(), EncodeErrorKind>
     requires { length octets.now + 1 < 2 ^ 64 }
-    ensures { Appends result (behind_length (first ∷ octets.now)) out.old.items out.new.items }
+    ensures { AppendsOrMemory result (behind_length (first ∷ octets.now)) out.old.items out.new.items }
 {
     write_length(octets.len() + 1, out)?;
     out.push(first)?;

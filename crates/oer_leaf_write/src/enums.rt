@@ -1,7 +1,7 @@
 ghost use Rattle.std.specs.Prelude.{◌≡◌, ◌+◌, ◌++◌, ◌∷◌, true, length};
 ghost use Rattle.asn1_core.specs.Numbers.{in_isize, signed_octets};
 ghost use Rattle.oer_spec.specs.Tree.{Enum};
-ghost use Rattle.oer_spec.specs.Writing.{Appends, AppendsLeaf};
+ghost use Rattle.oer_spec.specs.Writing.{AppendsOrMemory, AppendsLeaf};
 
 use asn1_core::EncodeErrorKind;
 use asn1_ints::shortest_signed;
@@ -9,7 +9,7 @@ use asn1_ints::shortest_signed;
 /// Appends an octet 128 + k and the k shortest octets of the number in two's complement (X.696, 11.4).
 fn write_long_enumerated(number: i128, out: &mut Vec<u8>) -> Result<(), EncodeErrorKind>
     requires { in_isize number ≡ true }
-    ensures { Appends result ((128 + length (signed_octets number)) ∷ signed_octets number) out.old.items out.new.items }
+    ensures { AppendsOrMemory result ((128 + length (signed_octets number)) ∷ signed_octets number) out.old.items out.new.items }
 {
     let all = number.to_be_bytes();
     let octets = shortest_signed(&all);

@@ -4,7 +4,7 @@ ghost use Rattle.asn1_core.specs.Numbers.{in_isize, signed_octets};
 ghost use Rattle.oer_spec.specs.Leaves.{counted_octets, fixed_octets};
 ghost use Rattle.oer_spec.specs.Lengths.{behind_length};
 ghost use Rattle.oer_spec.specs.Tree.{Int};
-ghost use Rattle.oer_spec.specs.Writing.{Appends, AppendsLeaf};
+ghost use Rattle.oer_spec.specs.Writing.{AppendsOrMemory, AppendsLeaf};
 
 use crate::lengths::write_length;
 use asn1_core::{Constraints, EncodeErrorKind};
@@ -14,7 +14,7 @@ use oer_spec::leaf::{IntegerWidth, is_in_range, width_of};
 /// Appends the lowest octets of a number in two's complement.
 fn write_fixed(n: i128, octets: usize, out: &mut Vec<u8>) -> Result<(), EncodeErrorKind>
     requires { octets ≤ 16 }
-    ensures { Appends result (fixed_octets octets n) out.old.items out.new.items }
+    ensures { AppendsOrMemory result (fixed_octets octets n) out.old.items out.new.items }
 {
     let all = n.to_be_bytes();
     let (_, lowest) = all.split_at(16 - octets);
@@ -29,7 +29,7 @@ fn write_shortest<I: IntegerType>(
     out: &mut Vec<u8>,
 ) -> Result<(), EncodeErrorKind>
     requires { signed ≡ false → int_lt (I.number value.now) (pos 0) ≡ false }
-    ensures { Appends result (counted_octets signed (I.number value.now)) out.old.items out.new.items }
+    ensures { AppendsOrMemory result (counted_octets signed (I.number value.now)) out.old.items out.new.items }
 {
     if signed {
         value.write_signed_bytes_be(out)?;
@@ -48,7 +48,7 @@ fn write_counted<I: IntegerType>(
     out: &mut Vec<u8>,
 ) -> Result<(), EncodeErrorKind>
     requires { signed ≡ false → int_lt (I.number value.now) (pos 0) ≡ false }
-    ensures { Appends result (behind_length (counted_octets signed (I.number value.now))) out.old.items out.new.items }
+    ensures { AppendsOrMemory result (behind_length (counted_octets signed (I.number value.now))) out.old.items out.new.items }
 {
     let start = out.len();
     out.push(0)?;
@@ -71,7 +71,7 @@ fn write_held(n: i128, octets: usize, out: &mut Vec<u8>) -> Result<(), EncodeErr
     requires small { in_isize n ≡ true }
     requires least { int_le (negsuc (128 * 256 ^ (octets - 1) - 1)) n ≡ true }
     requires greatest { int_lt n (pos (128 * 256 ^ (octets - 1))) ≡ true }
-    ensures { Appends result (behind_length (signed_octets n)) out.old.items out.new.items }
+    ensures { AppendsOrMemory result (behind_length (signed_octets n)) out.old.items out.new.items }
 {
     let all = n.to_be_bytes();
     let (_, held) = all.split_at(16 - octets);
@@ -84,7 +84,7 @@ fn write_held(n: i128, octets: usize, out: &mut Vec<u8>) -> Result<(), EncodeErr
 /// Appends a length and the shortest octets of a number in two's complement, which are sought among 1, 2, 4 or 8.
 fn write_signed(n: i128, out: &mut Vec<u8>) -> Result<(), EncodeErrorKind>
     requires { in_isize n ≡ true }
-    ensures { Appends result (behind_length (signed_octets n)) out.old.items out.new.items }
+    ensures { AppendsOrMemory result (behind_length (signed_octets n)) out.old.items out.new.items }
 {
     if n >= -(1 << 7) && n < 1 << 7 {
         return write_held(n, 1, out);
@@ -100,7 +100,7 @@ fn write_signed(n: i128, out: &mut Vec<u8>) -> Result<(), EncodeErrorKind>
 
 /// Appends an integer without a constraint: a length, and the shortest octets in two's complement.
 fn write_free<I: IntegerType>(value: &I, out: &mut Vec<u8>) -> Result<(), EncodeErrorKind>
-    ensures { Appends result (behind_length (signed_octets (I.number value.now))) out.old.items out.new.items }
+    ensures { AppendsOrMemory result (behind_length (signed_octets (I.number value.now))) out.old.items out.new.items }
 {
     match value.to_i128() {
         Some(n) if n >= -(1 << 63) && n < 1 << 63 => write_signed(n, out),

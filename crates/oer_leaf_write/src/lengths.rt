@@ -2,7 +2,7 @@ ghost use Rattle.std.specs.Prelude.{◌≡◌, ◌≤◌, length};
 ghost use Rattle.std.specs.Int.Digits.{digits_of};
 ghost use Rattle.asn1_core.specs.Octets.{unsigned};
 ghost use Rattle.oer_spec.specs.Lengths.{length_octets, behind_length};
-ghost use Rattle.oer_spec.specs.Writing.{Appends};
+ghost use Rattle.oer_spec.specs.Writing.{AppendsOrMemory};
 
 use asn1_core::EncodeErrorKind;
 
@@ -26,7 +26,7 @@ pub(crate) fn without_leading_zeros(octets: &[u8]) -> &[u8]
 ///
 /// Refused only for want of memory.
 pub fn write_length(length: usize, out: &mut Vec<u8>) -> Result<(), EncodeErrorKind>
-    ensures { Appends result (length_octets length) out.old.items out.new.items }
+    ensures { AppendsOrMemory result (length_octets length) out.old.items out.new.items }
 {
     if length < 128 {
         out.push(length as u8)?;
@@ -43,7 +43,7 @@ pub fn write_length(length: usize, out: &mut Vec<u8>) -> Result<(), EncodeErrorK
 ///
 /// Refused only for want of memory.
 pub fn write_content(content: &[u8], out: &mut Vec<u8>) -> Result<(), EncodeErrorKind>
-    ensures { Appends result (behind_length content.now) out.old.items out.new.items }
+    ensures { AppendsOrMemory result (behind_length content.now) out.old.items out.new.items }
 {
     write_length(content.len(), out)?;
     out.extend_from_slice(content)?;

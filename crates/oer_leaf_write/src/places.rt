@@ -1,7 +1,7 @@
 ghost use Rattle.std.specs.Prelude.{◌≡◌, ◌*◌, ◌+◌, ◌<◌, ◌^◌, length, drop};
 ghost use Rattle.asn1_core.specs.Octets.{bit_at, octet_of, pack};
 ghost use Rattle.oer_spec.specs.Lengths.{counted_bits};
-ghost use Rattle.oer_spec.specs.Writing.{Appends};
+ghost use Rattle.oer_spec.specs.Writing.{AppendsOrMemory};
 
 use crate::lengths::write_length;
 use asn1_core::EncodeErrorKind;
@@ -43,7 +43,7 @@ fn after_octet(bits: &[bool]) -> &[bool]
 /// Refused only for want of memory.
 #[tactic(auto, using(crate::proofs::Packing::pack_more, crate::proofs::Packing::pack_none))]
 pub fn write_preamble(bits: &[bool], out: &mut Vec<u8>) -> Result<(), EncodeErrorKind>
-    ensures { Appends result (pack bits.now) out.old.items out.new.items }
+    ensures { AppendsOrMemory result (pack bits.now) out.old.items out.new.items }
 {
     let mut rest = bits;
     while !rest.is_empty() {
@@ -57,7 +57,7 @@ pub fn write_preamble(bits: &[bool], out: &mut Vec<u8>) -> Result<(), EncodeErro
 ///
 /// Refused only for want of memory.
 pub fn write_bitmap(bits: &[bool], out: &mut Vec<u8>) -> Result<(), EncodeErrorKind>
-    ensures { Appends result (counted_bits bits.now) out.old.items out.new.items }
+    ensures { AppendsOrMemory result (counted_bits bits.now) out.old.items out.new.items }
 {
     write_length(octets_for(bits.len()) + 1, out)?;
     out.push(unused_for(bits.len()))?;

@@ -1,5 +1,5 @@
 ghost use Rattle.oer_spec.specs.Lengths.{quantity_octets};
-ghost use Rattle.oer_spec.specs.Writing.{Appends};
+ghost use Rattle.oer_spec.specs.Writing.{AppendsOrMemory};
 
 use crate::lengths::{without_leading_zeros, write_content};
 use asn1_core::EncodeErrorKind;
@@ -8,7 +8,7 @@ use asn1_core::EncodeErrorKind;
 ///
 /// Refused only for want of memory.
 pub fn write_quantity(quantity: usize, out: &mut Vec<u8>) -> Result<(), EncodeErrorKind>
-    ensures { Appends result (quantity_octets quantity) out.old.items out.new.items }
+    ensures { AppendsOrMemory result (quantity_octets quantity) out.old.items out.new.items }
 {
     if quantity == 0 {
         return write_content(&[0], out);

@@ -2,7 +2,7 @@ ghost use Rattle.std.specs.Prelude.{◌≡◌, ◌+◌, ◌/◌, ◌%◌, ◌++�
 ghost use Rattle.std.specs.Int.Digits.{digits_of};
 ghost use Rattle.asn1_core.specs.Tags.{class_number};
 ghost use Rattle.oer_spec.specs.Lengths.{tag_octets};
-ghost use Rattle.oer_spec.specs.Writing.{Appends, group_octets};
+ghost use Rattle.oer_spec.specs.Writing.{AppendsOrMemory, group_octets};
 
 use asn1_core::{Class, EncodeErrorKind, Tag};
 
@@ -21,7 +21,7 @@ fn class_bits(class: Class) -> u8
 /// Appends the number's groups of seven bits, highest first, each with its top bit set; none for 0.
 #[tactic(auto, using(crate::proofs::WriteTags::front_groups))]
 fn write_front_groups(number: u64, out: &mut Vec<u8>) -> Result<(), EncodeErrorKind>
-    ensures { Appends result (map (λ d. d + 128) (digits_of 128 number)) out.old.items out.new.items }
+    ensures { AppendsOrMemory result (map (λ d. d + 128) (digits_of 128 number)) out.old.items out.new.items }
 {
     if number == 0 {
         return Ok(());
@@ -33,7 +33,7 @@ fn write_front_groups(number: u64, out: &mut Vec<u8>) -> Result<(), EncodeErrorK
 
 /// Appends a number in groups of seven bits, highest first, with the top bit set on all but the last: at least one group.
 fn write_groups(number: u64, out: &mut Vec<u8>) -> Result<(), EncodeErrorKind>
-    ensures { Appends result (group_octets number) out.old.items out.new.items }
+    ensures { AppendsOrMemory result (group_octets number) out.old.items out.new.items }
 {
     write_front_groups(number / 128, out)?;
     out.push((number % 128) as u8)?;
@@ -45,7 +45,7 @@ fn write_groups(number: u64, out: &mut Vec<u8>) -> Result<(), EncodeErrorKind>
 ///
 /// Refused only for want of memory.
 pub fn write_tag(tag: Tag, out: &mut Vec<u8>) -> Result<(), EncodeErrorKind>
-    ensures { Appends result (tag_octets tag) out.old.items out.new.items }
+    ensures { AppendsOrMemory result (tag_octets tag) out.old.items out.new.items }
 {
     let class = class_bits(tag.class) * 64;
     if tag.value < 63 {

@@ -2,7 +2,7 @@ ghost use Rattle.std.specs.Prelude.{◌≡◌, ◌/◌, length, MatchResult, Som
 ghost use Rattle.asn1_core.specs.Bounds.{size_bounds};
 ghost use Rattle.asn1_core.specs.Texts.{Rule, AnyOctets, Utf8};
 ghost use Rattle.oer_spec.specs.Leaves.{unit_of};
-ghost use Rattle.oer_spec.specs.Tree.{Text, Written};
+ghost use Rattle.oer_spec.specs.Tree.{Text, InOctets};
 ghost use Rattle.oer_spec.specs.Writing.{AppendsLeaf};
 ghost use Rattle.oer_spec.specs.WritingTexts.{string_failure};
 
@@ -37,7 +37,7 @@ pub(crate) fn write_string(
     out: &mut Vec<u8>,
 ) -> Result<(), EncodeErrorKind>
     ensures { (r : Rule) → size ≡ length octets.now / unit_of r
-        → AppendsLeaf result (Text r (size_bounds constraints) (Written octets.now)) out.old.items out.new.items }
+        → AppendsLeaf result (Text r (size_bounds constraints) (InOctets octets.now)) out.old.items out.new.items }
 {
     check_string(constraints, size, octets.len())?;
     if constraints.fixed_size().is_none() {
@@ -56,7 +56,7 @@ pub fn write_octet_string(
     octets: &[u8],
     out: &mut Vec<u8>,
 ) -> Result<(), EncodeErrorKind>
-    ensures { AppendsLeaf result (Text AnyOctets (size_bounds constraints) (Written octets.now)) out.old.items out.new.items }
+    ensures { AppendsLeaf result (Text AnyOctets (size_bounds constraints) (InOctets octets.now)) out.old.items out.new.items }
 {
     write_string(octets, octets.len(), constraints, out)
 }
@@ -65,7 +65,7 @@ pub fn write_octet_string(
 ///
 /// Refused above `usize::MAX / 8` octets, as `LengthExceedsPlatformSize`.
 pub fn write_any(octets: &[u8], out: &mut Vec<u8>) -> Result<(), EncodeErrorKind>
-    ensures { AppendsLeaf result (Text AnyOctets None (Written octets.now)) out.old.items out.new.items }
+    ensures { AppendsLeaf result (Text AnyOctets None (InOctets octets.now)) out.old.items out.new.items }
 {
     write_octet_string(Constraints::NONE, octets, out)
 }
@@ -78,7 +78,7 @@ pub fn write_utf8(
     text: &str,
     out: &mut Vec<u8>,
 ) -> Result<(), EncodeErrorKind>
-    ensures { AppendsLeaf result (Text Utf8 (size_bounds constraints) (Written text.now)) out.old.items out.new.items }
+    ensures { AppendsLeaf result (Text Utf8 (size_bounds constraints) (InOctets text.now)) out.old.items out.new.items }
 {
     write_string(text.as_bytes(), text.len(), constraints, out)
 }
@@ -91,7 +91,7 @@ pub fn write_text<C: CharacterSet>(
     text: &RestrictedString<C>,
     out: &mut Vec<u8>,
 ) -> Result<(), EncodeErrorKind>
-    ensures { AppendsLeaf result (Text C.rule (size_bounds constraints) (Written text.now)) out.old.items out.new.items }
+    ensures { AppendsLeaf result (Text C.rule (size_bounds constraints) (InOctets text.now)) out.old.items out.new.items }
 {
     let octets = text.as_bytes();
     write_string(octets, text.len(), constraints, out)

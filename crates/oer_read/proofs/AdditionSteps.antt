@@ -16,7 +16,7 @@ use Rattle.oer_spec.specs.Tree.{Tree, Rows, NoRows, Required, Optional, Default,
 use Rattle.oer_read.specs.Additions.{addition_at, OpenRead, OpenRefused, Within, LeftOver, Added, AddRefused, NotThere, Inside, Adds}
 use Rattle.oer_read.specs.Defaults.{Defaulted, Unset, Set, DefaultRefused, NotRead, SpelledOut, AddsDefault, IsDefault}
 use Rattle.oer_read.specs.Law.{IsForMemory}
-use Rattle.oer_read.specs.Parts.{Comes, Admits, AreOf, Parts, NoParts, NeededPart, OptionalPart, DefaultPart, part_places, OnPresent, Takes, Refuses, Stops, ReadsParts}
+use Rattle.oer_read.specs.Parts.{Comes, Admits, AreOf, Parts, NoParts, NeededPart, OptionalPart, DefaultPart, part_places, OnPresent, Takes, NoneCome, Stops, ReadsParts}
 use Rattle.oer_read.specs.State.{State}
 use Rattle.oer_read.proofs.AdditionRows.{IsRow, IsHeld, IsAskedBy, NextAddition, next_addition, Passes, passes, addition_comes}
 use Rattle.oer_read.proofs.Marked.{OptionalItem, DefaultItem, optional_items, cons_optional, item_marks, default_items, cons_default, default_marks, absent_item, present_item}
@@ -118,7 +118,7 @@ module _ {B : Type 0} (tree : B → Tree) (IsPart : B → Type 0) (Says : State 
   behind_row s u q x part qs t split next k (Optional _ _ _) a rest f f' c = absurd f
   behind_row s u q x part qs t split next k (Default _ _ _ _) a rest f f' c = absurd f
 
-  passed_refuses : (s u : State) (q : Option Tag) (x : Option Octets) (part qs : Parts) → AreSplit s q part qs → addition_at s q ≡ Ok (x, u) → Refuses u NoParts qs → Refuses s NoParts part
+  passed_refuses : (s u : State) (q : Option Tag) (x : Option Octets) (part qs : Parts) → AreSplit s q part qs → addition_at s q ≡ Ok (x, u) → NoneCome u NoParts qs → NoneCome s NoParts part
   unfolding AreSplit
   passed_refuses s u q x part qs split next k NoRows a rest f f' c =
       let n = split a rest f' c in
@@ -144,7 +144,7 @@ module _ {B : Type 0} (tree : B → Tree) (IsPart : B → Type 0) (Says : State 
       let same : n.content ≡ Some content = (next_same s n.behind t q n.content (Some content) n.next next).0 in
       open_refused s content e n.item r m n.holds (subst (IsHeld (mode_of s.codec) n.item) same n.held)
 
-  refused_refuses : (s : State) (q : Option Tag) (e : DecodeError) (part qs : Parts) → AreSplit s q part qs → AddRefused tree IsPart Says s q e → (IsForMemory e → ⊥) → Refuses s NoParts part
+  refused_refuses : (s : State) (q : Option Tag) (e : DecodeError) (part qs : Parts) → AreSplit s q part qs → AddRefused tree IsPart Says s q e → (IsForMemory e → ⊥) → NoneCome s NoParts part
   unfolding AreSplit
   refused_refuses s q e part qs split d m NoRows a rest f f' c = let n = split a rest f' c in refused_next s q e n.more rest d m n.next
   refused_refuses s q e part qs split d m (Required _ _ _) a rest f f' c = absurd f
@@ -183,7 +183,7 @@ module _ {B : Type 0} (tree : B → Tree) (IsPart : B → Type 0) (Says : State 
   needed_split s q g qs asked (Default _ _ _ _) rest f c = absurd f
 
   -- rows of a required part have its bit set
-  needed_present : (s u : State) (q : Option Tag) (g : Tag) (qs : Parts) → IsAskedBy q g → addition_at s q ≡ Ok (None, u) → Refuses s NoParts (NeededPart g (Admits tree IsPart) qs)
+  needed_present : (s u : State) (q : Option Tag) (g : Tag) (qs : Parts) → IsAskedBy q g → addition_at s q ≡ Ok (None, u) → NoneCome s NoParts (NeededPart g (Admits tree IsPart) qs)
   unfolding NeededItem
   needed_present s u q g qs asked next NoRows (Required h t a) rest f (e, p, f') c =
       let n = next_addition s h true (λ a. Required h t a) (NeededItem s h t) q a rest (needed_row s h t) (asked_as q g h e asked) c in
@@ -260,7 +260,7 @@ module _ {B : Type 0} (tree : B → Tree) (IsPart : B → Type 0) (Says : State 
       (row_takes s u t q g false (OptionalPart g (Admits tree IsPart) qs) qs (λ a. Optional g (slot_of tree o) a) (OptionalItem s g (slot_of tree o)) a d.octets (optional_row s g (slot_of tree o)) refl
       (optional_gave s u q g o added) (optional_split s q g qs asked) (λ x. (refl, added_fits s u q o added, x)) k)
 
-  pub addition_refuses : (s : State) (q : Option Tag) (g : Tag) (qs : Parts) (e : DecodeError) → AddRefused tree IsPart Says s q e → IsAskedBy q g → (IsForMemory e → ⊥) → Refuses s NoParts (OptionalPart g (Admits tree IsPart) qs)
+  pub addition_refuses : (s : State) (q : Option Tag) (g : Tag) (qs : Parts) (e : DecodeError) → AddRefused tree IsPart Says s q e → IsAskedBy q g → (IsForMemory e → ⊥) → NoneCome s NoParts (OptionalPart g (Admits tree IsPart) qs)
   addition_refuses s q g qs e d asked m = refused_refuses s q e (OptionalPart g (Admits tree IsPart) qs) qs (optional_split s q g qs asked) d m
 
   added_next : (s u : State) (q : Option Tag) (o : Option B) → Added tree IsPart Says s q o u → (x : Option Octets) × (addition_at s q ≡ Ok (x, u))
@@ -382,7 +382,7 @@ module _ {B : Type 0} (tree : B → Tree) (IsPart : B → Type 0) (Says : State 
   default_mode s k e (NotRead d) = addition_mode tree IsPart Says s (Some k) e d
   default_mode s k e (SpelledOut _ _ _ _ _ is) = ap (λ (z : DecodeError). z.codec) is
 
-  default_refuses : (s : State) (k g : Tag) (e : DecodeError) (qs : Parts) → DefaultRefused eq (Added tree IsPart Says s (Some k)) (AddRefused tree IsPart Says s (Some k)) s def e → k ≡ g → (IsForMemory e → ⊥) → Refuses s NoParts (ThePart g qs)
+  default_refuses : (s : State) (k g : Tag) (e : DecodeError) (qs : Parts) → DefaultRefused eq (Added tree IsPart Says s (Some k)) (AddRefused tree IsPart Says s (Some k)) s def e → k ≡ g → (IsForMemory e → ⊥) → NoneCome s NoParts (ThePart g qs)
   default_refuses s k g e qs (NotRead x) asked m r a rest f f' c = refused_refuses tree IsPart Says s (Some k) e (ThePart g qs) qs (default_split s (Some k) g qs asked) x m r a rest f f' c
   default_refuses s k g e qs (SpelledOut v t d codec equal _) asked m NoRows (Default h w sl a) rest f (q, z, p, x, f') c =
       let n = next_addition s h false (λ a. Default h w sl a) (DefaultItem s h w sl) (Some k) a rest (default_row s h w sl) (asked ∙ sym q) c in

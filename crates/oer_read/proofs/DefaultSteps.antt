@@ -16,7 +16,7 @@ use Rattle.oer_spec.specs.Tree.{Tree, Rows, NoRows, Required, Optional, Default,
 use Rattle.oer_read.specs.Components.{asking, AskedAbsent, AskedPresent, Asked, AskRefused, NotNext, Inside}
 use Rattle.oer_read.specs.Defaults.{Defaulted, Unset, Set, DefaultRefused, NotRead, SpelledOut, AsksDefault, IsDefault}
 use Rattle.oer_read.specs.Law.{IsForMemory, IsRear}
-use Rattle.oer_read.specs.Parts.{Comes, Admits, AreOf, Parts, DefaultPart, OnPresent, Takes, Refuses, Stops}
+use Rattle.oer_read.specs.Parts.{Comes, Admits, AreOf, Parts, DefaultPart, OnPresent, Takes, NoneCome, Stops}
 use Rattle.oer_read.specs.State.{Ask, State}
 use Rattle.oer_read.proofs.Comes.{past}
 use Rattle.oer_read.proofs.Marked.{Marked, DefaultItem, mark_default, unmark_default, absent_item, present_item, set_item, unset_default, next_is}
@@ -182,13 +182,13 @@ module _ {B : Type 0} (tree : B → Tree) (IsPart : B → Type 0) (Says : State 
       complete (Required _ _ _) a' rest f f' c = absurd f
       complete (Optional _ _ _) a' rest f f' c = absurd f
 
-  pub asked_refuses : (s u : State) (v : B) (g : Tag) (ps qs : Parts) → Was s g v u → Refuses u ps qs → Refuses s (DefaultPart g (tree def) (Admits tree IsPart) ps) qs
+  pub asked_refuses : (s u : State) (v : B) (g : Tag) (ps qs : Parts) → Was s g v u → NoneCome u ps qs → NoneCome s (DefaultPart g (tree def) (Admits tree IsPart) ps) qs
   asked_refuses s u v g ps qs d k (Default h w sl r) a rest (e, z, p, x, f) f' c = k r a rest f f' (asked_after s u v g h w sl r a rest d z p c)
   asked_refuses s u v g ps qs d k NoRows a rest f f' c = absurd f
   asked_refuses s u v g ps qs d k (Required _ _ _) a rest f f' c = absurd f
   asked_refuses s u v g ps qs d k (Optional _ _ _) a rest f f' c = absurd f
 
-  pub refused_refuses : (s : State) (g : Tag) (e : DecodeError) (ps qs : Parts) → WasRefused s g e → (IsForMemory e → ⊥) → Refuses s (DefaultPart g (tree def) (Admits tree IsPart) ps) qs
+  pub refused_refuses : (s : State) (g : Tag) (e : DecodeError) (ps qs : Parts) → WasRefused s g e → (IsForMemory e → ⊥) → NoneCome s (DefaultPart g (tree def) (Admits tree IsPart) ps) qs
   refused_refuses s g e ps qs (NotRead (NotNext n _)) m (Default h w sl r) a rest (q, z, p, x, f) f' c =
       let k = mark_default s h w sl r a rest c in
       n k.item.bit k.more (k.next ∙ ap (λ (y : Tag). record { tag = y; bit = k.item.bit } ∷ k.more) q)

@@ -14,7 +14,7 @@ use Rattle.oer_spec.specs.Same.{Alike}
 use Rattle.oer_spec.specs.Spelled.{boolean, boolean_is, booleans_alike, null, null_is, nulls_alike, IsAny}
 use Rattle.oer_spec.specs.Tree.{Tree, Primitive, Leaf, Boolean}
 use Rattle.oer_read.specs.Answers.{Took}
-use Rattle.oer_read.specs.Law.{Reads, NoFront, Decodes, Fronts}
+use Rattle.oer_read.specs.Law.{Reads, NoEncoding, Decodes, Fronts}
 use Rattle.oer_spec.specs.Reading.{ReadsFront, seen}
 use Rattle.oer_read.specs.State.{State}
 
@@ -62,7 +62,7 @@ module _ {A : Type 0} (tree : A → Tree) (IsValue : A → Type 0) where
         let f = encodes (mode_of old.codec) old.levels o x.0 (to o x.0 s).1 in
         subst (λ (r : Result A DecodeError). Decodes tree IsValue old r new) (sym a) (record { read = reads_front k old x.0 new o x.1.now (to o x.0 s).0 e f n; refused = tt })
     leaf_law show Spells old k to from (Err kind) result new none (a, n) =
-        let nothing : (kind ≡ OutOfMemory → ⊥) → NoFront tree IsValue old = λ m w o j f. none m o f.rest (show w) f.split (from o w j (encoded (mode_of old.codec) old.levels o w f.encoding)) in
+        let nothing : (kind ≡ OutOfMemory → ⊥) → NoEncoding tree IsValue old = λ m w o j f. none m o f.rest (show w) f.split (from o w j (encoded (mode_of old.codec) old.levels o w f.encoding)) in
         subst (λ (r : Result A DecodeError). Decodes tree IsValue old r new) (sym a) (record { read = tt; refused = record { same = n; mode = refl; none = nothing } })
 
 pub boolean_law : (old : State) (answer : Result (Bool × Bor (List ℕ)) DecodeErrorKind) (result : Result Bool DecodeError) (new : State)

@@ -18,7 +18,7 @@ use Rattle.oer_spec.specs.Mode.{Mode, mode_of}
 use Rattle.oer_spec.specs.Reading.{◌>>◌, quantity_at}
 use Rattle.oer_spec.specs.Spelled.{EachValue, trees_of, list_of}
 use Rattle.oer_spec.specs.Tree.{Tree, Trees, NoTrees, More}
-use Rattle.oer_read.specs.Law.{Reads, Decodes, NoFront, IsForMemory}
+use Rattle.oer_read.specs.Law.{Reads, Decodes, NoEncoding, IsForMemory}
 use Rattle.oer_read.specs.Lists.{lent_element, list_opened_at, count_empty, RanEach, ListRead, ElementsStopped, ElementRefused, TooManyEmpty as TooManyAreEmpty, NoMemory, ListRefused, NotOpened, Stopped}
 use Rattle.oer_read.specs.Scopes.{level_at}
 use Rattle.oer_read.specs.State.{State}
@@ -262,7 +262,7 @@ module _ {A : Type 0} (tree : A → Tree) (IsPart : A → Type 0) (Ran : State �
           rest = k.left ∙ ap (λ (z : Octets). record old { input = z }) (sym input);
         }
 
-    next_element : (old : State) (q x : Octets) (left : List A) (os : List Octets) → 0 < length left → q ≡ joined os ++ x → AreElements (mode old) (old.levels - 1) os (trees_of tree left) → EachValue IsPart left → NoFront tree IsPart (lent_element old q) → ⊥
+    next_element : (old : State) (q x : Octets) (left : List A) (os : List Octets) → 0 < length left → q ≡ joined os ++ x → AreElements (mode old) (old.levels - 1) os (trees_of tree left) → EachValue IsPart left → NoEncoding tree IsPart (lent_element old q) → ⊥
     next_element old q x [] os l e f i n = omega (arith, l)
     next_element old q x (w ∷ left) os l e f i n =
         let (o, ps, same, g, gs) = split_elements (mode old) (old.levels - 1) os (tree w) (trees_of tree left) f in
@@ -278,7 +278,7 @@ module _ {A : Type 0} (tree : A → Tree) (IsPart : A → Type 0) (Ran : State �
         omega (arith, many, a.counted, l)
     stopped old n rest e (NoMemory z) m ws os x i f h c l = m z.0
 
-    list_refused : (old : State) (e : DecodeError) → ListRefused Ran old e → (IsForMemory e → ⊥) → NoFront (list_of true tree) (EachValue IsPart) old
+    list_refused : (old : State) (e : DecodeError) → ListRefused Ran old e → (IsForMemory e → ⊥) → NoEncoding (list_of true tree) (EachValue IsPart) old
     list_refused old e (NotOpened x c) m ws o i f =
         let l = list_parts (mode old) old.levels o ws i f.encoding in
         not_both (list_opened_at old) (length l.own, joined l.own ++ f.rest) e.kind (opened_again old o f.rest ws f.split l) x

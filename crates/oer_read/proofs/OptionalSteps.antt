@@ -11,7 +11,7 @@ use Rattle.oer_spec.specs.Places.{present, absent}
 use Rattle.oer_spec.specs.Tree.{Tree, Rows, NoRows, Required, Optional, Default, Slot, Absent, Present, slot_of}
 use Rattle.oer_read.specs.Components.{asking, AskedAbsent, AskedPresent, Asked, AskRefused, NotNext, Inside, Asks}
 use Rattle.oer_read.specs.Law.{Fronts, IsForMemory, IsRear}
-use Rattle.oer_read.specs.Parts.{Comes, Admits, AreOf, Parts, OptionalPart, OnPresent, Takes, Refuses, Stops}
+use Rattle.oer_read.specs.Parts.{Comes, Admits, AreOf, Parts, OptionalPart, OnPresent, Takes, NoneCome, Stops}
 use Rattle.oer_read.specs.State.{Ask, State}
 use Rattle.oer_read.proofs.Comes.{past}
 use Rattle.oer_read.proofs.Marked.{mark_optional, unmark_optional, absent_item, present_item, unset_item, set_item, next_is}
@@ -100,13 +100,13 @@ module _ {B : Type 0} (tree : B → Tree) (IsPart : B → Type 0) (Says : State 
       complete (Required _ _ _) a' rest f f' c = absurd f
       complete (Default _ _ _ _) a' rest f f' c = absurd f
 
-  pub asked_refuses : (s u : State) (o : Option B) (g : Tag) (ps qs : Parts) → Asked tree IsPart Says s g o u → Refuses u ps qs → Refuses s (OptionalPart g (Admits tree IsPart) ps) qs
+  pub asked_refuses : (s u : State) (o : Option B) (g : Tag) (ps qs : Parts) → Asked tree IsPart Says s g o u → NoneCome u ps qs → NoneCome s (OptionalPart g (Admits tree IsPart) ps) qs
   asked_refuses s u o g ps qs d k (Optional h sl r) a rest (e, p, f) f' c = k r a rest f f' (asked_after s u o g h sl r a rest d p c)
   asked_refuses s u o g ps qs d k NoRows a rest f f' c = absurd f
   asked_refuses s u o g ps qs d k (Required _ _ _) a rest f f' c = absurd f
   asked_refuses s u o g ps qs d k (Default _ _ _ _) a rest f f' c = absurd f
 
-  pub refused_refuses : (s : State) (g : Tag) (e : DecodeError) (ps qs : Parts) → AskRefused tree IsPart Says s g e → (IsForMemory e → ⊥) → Refuses s (OptionalPart g (Admits tree IsPart) ps) qs
+  pub refused_refuses : (s : State) (g : Tag) (e : DecodeError) (ps qs : Parts) → AskRefused tree IsPart Says s g e → (IsForMemory e → ⊥) → NoneCome s (OptionalPart g (Admits tree IsPart) ps) qs
   refused_refuses s g e ps qs (NotNext n _) m (Optional h sl r) a rest (q, p, f) f' c =
       let k = mark_optional s h sl r a rest c in
       n k.item.bit k.more (k.next ∙ ap (λ (z : Tag). record { tag = z; bit = k.item.bit } ∷ k.more) q)

@@ -16,7 +16,7 @@ use Rattle.oer_spec.specs.Places.{Item, presence, bodies, extension_bit, IsPream
 use Rattle.oer_spec.specs.Tree.{Tree, Struct, Rows, NoRows, Required, Optional, Default, Slot, Absent, Present}
 use Rattle.oer_read.specs.Law.{Reads, Decodes, Fronts, IsForMemory}
 use Rattle.oer_read.specs.Parts.{Comes, asks_in, places_in, Parts, NoParts, NeededPart, OptionalPart, DefaultPart, AreOf, IsTableOf, ReadsParts, part_places}
-use Rattle.oer_read.specs.Scopes.{bits_for, extension_of, presence_of, frame_behind, opened_at, closed_at, SequenceRead, SequenceRefused, NotOpened, Stopped, NotClosed}
+use Rattle.oer_read.specs.Scopes.{bits_for, extension_in, presence_in, frame_behind, opened_at, closed_at, SequenceRead, SequenceRefused, NotOpened, Stopped, NotClosed}
 use Rattle.oer_read.specs.State.{Ask, Place, State, asks_of, marked_count, places_of}
 use Rattle.oer_read.proofs.Openings.{Opens, opened_opens, opened_mode, opens_opened, closed_comes, comes_closed, rear_trans, rear_are_octets, opens_rear}
 
@@ -150,22 +150,22 @@ front_length : (extensible extended : Bool) → length (extension_bit extensible
 front_length true extended = refl
 front_length false extended = refl
 
-front_extension : (extensible extended : Bool) (b : List Bool) → (extended ≡ true → extensible ≡ true) → extension_of extensible (extension_bit extensible extended ++ b) ≡ extended
+front_extension : (extensible extended : Bool) (b : List Bool) → (extended ≡ true → extensible ≡ true) → extension_in extensible (extension_bit extensible extended ++ b) ≡ extended
 front_extension true extended b h = refl
 front_extension false false b h = refl
 front_extension false true b h = absurd (cc (h refl))
 
-front_presence : (extensible extended : Bool) (b : List Bool) → presence_of extensible (extension_bit extensible extended ++ b) ≡ b
+front_presence : (extensible extended : Bool) (b : List Bool) → presence_in extensible (extension_bit extensible extended ++ b) ≡ b
 front_presence true extended b = refl
 front_presence false extended b = refl
 
 -- bits of that count are an extension bit and presence bits
-bits_again : (extensible : Bool) (b : List Bool) (n : ℕ) → length b ≡ cond extensible 1 0 + n → (extension_bit extensible (extension_of extensible b) ++ presence_of extensible b ≡ b) × (length (presence_of extensible b) ≡ n)
+bits_again : (extensible : Bool) (b : List Bool) (n : ℕ) → length b ≡ cond extensible 1 0 + n → (extension_bit extensible (extension_in extensible b) ++ presence_in extensible b ≡ b) × (length (presence_in extensible b) ≡ n)
 bits_again true [] n e = absurd (omega (arith, e))
 bits_again true (x ∷ b) n e = (refl, omega (arith, e))
 bits_again false b n e = (refl, omega (arith, e))
 
-extended_only : (extensible : Bool) (b : List Bool) → extension_of extensible b ≡ true → extensible ≡ true
+extended_only : (extensible : Bool) (b : List Bool) → extension_in extensible b ≡ true → extensible ≡ true
 extended_only true b e = refl
 extended_only false b e = absurd (cc e)
 
@@ -220,10 +220,10 @@ module _ (extensible : Bool) (table more : List Row) (ps qs : Parts) (is_table :
       let frame : State = record { input = o.rest; codec = s.codec; levels = s.levels - 1; frame = frame_behind extensible table more o.bits } in
       let c : Comes frame r a rest = subst (λ (z : State). Comes z r a rest) o.is c' in
       let parts = bits_again extensible o.bits (marked_count table) o.count in
-      let same : presence c.roots ≡ presence_of extensible o.bits =
-      sym (bits_of_items c.roots) ∙ ap asked_bits c.asked ∙ bits_of_asks table (presence_of extensible o.bits) parts.1 in
-      let bits : o.bits ≡ extension_bit extensible (extension_of extensible o.bits) ++ presence c.roots =
-      sym parts.0 ∙ ap (λ (l : List Bool). extension_bit extensible (extension_of extensible o.bits) ++ l) (sym same) in
+      let same : presence c.roots ≡ presence_in extensible o.bits =
+      sym (bits_of_items c.roots) ∙ ap asked_bits c.asked ∙ bits_of_asks table (presence_in extensible o.bits) parts.1 in
+      let bits : o.bits ≡ extension_bit extensible (extension_in extensible o.bits) ++ presence c.roots =
+      sym parts.0 ∙ ap (λ (l : List Bool). extension_bit extensible (extension_in extensible o.bits) ++ l) (sym same) in
       let whole : s.input ≡ (o.preamble ++ (bodies c.roots ++ c.extension)) ++ rest =
       o.split ∙ ap (λ (l : Octets). o.preamble ++ l) (c.split ∙ sym (append_assoc (bodies c.roots) c.extension rest)) ∙ sym (append_assoc o.preamble (bodies c.roots ++ c.extension) rest) in (
         o.preamble ++ (bodies c.roots ++ c.extension),
@@ -235,7 +235,7 @@ module _ (extensible : Bool) (table more : List Row) (ps qs : Parts) (is_table :
           c.are_roots,
           c.are_additions,
           record {
-            extended = extension_of extensible o.bits;
+            extended = extension_in extensible o.bits;
             preamble = o.preamble;
             extension = c.extension;
             whole = refl;

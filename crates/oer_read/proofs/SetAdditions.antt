@@ -7,7 +7,7 @@ use Rattle.asn1_core.specs.declared.tag.Tag.{Tag}
 use Rattle.oer_spec.specs.Tree.{Tree, Rows, NoRows, Optional, slot_of}
 use Rattle.oer_read.specs.Additions.{AddRefused, Adds}
 use Rattle.oer_read.specs.Law.{IsForMemory, IsRear}
-use Rattle.oer_read.specs.Parts.{Comes, Parts, NoParts, OptionalPart, Admits, Takes, Refuses}
+use Rattle.oer_read.specs.Parts.{Comes, Parts, NoParts, OptionalPart, Admits, Takes, NoneCome}
 use Rattle.oer_read.specs.SetRows.{held_as, AsksAddition}
 use Rattle.oer_read.specs.Sets.{Call, addition_calls, RanInTurn, RefusedInTurn}
 use Rattle.oer_read.specs.State.{State}
@@ -33,7 +33,7 @@ takes_on s t ps qs r a e f k = record {
   complete = λ r' a' rest x y c. comes_on t NoRows NoRows rest f (k.complete r' a' rest x y (comes_off s r' a' rest e c));
 }
 
-refuses_on : (s : State) (ps qs : Parts) → s.frame.asks ≡ [] → Refuses s ps qs → Refuses (asking_on s []) ps qs
+refuses_on : (s : State) (ps qs : Parts) → s.frame.asks ≡ [] → NoneCome s ps qs → NoneCome (asking_on s []) ps qs
 refuses_on s ps qs e k = λ r a rest x y c. k r a rest x y (comes_off s r a rest e c)
 
 -- ---- one optional addition
@@ -89,7 +89,7 @@ module _ {B V : Type 0} (tree : B → Tree) (IsPart : B → Type 0) (Says : Stat
           ap (λ (z : State). z.frame.asks) (sym same) ∙ stays,
         )
 
-    one_stops : (s : State) (e : DecodeError) → RefusedInTurn Ran s (addition_calls n (r ∷ [])) e → (IsForMemory e → ⊥) → s.frame.asks ≡ [] → Refuses (asking_on s []) NoParts (OptionalPart r.tag (Admits tree IsPart) NoParts)
+    one_stops : (s : State) (e : DecodeError) → RefusedInTurn Ran s (addition_calls n (r ∷ [])) e → (IsForMemory e → ⊥) → s.frame.asks ≡ [] → NoneCome (asking_on s []) NoParts (OptionalPart r.tag (Admits tree IsPart) NoParts)
     one_stops s e (inl (after, ran)) m h =
         refuses_on s NoParts (OptionalPart r.tag (Admits tree IsPart) NoParts) h (addition_refuses tree IsPart Says s (Some r.tag) r.tag NoParts e (refused s r.tag e after (promise s (Err e) after ran)) refl m)
     one_stops s e (inr (v, after, ran, k)) m h = absurd k

@@ -7,7 +7,7 @@ use Rattle.asn1_core.specs.declared.error.DecodeError.{DecodeError}
 use Rattle.oer_spec.proofs.Steps.{bind_ok}
 use Rattle.oer_spec.specs.Reading.{◌>>=◌}
 use Rattle.oer_spec.specs.ReadingBits.{preamble_at}
-use Rattle.oer_read.specs.Scopes.{level_at, bits_for, presence_of}
+use Rattle.oer_read.specs.Scopes.{level_at, bits_for, presence_in}
 use Rattle.oer_read.specs.Sets.{Call, is_there, bits_behind, root_calls, addition_calls, set_calls, set_frame, set_opened_at, CalledInTurn, SetLends}
 use Rattle.oer_read.specs.State.{State}
 use Rattle.oer_read.proofs.Openings.{level_ok}
@@ -54,8 +54,8 @@ module _ {V : Type 0} (Ran : Call → State → Result V DecodeError → State �
   opened_levels : (s : State) (extensible : Bool) (roots additions : List Row) (lent : State) (presence : List Bool) → set_opened_at s extensible roots additions ≡ Ok (lent, presence) → lent.levels < s.levels
   unfolding set_opened_at
   opened_levels s extensible roots additions lent presence e =
-      let l = bind_ok (level_at s.levels) (λ (levels : ℕ). preamble_at (bits_for extensible roots) s.input >>= λ preamble. Ok (record { input = preamble.1; codec = s.codec; levels = levels; frame = set_frame extensible additions preamble.0 }, presence_of extensible preamble.0)) (lent, presence) e in
-      let p = bind_ok (preamble_at (bits_for extensible roots) s.input) (λ preamble. Ok (record { input = preamble.1; codec = s.codec; levels = l.0; frame = set_frame extensible additions preamble.0 }, presence_of extensible preamble.0)) (lent, presence) l.2 in
+      let l = bind_ok (level_at s.levels) (λ (levels : ℕ). preamble_at (bits_for extensible roots) s.input >>= λ preamble. Ok (record { input = preamble.1; codec = s.codec; levels = levels; frame = set_frame extensible additions preamble.0 }, presence_in extensible preamble.0)) (lent, presence) e in
+      let p = bind_ok (preamble_at (bits_for extensible roots) s.input) (λ preamble. Ok (record { input = preamble.1; codec = s.codec; levels = l.0; frame = set_frame extensible additions preamble.0 }, presence_in extensible preamble.0)) (lent, presence) l.2 in
       let n = level_ok s.levels l.0 l.1 in
       let h : l.0 ≡ lent.levels = ap (λ (z : State). z.levels) (lent_is _ lent _ presence p.2).0 in
       omega (arith, n.0, n.1, h)

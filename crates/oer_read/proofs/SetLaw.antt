@@ -20,9 +20,9 @@ use Rattle.oer_spec.specs.Tree.{Tree, Struct, Rows, NoRows, Required, Optional, 
 use Rattle.asn1_core.specs.declared.codec.Codec.TheVariants.{Coer}
 use Rattle.oer_read.specs.Components.{AskedAbsent, AskedPresent, Asked, AskRefused, Inside}
 use Rattle.oer_read.specs.Defaults.{only_lenient, DefaultRefused, Unset, Set, NotRead, SpelledOut, IsDefault}
-use Rattle.oer_read.specs.Law.{Reads, Decodes, NoFront, Fronts, IsForMemory}
-use Rattle.oer_read.specs.Parts.{Parts, NoParts, NeededPart, OptionalPart, DefaultPart, Admits, AreOf, IsTableOf, Takes, Refuses, ReadsParts}
-use Rattle.oer_read.specs.Scopes.{level_at, bits_for, all_asked, unknown_at, presence_of, frame_behind, opened_at, closed_at, SequenceRead, SequenceRefused, NotOpened as SequenceNotOpened, Stopped as SequenceStopped}
+use Rattle.oer_read.specs.Law.{Reads, Decodes, NoEncoding, Fronts, IsForMemory}
+use Rattle.oer_read.specs.Parts.{Parts, NoParts, NeededPart, OptionalPart, DefaultPart, Admits, AreOf, IsTableOf, Takes, NoneCome, ReadsParts}
+use Rattle.oer_read.specs.Scopes.{level_at, bits_for, all_asked, unknown_at, presence_in, frame_behind, opened_at, closed_at, SequenceRead, SequenceRefused, NotOpened as SequenceNotOpened, Stopped as SequenceStopped}
 use Rattle.oer_read.specs.SetRows.{tree_in, row_at, rows_from, ReadsDefault, part_at, parts_of, Fits}
 use Rattle.oer_read.specs.Sets.{Call, is_there, bits_behind, root_calls, addition_calls, set_calls, set_frame, set_opened_at, RanInTurn, RefusedInTurn, SetRead, SetRefused, NotOpened, Stopped, NotClosed, NotMade, NoMemory}
 use Rattle.oer_read.specs.State.{Ask, State, Frame, asks_of}
@@ -50,7 +50,7 @@ module _ {V : Type 0} (tree : V → Tree) (IsPart : V → Type 0) where
     rest = ap (λ (z : State). asking_on z ks) d.rest;
   }
 
-  none_on : (s : State) (ks : List Ask) → NoFront tree IsPart s → NoFront tree IsPart (asking_on s ks)
+  none_on : (s : State) (ks : List Ask) → NoEncoding tree IsPart s → NoEncoding tree IsPart (asking_on s ks)
   none_on s ks n w o i f = n w o i (record { rest = f.rest; split = f.split; encoding = f.encoding })
 
 abbrev Any : {V : Type 0} → State → Result V DecodeError → State → Type 0
@@ -170,7 +170,7 @@ module _ {V : Type 0} (tree : V → Tree) (Is : ℕ → V → Type 0) (eq : V �
   mode_at e presence.Optional n g false cs s k law ih = ih s k
   mode_at e presence.Default n g true cs s (inl (after, ran)) law ih = default_mode s n e (law.0 s (Err e) after ran).refused
     where
-      default_mode : (s : State) (n : ℕ) (e : DecodeError) → ((e.codec ≡ s.codec) × ((IsForMemory e → ⊥) → NoFront tree (Is n) s)) ⊎ ((v : V) × (u : State) × Reads tree (Is n) s v u × (s.codec ≡ Coer) × (eq v (default n) ≡ true) × (e ≡ only_lenient s)) → e.codec ≡ s.codec
+      default_mode : (s : State) (n : ℕ) (e : DecodeError) → ((e.codec ≡ s.codec) × ((IsForMemory e → ⊥) → NoEncoding tree (Is n) s)) ⊎ ((v : V) × (u : State) × Reads tree (Is n) s v u × (s.codec ≡ Coer) × (eq v (default n) ≡ true) × (e ≡ only_lenient s)) → e.codec ≡ s.codec
       default_mode s n e (inl (mode, _)) = mode
       default_mode s n e (inr (_, _, _, _, _, is)) = ap (λ (z : DecodeError). z.codec) is
   mode_at e presence.Default n g true cs s (inr (v, after, ran, k)) law ih = ih after k ∙ ap (λ (z : State). z.codec) (law.0 s (Ok v) after ran).read.0.rest
@@ -185,12 +185,12 @@ module _ {V : Type 0} (tree : V → Tree) (Is : ℕ → V → Type 0) (eq : V �
   module _ (qs : Parts) (e : DecodeError) where
     -- a call refused, or behind all of them no addition rows come
     abbrev pub Ends : State → List Call → Type 0
-    Ends s [] = Refuses (asking_on s []) NoParts qs
+    Ends s [] = NoneCome (asking_on s []) NoParts qs
     Ends s (c ∷ cs) = ((after : State) × Ran c s (Err e) after) ⊎ ((v : V) × (after : State) × Ran c s (Ok v) after × Ends after cs)
 
     refuses_at : (p : FieldPresence) (n : ℕ) (g : Tag) (x : Bool) (b : List Bool) (rs : List Row) (s : State) → Ends s (calls_at p x n g (root_calls rs (bits_behind p b))) → LawAt p n g → (IsForMemory e → ⊥)
-        → ((u : State) → Ends u (root_calls rs (bits_behind p b)) → Refuses (asking_on u (asks_of rs (bits_behind p b))) (parts rs) qs)
-        → Refuses (asking_on s (asks_at p x g b rs)) (part_at tree Is default p n g (parts rs)) qs
+        → ((u : State) → Ends u (root_calls rs (bits_behind p b)) → NoneCome (asking_on u (asks_of rs (bits_behind p b))) (parts rs) qs)
+        → NoneCome (asking_on s (asks_at p x g b rs)) (part_at tree Is default p n g (parts rs)) qs
     refuses_at presence.Required n g x b rs s (inl (after, ran)) law m ih =
         let ks : List Ask = asks_of rs b in
         refused_refuses tree (Is n) (asking_on s ks) g (parts rs) qs (none_on tree (Is n) s ks ((law s (Err e) after ran).refused.none m))
@@ -210,7 +210,7 @@ module _ {V : Type 0} (tree : V → Tree) (Is : ℕ → V → Type 0) (eq : V �
         let ks : List Ask = asks_of rs (drop 1 b) in
         default_refused tree (Is n) Any eq (default n) law.1 (asking_on s (record { tag = g; bit = true } ∷ ks)) g e (parts rs) qs (why ks (law.0 s (Err e) after ran).refused) m
       where
-        why : (ks : List Ask) → ((e.codec ≡ s.codec) × ((IsForMemory e → ⊥) → NoFront tree (Is n) s)) ⊎ ((v : V) × (u : State) × Reads tree (Is n) s v u × (s.codec ≡ Coer) × (eq v (default n) ≡ true) × (e ≡ only_lenient s))
+        why : (ks : List Ask) → ((e.codec ≡ s.codec) × ((IsForMemory e → ⊥) → NoEncoding tree (Is n) s)) ⊎ ((v : V) × (u : State) × Reads tree (Is n) s v u × (s.codec ≡ Coer) × (eq v (default n) ≡ true) × (e ≡ only_lenient s))
             → DefaultRefused eq (Asked tree (Is n) Any (asking_on s (record { tag = g; bit = true } ∷ ks)) g) (AskRefused tree (Is n) Any (asking_on s (record { tag = g; bit = true } ∷ ks)) g) (asking_on s (record { tag = g; bit = true } ∷ ks)) (default n) e
         why ks (inl (mode, none)) = NotRead (Inside ks refl after tt mode (λ m. none_on tree (Is n) s ks (none m)))
         why ks (inr (v, u, d, codec, equal, is)) = SpelledOut v (asking_on u ks) (present_on n s u g v ks d) codec equal is
@@ -222,12 +222,12 @@ module _ {V : Type 0} (tree : V → Tree) (Is : ℕ → V → Type 0) (eq : V �
         let ks : List Ask = asks_of rs (drop 1 b) in
         default_refuses tree (Is n) Any eq (default n) law.1 (asking_on s (record { tag = g; bit = false } ∷ ks)) (asking_on s ks) (default n) g (parts rs) qs (Unset (absent_on n s g ks) refl) (ih s k)
 
-    roots_refuse : (rs : List Row) (b : List Bool) (s : State) → AllByRecursion Law rs → Ends s (root_calls rs b) → (IsForMemory e → ⊥) → Refuses (asking_on s (asks_of rs b)) (parts rs) qs
+    roots_refuse : (rs : List Row) (b : List Bool) (s : State) → AllByRecursion Law rs → Ends s (root_calls rs b) → (IsForMemory e → ⊥) → NoneCome (asking_on s (asks_of rs b)) (parts rs) qs
     roots_refuse [] b s law k m = k
     roots_refuse (r ∷ rs) b s law k m = refuses_at r.presence r.index r.tag (get_or b 0 false) b rs s k law.0 m (λ u k'. roots_refuse rs (bits_behind r.presence b) u law.1 k' m)
 
-    ends_behind : (s : State) (cs : List Call) (vs : List V) (t : State) → RanInTurn Ran s cs vs t → Refuses (asking_on t []) NoParts qs → Ends s cs
-    ends_behind s [] [] t r k = subst (λ (z : State). Refuses (asking_on z []) NoParts qs) (sym r) k
+    ends_behind : (s : State) (cs : List Call) (vs : List V) (t : State) → RanInTurn Ran s cs vs t → NoneCome (asking_on t []) NoParts qs → Ends s cs
+    ends_behind s [] [] t r k = subst (λ (z : State). NoneCome (asking_on z []) NoParts qs) (sym r) k
     ends_behind s (c ∷ cs) (v ∷ vs) t r k = inr (v, r.0, r.1, ends_behind r.0 cs vs t r.2 k)
     ends_behind s [] (v ∷ vs) t r k = absurd r
     ends_behind s (c ∷ cs) [] t r k = absurd r
@@ -268,7 +268,7 @@ module _ {V : Type 0} (Ran : Call → State → Result V DecodeError → State �
   pub record AdditionsRead (n : ℕ) (more : List Row) (qs : Parts) (AddOf : List V → Rows → Type 0) : Type 0 where
     pub takes : (s t : State) (ws : List V) → RanInTurn Ran s (addition_calls n more) ws t → s.frame.asks ≡ [] → (a : Rows) × AddOf ws a × Takes (asking_on s []) NoParts qs NoRows a (asking_on t []) × (t.frame.asks ≡ [])
     pub mode : (s : State) (e : DecodeError) → RefusedInTurn Ran s (addition_calls n more) e → e.codec ≡ s.codec
-    pub stops : (s : State) (e : DecodeError) → RefusedInTurn Ran s (addition_calls n more) e → (IsForMemory e → ⊥) → s.frame.asks ≡ [] → Refuses (asking_on s []) NoParts qs
+    pub stops : (s : State) (e : DecodeError) → RefusedInTurn Ran s (addition_calls n more) e → (IsForMemory e → ⊥) → s.frame.asks ≡ [] → NoneCome (asking_on s []) NoParts qs
 
   pub record RanSplit (s : State) (cs ds : List Call) (xs : List V) (u : State) : Type 0 where
     pub first : List V
@@ -309,7 +309,7 @@ module _ (s : State) (extensible : Bool) (table more : List Row) where
   bits_same = ap (λ (n : ℕ). cond extensible 1 0 + n) (sym (marked_by_tag table))
 
   abbrev lent_behind : ℕ → List Bool × Octets → State × List Bool
-  lent_behind levels preamble = (record { input = preamble.1; codec = s.codec; levels = levels; frame = set_frame extensible more preamble.0 }, presence_of extensible preamble.0)
+  lent_behind levels preamble = (record { input = preamble.1; codec = s.codec; levels = levels; frame = set_frame extensible more preamble.0 }, presence_in extensible preamble.0)
 
   abbrev lent_for : ℕ → Result (State × List Bool) DecodeErrorKind
   lent_for n = level_at s.levels >>= λ levels. preamble_at n s.input >>= λ preamble. Ok (lent_behind levels preamble)
@@ -325,8 +325,8 @@ module _ (s : State) (extensible : Bool) (table more : List Row) where
   pub set_lends : (lent : State) (bits : List Bool) → set_opened_at s extensible table more ≡ Ok (lent, bits) → (opened_at s extensible sorted more ≡ Ok (asking_on lent (asks_of sorted bits))) × (lent.frame.asks ≡ [])
   unfolding set_opened_at opened_at
   set_lends lent bits e =
-      let l = bind_ok (level_at s.levels) (λ (levels : ℕ). preamble_at (bits_for extensible table) s.input >>= λ preamble. Ok (record { input = preamble.1; codec = s.codec; levels = levels; frame = set_frame extensible more preamble.0 }, presence_of extensible preamble.0)) (lent, bits) e in
-      let p = bind_ok (preamble_at (bits_for extensible table) s.input) (λ preamble. Ok (record { input = preamble.1; codec = s.codec; levels = l.0; frame = set_frame extensible more preamble.0 }, presence_of extensible preamble.0)) (lent, bits) l.2 in
+      let l = bind_ok (level_at s.levels) (λ (levels : ℕ). preamble_at (bits_for extensible table) s.input >>= λ preamble. Ok (record { input = preamble.1; codec = s.codec; levels = levels; frame = set_frame extensible more preamble.0 }, presence_in extensible preamble.0)) (lent, bits) e in
+      let p = bind_ok (preamble_at (bits_for extensible table) s.input) (λ preamble. Ok (record { input = preamble.1; codec = s.codec; levels = l.0; frame = set_frame extensible more preamble.0 }, presence_in extensible preamble.0)) (lent, bits) l.2 in
       let both = lent_is _ lent _ bits p.2 in
       let read : preamble_at (bits_for extensible sorted) s.input ≡ Ok p.0 = ap (λ (n : ℕ). preamble_at n s.input) (sym bits_same) ∙ p.1 in (
         rw (l.1, read) (ap₂ (λ (z : State) (c : List Bool). Ok (asking_on z (asks_of sorted c))) both.0 both.1),
@@ -414,7 +414,7 @@ module _ {A V : Type 0} (tree : V → Tree) (Is : ℕ → V → Type 0) (eq : V 
       go (inr (vs, t, ran, q)) = adds.mode t e q ∙ ap (λ (z : State). z.codec) (stays tree Is eq default Ran in_order bits lent t vs laws_in_order ran)
 
   -- where the rows don't come, the closure of a sequence may refuse
-  stop_at : (old : State) (e : DecodeError) (lent : State) (bits : List Bool) → opened_at old extensible in_order more ≡ Ok (asking_on lent (asks_of in_order bits)) → e.codec ≡ lent.codec → ((IsForMemory e → ⊥) → Refuses (asking_on lent (asks_of in_order bits)) ps qs) → SequenceRefused (ReadsParts ps qs roots additions) extensible in_order more old e
+  stop_at : (old : State) (e : DecodeError) (lent : State) (bits : List Bool) → opened_at old extensible in_order more ≡ Ok (asking_on lent (asks_of in_order bits)) → e.codec ≡ lent.codec → ((IsForMemory e → ⊥) → NoneCome (asking_on lent (asks_of in_order bits)) ps qs) → SequenceRefused (ReadsParts ps qs roots additions) extensible in_order more old e
   stop_at old e lent bits o mode none = SequenceStopped (asking_on lent (asks_of in_order bits)) (asking_on lent (asks_of in_order bits)) o (record { read = tt; stops = record { mode = mode; none = none } })
 
   to_refused : (old : State) (e : DecodeError) → (IsForMemory e → ⊥) → SetRefused Ran Makes extensible table more old e → SequenceRefused (ReadsParts ps qs roots additions) extensible in_order more old e

@@ -11,7 +11,7 @@ use Rattle.asn1_core.specs.declared.fields.Field.{Field}
 use Rattle.asn1_core.specs.declared.error.DecodeError.{DecodeError}
 use Rattle.asn1_core.specs.declared.error.DecodeErrorKind.{DecodeErrorKind}
 use Rattle.oer_read.specs.Law.{IsRear, WantsMemory}
-use Rattle.oer_read.specs.Scopes.{level_at, bits_for, presence_of}
+use Rattle.oer_read.specs.Scopes.{level_at, bits_for, presence_in}
 use Rattle.oer_read.specs.Sets.{Call, is_there, bits_behind, root_calls, addition_calls, set_calls, set_frame, set_opened_at, RanInTurn, RefusedInTurn, CalledInTurn, SetRefused, NoMemory, Stopped}
 use Rattle.oer_read.specs.State.{State}
 use Rattle.oer_read.proofs.Openings.{rear_trans, level_ok, level_again}
@@ -165,7 +165,7 @@ pub record SetOpens (s : State) (extensible : Bool) (roots additions : List Row)
   pub spelled : IsPreamble preamble bits
   pub count : length bits ≡ bits_for extensible roots
   pub is : lent ≡ record { input = rest; codec = s.codec; levels = s.levels - 1; frame = set_frame extensible additions bits }
-  pub shows : presence ≡ presence_of extensible bits
+  pub shows : presence ≡ presence_in extensible bits
 
 pub lent_is : (a b : State) (x y : List Bool) → ◌≡◌ {A = Result (State × List Bool) DecodeErrorKind} (Ok (a, x)) (Ok (b, y)) → (a ≡ b) × (x ≡ y)
 lent_is a b x y e =
@@ -175,8 +175,8 @@ lent_is a b x y e =
 pub set_opens : (s : State) (extensible : Bool) (roots additions : List Row) (lent : State) (presence : List Bool) → AreOctets s.input → set_opened_at s extensible roots additions ≡ Ok (lent, presence) → SetOpens s extensible roots additions lent presence
 unfolding set_opened_at
 set_opens s extensible roots additions lent presence fits e =
-    let l = bind_ok (level_at s.levels) (λ (levels : ℕ). preamble_at (bits_for extensible roots) s.input >>= λ preamble. Ok (record { input = preamble.1; codec = s.codec; levels = levels; frame = set_frame extensible additions preamble.0 }, presence_of extensible preamble.0)) (lent, presence) e in
-    let p = bind_ok (preamble_at (bits_for extensible roots) s.input) (λ preamble. Ok (record { input = preamble.1; codec = s.codec; levels = l.0; frame = set_frame extensible additions preamble.0 }, presence_of extensible preamble.0)) (lent, presence) l.2 in
+    let l = bind_ok (level_at s.levels) (λ (levels : ℕ). preamble_at (bits_for extensible roots) s.input >>= λ preamble. Ok (record { input = preamble.1; codec = s.codec; levels = levels; frame = set_frame extensible additions preamble.0 }, presence_in extensible preamble.0)) (lent, presence) e in
+    let p = bind_ok (preamble_at (bits_for extensible roots) s.input) (λ preamble. Ok (record { input = preamble.1; codec = s.codec; levels = l.0; frame = set_frame extensible additions preamble.0 }, presence_in extensible preamble.0)) (lent, presence) l.2 in
     let f = (preamble_reads (bits_for extensible roots)).found s.input p.0.1 p.0.0 fits p.1 in
     let n = level_ok s.levels l.0 l.1 in
     let both = lent_is _ lent _ presence p.2 in

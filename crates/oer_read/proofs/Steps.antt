@@ -8,8 +8,8 @@ use Rattle.asn1_core.specs.declared.tag.Tag.{Tag}
 use Rattle.oer_spec.specs.Encoding.{IsEncoding}
 use Rattle.oer_spec.specs.Mode.{mode_of}
 use Rattle.oer_spec.specs.Tree.{Tree, Rows, NoRows, Required, Optional, Default}
-use Rattle.oer_read.specs.Law.{Reads, RefusedBy, Decodes, NoFront, Fronts}
-use Rattle.oer_read.specs.Parts.{Comes, Admits, AreOf, Parts, NoParts, NeededPart, Takes, Refuses, Stops, ReadsParts, part_places}
+use Rattle.oer_read.specs.Law.{Reads, RefusedBy, Decodes, NoEncoding, Fronts}
+use Rattle.oer_read.specs.Parts.{Comes, Admits, AreOf, Parts, NoParts, NeededPart, Takes, NoneCome, Stops, ReadsParts, part_places}
 use Rattle.oer_read.specs.State.{State}
 use Rattle.oer_read.proofs.Comes.{past, ComesNeeded, comes_needed, needed_comes}
 
@@ -58,13 +58,13 @@ module _ {B : Type 0} (tree : B → Tree) (IsPart : B → Type 0) where
       complete (Optional _ _ _) a' rest f f' c = absurd f
       complete (Default _ _ _ _) a' rest f f' c = absurd f
 
-  pub read_refuses : (s u : State) (v : B) (g : Tag) (ps qs : Parts) → Reads tree IsPart s v u → Refuses u ps qs → Refuses s (NeededPart g (Admits tree IsPart) ps) qs
+  pub read_refuses : (s u : State) (v : B) (g : Tag) (ps qs : Parts) → Reads tree IsPart s v u → NoneCome u ps qs → NoneCome s (NeededPart g (Admits tree IsPart) ps) qs
   read_refuses s u v g ps qs d k (Required h w r) a rest (e, p, f) f' c = k r a rest f f' (after s u v w r a rest d p (comes_needed s h w r a rest c))
   read_refuses s u v g ps qs d k NoRows a rest f f' c = absurd f
   read_refuses s u v g ps qs d k (Optional _ _ _) a rest f f' c = absurd f
   read_refuses s u v g ps qs d k (Default _ _ _ _) a rest f f' c = absurd f
 
-  pub refused_refuses : (s : State) (g : Tag) (ps qs : Parts) → NoFront tree IsPart s → Refuses s (NeededPart g (Admits tree IsPart) ps) qs
+  pub refused_refuses : (s : State) (g : Tag) (ps qs : Parts) → NoEncoding tree IsPart s → NoneCome s (NeededPart g (Admits tree IsPart) ps) qs
   refused_refuses s g ps qs n (Required h w r) a rest (e, p, f) f' c =
       let q : ComesNeeded s w r a rest = comes_needed s h w r a rest c in
       n p.value q.octets p.is_value (record { rest = q.more; split = q.split; encoding = subst (λ (z : Tree). IsEncoding (mode_of s.codec) s.levels q.octets z) p.is q.encoding })

@@ -15,7 +15,7 @@ use Rattle.oer_spec.specs.Mode.{Mode, mode_of, InStrict}
 use Rattle.oer_spec.specs.Orders.{Stands, Reorders, octets_le, Ascends}
 use Rattle.oer_spec.specs.Spelled.{EachValue, trees_of, list_of}
 use Rattle.oer_spec.specs.Tree.{Tree}
-use Rattle.oer_read.specs.Law.{Reads, Decodes, NoFront, Fronts, IsForMemory}
+use Rattle.oer_read.specs.Law.{Reads, Decodes, NoEncoding, Fronts, IsForMemory}
 use Rattle.oer_read.specs.Lists.{lent_element, list_opened_at}
 use Rattle.oer_read.specs.State.{State}
 use Rattle.oer_read.specs.Unordered.{last_of, TookEach, NextRefused, ElementRefused, TooManyEmpty, OutOfOrder, UnorderedRead, ElementsStopped, AtNext, NoMemory, UnorderedRefused, NotOpened, Stopped}
@@ -311,7 +311,7 @@ module _ {A : Type 0} (tree : A → Tree) (IsPart : A → Type 0) (Ran : State �
         refused_next old e end os l.read x bad m (next old end before l.stands.values os l.read x a (omega (arith, few, c, k))) l.few l.ordered
     stopped old n rest e (NoMemory z) m o ws x l h c = m z.0
 
-    unordered_refused : (old : State) (e : DecodeError) → UnorderedRefused Ran old e → (IsForMemory e → ⊥) → NoFront (list_of false tree) (EachValue IsPart) old
+    unordered_refused : (old : State) (e : DecodeError) → UnorderedRefused Ran old e → (IsForMemory e → ⊥) → NoEncoding (list_of false tree) (EachValue IsPart) old
     unordered_refused old e (NotOpened x c) m ws o i f =
         let l = unordered_parts (mode old) old.levels o ws i f.encoding in
         not_both (list_opened_at old) (length l.read, joined l.read ++ f.rest) e.kind (opened_again old o f.rest ws f.split l) x

@@ -19,7 +19,7 @@ use Rattle.oer_spec.specs.Reading.{Gives, ReadsFront, seen, ◌>>=◌}
 use Rattle.oer_leaf_read.specs.ReadingEnumerated.{IsEnumeratedNumber, enumerated_at}
 use Rattle.oer_spec.specs.Spelled.{IsAny, IsIdentifier, enumerated, enumerated_is, enumerated_alike, identifier, identifier_is, identifiers_alike, time, times_alike}
 use Rattle.oer_spec.specs.TimeTexts.{time_content}
-use Rattle.oer_spec.specs.Tree.{Tree, Enum, Text, Written}
+use Rattle.oer_spec.specs.Tree.{Tree, Enum, Text, InOctets}
 use Rattle.oer_read.specs.Answers.{Took}
 use Rattle.oer_read.specs.Enumerated.{value_at}
 use Rattle.oer_read.specs.Law.{Decodes}
@@ -82,12 +82,12 @@ module _ {E : Type 0} (number : E → ℤ) (of_number : ℤ → Option E) where
       (record { is_tree = λ v i. enumerated_is (number v) (fits v); alike = λ v w i j. enumerated_alike (number v) (number w) }) (λ o v s. (tt, s.1)) (λ o v i s. (fits v, s))
 
 pub identifier_law : (old : State) (answer : Result (List ℕ × Bor (List ℕ)) DecodeErrorKind) (result : Result (List ℕ) DecodeError) (new : State)
-    → ReadsFront (λ o arcs. IsLeafEncoding (mode_of old.codec) o (Text Identifier None (Written (arcs_octets arcs))) × (is_identifier arcs ≡ true)) old.input (seen (λ (x : List ℕ × Bor (List ℕ)). (x.0, x.1.now)) answer)
+    → ReadsFront (λ o arcs. IsLeafEncoding (mode_of old.codec) o (Text Identifier None (InOctets (arcs_octets arcs))) × (is_identifier arcs ≡ true)) old.input (seen (λ (x : List ℕ × Bor (List ℕ)). (x.0, x.1.now)) answer)
     → Took answer old result new → Decodes identifier IsIdentifier old result new
 unfolding identifier
 identifier_law old =
-    leaf_law identifier IsIdentifier (λ arcs. Text Identifier None (Written (arcs_octets arcs))) (λ arcs. refl) (λ arcs. arcs)
-    (λ o arcs. IsLeafEncoding (mode_of old.codec) o (Text Identifier None (Written (arcs_octets arcs))) × (is_identifier arcs ≡ true)) old
+    leaf_law identifier IsIdentifier (λ arcs. Text Identifier None (InOctets (arcs_octets arcs))) (λ arcs. refl) (λ arcs. arcs)
+    (λ o arcs. IsLeafEncoding (mode_of old.codec) o (Text Identifier None (InOctets (arcs_octets arcs))) × (is_identifier arcs ≡ true)) old
     (record { is_tree = λ arcs i. identifier_is arcs i; alike = λ a b i j. identifiers_alike a b }) (λ o arcs s. (s.1, s.0)) (λ o arcs i s. (s, i))
 
 module _ {T : Type 0} (r : Rule) (text_of : T → Option Octets) (fields : T → List ℕ) where

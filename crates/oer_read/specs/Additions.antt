@@ -10,7 +10,7 @@ use Rattle.asn1_core.specs.declared.tag.Tag.{Tag}
 use Rattle.oer_spec.specs.Reading.{◌>>=◌, ◌>>◌, content_at}
 use Rattle.oer_spec.specs.ReadingBits.{bitmap_at}
 use Rattle.oer_spec.specs.Tree.{Tree}
-use Rattle.oer_read.specs.Law.{Reads, NoFront, IsForMemory}
+use Rattle.oer_read.specs.Law.{Reads, NoEncoding, IsForMemory}
 use Rattle.oer_read.specs.Scopes.{missing}
 use Rattle.oer_read.specs.State.{Place, State, closed}
 
@@ -83,7 +83,7 @@ module _ {A : Type 0} (tree : A → Tree) (IsValue : A → Type 0) (Answered : S
 
   -- The first that applies: the value is refused with that very error by its type; octets are left over, in canonical mode.
   pub data OpenRefused (e : DecodeError) : Type 0 where
-    Within : (after : State) → Answered (inside s content) (Err e) after → e.codec ≡ s.codec → ((IsForMemory e → ⊥) → NoFront tree IsValue (inside s content)) → OpenRefused e
+    Within : (after : State) → Answered (inside s content) (Err e) after → e.codec ≡ s.codec → ((IsForMemory e → ⊥) → NoEncoding tree IsValue (inside s content)) → OpenRefused e
     LeftOver : (v : A) (after : State) → Reads tree IsValue (inside s content) v after → Answered (inside s content) (Ok v) after → after.input ≢ [] → s.codec ≡ Coer → e ≡ record { kind = NotValidCanonicalEncoding; codec = s.codec } → OpenRefused e
 
 -- ---- an addition

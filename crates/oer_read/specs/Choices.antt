@@ -12,7 +12,7 @@ use Rattle.asn1_core.specs.declared.error.DecodeErrorKind.TheVariants.{InvalidTa
 use Rattle.asn1_core.specs.declared.tag.Tag.{Tag}
 use Rattle.oer_spec.specs.Reading.{◌>>=◌, ◌>>◌, canonical, content_at, tag_at}
 use Rattle.oer_spec.specs.Tree.{Tree}
-use Rattle.oer_read.specs.Law.{Reads, NoFront, IsForMemory}
+use Rattle.oer_read.specs.Law.{Reads, NoEncoding, IsForMemory}
 use Rattle.oer_read.specs.Scopes.{level_at}
 use Rattle.oer_read.specs.State.{State, closed}
 
@@ -93,4 +93,4 @@ module _ {A : Type 0} (Ran : Tag → State → Result A DecodeError → State �
 pub record ReadsAlternative {A : Type 0} (child : A → Tree) (IsValue : A → Type 0) (tag_of : A → Tag) (g : Tag) (old : State) (result : Result A DecodeError) (new : State) : Type 0 where
   pub read : IfOk result (λ v. Reads child (λ w. IsValue w × (tag_of w ≡ g)) old v new)
   pub mode : IfErr result (λ e. e.codec ≡ old.codec)
-  pub none : IfErr result (λ e. (IsForMemory e → ⊥) → NoFront child (λ w. IsValue w × (tag_of w ≡ g)) old)
+  pub none : IfErr result (λ e. (IsForMemory e → ⊥) → NoEncoding child (λ w. IsValue w × (tag_of w ≡ g)) old)

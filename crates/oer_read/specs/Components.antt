@@ -3,7 +3,7 @@ use Rattle.std.specs.Prelude.{◌≡◌, Bool, true, false, List, ◌∷◌, Opt
 use Rattle.asn1_core.specs.declared.error.DecodeError.{DecodeError}
 use Rattle.asn1_core.specs.declared.tag.Tag.{Tag}
 use Rattle.oer_spec.specs.Tree.{Tree}
-use Rattle.oer_read.specs.Law.{Reads, NoFront, IsForMemory}
+use Rattle.oer_read.specs.Law.{Reads, NoEncoding, IsForMemory}
 use Rattle.oer_read.specs.Scopes.{missing}
 use Rattle.oer_read.specs.State.{Ask, State}
 
@@ -33,7 +33,7 @@ module _ {A : Type 0} (tree : A → Tree) (IsValue : A → Type 0) (Answered : S
   -- value is refused with that very error by its type.
   pub data AskRefused (e : DecodeError) : Type 0 where
     NotNext : ((b : Bool) (more : List Ask) → ◌≡◌ {A = List Ask} s.frame.asks (record { tag = g; bit = b } ∷ more) → ⊥) → e ≡ record { kind = missing g; codec = s.codec } → AskRefused e
-    Inside : (more : List Ask) → s.frame.asks ≡ record { tag = g; bit = true } ∷ more → (after : State) → Answered (asking s more) (Err e) after → e.codec ≡ s.codec → ((IsForMemory e → ⊥) → NoFront tree IsValue (asking s more)) → AskRefused e
+    Inside : (more : List Ask) → s.frame.asks ≡ record { tag = g; bit = true } ∷ more → (after : State) → Answered (asking s more) (Err e) after → e.codec ≡ s.codec → ((IsForMemory e → ⊥) → NoEncoding tree IsValue (asking s more)) → AskRefused e
 
   -- An optional component: absent or read by its bit; a refusal changes nothing.
   pub record Asks (answer : Result (Option A) DecodeError) (t : State) : Type 0 where

@@ -42,14 +42,14 @@ module _ {A : Type 0} (tree : A → Tree) (IsValue : A → Type 0) where
     pub rest : new ≡ record old { input = new.input }
 
   -- no front of what is left is an encoding of a value
-  abbrev pub NoFront : State → Type 0
-  NoFront old = (w : A) (o : Octets) → IsValue w → Fronts old o (tree w) → ⊥
+  abbrev pub NoEncoding : State → Type 0
+  NoEncoding old = (w : A) (o : Octets) → IsValue w → Fronts old o (tree w) → ⊥
 
   -- Nothing changed, the error names the mode read in, and unless memory was refused no encoding of a value begins what is left.
   pub record RefusedBy (e : DecodeError) (old new : State) : Type 0 where
     pub same : new ≡ old
     pub mode : e.codec ≡ old.codec
-    pub none : (IsForMemory e → ⊥) → NoFront old
+    pub none : (IsForMemory e → ⊥) → NoEncoding old
 
   -- The law of reading: a value was read, or nothing changed and, unless for memory, no encoding of a value begins what is left.
   pub record Decodes (old : State) (result : Result A DecodeError) (new : State) : Type 0 where

@@ -94,13 +94,13 @@ pub record Takes (s : State) (ps qs : Parts) (r a : Rows) (t : State) : Type 0 w
   pub complete : (r' a' : Rows) (rest : Octets) → AreOf ps r' → AreOf qs a' → Comes s r' a' rest → Comes t NoRows NoRows rest
 
 -- rows of these parts don't come at s
-abbrev pub Refuses : State → Parts → Parts → Type 0
-Refuses s ps qs = (r a : Rows) (rest : Octets) → AreOf ps r → AreOf qs a → Comes s r a rest → ⊥
+abbrev pub NoneCome : State → Parts → Parts → Type 0
+NoneCome s ps qs = (r a : Rows) (rest : Octets) → AreOf ps r → AreOf qs a → Comes s r a rest → ⊥
 
 -- an error names the mode read in and, unless it is for memory, says that rows of these parts don't come at s
 pub record Stops {A : Type 0} (s : State) (ps qs : Parts) (result : Result A DecodeError) : Type 0 where
   pub mode : IfErr result (λ e. e.codec ≡ s.codec)
-  pub none : IfErr result (λ e. (IsForMemory e → ⊥) → Refuses s ps qs)
+  pub none : IfErr result (λ e. (IsForMemory e → ⊥) → NoneCome s ps qs)
 
 -- The law of a closure that reads the components of a value.
 pub record ReadsParts {A : Type 0} (ps qs : Parts) (roots additions : A → Rows) (s : State) (result : Result A DecodeError) (t : State) : Type 0 where

@@ -19,19 +19,19 @@ level_at levels = cond (levels == 0) (Err ExceedsMaxParseDepth) (Ok (levels - 1)
 abbrev pub bits_for : Bool → List Row → ℕ
 bits_for extensible roots = cond extensible 1 0 + marked_count roots
 
-abbrev pub extension_of : Bool → List Bool → Bool
-extension_of extensible b = cond extensible (get_or b 0 false) false
+abbrev pub extension_in : Bool → List Bool → Bool
+extension_in extensible b = cond extensible (get_or b 0 false) false
 
-abbrev pub presence_of : Bool → List Bool → List Bool
-presence_of extensible b = cond extensible (drop 1 b) b
+abbrev pub presence_in : Bool → List Bool → List Bool
+presence_in extensible b = cond extensible (drop 1 b) b
 
 -- the frame of a sequence behind a preamble of these bits
 abbrev pub frame_behind : Bool → List Row → List Row → List Bool → Frame
 frame_behind extensible roots additions b = record {
   is_set = false;
-  asks = asks_of roots (presence_of extensible b);
+  asks = asks_of roots (presence_in extensible b);
   extensible = extensible;
-  extended = extension_of extensible b;
+  extended = extension_in extensible b;
   additions = places_of additions;
   bitmap = None;
 }

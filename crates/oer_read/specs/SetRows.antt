@@ -10,7 +10,7 @@ use Rattle.oer_spec.specs.Same.{SameSlot}
 use Rattle.oer_spec.specs.Tree.{Tree, Primitive, Null, Rows, NoRows, Required, Optional, Default, Slot, Absent, Present}
 use Rattle.oer_read.specs.Additions.{Adds}
 use Rattle.oer_read.specs.Defaults.{only_lenient}
-use Rattle.oer_read.specs.Law.{Reads, NoFront, IsForMemory}
+use Rattle.oer_read.specs.Law.{Reads, NoEncoding, IsForMemory}
 use Rattle.oer_read.specs.Parts.{Parts, NoParts, NeededPart, OptionalPart, DefaultPart, Admits, OnPresent}
 use Rattle.oer_read.specs.State.{State}
 
@@ -34,7 +34,7 @@ rows_from u f (r ∷ rs) = row_at r.presence r.tag (u r.index) (f r.index) (rows
 -- A component with a default was read, and canonically isn't equal to it; or it is refused, by its type or since it is equal.
 pub record ReadsDefault {V : Type 0} (tree : V → Tree) (IsPart : V → Type 0) (eq : V → V → Bool) (default : V) (s : State) (result : Result V DecodeError) (t : State) : Type 0 where
   pub read : IfOk result (λ v. Reads tree IsPart s v t × (s.codec ≡ Coer → eq v default ≡ false))
-  pub refused : IfErr result (λ e. ((e.codec ≡ s.codec) × ((IsForMemory e → ⊥) → NoFront tree IsPart s)) ⊎ ((v : V) × (u : State) × Reads tree IsPart s v u × (s.codec ≡ Coer) × (eq v default ≡ true) × (e ≡ only_lenient s)))
+  pub refused : IfErr result (λ e. ((e.codec ≡ s.codec) × ((IsForMemory e → ⊥) → NoEncoding tree IsPart s)) ⊎ ((v : V) × (u : State) × Reads tree IsPart s v u × (s.codec ≡ Coer) × (eq v default ≡ true) × (e ≡ only_lenient s)))
 
 -- an answer, as a component holds it
 abbrev pub held_as : {B V : Type 0} → (Option B → V) → Result (Option B) DecodeError → Result V DecodeError

@@ -13,7 +13,7 @@ use Rattle.asn1_core.specs.declared.tag.Tag.{Tag}
 use Rattle.oer_spec.specs.Reading.{◌>>=◌}
 use Rattle.oer_spec.specs.ReadingBits.{preamble_at}
 use Rattle.oer_read.specs.Law.{WantsMemory}
-use Rattle.oer_read.specs.Scopes.{level_at, bits_for, extension_of, presence_of, closed_at}
+use Rattle.oer_read.specs.Scopes.{level_at, bits_for, extension_in, presence_in, closed_at}
 use Rattle.oer_read.specs.State.{Frame, State, places_of}
 
 -- ---- which components are read, in which order
@@ -52,7 +52,7 @@ set_frame extensible additions b = record {
   is_set = true;
   asks = [];
   extensible = extensible;
-  extended = extension_of extensible b;
+  extended = extension_in extensible b;
   additions = places_of additions;
   bitmap = None;
 }
@@ -62,7 +62,7 @@ unfoldable pub set_opened_at : State → Bool → List Row → List Row → Resu
 set_opened_at s extensible roots additions = do
   levels ← level_at s.levels
   preamble ← preamble_at (bits_for extensible roots) s.input
-  Ok (record { input = preamble.1; codec = s.codec; levels = levels; frame = set_frame extensible additions preamble.0 }, presence_of extensible preamble.0)
+  Ok (record { input = preamble.1; codec = s.codec; levels = levels; frame = set_frame extensible additions preamble.0 }, presence_in extensible preamble.0)
 
 -- ---- calls of the closures
 

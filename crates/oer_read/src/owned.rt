@@ -11,7 +11,7 @@ ghost use Rattle.oer_spec.specs.Mode.{mode_of};
 ghost use Rattle.oer_spec.specs.Reading.{ReadsFront, seen};
 ghost use Rattle.oer_leaf_read.specs.ReadingMemory.{GivesOrMemory};
 ghost use Rattle.oer_spec.specs.ReadingTexts.{octet_string_at, text_at, characters_at};
-ghost use Rattle.oer_spec.specs.Tree.{Text, Written};
+ghost use Rattle.oer_spec.specs.Tree.{Text, InOctets};
 
 use asn1_core::{Codec, Constraints, DecodeErrorKind, Utf8String};
 use asn1_strings::{CharacterSet, OctetContent, OctetType, RestrictedString};
@@ -27,7 +27,7 @@ pub(crate) fn read_own_octets<K: OctetType>(
 ) -> Result<(OctetContent<K>, &[u8]), DecodeErrorKind>
     ensures function { GivesOrMemory (λ x. (x.0, x.1.now)) result (octet_string_at (size_bounds constraints) codec input.now) }
     ensures relation { ReadsFront
-        (λ o c. IsLeafEncoding (mode_of codec) o (Text AnyOctets (size_bounds constraints) (Written c)))
+        (λ o c. IsLeafEncoding (mode_of codec) o (Text AnyOctets (size_bounds constraints) (InOctets c)))
         input.now (seen (λ x. (x.0, x.1.now)) result) }
 {
     let (octets, rest) = read_octet_string(codec, constraints, input)?;
@@ -44,7 +44,7 @@ pub(crate) fn read_own_utf8(
 ) -> Result<(Utf8String, &[u8]), DecodeErrorKind>
     ensures function { GivesOrMemory (λ x. (string_bytes x.0, x.1.now)) result (text_at is_utf8 StringConversionFailed (size_bounds constraints) codec input.now) }
     ensures relation { ReadsFront
-        (λ o c. IsLeafEncoding (mode_of codec) o (Text Utf8 (size_bounds constraints) (Written c)) × Obeys Utf8 c)
+        (λ o c. IsLeafEncoding (mode_of codec) o (Text Utf8 (size_bounds constraints) (InOctets c)) × Obeys Utf8 c)
         input.now (seen (λ x. (string_bytes x.0, x.1.now)) result) }
 {
     let (text, rest) = read_utf8(codec, constraints, input)?;
@@ -63,7 +63,7 @@ pub(crate) fn read_own_text<C: CharacterSet>(
     ensures function { GivesOrMemory (λ x. (x.0, x.1.now)) result
         (characters_at (unit_of C.rule) (are_characters (unit_of C.rule) C.permitted) (size_bounds constraints) codec input.now) }
     ensures relation { ReadsFront
-        (λ o c. IsLeafEncoding (mode_of codec) o (Text C.rule (size_bounds constraints) (Written c)) × Obeys C.rule c)
+        (λ o c. IsLeafEncoding (mode_of codec) o (Text C.rule (size_bounds constraints) (InOctets c)) × Obeys C.rule c)
         input.now (seen (λ x. (x.0, x.1.now)) result) }
 {
     let (octets, rest) = read_text::<C>(codec, constraints, input)?;

@@ -8,7 +8,7 @@ ghost use Rattle.oer_spec.specs.Reading.{Gives};
 ghost use Rattle.oer_spec.specs.ReadingBits.{skipped_at};
 ghost use Rattle.oer_leaf_read.specs.Views.{bits_left};
 ghost use Rattle.oer_read.specs.Law.{IsRear};
-ghost use Rattle.oer_read.specs.Scopes.{level_at, bits_for, extension_of, presence_of, opened_at, closed_at, all_asked, unknown_at, missing, SequenceRead, SequenceRefused};
+ghost use Rattle.oer_read.specs.Scopes.{level_at, bits_for, extension_in, presence_in, opened_at, closed_at, all_asked, unknown_at, missing, SequenceRead, SequenceRefused};
 ghost use Rattle.oer_read.specs.State.{State, asks_of, places_of};
 
 use crate::decoder::{Decoder, OpenScope};
@@ -73,8 +73,8 @@ pub(crate) fn bits_for(extensible: bool, roots: &[Field<'_>]) -> usize
 /// The extension bit of an extensible type, and the presence bits.
 #[inline(always)]
 pub(crate) fn split_extension(extensible: bool, bits: BitSlice<'_>) -> (bool, BitSlice<'_>)
-    ensures extended { result.0 ≡ extension_of extensible (bits_left bits.entry) }
-    ensures presence { bits_left result.1 ≡ presence_of extensible (bits_left bits.entry) }
+    ensures extended { result.0 ≡ extension_in extensible (bits_left bits.entry) }
+    ensures presence { bits_left result.1 ≡ presence_in extensible (bits_left bits.entry) }
 {
     if extensible {
         next_bit(bits)

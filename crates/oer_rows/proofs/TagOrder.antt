@@ -17,7 +17,7 @@ use Rattle.oer_read.specs.Law.{Decodes, Fronts}
 use Rattle.oer_read.specs.State.{State}
 use Rattle.oer_read.proofs.SetOrder.{put_row, rows_by_tag, set_sorted, set_unsorted}
 use Rattle.oer_rows.specs.Schema.{Schema, IsSchema, IsOf, tree_of}
-use Rattle.oer_rows.specs.Sets.{is_below, are_in_order, both, IsInOrder, IsInSet, set_of, rows_in_order}
+use Rattle.oer_rows.specs.Sets.{is_below, are_in_order, both, IsInTagOrder, IsInSet, set_of, rows_in_order}
 
 first_le : (g h : Tag) (hs : List Tag) → is_below g (h ∷ hs) ≡ true → tag_le g h ≡ true
 first_le g h hs e = (both (tag_le g h) (not (same_tag h g)) (both (tag_le g h && not (same_tag h g)) (is_below g hs) e).0).0
@@ -101,7 +101,7 @@ module _ {R A : Type 0} (s : Schema R) (extensible : Bool) (k : IsSchema s exten
   set_not_done (Err x) d = refused_set extensible (s.roots.rows v) (s.additions.rows v) x e e' d
 
 -- an admitted value's components, of a set too
-pub set_value : {R A E : Type 0} (s : Schema R) (v : R) (r : Result A E) → IsInOrder s → OnOk r (IsOf s v) → OnOk r (IsInSet s v)
+pub set_value : {R A E : Type 0} (s : Schema R) (v : R) (r : Result A E) → IsInTagOrder s → OnOk r (IsOf s v) → OnOk r (IsInSet s v)
 set_value s v (Ok u) o i = record { in_order = o; is_of = i }
 set_value s v (Err x) o i = tt
 
@@ -115,7 +115,7 @@ module _ {R A B : Type 0} (s : Schema R) (extensible : Bool) (k : IsSchema s ext
     encoding = set_as_sequence (mode_of t.codec) t.levels p extensible (s.roots.rows (of (to w))) (s.additions.rows (of (to w))) (rows_in_order s extensible k (of (to w)) i) f.encoding;
   }
 
-  pub set_read : (old new : State) (v : A) (made : B) → IsInOrder s → to made ≡ v → Decodes (λ a. tree_of s extensible (of a)) (λ a. IsOf s (of a)) old (Ok v) new → Decodes (λ b. set_of s extensible (of (to b))) (λ b. IsInSet s (of (to b))) old (Ok made) new
+  pub set_read : (old new : State) (v : A) (made : B) → IsInTagOrder s → to made ≡ v → Decodes (λ a. tree_of s extensible (of a)) (λ a. IsOf s (of a)) old (Ok v) new → Decodes (λ b. set_of s extensible (of (to b))) (λ b. IsInSet s (of (to b))) old (Ok made) new
   set_read old new v made o e d =
       let there : Decodes (λ a. tree_of s extensible (of a)) (λ a. IsOf s (of a)) old (Ok (to made)) new = subst (λ (z : A). Decodes (λ a. tree_of s extensible (of a)) (λ a. IsOf s (of a)) old (Ok z) new) (sym e) d in
       let p = there.read in

@@ -70,15 +70,15 @@ tags_are (q ∷ rs) (DefaultPart g u P ps) (Default h v s r) k l = ap₂ ◌∷�
 -- ---- what a set type has by its schema
 
 -- the schema's root components stand in the order of their tags
-abbrev pub IsInOrder : {A : Type 0} → Schema A → Type 0
-IsInOrder s = are_in_order (tags (s.roots.fields 0)) ≡ true
+abbrev pub IsInTagOrder : {A : Type 0} → Schema A → Type 0
+IsInTagOrder s = are_in_order (tags (s.roots.fields 0)) ≡ true
 
 abbrev pub set_of : {A : Type 0} → Schema A → Bool → A → Tree
 set_of s extensible v = Struct true extensible (s.roots.rows v) (s.additions.rows v)
 
 -- a set's admitted values; the order is a part of what is said of them, since a tree's facts can't cite a law of the type
 pub record IsInSet {A : Type 0} (s : Schema A) (v : A) : Type 0 where
-  pub in_order : IsInOrder s
+  pub in_order : IsInTagOrder s
   pub is_of : IsOf s v
 
 -- their rows are in that order too
@@ -94,7 +94,7 @@ unfolding Rattle.oer_spec.specs.Same.Alike
 set_like s extensible k v w i j = (refl, refl, k.roots.like v w i.is_of.0 j.is_of.0, k.additions.like v w i.is_of.1 j.is_of.1)
 
 -- its two tables, by how many rows each has
-pub set_tables : {A : Type 0} (s : Schema A) (extensible : Bool) → IsSchema s extensible → IsInOrder s → (roots additions : ℕ) → length (s.roots.fields 0) ≡ roots → length (s.additions.fields 0) ≡ additions
+pub set_tables : {A : Type 0} (s : Schema A) (extensible : Bool) → IsSchema s extensible → IsInTagOrder s → (roots additions : ℕ) → length (s.roots.fields 0) ≡ roots → length (s.additions.fields 0) ≡ additions
     → AreTables true extensible roots additions (s.roots.fields 0) (s.additions.fields 0)
 set_tables s extensible k o roots additions e f = record {
   root_count = e;

@@ -15,9 +15,9 @@ use std::fmt::{self, Debug};
 /// The order of a SET's components in its ASN.1 says nothing, so any set has such a row. Octets have a set's components in
 /// this order (X.696, 18): as those of the SEQUENCE of the row.
 pub trait InTagOrder<const RC: usize, const EC: usize>: Tabled<RC, EC> {
-    ghost use Rattle.oer_rows.specs.Sets.{IsInOrder};
+    ghost use Rattle.oer_rows.specs.Sets.{IsInTagOrder};
 
-    ghost in_order: { IsInOrder Self.row_schema };
+    ghost in_order: { IsInTagOrder Self.row_schema };
 }
 
 /// The SET (X.680, clause 27) of the components of `T`, with `RC` root components and `EC` extension additions.

@@ -15,7 +15,7 @@ use Rattle.oer_spec.specs.Mode.{OwnSized}
 use Rattle.oer_spec.specs.Orders.{Reorders, Stands}
 use Rattle.oer_spec.specs.Places.{Item, IsPreamble, IsAddition, AreAdditions, IsExtension, SpellsStruct, IsInOrder, SpellsList, IsAlternative, SpellsChoice, any_bit, additions_octets, extension_octets, struct_octets, sorted, list_octets, choice_octets, extension_bit, presence, in_writing_order, bodies, needed, present, absent}
 use Rattle.oer_spec.specs.Same.{Same, SameRows, SameSlot, SameTrees, SameReordered, EachTree, OnSlot, StandsIn}
-use Rattle.oer_spec.specs.Tree.{Content, Written, Civil, Leaf, Boolean, Null, Enum, Int, Bits, Text, Tree, Primitive, Struct, ListOf, Choice, Rows, NoRows, Required, Optional, Default, Slot, Absent, Present, Trees, NoTrees, More}
+use Rattle.oer_spec.specs.Tree.{Content, InOctets, Civil, Leaf, Boolean, Null, Enum, Int, Bits, Text, Tree, Primitive, Struct, ListOf, Choice, Rows, NoRows, Required, Optional, Default, Slot, Absent, Present, Trees, NoTrees, More}
 use Rattle.oer_spec.proofs.Trees.{EachRow, by_parts}
 use Rattle.oer_spec.proofs.Sorted.{sorted_mixed, sorted_ascends}
 use Rattle.oer_spec.proofs.Lists.{Reorders-length}
@@ -112,8 +112,8 @@ bits_form_canonical o None b (inl (u, a, z)) = bits_canonical o b u a z
 bits_form_canonical o None b (inr (never, _, _)) = absurd never
 
 text_canonical : (o : Octets) (s : Option ℕ) (c : Content) → IsText OwnSized o s c → o ≡ text_octets s c
-text_canonical o (Some n) (Written c) f = f.0
-text_canonical o None (Written c) f = behind_canonical o c f
+text_canonical o (Some n) (InOctets c) f = f.0
+text_canonical o None (InOctets c) f = behind_canonical o c f
 text_canonical o s (Civil c) f = absurd f
 
 pub leaf_canonical : (o : Octets) (l : Leaf) → IsLeafEncoding OwnSized o l → o ≡ leaf_octets l

@@ -12,7 +12,7 @@ use Rattle.oer_spec.specs.Leaves.{BadSize, IsText}
 use Rattle.oer_spec.specs.Mode.{Mode}
 use Rattle.oer_spec.specs.Spelled.{IsTextOf, day_fields, moment_fields, text, time}
 use Rattle.oer_spec.specs.TimeTexts.{time_content}
-use Rattle.oer_spec.specs.Tree.{Content, Written}
+use Rattle.oer_spec.specs.Tree.{Content, InOctets}
 use Rattle.oer_spec.proofs.Nil.{behind_form_some}
 use Rattle.oer_spec.proofs.UniqueLeaves.{fixed_count}
 
@@ -21,7 +21,7 @@ time_takes (Some c) fields m [] f e = let h : true ≡ false = behind_form_some 
 time_takes (Some c) fields m (x ∷ o) f e = absurd (cc e)
 time_takes None fields m o f e = absurd f
 
-fixed_takes : (w : Option ℕ) (m : Mode) (o c : Octets) (n : ℕ) → w ≡ Some n → IsText m o w (Written c) → length c / 1 ≡ n → 0 < n → o ≢ []
+fixed_takes : (w : Option ℕ) (m : Mode) (o c : Octets) (n : ℕ) → w ≡ Some n → IsText m o w (InOctets c) → length c / 1 ≡ n → 0 < n → o ≢ []
 fixed_takes (Some k) m o c n h (f, _) s l e = let none : length c / 1 ≡ 0 = ap (λ (p : Octets). length p / 1) (sym f ∙ e) in absurd (omega (arith, none, s, l))
 fixed_takes None m o c n h f s l e = absurd (cc h)
 

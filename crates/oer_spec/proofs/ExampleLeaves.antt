@@ -13,7 +13,7 @@ use Rattle.oer_spec.specs.Leaves.{BadValue, BadSize, Counted, IsInteger, IsShort
 use Rattle.oer_spec.specs.Lengths.{IsLength}
 use Rattle.oer_spec.specs.Mode.{Lenient, Canonical}
 use Rattle.oer_spec.specs.NearMisses.{PlainMisses, StringMisses}
-use Rattle.oer_spec.specs.Tree.{Boolean, Enum, Int, Bits, Text, Written}
+use Rattle.oer_spec.specs.Tree.{Boolean, Enum, Int, Bits, Text, InOctets}
 use Rattle.oer_spec.proofs.ExampleParts.{are_octets, behind, content, padded, counted_parts, none_fails, spelled}
 use Rattle.oer_spec.proofs.Lists.{head_same, not_nil, split_same}
 use Rattle.oer_spec.proofs.UniqueLeaves.{fixed_count}
@@ -193,12 +193,12 @@ string_misses = record {
   octets = spelled (text AnyOctets (0xAA ∷ 0xBB ∷ [])) (are_octets (0xAA ∷ 0xBB ∷ []) refl, tt) refl refl;
   octets_with_a_length_in_long_form = record {
     is_tree = (are_octets (0xAA ∷ 0xBB ∷ []) refl, tt);
-    leniently = (none_fails (leaf_fails (Text AnyOctets None (Written (0xAA ∷ 0xBB ∷ [])))) refl, (0x81 ∷ 0x02 ∷ [], refl, long_two, are_octets (0xAA ∷ 0xBB ∷ []) refl));
+    leniently = (none_fails (leaf_fails (Text AnyOctets None (InOctets (0xAA ∷ 0xBB ∷ [])))) refl, (0x81 ∷ 0x02 ∷ [], refl, long_two, are_octets (0xAA ∷ 0xBB ∷ []) refl));
     canonically = λ d w i f. long_length (0x81 ∷ 0x02 ∷ []) long_two not_long_two d w f;
   };
   octets_with_a_superfluous_octet_in_the_length = record {
     is_tree = (are_octets (0xAA ∷ 0xBB ∷ []) refl, tt);
-    leniently = (none_fails (leaf_fails (Text AnyOctets None (Written (0xAA ∷ 0xBB ∷ [])))) refl, (0x82 ∷ 0x00 ∷ 0x02 ∷ [], refl, longer_two, are_octets (0xAA ∷ 0xBB ∷ []) refl));
+    leniently = (none_fails (leaf_fails (Text AnyOctets None (InOctets (0xAA ∷ 0xBB ∷ [])))) refl, (0x82 ∷ 0x00 ∷ 0x02 ∷ [], refl, longer_two, are_octets (0xAA ∷ 0xBB ∷ []) refl));
     canonically = λ d w i f. long_length (0x82 ∷ 0x00 ∷ 0x02 ∷ []) longer_two not_longer_two d w f;
   };
   octets_without_a_length = no_length;

@@ -9,7 +9,7 @@ use Rattle.oer_spec.specs.Leaves.{Width, Fixed, Counted, width_of, IsInteger, Is
 use Rattle.oer_spec.specs.Lengths.{IsLength, IsBehindLength, IsTag, behind_length}
 use Rattle.oer_spec.specs.Mode.{Mode}
 use Rattle.oer_spec.specs.Places.{Item, SpellsStruct, SpellsList, SpellsChoice, presence, in_writing_order, bodies, IsExtension}
-use Rattle.oer_spec.specs.Tree.{Content, Written, Civil, Leaf, Boolean, Null, Enum, Int, Bits, Text, Tree, Rows, NoRows, Required, Optional, Default, Slot, Absent, Present}
+use Rattle.oer_spec.specs.Tree.{Content, InOctets, Civil, Leaf, Boolean, Null, Enum, Int, Bits, Text, Tree, Rows, NoRows, Required, Optional, Default, Slot, Absent, Present}
 use Rattle.oer_spec.proofs.Unique.{length-bits_of}
 use Rattle.oer_spec.proofs.Trees.{EachRow, by_parts}
 use Rattle.asn1_core.proofs.Complement.{length-complement}
@@ -72,8 +72,8 @@ bits_nil m o None b (inl (u, (c, a, _, _), _)) = behind_form_some m o (length u 
 bits_nil m o None b (inr (_, a, _)) = behind_form_some m o [] a ∙ sym (behind_octets_some ((8 * octets_for (length b) - length b) ∷ pack b))
 
 text_nil : (m : Mode) (o : Octets) (s : Option ℕ) (c : Content) → IsText m o s c → is_nil o ≡ is_nil (text_octets s c)
-text_nil m o (Some n) (Written c) f = ap is_nil f.0
-text_nil m o None (Written c) f = behind_form_some m o c f ∙ sym (behind_octets_some c)
+text_nil m o (Some n) (InOctets c) f = ap is_nil f.0
+text_nil m o None (InOctets c) f = behind_form_some m o c f ∙ sym (behind_octets_some c)
 text_nil m o s (Civil c) f = absurd f
 
 leaf_nil : (m : Mode) (o : Octets) (l : Leaf) → SpellsLeaf m o l → is_nil o ≡ is_nil (leaf_octets l)

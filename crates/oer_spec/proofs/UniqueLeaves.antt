@@ -7,7 +7,7 @@ use Rattle.asn1_core.specs.Texts.{Rule, Bmp, Obeys}
 use Rattle.oer_spec.specs.Leaves.{BadSize, Width, Fixed, Counted, width_of, IsBoolean, IsInteger, IsEnumerated, IsBitString, IsText, IsLeafEncoding, unit_of, IsLeaf}
 use Rattle.oer_spec.specs.Mode.{Mode}
 use Rattle.oer_spec.specs.Same.{AlikeLeaf}
-use Rattle.oer_spec.specs.Tree.{Content, Written, Civil, Leaf, Boolean, Null, Enum, Int, Bits, Text}
+use Rattle.oer_spec.specs.Tree.{Content, InOctets, Civil, Leaf, Boolean, Null, Enum, Int, Bits, Text}
 use Rattle.oer_spec.proofs.Lists.{head_same, tail_same, not_nil, split_same}
 use Rattle.oer_spec.proofs.Unique.{behind_unique, counted_bits_unique, packed_unique}
 
@@ -46,7 +46,7 @@ bits_unique m o p x y None b c same (inl (u, (k, a, _, _), _)) (inr (_, g, _)) e
 bits_unique m o p x y None b c same (inr (_, f, _)) (inl (v, (k, a, _, _), _)) e = absurd (not_nil (length v) k (sym (behind_unique m o p [] (length v ∷ k) x y f a e).1))
 bits_unique m o p x y None b c same (inr (_, f, z)) (inr (_, g, z')) e = ((behind_unique m o p [] [] x y f g e).0, z ∙ sym z')
 
-text_unique : (m : Mode) (o p x y : Octets) (s : Option ℕ) (c d : Octets) → ((n : ℕ) → s ≡ Some n → length c ≡ length d) → IsText m o s (Written c) → IsText m p s (Written d) → o ++ x ≡ p ++ y → (o ≡ p) × (c ≡ d)
+text_unique : (m : Mode) (o p x y : Octets) (s : Option ℕ) (c d : Octets) → ((n : ℕ) → s ≡ Some n → length c ≡ length d) → IsText m o s (InOctets c) → IsText m p s (InOctets d) → o ++ x ≡ p ++ y → (o ≡ p) × (c ≡ d)
 text_unique m o p x y (Some n) c d same f g e =
     let r : (o ≡ p) × (x ≡ y) = split_same o p x y (ap length f.0 ∙ same n refl ∙ sym (ap length g.0)) e in
     (r.0, sym f.0 ∙ r.0 ∙ g.0)
@@ -78,12 +78,12 @@ bits_leaf_unique m o p x y s b c f g e =
 
 text_leaf_unique : (m : Mode) (o p x y : Octets) (r : Rule) (s : Size) (c d : Content) → IsLeaf (Text r s c) → IsLeaf (Text r s d) → IsLeafEncoding m o (Text r s c) → IsLeafEncoding m p (Text r s d) → o ++ x ≡ p ++ y → (o ≡ p) × (c ≡ d)
 text_leaf_unique m o p x y r s (Civil c) d i j f g e = absurd (f.1)
-text_leaf_unique m o p x y r s (Written c) (Civil d) i j f g e = absurd (g.1)
-text_leaf_unique m o p x y r s (Written c) (Written d) i j f g e =
+text_leaf_unique m o p x y r s (InOctets c) (Civil d) i j f g e = absurd (g.1)
+text_leaf_unique m o p x y r s (InOctets c) (InOctets d) i j f g e =
     let u : (o ≡ p) × (c ≡ d) = text_unique m o p x y (fixed_size s) c d
     (λ n h. text_count r s c d n i.1 j.1 h (not-false (size_fits s (length c / unit_of r)) (f.0 BadSize)) (not-false (size_fits s (length d / unit_of r)) (g.0 BadSize)))
     f.1 g.1 e in
-    (u.0, ap Written u.1)
+    (u.0, ap InOctets u.1)
 
 pub leaf_unique : (m : Mode) (o p x y : Octets) (l k : Leaf) → IsLeaf l → IsLeaf k → AlikeLeaf l k → IsLeafEncoding m o l → IsLeafEncoding m p k → o ++ x ≡ p ++ y → (o ≡ p) × (l ≡ k)
 leaf_unique m o p x y (Boolean b) (Boolean c) i j a f g e = let r = boolean_unique m o p x y b c f.1 g.1 e in (r.0, ap Boolean r.1)

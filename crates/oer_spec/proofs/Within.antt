@@ -10,7 +10,7 @@ use Rattle.oer_spec.specs.Lengths.{IsLength, IsBehindLength, IsTag, IsOpenType, 
 use Rattle.oer_spec.specs.Mode.{Mode, Lenient, Canonical, OwnSized, InLenient, InStrict, InOwnSized}
 use Rattle.oer_spec.specs.Places.{Item, AreSkipped, IsAddition, AreAdditions, IsExtension, SpellsStruct, IsInOrder, SpellsList, IsAlternative, SpellsChoice}
 use Rattle.oer_spec.specs.Same.{EachTree, OnSlot}
-use Rattle.oer_spec.specs.Tree.{Content, Written, Civil, Leaf, Boolean, Null, Enum, Int, Bits, Text, Tree, Rows, NoRows, Required, Optional, Default, Slot, Absent, Present, Trees, NoTrees, More}
+use Rattle.oer_spec.specs.Tree.{Content, InOctets, Civil, Leaf, Boolean, Null, Enum, Int, Bits, Text, Tree, Rows, NoRows, Required, Optional, Default, Slot, Absent, Present, Trees, NoTrees, More}
 use Rattle.oer_spec.proofs.Trees.{EachRow, by_parts}
 
 -- n is as strict as m at most
@@ -58,8 +58,8 @@ module _ (m n : Mode)
   bits_form_within o None b (inr (z, a, e)) = inr (oer z, behind_within o [] a, e)
 
   pub text_within : (o : Octets) (s : Option ℕ) (c : Content) → IsText m o s c → IsText n o s c
-  text_within o (Some k) (Written c) f = f
-  text_within o None (Written c) f = behind_within o c f
+  text_within o (Some k) (InOctets c) f = f
+  text_within o None (InOctets c) f = behind_within o c f
   text_within o s (Civil c) f = absurd f
 
   pub spells_within : (o : Octets) (l : Leaf) → SpellsLeaf m o l → SpellsLeaf n o l

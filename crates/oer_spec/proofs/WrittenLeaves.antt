@@ -12,7 +12,7 @@ use Rattle.asn1_core.specs.Texts.{Rule}
 use Rattle.oer_spec.specs.Leaves.{Width, Fixed, Counted, width_of, signed_width, unsigned_width, holds_signed, IsShort, value_of, fixed_octets, unsigned_octets, counted_octets, int_octets, enum_octets, bits_octets, text_octets, leaf_octets, leaf_fails, count_too_long, string_too_long, is_small, IsInteger, IsEnumerated, IsBitString, IsText, IsLeafEncoding, IsLeaf, Failure, BadValue, BadTime, TooLong}
 use Rattle.oer_spec.specs.Lengths.{NoLeadingZero, behind_length}
 use Rattle.oer_spec.specs.Mode.{OwnSized}
-use Rattle.oer_spec.specs.Tree.{Written, Civil, Leaf, Boolean, Null, Enum, Int, Bits, Text}
+use Rattle.oer_spec.specs.Tree.{InOctets, Civil, Leaf, Boolean, Null, Enum, Int, Bits, Text}
 use Rattle.asn1_core.proofs.Digits.{powers, power_pos, unsigned_cons}
 use Rattle.asn1_core.proofs.Complement.{complement_octets, length-complement, signed_low, signed_high, signed_complement}
 use Rattle.asn1_core.proofs.Fixed.{low_length, low_are_octets, low_value}
@@ -230,7 +230,7 @@ bits_form None b l =
     room : (n : ℕ) → n ≤ usize_max / 8 → 1 + n ≤ usize_max
     room n h = omega arith
 
-text_form : (r : Rule) (s : Option ℕ) (c : Octets) → AreOctets c → string_too_long s (length c) ≡ false → IsText OwnSized (text_octets s (Written c)) s (Written c) × AreOctets (text_octets s (Written c))
+text_form : (r : Rule) (s : Option ℕ) (c : Octets) → AreOctets c → string_too_long s (length c) ≡ false → IsText OwnSized (text_octets s (InOctets c)) s (InOctets c) × AreOctets (text_octets s (InOctets c))
 text_form r (Some n) c f l = ((refl, f), f)
 text_form r None c f l = let k : length c ≤ usize_max = room (length c) (ltb-false (usize_max / 8) (length c) l) in (behind_form c f k, behind_are_octets c f k)
   where
@@ -244,5 +244,5 @@ leaf_form Null i f = ((f, refl), tt)
 leaf_form (Enum n) i f = let r = enum_form n i in ((f, r.0), r.1)
 leaf_form (Int r n) i f = let q = int_form (width_of r) n (holds_width r n (not-false (in_range r n) (f BadValue))) (f TooLong) in ((f, q.0), q.1)
 leaf_form (Bits s b) i f = let q = bits_form (fixed_size s) b (f TooLong) in ((f, q.0), q.1)
-leaf_form (Text r s (Written c)) i f = let q = text_form r (fixed_size s) c i.0 (f TooLong) in ((f, q.0), q.1)
+leaf_form (Text r s (InOctets c)) i f = let q = text_form r (fixed_size s) c i.0 (f TooLong) in ((f, q.0), q.1)
 leaf_form (Text r s (Civil c)) i f = absurd (cc (f BadTime))

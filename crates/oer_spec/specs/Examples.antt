@@ -6,7 +6,7 @@ use Rattle.asn1_core.specs.declared.tag.Class.TheVariants.{Application, Context}
 use Rattle.asn1_core.specs.declared.tag.Tag.{Tag}
 use Rattle.oer_spec.specs.Encoding.{IsEncoding, IsTree}
 use Rattle.oer_spec.specs.Mode.{Mode, Lenient, Canonical}
-use Rattle.oer_spec.specs.Tree.{Boolean, Null, Enum, Int, Bits, Text, Written, Tree, Primitive, Struct, ListOf, Choice, NoRows, Required, Optional, Default, Slot, Absent, Present, Trees, NoTrees, More}
+use Rattle.oer_spec.specs.Tree.{Boolean, Null, Enum, Int, Bits, Text, InOctets, Tree, Primitive, Struct, ListOf, Choice, NoRows, Required, Optional, Default, Slot, Absent, Present, Trees, NoTrees, More}
 
 -- ---- leaves
 
@@ -41,10 +41,10 @@ bit_string_of size b = Primitive (Bits (Some (size, size)) b)
 
 -- octet strings, character strings, identifiers and times by their rule, and those of a fixed size
 abbrev pub text : Rule → Octets → Tree
-text rule c = Primitive (Text rule None (Written c))
+text rule c = Primitive (Text rule None (InOctets c))
 
 abbrev pub text_of : Rule → ℕ → Octets → Tree
-text_of rule size c = Primitive (Text rule (Some (size, size)) (Written c))
+text_of rule size c = Primitive (Text rule (Some (size, size)) (InOctets c))
 
 -- ---- sequences and sets
 

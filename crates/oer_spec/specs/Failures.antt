@@ -4,7 +4,7 @@ use Rattle.asn1_core.specs.declared.error.EncodeErrorKind.{EncodeErrorKind}
 use Rattle.asn1_core.specs.declared.error.EncodeErrorKind.TheVariants.{ValueConstraintNotSatisfied, SizeConstraintNotSatisfied, InvalidObjectIdentifier, TimeNotRepresentable, TooManyEmptyElements, LengthExceedsPlatformSize, OutOfMemory}
 use Rattle.oer_spec.specs.Encoding.{fails}
 use Rattle.oer_spec.specs.Leaves.{Failure, BadValue, BadSize, BadIdentifier, BadTime, TooManyEmpty, TooLong, leaf_fails, unit_of}
-use Rattle.oer_spec.specs.Tree.{Written, Civil, Leaf, Int, Bits, Text, Tree, Primitive, Struct, ListOf, Choice, Rows, NoRows, Required, Optional, Default, Slot, Absent, Present, Trees, NoTrees, More}
+use Rattle.oer_spec.specs.Tree.{InOctets, Civil, Leaf, Int, Bits, Text, Tree, Primitive, Struct, ListOf, Choice, Rows, NoRows, Required, Optional, Default, Slot, Absent, Present, Trees, NoTrees, More}
 
 -- the failure that a kind names; none where memory was refused
 abbrev pub failure_of : EncodeErrorKind → Option Failure
@@ -20,9 +20,9 @@ failure_of OutOfMemory = None
 abbrev pub first_failure : Leaf → Option EncodeErrorKind
 first_failure (Int r n) = cond (leaf_fails (Int r n) BadValue) (Some ValueConstraintNotSatisfied) (cond (leaf_fails (Int r n) TooLong) (Some LengthExceedsPlatformSize) None)
 first_failure (Bits s b) = cond (leaf_fails (Bits s b) BadSize) (Some (SizeConstraintNotSatisfied (length b))) (cond (leaf_fails (Bits s b) TooLong) (Some LengthExceedsPlatformSize) None)
-first_failure (Text r s (Written c)) =
-    cond (leaf_fails (Text r s (Written c)) BadSize) (Some (SizeConstraintNotSatisfied (length c / unit_of r)))
-    (cond (leaf_fails (Text r s (Written c)) TooLong) (Some LengthExceedsPlatformSize) None)
+first_failure (Text r s (InOctets c)) =
+    cond (leaf_fails (Text r s (InOctets c)) BadSize) (Some (SizeConstraintNotSatisfied (length c / unit_of r)))
+    (cond (leaf_fails (Text r s (InOctets c)) TooLong) (Some LengthExceedsPlatformSize) None)
 first_failure (Text r s (Civil fields)) = Some TimeNotRepresentable
 first_failure _ = None
 

@@ -7,7 +7,7 @@ use Rattle.asn1_core.specs.Texts.{Rule, Obeys}
 pub use Rattle.asn1_core.specs.Texts.{unit_of}
 use Rattle.oer_spec.specs.Lengths.{IsBehindLength, AreCountedBits, behind_length, counted_bits}
 use Rattle.oer_spec.specs.Mode.{Mode, InLenient, InStrict}
-use Rattle.oer_spec.specs.Tree.{Content, Written, Civil, Leaf, Boolean, Null, Enum, Int, Bits, Text}
+use Rattle.oer_spec.specs.Tree.{Content, InOctets, Civil, Leaf, Boolean, Null, Enum, Int, Bits, Text}
 use Rattle.std.specs.Int.Digits.{digits_of}
 
 -- Why a tree can't be written: a number outside its range, a size outside its bounds, arcs that are no identifier, a time
@@ -71,8 +71,8 @@ bits_octets (Some n) b = pack b
 bits_octets None b = counted_bits b
 
 abbrev pub text_octets : Option ℕ → Content → Octets
-text_octets (Some n) (Written c) = c
-text_octets None (Written c) = behind_length c
+text_octets (Some n) (InOctets c) = c
+text_octets None (InOctets c) = behind_length c
 text_octets fixed (Civil fields) = []
 
 -- The canonical octets of a leaf.
@@ -87,7 +87,7 @@ leaf_octets (Text r s c) = text_octets (fixed_size s) c
 -- What every leaf keeps: an enumerated number is one of isize, and a text obeys its rule.
 abbrev pub IsLeaf : Leaf → Type 0
 IsLeaf (Enum n) = in_isize n ≡ true
-IsLeaf (Text r s (Written c)) = AreOctets c × Obeys r c
+IsLeaf (Text r s (InOctets c)) = AreOctets c × Obeys r c
 IsLeaf _ = ⊤
 
 -- ---- what fails
@@ -106,8 +106,8 @@ leaf_fails (Int r n) BadValue = not (in_range r n)
 leaf_fails (Int r n) TooLong = count_too_long (width_of r) n
 leaf_fails (Bits s b) BadSize = not (size_fits s (length b))
 leaf_fails (Bits s b) TooLong = string_too_long (fixed_size s) (octets_for (length b))
-leaf_fails (Text r s (Written c)) BadSize = not (size_fits s (length c / unit_of r))
-leaf_fails (Text r s (Written c)) TooLong = string_too_long (fixed_size s) (length c)
+leaf_fails (Text r s (InOctets c)) BadSize = not (size_fits s (length c / unit_of r))
+leaf_fails (Text r s (InOctets c)) TooLong = string_too_long (fixed_size s) (length c)
 leaf_fails (Text r s (Civil fields)) BadTime = true
 leaf_fails _ _ = false
 
@@ -150,8 +150,8 @@ IsBitString m o None b =
 
 -- Octet strings, character strings, identifiers, times (14, 21, 27, 29): the octets, behind a length where the size isn't fixed.
 abbrev pub IsText : Mode → Octets → Option ℕ → Content → Type 0
-IsText m o (Some n) (Written c) = (o ≡ c) × AreOctets c
-IsText m o None (Written c) = IsBehindLength m o c
+IsText m o (Some n) (InOctets c) = (o ≡ c) × AreOctets c
+IsText m o None (InOctets c) = IsBehindLength m o c
 IsText m o fixed (Civil fields) = ⊥
 
 -- The octets spell the leaf.

@@ -6,7 +6,7 @@ use Rattle.asn1_core.specs.Octets.{Octets}
 use Rattle.asn1_core.specs.declared.codec.Codec.{Codec}
 use Rattle.asn1_core.specs.declared.error.DecodeErrorKind.{DecodeErrorKind}
 use Rattle.asn1_core.specs.declared.error.DecodeErrorKind.TheVariants.{EmptyInteger, ValueConstraintNotSatisfied, OutOfMemory}
-use Rattle.asn1_ints.specs.Reading.{number_in}
+use Rattle.asn1_ints.specs.Reading.{number_in, RefusesBy}
 use Rattle.oer_spec.specs.Leaves.{Width, Fixed, Counted, width_of, value_of, IsShort, IsLeafEncoding}
 use Rattle.oer_spec.specs.Lengths.{IsBehindLength}
 use Rattle.oer_spec.specs.Mode.{Mode, InStrict}
@@ -15,15 +15,10 @@ use Rattle.oer_spec.specs.Tree.{Int}
 
 -- ---- what contracts say of readers that may ask for memory
 
--- memory is refused to those alone that take it
-abbrev pub RefusesBy : {Y : Type 0} → Bool → DecodeErrorKind → Result Y DecodeErrorKind → Type 0
-RefusesBy takes_memory OutOfMemory read = IsTrue takes_memory
-RefusesBy takes_memory kind read = read ≡ Err kind
-
 -- What a function answered, seen by view, is what the reading gives; one that takes memory may be refused it.
-abbrev pub GivesOrMemory : {X Y : Type 0} → Bool → (X → Y) → Result X DecodeErrorKind → Result Y DecodeErrorKind → Type 0
-GivesOrMemory takes_memory view (Ok x) read = read ≡ Ok (view x)
-GivesOrMemory takes_memory view (Err e) read = RefusesBy takes_memory e read
+abbrev pub GivesBy : {X Y : Type 0} → Bool → (X → Y) → Result X DecodeErrorKind → Result Y DecodeErrorKind → Type 0
+GivesBy takes_memory view (Ok x) read = read ≡ Ok (view x)
+GivesBy takes_memory view (Err e) read = RefusesBy takes_memory e read
 
 -- memory was asked for only by what takes it
 abbrev pub IsForMemoryOf : Bool → DecodeErrorKind → Type 0

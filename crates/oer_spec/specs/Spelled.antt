@@ -21,7 +21,7 @@ use Rattle.asn1_strings.specs.Identifiers.{is_identifier, arcs_octets}
 use Rattle.oer_spec.specs.Encoding.{IsTree, AreTrees}
 use Rattle.oer_spec.specs.Same.{Same, SameTrees, Alike, AlikeTrees, EachTree}
 use Rattle.oer_spec.specs.TimeTexts.{time_content}
-use Rattle.oer_spec.specs.Tree.{Tree, Primitive, Boolean, Null, Enum, Int, Bits, Text, Written, ListOf, Trees, NoTrees, More}
+use Rattle.oer_spec.specs.Tree.{Tree, Primitive, Boolean, Null, Enum, Int, Bits, Text, InOctets, ListOf, Trees, NoTrees, More}
 use Rattle.oer_spec.specs.WritingTexts.{identifier_leaf}
 
 -- every range of the constraints holds a number
@@ -57,10 +57,10 @@ bit_string c b = Primitive (Bits (size_bounds c) b)
 
 -- octets that obey a rule, under constraints; and those whose size no constraint bounds
 unfoldable pub text : Rule → Constraints → Octets → Tree
-text r c o = Primitive (Text r (size_bounds c) (Written o))
+text r c o = Primitive (Text r (size_bounds c) (InOctets o))
 
 unfoldable pub unsized_text : Rule → Octets → Tree
-unsized_text r o = Primitive (Text r None (Written o))
+unsized_text r o = Primitive (Text r None (InOctets o))
 
 -- octets that obey the rule
 pub record IsTextOf (r : Rule) (o : Octets) : Type 0 where
@@ -216,11 +216,11 @@ bit_strings_same c a b =
 
 pub texts_same : (r : Rule) (c : Constraints) (o p : Octets) → Decides (pointwise nat_eq o p) (Same (text r c o) (text r c p))
 unfolding text Rattle.oer_spec.specs.Same.Same
-texts_same r c o p = (λ e. ap (λ z. Text r (size_bounds c) (Written z)) ((bytes_decides o p).0 e), λ s. (bytes_decides o p).1 (cc s))
+texts_same r c o p = (λ e. ap (λ z. Text r (size_bounds c) (InOctets z)) ((bytes_decides o p).0 e), λ s. (bytes_decides o p).1 (cc s))
 
 pub unsized_texts_same : (r : Rule) (o p : Octets) → Decides (pointwise nat_eq o p) (Same (unsized_text r o) (unsized_text r p))
 unfolding unsized_text Rattle.oer_spec.specs.Same.Same
-unsized_texts_same r o p = (λ e. ap (λ z. Text r None (Written z)) ((bytes_decides o p).0 e), λ s. (bytes_decides o p).1 (cc s))
+unsized_texts_same r o p = (λ e. ap (λ z. Text r None (InOctets z)) ((bytes_decides o p).0 e), λ s. (bytes_decides o p).1 (cc s))
 
 -- a test that has nothing more beside it
 pub beside_nothing : {P : Type 0} (b : Bool) → Decides b P → Decides (b && true) P

@@ -6,11 +6,11 @@ use Rattle.asn1_core.specs.declared.error.DecodeErrorKind.{DecodeErrorKind}
 use Rattle.asn1_core.specs.declared.error.DecodeErrorKind.TheVariants.{InvalidTime}
 use Rattle.oer_spec.specs.Reading.{◌>>=◌}
 use Rattle.oer_spec.specs.ReadingTexts.{text_at}
-use Rattle.oer_spec.specs.Tree.{Content, Written, Civil}
+use Rattle.oer_spec.specs.Tree.{Content, InOctets, Civil}
 
 -- a text's octets, or for a value without a text its civil fields
 abbrev pub time_content : Option Octets → List ℕ → Content
-time_content (Some o) fields = Written o
+time_content (Some o) fields = InOctets o
 time_content None fields = Civil fields
 
 -- A time or a day (X.696, 29), by its text.

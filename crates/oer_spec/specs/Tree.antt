@@ -7,7 +7,7 @@ use Rattle.asn1_core.specs.declared.tag.Tag.{Tag}
 
 -- the octets of a text; a time without a text has its civil fields in their place
 pub data Content : Type 0 where
-  Written : Octets → Content
+  InOctets : Octets → Content
   Civil : List ℕ → Content
 
 -- a value without parts

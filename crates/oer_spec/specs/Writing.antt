@@ -13,8 +13,8 @@ abbrev pub BeginsWith : Octets → Octets → Type 0
 BeginsWith old new = (more : Octets) × (new ≡ old ++ more)
 
 -- A part: at Ok its octets stand at the end; at Err memory was refused, and the octets of before are still there.
-abbrev pub Appends : {T : Type 0} → Result T EncodeErrorKind → Octets → Octets → Octets → Type 0
-Appends result octets old new = MatchResult result (λ _. new ≡ old ++ octets) (λ e. (e ≡ OutOfMemory) × BeginsWith old new)
+abbrev pub AppendsOrMemory : {T : Type 0} → Result T EncodeErrorKind → Octets → Octets → Octets → Type 0
+AppendsOrMemory result octets old new = MatchResult result (λ _. new ≡ old ++ octets) (λ e. (e ≡ OutOfMemory) × BeginsWith old new)
 
 -- A leaf: at Ok nothing fails, and the canonical octets stand at the end; at Err memory was refused, or the kind is that
 -- of the leaf's first failure, and the octets of before are still there.

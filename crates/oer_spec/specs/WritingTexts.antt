@@ -8,7 +8,7 @@ use Rattle.asn1_core.specs.declared.error.EncodeErrorKind.TheVariants.{SizeConst
 use Rattle.asn1_strings.specs.Identifiers.{is_identifier, arcs_octets}
 use Rattle.oer_spec.specs.Failures.{first_failure}
 use Rattle.oer_spec.specs.Leaves.{Failure, leaf_octets, leaf_fails, string_too_long}
-use Rattle.oer_spec.specs.Tree.{Leaf, Text, Written}
+use Rattle.oer_spec.specs.Tree.{Leaf, Text, InOctets}
 use Rattle.oer_spec.specs.Writing.{BeginsWith}
 
 -- the first reason against a string of that size in so many octets: its size, then its length
@@ -18,7 +18,7 @@ string_failure s size count =
 
 -- the tree of the identifier with these arcs
 abbrev pub identifier_leaf : List ℕ → Leaf
-identifier_leaf arcs = Text Identifier None (Written (arcs_octets arcs))
+identifier_leaf arcs = Text Identifier None (InOctets (arcs_octets arcs))
 
 -- the first reason against an identifier: arcs that are none, then its length
 abbrev pub identifier_failure : List ℕ → Option EncodeErrorKind

@@ -6,7 +6,7 @@ use Rattle.oer_spec.specs.Lengths.{counted_bits}
 use Rattle.oer_spec.specs.Places.{extension_bit}
 use Rattle.oer_spec.specs.Writing.{BeginsWith}
 use Rattle.oer_write.specs.Scopes.{Runs, RanInScope, any_true, extension_of, sequence_octets}
-use Rattle.oer_write.specs.Written.{Written, Frame, Keeps, fresh}
+use Rattle.oer_write.specs.Written.{Written, WriteFrame, Keeps, fresh}
 use Rattle.oer_write.specs.declared.region.Region.{Region}
 use Rattle.oer_write.specs.declared.scope.Scope.{Scope}
 use Rattle.oer_write.specs.Seen.{around, within, IsSound, frame_of, opens_in}
@@ -108,7 +108,7 @@ pub begins_left : (is_set extensible : Bool) (old new : Octets) (e e' : Written)
     → IsSound s.is_open s.start s.region (length new) → BeginsWith old new
 begins_left is_set extensible old new e e' s entered keeps octets frame sound =
     let begins : BeginsWith old e'.octets = (keeps.octets.0, keeps.octets.1 ∙ ap (λ (w : Written). w.octets ++ keeps.octets.0) entered) in
-    let start : s.start ≡ length old = ap (λ (f : Frame). f.start) frame ∙ keeps.start ∙ ap (λ (w : Written). w.frame.start) entered in
+    let start : s.start ≡ length old = ap (λ (f : WriteFrame). f.start) frame ∙ keeps.start ∙ ap (λ (w : Written). w.frame.start) entered in
     begins_run s.region old new e'.octets octets begins (let b = sound.begun in omega (arith, b, start)) (let l = sound.laid in omega arith)
 
 -- what a closure that ran in a new scope leaves
@@ -121,7 +121,7 @@ pub record Left (runs : Runs) (is_set extensible : Bool) (old new : Octets) (s :
 pub left_by : (runs : Runs) (is_set extensible : Bool) (old new : Octets) (e e' : Written) (s : Scope) → e ≡ record { octets = old; frame = fresh is_set extensible (length old); outer = [] } → runs e (Ok tt) e' → Keeps e e' → around s.region new ≡ e'.octets → frame_of new s ≡ e'.frame
     → IsSound s.is_open s.start s.region (length new) → length s.bitmap < 2 ^ 64 → Left runs is_set extensible old new s
 left_by runs is_set extensible old new e e' s entered ran keeps octets frame sound counted =
-    let start : s.start ≡ length old = ap (λ (f : Frame). f.start) frame ∙ keeps.start ∙ ap (λ (w : Written). w.frame.start) entered in
+    let start : s.start ≡ length old = ap (λ (f : WriteFrame). f.start) frame ∙ keeps.start ∙ ap (λ (w : Written). w.frame.start) entered in
     record {
       components = keeps.octets.0;
       ran = record {

@@ -17,7 +17,7 @@ use Rattle.oer_spec.specs.Spelled.{trees_of, list_of, EachValue}
 use Rattle.oer_spec.specs.Tree.{Tree, ListOf}
 use Rattle.oer_spec.specs.Writing.{BeginsWith}
 use Rattle.oer_write.specs.Scopes.{Runs}
-use Rattle.oer_write.specs.Lists.{is_nil, WroteElement, WroteEach, SoFar, ListDone, ListBroken, ElementDone, ElementTooMany, ElementsDone, ElementsBroken, IsKnownToWriteAt, IsByFirst}
+use Rattle.oer_write.specs.Lists.{is_nil, WroteElement, WroteEach, AppendedSoFar, ListDone, ListBroken, ElementDone, ElementTooMany, ElementsDone, ElementsBroken, IsKnownToWriteAt, IsByFirst}
 use Rattle.oer_write.specs.Lists as lists
 use Rattle.oer_write.specs.Written.{Written, append, Keeps, Encodes, Refused, WritesTree}
 use Rattle.oer_write.proofs.Keeping.{keeps_then}
@@ -53,7 +53,7 @@ each_length runs (y ∷ xs) [] h = absurd h
 each_length runs (y ∷ xs) (p ∷ os) h = ap (λ (n : ℕ). suc n) (each_length runs xs os h.1)
 
 -- one more element
-pub one_more : {E : Type 0} (runs : E → Runs) (xs : List E) (i : ℕ) (x : E) (old new newer : Octets) (count next : ℕ) → i < length xs → x ≡ get_or xs i x → SoFar runs (take i xs) old new count → ElementDone (runs x) new newer count next → SoFar runs (take (i + 1) xs) old newer next
+pub one_more : {E : Type 0} (runs : E → Runs) (xs : List E) (i : ℕ) (x : E) (old new newer : Octets) (count next : ℕ) → i < length xs → x ≡ get_or xs i x → AppendedSoFar runs (take i xs) old new count → ElementDone (runs x) new newer count next → AppendedSoFar runs (take (i + 1) xs) old newer next
 one_more runs xs i x old new newer count next short there h w =
     rw (take_more xs i x short, ← there)
     (record {
@@ -72,7 +72,7 @@ cut_at xs i x short there =
     ∙ append_assoc (take i xs) (x ∷ []) (drop (i + 1) xs)
 
 -- one more element without octets is too many
-one_too_many : {E : Type 0} (runs : E → Runs) (xs : List E) (i : ℕ) (x : E) (old new : Octets) (count : ℕ) (y : EncodeError) → i < length xs → x ≡ get_or xs i x → SoFar runs (take i xs) old new count → ElementTooMany (runs x) count y → lists.TooManyEmpty runs xs y
+one_too_many : {E : Type 0} (runs : E → Runs) (xs : List E) (i : ℕ) (x : E) (old new : Octets) (count : ℕ) (y : EncodeError) → i < length xs → x ≡ get_or xs i x → AppendedSoFar runs (take i xs) old new count → ElementTooMany (runs x) count y → lists.TooManyEmpty runs xs y
 one_too_many runs xs i x old new count y short there h w = record {
   refusal = w.refusal;
   front = take i xs;
@@ -86,7 +86,7 @@ one_too_many runs xs i x old new count y short there h w = record {
 }
 
 -- the closure refused at an element, or that element was too many
-pub broken_at : {E : Type 0} (runs : E → Runs) (xs : List E) (i : ℕ) (x : E) (old : Octets) (count : ℕ) (y : EncodeError) (e e' : Written) → i < length xs → x ≡ get_or xs i x → SoFar runs (take i xs) old e.octets count → e.frame.is_open ≡ false → runs x e (Err y) e' ⊎ ElementTooMany (runs x) count y → ElementsBroken runs xs y
+pub broken_at : {E : Type 0} (runs : E → Runs) (xs : List E) (i : ℕ) (x : E) (old : Octets) (count : ℕ) (y : EncodeError) (e e' : Written) → i < length xs → x ≡ get_or xs i x → AppendedSoFar runs (take i xs) old e.octets count → e.frame.is_open ≡ false → runs x e (Err y) e' ⊎ ElementTooMany (runs x) count y → ElementsBroken runs xs y
 broken_at runs xs i x old count y e e' short there h shut (inl ran) = inr (inl (record {
   front = take i xs;
   element = x;

@@ -14,7 +14,7 @@ use Rattle.oer_spec.specs.Failures.{Fails, SizeFails, failure_of, first_failure}
 use Rattle.oer_spec.specs.Leaves.{Failure, BadValue, BadSize, BadTime, TooLong, leaf_fails, unit_of}
 use Rattle.oer_spec.specs.Spelled.{IsIdentifier, bit_string, identifier, integer, text, time, unsized_text}
 use Rattle.oer_spec.specs.TimeTexts.{time_content}
-use Rattle.oer_spec.specs.Tree.{Leaf, Boolean, Null, Enum, Int, Bits, Text, Written, Civil, Primitive}
+use Rattle.oer_spec.specs.Tree.{Leaf, Boolean, Null, Enum, Int, Bits, Text, InOctets, Civil, Primitive}
 use Rattle.oer_spec.specs.WritingTexts.{identifier_leaf}
 use Rattle.oer_write.specs.Written as state
 
@@ -33,7 +33,7 @@ first_leaf_fails Null kind e = absurd cc
 first_leaf_fails (Enum n) kind e = absurd cc
 first_leaf_fails (Int r n) kind e = first_of_two (Int r n) BadValue TooLong ValueConstraintNotSatisfied LengthExceedsPlatformSize kind refl refl _ _ refl refl e
 first_leaf_fails (Bits s b) kind e = first_of_two (Bits s b) BadSize TooLong (SizeConstraintNotSatisfied (length b)) LengthExceedsPlatformSize kind refl refl _ _ refl refl e
-first_leaf_fails (Text r s (Written c)) kind e = first_of_two (Text r s (Written c)) BadSize TooLong (SizeConstraintNotSatisfied (length c / unit_of r)) LengthExceedsPlatformSize kind refl refl _ _ refl refl e
+first_leaf_fails (Text r s (InOctets c)) kind e = first_of_two (Text r s (InOctets c)) BadSize TooLong (SizeConstraintNotSatisfied (length c / unit_of r)) LengthExceedsPlatformSize kind refl refl _ _ refl refl e
 first_leaf_fails (Text r s (Civil fields)) kind e = let same : TimeNotRepresentable ≡ kind = cc in (BadTime, ap failure_of (sym same), refl)
 
 pub first_fails : (l : Leaf) (kind : EncodeErrorKind) → first_failure l ≡ Some kind → Fails (Primitive l) kind
@@ -58,13 +58,13 @@ pub bit_string_by_law : (r : Result (Unit {0}) EncodeError) (c : Constraints) (b
 unfolding bit_string
 bit_string_by_law r c b e e' h = by_law r (Bits (size_bounds c) b) e e' h
 
-pub text_by_law : (r : Result (Unit {0}) EncodeError) (rule : Rule) (c : Constraints) (o : Octets) (e e' : state.Written) → IfErr r (λ x. state.RefusedLeaf (Text rule (size_bounds c) (Written o)) x e e') → IfErr r (λ x. state.Refused (text rule c o) x e e')
+pub text_by_law : (r : Result (Unit {0}) EncodeError) (rule : Rule) (c : Constraints) (o : Octets) (e e' : state.Written) → IfErr r (λ x. state.RefusedLeaf (Text rule (size_bounds c) (InOctets o)) x e e') → IfErr r (λ x. state.Refused (text rule c o) x e e')
 unfolding text
-text_by_law r rule c o e e' h = by_law r (Text rule (size_bounds c) (Written o)) e e' h
+text_by_law r rule c o e e' h = by_law r (Text rule (size_bounds c) (InOctets o)) e e' h
 
-pub unsized_by_law : (r : Result (Unit {0}) EncodeError) (rule : Rule) (o : Octets) (e e' : state.Written) → IfErr r (λ x. state.RefusedLeaf (Text rule None (Written o)) x e e') → IfErr r (λ x. state.Refused (unsized_text rule o) x e e')
+pub unsized_by_law : (r : Result (Unit {0}) EncodeError) (rule : Rule) (o : Octets) (e e' : state.Written) → IfErr r (λ x. state.RefusedLeaf (Text rule None (InOctets o)) x e e') → IfErr r (λ x. state.Refused (unsized_text rule o) x e e')
 unfolding unsized_text
-unsized_by_law r rule o e e' h = by_law r (Text rule None (Written o)) e e' h
+unsized_by_law r rule o e e' h = by_law r (Text rule None (InOctets o)) e e' h
 
 pub time_by_law : (r : Result (Unit {0}) EncodeError) (rule : Rule) (o : Option Octets) (fields : List ℕ) (e e' : state.Written) → IfErr r (λ x. state.RefusedLeaf (Text rule None (time_content o fields)) x e e') → IfErr r (λ x. state.Refused (time rule o fields) x e e')
 unfolding time

@@ -9,7 +9,7 @@ use Rattle.oer_write.specs.ByClosure.{AppendedBy}
 use Rattle.oer_write.specs.Lists.{ElementsDone}
 use Rattle.oer_write.specs.Scopes.{Runs}
 use Rattle.oer_write.specs.Seen.{around, within, IsLaid, IsSound, frame_of, opens_in, region_at}
-use Rattle.oer_write.specs.Written.{Written, Frame}
+use Rattle.oer_write.specs.Written.{Written, WriteFrame}
 
 -- ---- no additions
 pub none_within : (start size : ℕ) (o : Octets) → within (region_at start size) o ≡ []
@@ -132,7 +132,7 @@ shut_around s o p h e =
     let first : s.region.start ≡ s.region.end = (let l = h.laid in omega (arith, none)) in
     ap (λ (n : ℕ). take n p ++ drop s.region.end p) first ∙ take-append-drop s.region.end p
 
-pub shut_seen : (s : Scope) (outer : List Frame) (o p : Octets) → IsSound s.is_open s.start s.region (length o) → s.is_open ≡ false → p ≡ []
+pub shut_seen : (s : Scope) (outer : List WriteFrame) (o p : Octets) → IsSound s.is_open s.start s.region (length o) → s.is_open ≡ false → p ≡ []
     → ◌≡◌ {A = Written} (record { octets = around s.region p; frame = frame_of p s; outer = outer }) (record { octets = []; frame = frame_of o s; outer = outer })
 shut_seen s outer o p h e f =
     let opens : opens_in p s ≡ opens_in o s =

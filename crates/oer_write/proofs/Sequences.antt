@@ -10,7 +10,7 @@ use Rattle.oer_spec.specs.Tree.{Rows, Struct}
 use Rattle.oer_spec.specs.Failures.{Fails, SizeFails}
 use Rattle.oer_write.specs.Rows.{RowsDone, IsKnownToWrite, presence_of, octets_of, items_of, bitmap_of, opens_of, AreEncodable, AreOpenEncodable, SomeFails, recorded}
 use Rattle.oer_write.specs.Scopes.{Runs, Closed, Broken, sequence_octets, any_true}
-use Rattle.oer_write.specs.Written.{Written, Frame, fresh, append, Encodes, Refused}
+use Rattle.oer_write.specs.Written.{Written, WriteFrame, fresh, append, Encodes, Refused}
 use Rattle.oer_write.proofs.Items.{items_are, presence_is, bodies_are, bitmap_is, any_is, opens_are, none_fails, encodable_of_open, no_open_fails, short_bitmap, rows_fail_by, or_false, or_left, or_right}
 
 pub extended_is : (r : Rows) → any_bit (items_of r) ≡ any_true (bitmap_of r)
@@ -41,7 +41,7 @@ sequence_octets_are extensible start roots additions = rw (items_are roots, item
 -- a closure that writes the rows of a sequence: the sequence is written
 pub sequence_done : {runs : Runs} {extensible : Bool} {old new : Written} (roots additions : Rows) → IsKnownToWrite runs roots additions → Closed runs extensible old new → Encodes (Struct false extensible roots additions) old new
 sequence_done {runs} {extensible} {old} {new} roots additions known closed =
-    let h : RowsDone roots additions closed.ran.entered closed.ran.left = known _ _ _ closed.ran.ran (ap (λ (f : Frame). f.is_set) closed.ran.opened) in
+    let h : RowsDone roots additions closed.ran.entered closed.ran.left = known _ _ _ closed.ran.ran (ap (λ (f : WriteFrame). f.is_set) closed.ran.opened) in
     let components : closed.components ≡ octets_of roots = append_cancel_left _ _ _ (sym closed.ran.wrote ∙ h.octets) in
     let frame : closed.frame ≡ recorded (presence_of roots) (bitmap_of additions) (opens_of additions) (fresh false extensible (length closed.ran.entered.octets)) = sym closed.ran.closed ∙ rw closed.ran.opened at h.frame in
     let octets : sequence_octets closed.frame closed.components ≡ canonical_octets (Struct false extensible roots additions) = ap₂ sequence_octets frame components ∙ sym (sequence_octets_are extensible (length closed.ran.entered.octets) roots additions) in
@@ -56,8 +56,8 @@ pub sequence_refused : {runs : Runs} {extensible : Bool} {old new : Written} (ro
 sequence_refused {runs} {extensible} {old} {new} roots additions known x broken = record {
   reason = elim broken.reason [
     | inl m ↦ inl m.0
-    | inr s ↦ elim (known _ _ _ s.ran (ap (λ (f : Frame). f.is_set) s.opened)).reason [ inl m ↦ inl m | inr f ↦ inr (struct_fails false extensible roots additions x.kind f) ]
+    | inr s ↦ elim (known _ _ _ s.ran (ap (λ (f : WriteFrame). f.is_set) s.opened)).reason [ inl m ↦ inl m | inr f ↦ inr (struct_fails false extensible roots additions x.kind f) ]
   ];
-  mode = elim broken.reason [ inl m ↦ m.1 | inr s ↦ (known _ _ _ s.ran (ap (λ (f : Frame). f.is_set) s.opened)).mode ];
+  mode = elim broken.reason [ inl m ↦ m.1 | inr s ↦ (known _ _ _ s.ran (ap (λ (f : WriteFrame). f.is_set) s.opened)).mode ];
   keeps = broken.keeps;
 }

@@ -6,11 +6,11 @@ use Rattle.oer_spec.specs.Encoding.{canonical_octets}
 use Rattle.oer_spec.specs.Tree.{Rows, Struct}
 use Rattle.oer_write.specs.Rows.{SetDone, IsKnownToWriteSet, items_of, bitmap_of, opens_of}
 use Rattle.oer_write.specs.Scopes.{Runs, SetClosed, Broken, set_octets}
-use Rattle.oer_write.specs.Written.{Written, Frame, fresh, append, Encodes, Refused}
+use Rattle.oer_write.specs.Written.{Written, WriteFrame, fresh, append, Encodes, Refused}
 use Rattle.oer_write.proofs.Items.{items_are, bitmap_is, opens_are}
 use Rattle.oer_write.proofs.Sequences.{extended_is, struct_encodable, struct_fails}
 
-abbrev set_frame : Bool → ℕ → Rows → Rows → Frame
+abbrev set_frame : Bool → ℕ → Rows → Rows → WriteFrame
 set_frame extensible start roots additions = record (fresh true extensible start) { components = items_of roots; bitmap = bitmap_of additions; opens = opens_of additions }
 
 set_octets_are : (extensible : Bool) (start : ℕ) (roots additions : Rows) → canonical_octets (Struct true extensible roots additions) ≡ set_octets (set_frame extensible start roots additions)
@@ -20,7 +20,7 @@ set_octets_are extensible start roots additions = rw (items_are roots, items_are
 -- a closure that writes the rows of a set: the set is written
 pub set_done : {runs : Runs} {extensible : Bool} {old new : Written} (roots additions : Rows) → IsKnownToWriteSet runs roots additions → SetClosed runs extensible old new → Encodes (Struct true extensible roots additions) old new
 set_done {runs} {extensible} {old} {new} roots additions known closed =
-    let h : SetDone roots additions closed.ran.entered closed.ran.left = known _ _ _ closed.ran.ran (ap (λ (f : Frame). f.is_set) closed.ran.opened) in
+    let h : SetDone roots additions closed.ran.entered closed.ran.left = known _ _ _ closed.ran.ran (ap (λ (f : WriteFrame). f.is_set) closed.ran.opened) in
     let frame : closed.frame ≡ set_frame extensible (length closed.ran.entered.octets) roots additions = sym closed.ran.closed ∙ rw closed.ran.opened at h.frame in
     let counted : length (bitmap_of additions) < 2 ^ 64 = rw frame at closed.ran.counted in
     record {
@@ -33,8 +33,8 @@ pub set_refused : {runs : Runs} {extensible : Bool} {old new : Written} (roots a
 set_refused {runs} {extensible} {old} {new} roots additions known x broken = record {
   reason = elim broken.reason [
     | inl m ↦ inl m.0
-    | inr s ↦ elim (known _ _ _ s.ran (ap (λ (f : Frame). f.is_set) s.opened)).reason [ inl m ↦ inl m | inr f ↦ inr (struct_fails true extensible roots additions x.kind f) ]
+    | inr s ↦ elim (known _ _ _ s.ran (ap (λ (f : WriteFrame). f.is_set) s.opened)).reason [ inl m ↦ inl m | inr f ↦ inr (struct_fails true extensible roots additions x.kind f) ]
   ];
-  mode = elim broken.reason [ inl m ↦ m.1 | inr s ↦ (known _ _ _ s.ran (ap (λ (f : Frame). f.is_set) s.opened)).mode ];
+  mode = elim broken.reason [ inl m ↦ m.1 | inr s ↦ (known _ _ _ s.ran (ap (λ (f : WriteFrame). f.is_set) s.opened)).mode ];
   keeps = broken.keeps;
 }

@@ -16,7 +16,7 @@ pub record AppendedBy (runs : Runs) (old new : Octets) : Type 0 where
   pub appended : new ≡ old ++ content
 
 -- the closure refused, in some encoder with no scope open
-pub record RefusedBy (runs : Runs) (x : EncodeError) : Type 0 where
+pub record RefusedInside (runs : Runs) (x : EncodeError) : Type 0 where
   pub entered : Written
   pub left : Written
   pub opened : entered.frame.is_open ≡ false
@@ -37,7 +37,7 @@ pub record KeptBy (runs : Runs) (tag : Tag) (old new : Written) : Type 0 where
 -- The component refuses what its closure refused, or for want of memory.
 pub record ComponentBroken (runs : Runs) (x : EncodeError) (old new : Written) : Type 0 where
   pub keeps : Keeps old new
-  pub reason : WantsMemory x ⊎ RefusedBy runs x
+  pub reason : WantsMemory x ⊎ RefusedInside runs x
 
 -- whatever encoder the closure is lent, it writes this tree
 abbrev pub IsKnownToWriteTree : Runs → Tree → Type 0

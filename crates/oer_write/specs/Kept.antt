@@ -9,12 +9,12 @@ use Rattle.oer_write.specs.declared.component.Components.TheInside.{Inside}
 abbrev pub item : Octets → Component → Item
 item o c = record { tag = c.tag; marked = c.marked; bit = c.bit; octets = take c.size (drop c.start o) }
 
-abbrev pub IsLaid : Octets → List Component → Type 0
-IsLaid o [] = ⊤
-IsLaid o (c ∷ cs) = (c.start + c.size ≤ length o) × IsLaid o cs
+abbrev pub AreLaid : Octets → List Component → Type 0
+AreLaid o [] = ⊤
+AreLaid o (c ∷ cs) = (c.start + c.size ≤ length o) × AreLaid o cs
 
 abbrev pub kept : Inside → List Item
 kept k = map (item k.octets.items) k.places.items
 
 abbrev pub AreWithin : Inside → Type 0
-AreWithin k = IsLaid k.octets.items k.places.items
+AreWithin k = AreLaid k.octets.items k.places.items

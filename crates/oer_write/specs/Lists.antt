@@ -142,7 +142,7 @@ pub record ElementsDone {E : Type 0} (runs : E → Runs) (xs : List E) (old new 
   pub appended : new ≡ old ++ joined contents
 
 -- these elements were appended, so many of them without octets
-pub record SoFar {E : Type 0} (runs : E → Runs) (xs : List E) (old new : Octets) (count : ℕ) : Type 0 where
+pub record AppendedSoFar {E : Type 0} (runs : E → Runs) (xs : List E) (old new : Octets) (count : ℕ) : Type 0 where
   pub contents : List Octets
   pub each : WroteEach runs xs contents
   pub few : count < 65537

@@ -12,7 +12,7 @@ use Rattle.oer_spec.specs.Places.{Item, needed, present, absent}
 use Rattle.oer_spec.specs.Tree.{Tree, Rows, NoRows, Required, Optional, Default, Slot, Absent, Present}
 use Rattle.oer_spec.specs.Failures.{Fails}
 use Rattle.oer_write.specs.Scopes.{Runs}
-use Rattle.oer_write.specs.Written.{Written, Frame, Keeps}
+use Rattle.oer_write.specs.Written.{Written, WriteFrame, Keeps}
 
 -- ---- what rows give
 
@@ -110,7 +110,7 @@ SomeFails (Default g u s r) k = SlotFails s k ⊎ SomeFails r k
 -- ---- what writing rows does
 
 -- presence bits, addition bits and open types added to a scope
-abbrev pub recorded : List Bool → List Bool → Octets → Frame → Frame
+abbrev pub recorded : List Bool → List Bool → Octets → WriteFrame → WriteFrame
 recorded presence bitmap opens f = record f { presence = f.presence ++ presence; bitmap = f.bitmap ++ bitmap; opens = f.opens ++ opens }
 
 -- In a sequence: the root rows' octets are written, and their presence and the additions recorded.

@@ -9,7 +9,7 @@ use Rattle.asn1_core.specs.declared.tag.Tag.{Tag}
 use Rattle.oer_spec.specs.Lengths.{counted_bits}
 use Rattle.oer_spec.specs.Orders.{Reorders}
 use Rattle.oer_spec.specs.Places.{Item, extension_bit, presence, bodies, by_tag}
-use Rattle.oer_write.specs.Written.{Written, Frame, fresh, append, Keeps, WantsMemory}
+use Rattle.oer_write.specs.Written.{Written, WriteFrame, fresh, append, Keeps, WantsMemory}
 
 -- how a closure may leave an encoder that it was lent
 abbrev pub Runs : Type 1
@@ -32,11 +32,11 @@ abbrev pub extension_of : List Bool → Octets → Octets
 extension_of bitmap opens = cond (any_true bitmap) (counted_bits bitmap ++ opens) []
 
 -- the octets of a sequence whose closure left the frame, and wrote the root components
-abbrev pub sequence_octets : Frame → Octets → Octets
+abbrev pub sequence_octets : WriteFrame → Octets → Octets
 sequence_octets f components = pack (extension_bit f.extensible (any_true f.bitmap) ++ f.presence) ++ (components ++ extension_of f.bitmap f.opens)
 
 -- the octets of a set whose closure left the frame: components and presence bits in tag order
-abbrev pub set_octets : Frame → Octets
+abbrev pub set_octets : WriteFrame → Octets
 set_octets f = pack (extension_bit f.extensible (any_true f.bitmap) ++ presence (by_tag f.components)) ++ (bodies (by_tag f.components) ++ extension_of f.bitmap f.opens)
 
 abbrev pub item_tags : List Item → List Tag
@@ -44,10 +44,10 @@ item_tags is = map (λ i. i.tag) is
 
 -- Components of distinct tags give the same octets in whatever order they are handed in.
 abbrev pub IsSameInAnyOrder : Type 0
-IsSameInAnyOrder = (f : Frame) (handed : List Item) → AreDistinct (item_tags f.components) → Reorders f.components handed → set_octets (record f { components = handed }) ≡ set_octets f
+IsSameInAnyOrder = (f : WriteFrame) (handed : List Item) → AreDistinct (item_tags f.components) → Reorders f.components handed → set_octets (record f { components = handed }) ≡ set_octets f
 
 -- a closure ran in a new scope of some encoder, wrote the components there, and left the frame
-pub record RanInScope (runs : Runs) (is_set extensible : Bool) (frame : Frame) (components : Octets) : Type 0 where
+pub record RanInScope (runs : Runs) (is_set extensible : Bool) (frame : WriteFrame) (components : Octets) : Type 0 where
   pub entered : Written
   pub left : Written
   pub opened : entered.frame ≡ fresh is_set extensible (length entered.octets)
@@ -58,14 +58,14 @@ pub record RanInScope (runs : Runs) (is_set extensible : Bool) (frame : Frame) (
 
 -- a sequence was written
 pub record Closed (runs : Runs) (extensible : Bool) (old new : Written) : Type 0 where
-  pub frame : Frame
+  pub frame : WriteFrame
   pub components : Octets
   pub ran : RanInScope runs false extensible frame components
   pub appended : new ≡ append (sequence_octets frame components) old
 
 -- a set was written
 pub record SetClosed (runs : Runs) (extensible : Bool) (old new : Written) : Type 0 where
-  pub frame : Frame
+  pub frame : WriteFrame
   pub components : Octets
   pub ran : RanInScope runs true extensible frame components
   pub appended : new ≡ append (set_octets frame) old

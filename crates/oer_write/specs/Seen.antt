@@ -1,7 +1,7 @@
 -- How an encoder is seen.
 use Rattle.std.specs.Prelude.{◌≡◌, ℕ, ◌≤◌, Bool, false, cond, not, ◌&&◌, [], ◌∷◌, ◌++◌, take, drop, length}
 use Rattle.asn1_core.specs.Octets.{Octets}
-use Rattle.oer_write.specs.Written.{Written, Frame, closed}
+use Rattle.oer_write.specs.Written.{Written, WriteFrame, no_scope}
 use Rattle.oer_write.specs.declared.region.Region.{Region}
 use Rattle.oer_write.specs.declared.scope.Scope.{Scope}
 use Rattle.oer_write.specs.declared.encoder.Encoder.TheInside.{Inside}
@@ -33,12 +33,12 @@ pub record IsSound (is_open : Bool) (start : ℕ) (r : Region) (written : ℕ) :
 abbrev pub opens_in : Octets → Scope → Octets
 opens_in o s = cond (s.is_open && not s.is_set) (within s.region o) s.opens.items
 
-abbrev pub frame_of : Octets → Scope → Frame
+abbrev pub frame_of : Octets → Scope → WriteFrame
 frame_of o s = record { is_open = s.is_open; is_set = s.is_set; extensible = s.extensible; start = s.start; presence = s.presence; components = s.components; bitmap = s.bitmap; opens = opens_in o s }
 
 -- an encoder that is lent for an element or an alternative has something around it
 abbrev pub seen : Inside → Written
-seen e = record { octets = around e.scope.region e.output.now.items; frame = frame_of e.output.now.items e.scope; outer = cond e.is_lent (closed ∷ []) [] }
+seen e = record { octets = around e.scope.region e.output.now.items; frame = frame_of e.output.now.items e.scope; outer = cond e.is_lent (no_scope ∷ []) [] }
 
 abbrev pub is_sound : Inside → Type 0
 is_sound e = IsSound e.scope.is_open e.scope.start e.scope.region (length e.output.now.items)

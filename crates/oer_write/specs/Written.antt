@@ -12,7 +12,7 @@ use Rattle.oer_spec.specs.Failures.{Fails, first_failure}
 use Rattle.oer_spec.specs.WritingTexts.{identifier_failure}
 
 -- A scope: whether it is open, what kind it is, and what was recorded in it so far.
-pub record Frame : Type 0 where
+pub record WriteFrame : Type 0 where
   pub is_open : Bool
   pub is_set : Bool
   pub extensible : Bool
@@ -29,16 +29,16 @@ pub record Frame : Type 0 where
 pub record Written : Type 0 where
   pub octets : Octets
   -- the innermost scope, whose is_open is false where none is, and those around it
-  pub frame : Frame
-  pub outer : List Frame
+  pub frame : WriteFrame
+  pub outer : List WriteFrame
 
 -- a scope in which nothing was recorded
-abbrev pub fresh : Bool → Bool → ℕ → Frame
+abbrev pub fresh : Bool → Bool → ℕ → WriteFrame
 fresh is_set extensible start = record { is_open = true; is_set = is_set; extensible = extensible; start = start; presence = []; components = []; bitmap = []; opens = [] }
 
 -- no scope
-abbrev pub closed : Frame
-closed = record { is_open = false; is_set = false; extensible = false; start = 0; presence = []; components = []; bitmap = []; opens = [] }
+abbrev pub no_scope : WriteFrame
+no_scope = record { is_open = false; is_set = false; extensible = false; start = 0; presence = []; components = []; bitmap = []; opens = [] }
 
 abbrev pub append : Octets → Written → Written
 append octets e = record e { octets = e.octets ++ octets }

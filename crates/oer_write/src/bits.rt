@@ -4,7 +4,7 @@ ghost use Rattle.asn1_core.specs.Numbers.{low_octets};
 ghost use Rattle.asn1_core.specs.Octets.{pack};
 ghost use Rattle.asn1_core.specs.declared.error.EncodeErrorKind.TheVariants.{OutOfMemory};
 ghost use Rattle.oer_spec.specs.Places.{extension_bit};
-ghost use Rattle.oer_spec.specs.Writing.{Appends};
+ghost use Rattle.oer_spec.specs.Writing.{AppendsOrMemory};
 ghost use Rattle.oer_write.specs.Bits.{low_bits, ArePacked};
 ghost use Rattle.oer_write.specs.Scopes.{any_true};
 
@@ -186,7 +186,7 @@ impl Bits {
 #[tactic(auto, using(crate::proofs::Words::lowest_is))]
 pub(crate) fn append_packed(packed: Packed, out: &mut Vec<u8>) -> Result<(), EncodeErrorKind>
     requires { packed.octets ≤ 8 }
-    ensures { Appends result (low_octets packed.octets packed.number) out.old.items out.new.items }
+    ensures { AppendsOrMemory result (low_octets packed.octets packed.number) out.old.items out.new.items }
 {
     let all = packed.number.to_be_bytes();
     let (_, lowest) = all.split_at(8 - packed.octets);

@@ -4,7 +4,7 @@ ghost use Rattle.asn1_core.specs.Octets.{Octets};
 ghost use Rattle.oer_spec.specs.Places.{needed};
 ghost use Rattle.oer_spec.specs.Tree.{Tree, NoRows};
 ghost use Rattle.oer_spec.specs.Writing.{BeginsWith};
-ghost use Rattle.oer_write.specs.ByClosure.{AppendedBy, RefusedBy, PutBy, KeptBy, ComponentBroken, IsKnownToWriteTree};
+ghost use Rattle.oer_write.specs.ByClosure.{AppendedBy, RefusedInside, PutBy, KeptBy, ComponentBroken, IsKnownToWriteTree};
 ghost use Rattle.oer_write.specs.Lists.{WroteElement, IsOrderlyHere};
 ghost use Rattle.oer_write.specs.Rows.{RowsDone, SetDone, RowsRefused, required};
 ghost use Rattle.oer_write.specs.Scopes.{Promise};
@@ -35,7 +35,7 @@ fn put_by<F: FnOnce(&mut Encoder<'_>) -> Result<(), EncodeError>>(
     requires orderly { IsOrderlyHere (Promise F.FnOnce f) }
     requires shut { encoder.old.frame.is_open ≡ false }
     ensures done { OnOk result (AppendedBy (Promise F.FnOnce f) encoder.old.octets encoder.new.octets) }
-    ensures refused { IfErr result (λ x. RefusedBy (Promise F.FnOnce f) x) }
+    ensures refused { IfErr result (λ x. RefusedInside (Promise F.FnOnce f) x) }
     ensures keeps { Keeps encoder.old encoder.new }
 {
     lend_to(encoder, f)?;
@@ -51,7 +51,7 @@ fn put_into<F: FnOnce(&mut Encoder<'_>) -> Result<(), EncodeError>>(
     requires callable { F.IsAlwaysCallable f }
     requires orderly { IsOrderlyHere (Promise F.FnOnce f) }
     ensures done { OnOk result (AppendedBy (Promise F.FnOnce f) out.old.items out.new.items) }
-    ensures refused { IfErr result (λ x. RefusedBy (Promise F.FnOnce f) x) }
+    ensures refused { IfErr result (λ x. RefusedInside (Promise F.FnOnce f) x) }
     ensures begins { BeginsWith out.old.items out.new.items }
 {
     let mut inner = Encoder::lent(alloc, &mut *out);
@@ -71,7 +71,7 @@ impl Components {
         requires callable { F.IsAlwaysCallable f }
         requires orderly { IsOrderlyHere (Promise F.FnOnce f) }
         ensures done { OnOk result ((o : Octets) × WroteElement (Promise F.FnOnce f) o × (self.new ≡ self.old ++ (needed tag o ∷ []))) }
-        ensures refused { IfErr result (λ x. WantsMemory x ⊎ RefusedBy (Promise F.FnOnce f) x) }
+        ensures refused { IfErr result (λ x. WantsMemory x ⊎ RefusedInside (Promise F.FnOnce f) x) }
     {
         let start = self.octets.len();
         put_into(alloc, f, &mut self.octets)?;
@@ -136,7 +136,7 @@ impl<'buffer> Encoder<'buffer> {
         requires callable { F.IsAlwaysCallable f }
         requires orderly { IsOrderlyHere (Promise F.FnOnce f) }
         ensures done { OnOk result (AppendedBy (Promise F.FnOnce f) self.old.octets self.new.octets) }
-        ensures refused { IfErr result (λ x. RefusedBy (Promise F.FnOnce f) x) }
+        ensures refused { IfErr result (λ x. RefusedInside (Promise F.FnOnce f) x) }
         ensures begins { BeginsWith self.old.octets self.new.octets }
         ensures left { self.new ≡ record self.old { octets = self.new.octets } }
     {

@@ -2,7 +2,7 @@
 ghost use Rattle.std.specs.Prelude.{◌≡◌, ◌≤◌, false, List, [], ◌∷◌, ◌++◌, length, cond};
 ghost use Rattle.asn1_core.specs.declared.codec.Codec.TheVariants.{Coer};
 ghost use Rattle.oer_write.specs.Seen.{around, frame_of, IsSound};
-ghost use Rattle.oer_write.specs.Written.{Written, closed, fresh};
+ghost use Rattle.oer_write.specs.Written.{Written, no_scope, fresh};
 
 use crate::enc::EncoderOptions;
 use crate::scope::Scope;
@@ -47,7 +47,7 @@ impl<'buffer> Encoder<'buffer> {
         output: &'buffer mut Vec<u8>,
         _worker: &'buffer mut Vec<u8>,
     ) -> Encoder<'buffer>
-        ensures { result ≡ record { octets = output.old.items; frame = closed; outer = [] } }
+        ensures { result ≡ record { octets = output.old.items; frame = no_scope; outer = [] } }
     {
         Encoder {
             output,
@@ -60,7 +60,7 @@ impl<'buffer> Encoder<'buffer> {
     /// An encoder that appends to `output`, lent for an element, an alternative or a component.
     #[tactic(auto, using(crate::proofs::Regions::none_around))]
     pub(crate) fn lent(alloc: Global, output: &'buffer mut Vec<u8>) -> Encoder<'buffer>
-        ensures { result ≡ record { octets = output.old.items; frame = closed; outer = closed ∷ [] } }
+        ensures { result ≡ record { octets = output.old.items; frame = no_scope; outer = no_scope ∷ [] } }
     {
         Encoder {
             output,

@@ -7,7 +7,7 @@ ghost use Rattle.oer_spec.specs.Spelled.{list_of, EachValue};
 ghost use Rattle.oer_spec.specs.Tree.{Tree};
 ghost use Rattle.oer_spec.specs.Writing.{BeginsWith};
 ghost use Rattle.oer_write.specs.Lists.{is_nil, TakesElement, PromiseAt, WroteElement, IsOrderlyAt, IsOrderlyHere, ElementDone, ElementTooMany, ElementsDone, ElementsBroken, ListDone, ListBroken, IsKnownToWriteAt, IsByFirst};
-ghost use Rattle.oer_write.specs.Written.{append, closed, Keeps, Encodes, Refused, WritesTree};
+ghost use Rattle.oer_write.specs.Written.{append, no_scope, Keeps, Encodes, Refused, WritesTree};
 
 use crate::encode::Encode;
 use crate::encoder::Encoder;

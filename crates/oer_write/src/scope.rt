@@ -4,10 +4,10 @@ ghost use Rattle.asn1_core.specs.Octets.{Octets, pack};
 ghost use Rattle.oer_spec.specs.Lengths.{counted_bits};
 ghost use Rattle.oer_spec.specs.Places.{extension_bit};
 ghost use Rattle.asn1_core.specs.declared.error.EncodeErrorKind.TheVariants.{OutOfMemory};
-ghost use Rattle.oer_spec.specs.Writing.{Appends, BeginsWith};
+ghost use Rattle.oer_spec.specs.Writing.{AppendsOrMemory, BeginsWith};
 ghost use Rattle.oer_write.specs.Scopes.{any_true, extension_of, sequence_octets};
 ghost use Rattle.oer_write.specs.Seen.{around, within, IsLaid, frame_of, region_at};
-ghost use Rattle.oer_write.specs.Written.{fresh, closed};
+ghost use Rattle.oer_write.specs.Written.{fresh, no_scope};
 
 use crate::bits::{Bits, Spelled, append_packed, put_packed};
 use crate::component::Components;
@@ -67,7 +67,7 @@ impl Scope {
 
     /// Where no scope is open.
     pub(crate) fn none(alloc: Global) -> Scope
-        ensures frame { (o : Octets) → frame_of o result ≡ closed }
+        ensures frame { (o : Octets) → frame_of o result ≡ no_scope }
         ensures region { result.region ≡ region_at 0 0 }
         ensures start { result.start ≡ 0 }
     {
@@ -181,7 +181,7 @@ impl Scope {
         presence: &Bits,
         out: &mut Vec<u8>,
     ) -> Result<(), EncodeErrorKind>
-        ensures { Appends result (pack (extension_bit self.now.extensible (any_true self.now.bitmap) ++ presence.now)) out.old.items out.new.items }
+        ensures { AppendsOrMemory result (pack (extension_bit self.now.extensible (any_true self.now.bitmap) ++ presence.now)) out.old.items out.new.items }
     {
         match presence.packed(self.extensible, self.bitmap.any()) {
             Some(packed) => append_packed(packed, out),
@@ -196,7 +196,7 @@ impl Scope {
         presence: &Bits,
         out: &mut Vec<u8>,
     ) -> Result<(), EncodeErrorKind>
-        ensures { Appends result (pack (extension_bit self.now.extensible (any_true self.now.bitmap) ++ presence.now)) out.old.items out.new.items }
+        ensures { AppendsOrMemory result (pack (extension_bit self.now.extensible (any_true self.now.bitmap) ++ presence.now)) out.old.items out.new.items }
     {
         let mut bits = Spelled::new(alloc);
         if self.extensible {
@@ -212,7 +212,7 @@ impl Scope {
         alloc: Global,
         out: &mut Vec<u8>,
     ) -> Result<(), EncodeErrorKind>
-        ensures { Appends result (extension_of self.now.bitmap self.now.opens.items) out.old.items out.new.items }
+        ensures { AppendsOrMemory result (extension_of self.now.bitmap self.now.opens.items) out.old.items out.new.items }
     {
         if !self.bitmap.any() {
             return Ok(());
@@ -224,7 +224,7 @@ impl Scope {
 
     /// Writes the bitmap of the additions.
     fn write_bitmap(&self, alloc: Global, out: &mut Vec<u8>) -> Result<(), EncodeErrorKind>
-        ensures { Appends result (counted_bits self.now.bitmap) out.old.items out.new.items }
+        ensures { AppendsOrMemory result (counted_bits self.now.bitmap) out.old.items out.new.items }
     {
         let mut bits = Spelled::new(alloc);
         self.bitmap.spell_to(&mut bits)?;

@@ -8,7 +8,7 @@ ghost use Rattle.oer_spec.specs.Writing.{BeginsWith};
 ghost use Rattle.oer_write.specs.Rows.{IsKnownToWrite};
 ghost use Rattle.oer_write.specs.Scopes.{Promise, IsOrderly, RanInScope, Closed, Stopped, Broken, sequence_octets};
 ghost use Rattle.oer_write.specs.Seen.{around, frame_of, IsSound};
-ghost use Rattle.oer_write.specs.Written.{Frame, Keeps, Encodes, Refused, WantsMemory};
+ghost use Rattle.oer_write.specs.Written.{WriteFrame, Keeps, Encodes, Refused, WantsMemory};
 
 use crate::encoder::Encoder;
 use crate::holes::{keep_free, preamble_size};
@@ -49,7 +49,7 @@ fn write_sequence<F: FnOnce(&mut Encoder<'_>) -> Result<(), EncodeError>>(
 ) -> Result<(), EncodeError>
     requires callable { F.IsAlwaysCallable f }
     requires orderly { IsOrderly false (Promise F.FnOnce f) }
-    ensures done { OnOk result ((frame : Frame) × (o : Octets) × RanInScope (Promise F.FnOnce f) false extensible frame o × (output.new.items ≡ output.old.items ++ sequence_octets frame o)) }
+    ensures done { OnOk result ((frame : WriteFrame) × (o : Octets) × RanInScope (Promise F.FnOnce f) false extensible frame o × (output.new.items ≡ output.old.items ++ sequence_octets frame o)) }
     ensures refused { IfErr result (λ x. WantsMemory x ⊎ Stopped (Promise F.FnOnce f) false extensible x) }
     ensures begins { BeginsWith output.old.items output.new.items }
 {
@@ -76,7 +76,7 @@ fn put_sequence<F: FnOnce(&mut Encoder<'_>) -> Result<(), EncodeError>>(
 ) -> Result<(), EncodeError>
     requires callable { F.IsAlwaysCallable f }
     requires orderly { IsOrderly false (Promise F.FnOnce f) }
-    ensures done { OnOk result ((frame : Frame) × (o : Octets) × RanInScope (Promise F.FnOnce f) false extensible frame o × (output.new.items ≡ output.old.items ++ sequence_octets frame o)) }
+    ensures done { OnOk result ((frame : WriteFrame) × (o : Octets) × RanInScope (Promise F.FnOnce f) false extensible frame o × (output.new.items ≡ output.old.items ++ sequence_octets frame o)) }
     ensures refused { IfErr result (λ x. WantsMemory x ⊎ Stopped (Promise F.FnOnce f) false extensible x) }
     ensures unchanged { OnErr result (output.new.items ≡ output.old.items) }
 {

@@ -4,12 +4,12 @@ ghost use Rattle.asn1_core.specs.Octets.{Octets};
 ghost use Rattle.asn1_core.specs.declared.error.EncodeErrorKind.TheVariants.{OutOfMemory};
 ghost use Rattle.oer_spec.specs.Places.{bodies, by_tag, presence};
 ghost use Rattle.oer_spec.specs.Tree.{Rows, Struct};
-ghost use Rattle.oer_spec.specs.Writing.{Appends, BeginsWith};
+ghost use Rattle.oer_spec.specs.Writing.{AppendsOrMemory, BeginsWith};
 ghost use Rattle.oer_write.specs.Kept.{item};
 ghost use Rattle.oer_write.specs.Rows.{IsKnownToWriteSet};
 ghost use Rattle.oer_write.specs.Scopes.{Promise, IsOrderly, IsSameInAnyOrder, RanInScope, SetClosed, Stopped, Broken, set_octets};
 ghost use Rattle.oer_write.specs.Seen.{frame_of};
-ghost use Rattle.oer_write.specs.Written.{Frame, Encodes, Refused, WantsMemory};
+ghost use Rattle.oer_write.specs.Written.{WriteFrame, Encodes, Refused, WantsMemory};
 
 use crate::bits::Bits;
 use crate::component::{Component, Components, body_of};
@@ -65,7 +65,7 @@ impl Scope {
         out: &mut Vec<u8>,
     ) -> Result<(), EncodeErrorKind>
         requires { self.old.is_set ≡ true }
-        ensures { (o : Octets) → Appends result (set_octets (frame_of o self.old)) out.old.items out.new.items }
+        ensures { (o : Octets) → AppendsOrMemory result (set_octets (frame_of o self.old)) out.old.items out.new.items }
     {
         let Components { mut places, octets } = std::mem::replace(
             &mut self.components,
@@ -89,7 +89,7 @@ fn write_set<F: FnOnce(&mut Encoder<'_>) -> Result<(), EncodeError>>(
 ) -> Result<(), EncodeError>
     requires callable { F.IsAlwaysCallable f }
     requires orderly { IsOrderly true (Promise F.FnOnce f) }
-    ensures done { OnOk result ((frame : Frame) × (o : Octets) × RanInScope (Promise F.FnOnce f) true extensible frame o × (output.new.items ≡ output.old.items ++ set_octets frame)) }
+    ensures done { OnOk result ((frame : WriteFrame) × (o : Octets) × RanInScope (Promise F.FnOnce f) true extensible frame o × (output.new.items ≡ output.old.items ++ set_octets frame)) }
     ensures refused { IfErr result (λ x. WantsMemory x ⊎ Stopped (Promise F.FnOnce f) true extensible x) }
     ensures begins { BeginsWith output.old.items output.new.items }
 {
@@ -115,7 +115,7 @@ fn put_set<F: FnOnce(&mut Encoder<'_>) -> Result<(), EncodeError>>(
 ) -> Result<(), EncodeError>
     requires callable { F.IsAlwaysCallable f }
     requires orderly { IsOrderly true (Promise F.FnOnce f) }
-    ensures done { OnOk result ((frame : Frame) × (o : Octets) × RanInScope (Promise F.FnOnce f) true extensible frame o × (output.new.items ≡ output.old.items ++ set_octets frame)) }
+    ensures done { OnOk result ((frame : WriteFrame) × (o : Octets) × RanInScope (Promise F.FnOnce f) true extensible frame o × (output.new.items ≡ output.old.items ++ set_octets frame)) }
     ensures refused { IfErr result (λ x. WantsMemory x ⊎ Stopped (Promise F.FnOnce f) true extensible x) }
     ensures unchanged { OnErr result (output.new.items ≡ output.old.items) }
 {

@@ -3,7 +3,7 @@ ghost use Rattle.std.specs.Prelude.{◌≡◌, None, OnOk, IfErr};
 ghost use Rattle.asn1_core.specs.Bounds.{size_bounds};
 ghost use Rattle.asn1_core.specs.Texts.{AnyOctets, Utf8, Visible, General, Graphic, Ia5, Printable, Numeric, Teletex, Bmp};
 ghost use Rattle.oer_spec.specs.Spelled.{bit_string, text, unsized_text};
-ghost use Rattle.oer_spec.specs.Tree.{Bits, Text, Written};
+ghost use Rattle.oer_spec.specs.Tree.{Bits, Text, InOctets};
 ghost use Rattle.oer_write.specs.Written.{Encodes, Refused, RefusedLeaf};
 
 use crate::encoder::Encoder;
@@ -56,7 +56,7 @@ impl<'buffer> Encoder<'buffer> {
         value: &[u8],
     ) -> Result<(), EncodeError>
         ensures done { OnOk result (Encodes (text AnyOctets constraints value.now) self.old self.new) }
-        ensures refused { IfErr result (λ x. RefusedLeaf (Text AnyOctets (size_bounds constraints) (Written value.now)) x self.old self.new) }
+        ensures refused { IfErr result (λ x. RefusedLeaf (Text AnyOctets (size_bounds constraints) (InOctets value.now)) x self.old self.new) }
         ensures law { IfErr result (λ x. Refused (text AnyOctets constraints value.now) x self.old self.new) }
     {
         self.put_octets(constraints, value)
@@ -65,7 +65,7 @@ impl<'buffer> Encoder<'buffer> {
     #[tactic(auto, using(crate::proofs::Regions::more_around, crate::proofs::Regions::more_within), unfolding(oer_spec::specs::Spelled::text, oer_spec::specs::Encoding::canonical_octets, oer_spec::specs::Encoding::fails))]
     fn put_octets(&mut self, constraints: Constraints, value: &[u8]) -> Result<(), EncodeError>
         ensures done { OnOk result (Encodes (text AnyOctets constraints value.now) self.old self.new) }
-        ensures refused { IfErr result (λ x. RefusedLeaf (Text AnyOctets (size_bounds constraints) (Written value.now)) x self.old self.new) }
+        ensures refused { IfErr result (λ x. RefusedLeaf (Text AnyOctets (size_bounds constraints) (InOctets value.now)) x self.old self.new) }
     {
         write_octet_string(constraints, value, &mut *self.output)?;
         Ok(())
@@ -76,7 +76,7 @@ impl<'buffer> Encoder<'buffer> {
     /// More than `usize::MAX / 8` octets are refused by `LengthExceedsPlatformSize`.
     pub fn encode_any(&mut self, _tag: Tag, value: &Any) -> Result<(), EncodeError>
         ensures done { OnOk result (Encodes (unsized_text AnyOctets value.now) self.old self.new) }
-        ensures refused { IfErr result (λ x. RefusedLeaf (Text AnyOctets None (Written value.now)) x self.old self.new) }
+        ensures refused { IfErr result (λ x. RefusedLeaf (Text AnyOctets None (InOctets value.now)) x self.old self.new) }
         ensures law { IfErr result (λ x. Refused (unsized_text AnyOctets value.now) x self.old self.new) }
     {
         self.put_any(value)
@@ -85,7 +85,7 @@ impl<'buffer> Encoder<'buffer> {
     #[tactic(auto, using(crate::proofs::Regions::more_around, crate::proofs::Regions::more_within), unfolding(oer_spec::specs::Spelled::unsized_text, oer_spec::specs::Encoding::canonical_octets, oer_spec::specs::Encoding::fails))]
     fn put_any(&mut self, value: &Any) -> Result<(), EncodeError>
         ensures done { OnOk result (Encodes (unsized_text AnyOctets value.now) self.old self.new) }
-        ensures refused { IfErr result (λ x. RefusedLeaf (Text AnyOctets None (Written value.now)) x self.old self.new) }
+        ensures refused { IfErr result (λ x. RefusedLeaf (Text AnyOctets None (InOctets value.now)) x self.old self.new) }
     {
         write_any(value.as_bytes(), &mut *self.output)?;
         Ok(())
@@ -103,7 +103,7 @@ impl<'buffer> Encoder<'buffer> {
         value: &str,
     ) -> Result<(), EncodeError>
         ensures done { OnOk result (Encodes (text Utf8 constraints value.now) self.old self.new) }
-        ensures refused { IfErr result (λ x. RefusedLeaf (Text Utf8 (size_bounds constraints) (Written value.now)) x self.old self.new) }
+        ensures refused { IfErr result (λ x. RefusedLeaf (Text Utf8 (size_bounds constraints) (InOctets value.now)) x self.old self.new) }
         ensures law { IfErr result (λ x. Refused (text Utf8 constraints value.now) x self.old self.new) }
     {
         self.put_utf8(constraints, value)
@@ -112,7 +112,7 @@ impl<'buffer> Encoder<'buffer> {
     #[tactic(auto, using(crate::proofs::Regions::more_around, crate::proofs::Regions::more_within), unfolding(oer_spec::specs::Spelled::text, oer_spec::specs::Encoding::canonical_octets, oer_spec::specs::Encoding::fails))]
     fn put_utf8(&mut self, constraints: Constraints, value: &str) -> Result<(), EncodeError>
         ensures done { OnOk result (Encodes (text Utf8 constraints value.now) self.old self.new) }
-        ensures refused { IfErr result (λ x. RefusedLeaf (Text Utf8 (size_bounds constraints) (Written value.now)) x self.old self.new) }
+        ensures refused { IfErr result (λ x. RefusedLeaf (Text Utf8 (size_bounds constraints) (InOctets value.now)) x self.old self.new) }
     {
         write_utf8(constraints, value, &mut *self.output)?;
         Ok(())
@@ -130,7 +130,7 @@ impl<'buffer> Encoder<'buffer> {
         value: &VisibleString,
     ) -> Result<(), EncodeError>
         ensures done { OnOk result (Encodes (text Visible constraints value.now) self.old self.new) }
-        ensures refused { IfErr result (λ x. RefusedLeaf (Text Visible (size_bounds constraints) (Written value.now)) x self.old self.new) }
+        ensures refused { IfErr result (λ x. RefusedLeaf (Text Visible (size_bounds constraints) (InOctets value.now)) x self.old self.new) }
         ensures law { IfErr result (λ x. Refused (text Visible constraints value.now) x self.old self.new) }
     {
         self.put_text::<VisibleCharacters>(constraints, value)
@@ -148,7 +148,7 @@ impl<'buffer> Encoder<'buffer> {
         value: &GeneralString,
     ) -> Result<(), EncodeError>
         ensures done { OnOk result (Encodes (text General constraints value.now) self.old self.new) }
-        ensures refused { IfErr result (λ x. RefusedLeaf (Text General (size_bounds constraints) (Written value.now)) x self.old self.new) }
+        ensures refused { IfErr result (λ x. RefusedLeaf (Text General (size_bounds constraints) (InOctets value.now)) x self.old self.new) }
         ensures law { IfErr result (λ x. Refused (text General constraints value.now) x self.old self.new) }
     {
         self.put_text::<GeneralCharacters>(constraints, value)
@@ -166,7 +166,7 @@ impl<'buffer> Encoder<'buffer> {
         value: &GraphicString,
     ) -> Result<(), EncodeError>
         ensures done { OnOk result (Encodes (text Graphic constraints value.now) self.old self.new) }
-        ensures refused { IfErr result (λ x. RefusedLeaf (Text Graphic (size_bounds constraints) (Written value.now)) x self.old self.new) }
+        ensures refused { IfErr result (λ x. RefusedLeaf (Text Graphic (size_bounds constraints) (InOctets value.now)) x self.old self.new) }
         ensures law { IfErr result (λ x. Refused (text Graphic constraints value.now) x self.old self.new) }
     {
         self.put_text::<GraphicCharacters>(constraints, value)
@@ -184,7 +184,7 @@ impl<'buffer> Encoder<'buffer> {
         value: &Ia5String,
     ) -> Result<(), EncodeError>
         ensures done { OnOk result (Encodes (text Ia5 constraints value.now) self.old self.new) }
-        ensures refused { IfErr result (λ x. RefusedLeaf (Text Ia5 (size_bounds constraints) (Written value.now)) x self.old self.new) }
+        ensures refused { IfErr result (λ x. RefusedLeaf (Text Ia5 (size_bounds constraints) (InOctets value.now)) x self.old self.new) }
         ensures law { IfErr result (λ x. Refused (text Ia5 constraints value.now) x self.old self.new) }
     {
         self.put_text::<Ia5Characters>(constraints, value)
@@ -202,7 +202,7 @@ impl<'buffer> Encoder<'buffer> {
         value: &PrintableString,
     ) -> Result<(), EncodeError>
         ensures done { OnOk result (Encodes (text Printable constraints value.now) self.old self.new) }
-        ensures refused { IfErr result (λ x. RefusedLeaf (Text Printable (size_bounds constraints) (Written value.now)) x self.old self.new) }
+        ensures refused { IfErr result (λ x. RefusedLeaf (Text Printable (size_bounds constraints) (InOctets value.now)) x self.old self.new) }
         ensures law { IfErr result (λ x. Refused (text Printable constraints value.now) x self.old self.new) }
     {
         self.put_text::<PrintableCharacters>(constraints, value)
@@ -220,7 +220,7 @@ impl<'buffer> Encoder<'buffer> {
         value: &NumericString,
     ) -> Result<(), EncodeError>
         ensures done { OnOk result (Encodes (text Numeric constraints value.now) self.old self.new) }
-        ensures refused { IfErr result (λ x. RefusedLeaf (Text Numeric (size_bounds constraints) (Written value.now)) x self.old self.new) }
+        ensures refused { IfErr result (λ x. RefusedLeaf (Text Numeric (size_bounds constraints) (InOctets value.now)) x self.old self.new) }
         ensures law { IfErr result (λ x. Refused (text Numeric constraints value.now) x self.old self.new) }
     {
         self.put_text::<NumericCharacters>(constraints, value)
@@ -238,7 +238,7 @@ impl<'buffer> Encoder<'buffer> {
         value: &TeletexString,
     ) -> Result<(), EncodeError>
         ensures done { OnOk result (Encodes (text Teletex constraints value.now) self.old self.new) }
-        ensures refused { IfErr result (λ x. RefusedLeaf (Text Teletex (size_bounds constraints) (Written value.now)) x self.old self.new) }
+        ensures refused { IfErr result (λ x. RefusedLeaf (Text Teletex (size_bounds constraints) (InOctets value.now)) x self.old self.new) }
         ensures law { IfErr result (λ x. Refused (text Teletex constraints value.now) x self.old self.new) }
     {
         self.put_text::<TeletexCharacters>(constraints, value)
@@ -256,7 +256,7 @@ impl<'buffer> Encoder<'buffer> {
         value: &BmpString,
     ) -> Result<(), EncodeError>
         ensures done { OnOk result (Encodes (text Bmp constraints value.now) self.old self.new) }
-        ensures refused { IfErr result (λ x. RefusedLeaf (Text Bmp (size_bounds constraints) (Written value.now)) x self.old self.new) }
+        ensures refused { IfErr result (λ x. RefusedLeaf (Text Bmp (size_bounds constraints) (InOctets value.now)) x self.old self.new) }
         ensures law { IfErr result (λ x. Refused (text Bmp constraints value.now) x self.old self.new) }
     {
         self.put_text::<BmpCharacters>(constraints, value)
@@ -269,7 +269,7 @@ impl<'buffer> Encoder<'buffer> {
         value: &RestrictedString<C>,
     ) -> Result<(), EncodeError>
         ensures done { OnOk result (Encodes (text C.rule constraints value.now) self.old self.new) }
-        ensures refused { IfErr result (λ x. RefusedLeaf (Text C.rule (size_bounds constraints) (Written value.now)) x self.old self.new) }
+        ensures refused { IfErr result (λ x. RefusedLeaf (Text C.rule (size_bounds constraints) (InOctets value.now)) x self.old self.new) }
     {
         write_text(constraints, value, &mut *self.output)?;
         Ok(())

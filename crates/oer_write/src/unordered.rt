@@ -7,7 +7,7 @@ ghost use Rattle.oer_spec.specs.Failures.{Fails};
 ghost use Rattle.oer_spec.specs.Lengths.{quantity_octets};
 ghost use Rattle.oer_spec.specs.Places.{sorted};
 ghost use Rattle.oer_spec.specs.Spelled.{list_of, EachValue};
-ghost use Rattle.oer_spec.specs.Writing.{Appends, BeginsWith};
+ghost use Rattle.oer_spec.specs.Writing.{AppendsOrMemory, BeginsWith};
 ghost use Rattle.oer_write.specs.Lists.{IsByFirst};
 ghost use Rattle.oer_write.specs.Unordered.{octets_in, parts, Gathered, OneMore, OneRefused, IsSameInAnyWalk};
 ghost use Rattle.oer_write.specs.Written.{append, Keeps, Encodes, Refused};
@@ -137,7 +137,7 @@ fn write_contents(
     count: usize,
     out: &mut Vec<u8>,
 ) -> Result<(), EncodeErrorKind>
-    ensures { Appends result (quantity_octets count ++ joined (map octets_in contents.now)) out.old.items out.new.items }
+    ensures { AppendsOrMemory result (quantity_octets count ++ joined (map octets_in contents.now)) out.old.items out.new.items }
 {
     write_quantity(count, out)?;
     put_contents(contents, out)

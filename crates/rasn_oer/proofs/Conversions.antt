@@ -13,7 +13,7 @@ use Rattle.oer_spec.specs.Same.{Same}
 use Rattle.oer_spec.specs.Tree.{Tree}
 use Rattle.oer_spec.specs.Versions.{Drops, Lacks}
 use Rattle.rasn_oer.specs.Conversions.{Canonicalised, ReadAsOlder, NoneIsOlder, ReadAsNewer, NoneIsNewer}
-use Rattle.rasn_oer.specs.Headline.{is_settled, Begins, Decoded, HasNone, Written}
+use Rattle.rasn_oer.specs.Headline.{is_settled, Begins, Decoded, HasNone, Encoded}
 use Rattle.rasn_oer.proofs.Entries.{written_in}
 
 module _ {A : Type 0} (tree : A → Tree) (IsValue : A → Type 0) (is_tree : (v : A) → IsValue v → IsTree (tree v)) where
@@ -21,7 +21,7 @@ module _ {A : Type 0} (tree : A → Tree) (IsValue : A → Type 0) (is_tree : (v
   shallow : (d : ℕ) (input : Octets) (v : A) (rest : Octets) → Decoded tree IsValue Oer d input v rest → levels (tree v) ≤ d
   shallow d input v rest k = form_levels (tree v) Lenient d k.taken k.begins.spells
 
-  pub canonicalised : (d : ℕ) (input octets rest : Octets) (v : A) → Decoded tree IsValue Oer d input v rest → Written tree IsValue v octets → Canonicalised tree IsValue d input octets rest
+  pub canonicalised : (d : ℕ) (input octets rest : Octets) (v : A) → Decoded tree IsValue Oer d input v rest → Encoded tree IsValue v octets → Canonicalised tree IsValue d input octets rest
   canonicalised d input octets rest v k w = record {
     value = v;
     read = k;
@@ -41,7 +41,7 @@ lifted_in Coer t n d i j k f g l = lift t n d i j k f g l
 lifted_in Oer t n d i j k f g l = canonical_within_lenient n d (canonical_octets t) (lift t n d i j k f g l)
 
 module _ {A B : Type 0} (newer : A → Tree) (IsNewer : A → Type 0) (is_newer : (v : A) → IsNewer v → IsTree (newer v)) (older : B → Tree) (IsOlder : B → Type 0) (m : Codec) (d : ℕ) (n : A) where
-  pub read_as_older : (octets rest : Octets) (v : B) → Written newer IsNewer n octets → Decoded older IsOlder m d octets v rest → ReadAsOlder newer IsNewer older IsOlder m d n v
+  pub read_as_older : (octets rest : Octets) (v : B) → Encoded newer IsNewer n octets → Decoded older IsOlder m d octets v rest → ReadAsOlder newer IsNewer older IsOlder m d n v
   read_as_older octets rest v w k' =
       let k : Decoded older IsOlder m d (canonical_octets (newer n)) v rest = subst (λ o. Decoded older IsOlder m d o v rest) w.octets_are k' in
       record {
@@ -53,7 +53,7 @@ module _ {A B : Type 0} (newer : A → Tree) (IsNewer : A → Type 0) (is_newer 
             (k.newer_sender (newer n) t (canonical_octets (newer n)) [] (is_newer n w.value) i f (sym (append-nil (canonical_octets (newer n)))) (written_in m (newer n) d (is_newer n w.value) w.encodable l)).2;
       }
 
-  pub none_is_older : (octets : Octets) → Written newer IsNewer n octets → HasNone older IsOlder m d octets → NoneIsOlder newer IsNewer older IsOlder m d n
+  pub none_is_older : (octets : Octets) → Encoded newer IsNewer n octets → HasNone older IsOlder m d octets → NoneIsOlder newer IsNewer older IsOlder m d n
   none_is_older octets w k' =
       let k : HasNone older IsOlder m d (canonical_octets (newer n)) = subst (λ o. HasNone older IsOlder m d o) w.octets_are k' in
       record {
@@ -73,7 +73,7 @@ module _ {A B : Type 0} (older : A → Tree) (IsOlder : A → Type 0) (is_older 
     spells = lifted_in m (older t) (newer n) d (is_older t i) (is_newer n j) k f g l;
   }
 
-  pub read_as_newer : (octets rest : Octets) (v : B) → Written older IsOlder t octets → Decoded newer IsNewer m d octets v rest → ReadAsNewer older IsOlder newer IsNewer m d t v
+  pub read_as_newer : (octets rest : Octets) (v : B) → Encoded older IsOlder t octets → Decoded newer IsNewer m d octets v rest → ReadAsNewer older IsOlder newer IsNewer m d t v
   read_as_newer octets rest v w k' =
       let k : Decoded newer IsNewer m d (canonical_octets (older t)) v rest = subst (λ o. Decoded newer IsNewer m d o v rest) w.octets_are k' in
       record {
@@ -84,7 +84,7 @@ module _ {A B : Type 0} (older : A → Tree) (IsOlder : A → Type 0) (is_older 
         same = λ n j g h l. (k.only n (canonical_octets (older t)) [] (lifted n w.value j w.encodable g h l)).2;
       }
 
-  pub none_is_newer : (octets : Octets) → Written older IsOlder t octets → HasNone newer IsNewer m d octets → NoneIsNewer older IsOlder newer IsNewer m d t
+  pub none_is_newer : (octets : Octets) → Encoded older IsOlder t octets → HasNone newer IsNewer m d octets → NoneIsNewer older IsOlder newer IsNewer m d t
   none_is_newer octets w k' =
       let k : HasNone newer IsNewer m d (canonical_octets (older t)) = subst (λ o. HasNone newer IsNewer m d o) w.octets_are k' in
       record {

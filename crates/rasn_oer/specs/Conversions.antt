@@ -11,7 +11,7 @@ use Rattle.oer_spec.specs.Encoding.{IsEncodable, canonical_octets, levels}
 use Rattle.oer_spec.specs.Same.{Same}
 use Rattle.oer_spec.specs.Tree.{Tree}
 use Rattle.oer_spec.specs.Versions.{Drops, Lacks}
-use Rattle.rasn_oer.specs.Headline.{is_settled, Begins, Decoded, HasNone, NotRead, NotWritten, Written}
+use Rattle.rasn_oer.specs.Headline.{is_settled, Begins, Decoded, HasNone, NotRead, NotWritten, Encoded}
 use Rattle.rasn_oer.specs.declared.codec_error.CodecError.{CodecError}
 use Rattle.rasn_oer.specs.declared.codec_error.CodecError.TheVariants.{Decode, Encode}
 
@@ -20,11 +20,11 @@ module _ {A : Type 0} (tree : A → Tree) (IsValue : A → Type 0) where
   pub record Canonicalised (d : ℕ) (input octets rest : Octets) : Type 0 where
     pub value : A
     pub read : Decoded tree IsValue Oer d input value rest
-    pub written : Written tree IsValue value octets
+    pub written : Encoded tree IsValue value octets
     -- canonical reading takes them as an encoding of that value, whatever follows
     pub canonical : (r : Octets) → Begins tree IsValue Coer d (octets ++ r) value octets r
     -- to do it again changes nothing
-    pub again : (w : A) (r o s : Octets) → Decoded tree IsValue Oer d (octets ++ r) w s → Written tree IsValue w o → (o ≡ octets) × (s ≡ r)
+    pub again : (w : A) (r o s : Octets) → Decoded tree IsValue Oer d (octets ++ r) w s → Encoded tree IsValue w o → (o ≡ octets) × (s ≡ r)
     -- what canonical reading takes is that value, with the same rest
     pub accepted : (w : A) (o r : Octets) → Begins tree IsValue Coer d input w o r → (r ≡ rest) × Same (tree value) (tree w)
 

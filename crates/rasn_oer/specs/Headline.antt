@@ -57,7 +57,7 @@ module _ {A : Type 0} (tree : A → Tree) (IsValue : A → Type 0) where
     pub written : (w : A) (r : Octets) → IsValue w → IsEncodable (tree w) → levels (tree w) ≤ d → input ≡ canonical_octets (tree w) ++ r → ⊥
 
   -- The canonical octets of a tree that can be written, of a value that the type admits.
-  pub record Written (v : A) (octets : Octets) : Type 0 where
+  pub record Encoded (v : A) (octets : Octets) : Type 0 where
     pub value : IsValue v
     pub encodable : IsEncodable (tree v)
     pub octets_are : octets ≡ canonical_octets (tree v)
@@ -86,7 +86,7 @@ module _ {A : Type 0} (tree : A → Tree) (IsValue : A → Type 0) where
 
   -- Writing answers exactly where the tree can be written.
   abbrev pub IsWritten : A → Result (Vec ℕ Global) EncodeError → Type 0
-  IsWritten v (Ok octets) = Written v octets.items
+  IsWritten v (Ok octets) = Encoded v octets.items
   IsWritten v (Err x) = NotWritten v x
 
   -- Reading answers a value exactly where the input begins with an encoding of one, and refuses exactly where it
@@ -100,7 +100,7 @@ module _ {A : Type 0} (tree : A → Tree) (IsValue : A → Type 0) where
   IsReadAlone m d input (Ok v) = (rest : Octets) × Decoded m d input v rest
   IsReadAlone m d input (Err e) = NotRead m d input e
 
-  -- Written behind what the buffer holds; after a refusal the buffer is as before.
+  -- Encoded behind what the buffer holds; after a refusal the buffer is as before.
   abbrev pub IsAppended : A → Octets → Result (Unit {0}) EncodeError → Octets → Type 0
-  IsAppended v old (Ok u) new = (octets : Octets) × (new ≡ old ++ octets) × Written v octets
+  IsAppended v old (Ok u) new = (octets : Octets) × (new ≡ old ++ octets) × Encoded v octets
   IsAppended v old (Err x) new = (new ≡ old) × NotWritten v x

@@ -2,7 +2,7 @@ use Rattle.std.proofs.Common.{◌∷◌, Bool, ap, ◌∙◌, subst, Err, List, 
 use Rattle.asn1_core.specs.Rows.{row}
 use Rattle.oer_leaf_read.specs.Views.{bits_left}
 use Rattle.oer_read.specs.Components.{asking, Inside}
-use Rattle.oer_read.specs.Law.{NoFront}
+use Rattle.oer_read.specs.Law.{NoEncoding}
 use Rattle.oer_read.specs.State.{Ask, State, asks_of}
 use Rattle.oer_read.proofs.decoder.Decoder.decode_optional_with_tag_and_constraints.Goals as goal
 
@@ -18,5 +18,5 @@ returns-in-Err-decode_with_tag_and_constraints g c =
           c.decode_with_tag_and_constraints.new.decoder
           (subst (λ (s : State). g.D.Decode.Answered c.args.constraints s (Err c.in-Err-decode_with_tag_and_constraints.e) c.decode_with_tag_and_constraints.new.decoder) left c.in-Err-decode_with_tag_and_constraints.ensures.answered)
           (refused.mode ∙ ap (λ (s : State). s.codec) left)
-          (λ m. subst (λ (s : State). NoFront (g.D.Spelled.tree c.args.constraints) g.D.Spelled.IsValue s) left (refused.none m));
+          (λ m. subst (λ (s : State). NoEncoding (g.D.Spelled.tree c.args.constraints) g.D.Spelled.IsValue s) left (refused.none m));
     }

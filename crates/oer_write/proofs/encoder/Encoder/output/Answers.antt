@@ -1,5 +1,5 @@
 use Rattle.std.proofs.Common.{◌≡◌, false, [], ◌∷◌, cond, ap, sym, ◌∙◌, rules}
-use Rattle.oer_write.specs.Written.{Written, closed}
+use Rattle.oer_write.specs.Written.{Written, no_scope}
 use Rattle.oer_write.proofs.Regions.{shut_around, shut_seen}
 use Rattle.oer_write.proofs.encoder.Encoder.output.Goals as goal
 
@@ -13,4 +13,4 @@ pub returns-clause-left : goal.returns-clause-left
 returns-clause-left c =
     let none : c.replace.new.dest.items ≡ [] = search rules in
     let shut : c.self.inside.scope.is_open ≡ false = ap (λ (w : Written). w.frame.is_open) c.self.view_is ∙ c.requires.shut in
-    shut_seen c.self.inside.scope (cond c.self.inside.is_lent (closed ∷ []) []) c.self.inside.output.now.items c.replace.new.dest.items c.self.invariant shut none ∙ ap (λ (w : Written). record w { octets = [] }) c.self.view_is
+    shut_seen c.self.inside.scope (cond c.self.inside.is_lent (no_scope ∷ []) []) c.self.inside.output.now.items c.replace.new.dest.items c.self.invariant shut none ∙ ap (λ (w : Written). record w { octets = [] }) c.self.view_is

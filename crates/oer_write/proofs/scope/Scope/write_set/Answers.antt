@@ -1,7 +1,7 @@
 use Rattle.std.proofs.Common.{◌≡◌, ◌++◌, [], map, sym, subst, ◌∙◌, rules}
 use Rattle.asn1_core.specs.Octets.{Octets, pack}
 use Rattle.oer_spec.specs.Places.{bodies, extension_bit, presence}
-use Rattle.oer_spec.specs.Writing.{Appends}
+use Rattle.oer_spec.specs.Writing.{AppendsOrMemory}
 use Rattle.oer_write.specs.Kept.{item}
 use Rattle.oer_write.specs.Scopes.{any_true, extension_of}
 use Rattle.oer_write.specs.Seen.{frame_of}
@@ -17,4 +17,4 @@ returns c = λ o.
     let rear : c.put_bodies.new.out.items ≡ c.write_preamble.new.out.items ++ bodies (map (item c.places.inside.octets.items) c.arrange.new.components.items) = search rules in
     set_written c.write_extension.result (frame_of o c.args.self.now) c.places.inside.places.items c.arrange.new.components.items c.places.inside.octets.items c.put_presence.new.bits c.args.out.now.items c.write_preamble.new.out.items c.put_bodies.new.out.items c.write_extension.new.out.items
     own (c.in_ok-arrange.ensures.done c.places.inside.octets.items) bits front rear
-    (subst (λ (x : Octets). Appends c.write_extension.result (extension_of c.args.self.now.bitmap x) c.put_bodies.new.out.items c.write_extension.new.out.items) (sym (apart o c.args.self.now c.requires)) c.write_extension.ensures)
+    (subst (λ (x : Octets). AppendsOrMemory c.write_extension.result (extension_of c.args.self.now.bitmap x) c.put_bodies.new.out.items c.write_extension.new.out.items) (sym (apart o c.args.self.now c.requires)) c.write_extension.ensures)
