@@ -88,12 +88,18 @@ outside_is z h = go (in_i128 z) h
     go true e = absurd cc
     go false e = refl
 
+none_outside : (z : ℤ) → in_i128 z ≡ false → None ≡ if_in_i128 z
+none_outside z h = rw h refl
+
 pub inside_is : (m z : ℤ) → Some m ≡ if_in_i128 z → m ≡ z
 inside_is m z h = go (in_i128 z) h
   where
     go : (b : Bool) → Some m ≡ cond b (Some z) None → m ≡ z
     go true e = cc
     go false e = absurd cc
+
+some_inside : (z : ℤ) → in_i128 z ≡ true → Some z ≡ if_in_i128 z
+some_inside z h = rw h refl
 
 -- the steps of the loop
 pub front_more : (negative : Bool) (xs : Octets) (i : ℕ) (n m : ℤ) → i < length xs → n ≡ in_complement negative (take i xs) → Some m ≡ if_in_i128 (n *ℤ pos 256 +ℤ pos (get_or xs i 0)) → m ≡ in_complement negative (take (i + 1) xs)

@@ -70,6 +70,15 @@ fixed_found codec n input rest b fits e =
     let strict : is_coer codec ≡ true → AllFalse (unused_bits (unused_for n) a.0.0) = λ z. all_unset (unused_for n) a.0.0 (few_unused n) enough octets (canonical_ok codec (has_set_fill (unused_for n) a.0.0) t.0 t.1 z) in
     (a.0.0, whole, record { octets = octets; unused = unused_bits (unused_for n) a.0.0; few = subst (λ z. z < 8) (sym size) (few_unused n); split = split; strict = strict_is codec strict }, count)
 
+fixed_again : (codec : Codec) (n : ℕ) (o rest : Octets) (b : List Bool) → Hold codec o b → length b ≡ n → fixed_bits_at n codec (o ++ rest) ≡ Ok (b, rest)
+unfolding fixed_bits_at
+fixed_again codec n o rest b h count =
+    let sizes = fewest_octets o b h.unused h.few h.split in
+    let size : length o ≡ octets_for n = sizes.0 ∙ ap octets_for count in
+    let unused : unused_for n ≡ length h.unused = sym (sizes.1 ∙ ap unused_for count) in
+    let fill : is_coer codec ≡ true → has_set_fill (length h.unused) o ≡ false = λ z. unset_again o b h.unused h.octets h.few h.split (strict_has codec h.strict z) in
+    rw (octets_again o rest (octets_for n) size, unused, canonical_again codec (has_set_fill (length h.unused) o) fill, front_is o b h.unused h.split) refl
+
 -- ---- behind a length
 -- the octets behind a length that isn't 0
 pub record IsContent (codec : Codec) (c : Octets) (b : List Bool) : Type 0 where

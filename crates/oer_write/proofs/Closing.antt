@@ -1,6 +1,6 @@
 -- How a scope whose additions lie in the output is closed.
 use Rattle.std.proofs.Common.{◌≡◌, ℕ, ◌+◌, ◌-◌, ◌≤◌, Bool, true, false, cond, not, ◌&&◌, List, [], ◌++◌, length, take, drop, refl, ap, ap₂, sym, ◌∙◌, ◌<◌, ◌^◌, Ok, arith, append-nil, length-append}
-use Rattle.std.proofs.lemmas.List.{take-append-le, drop-append-le, take-append-drop, length-take-le, take_all, drop_all, take-take}
+use Rattle.std.proofs.lemmas.List.{take-append-le, drop-append-le, take-append-drop, length-take-le, take_at, take_all, drop_all, take-take}
 use Rattle.asn1_core.specs.Octets.{Octets, pack}
 use Rattle.oer_spec.specs.Lengths.{counted_bits}
 use Rattle.oer_spec.specs.Places.{extension_bit}
@@ -77,6 +77,12 @@ sequence_closed s start size o mid new sequence h k e f =
     let b : drop (start + size) mid ≡ drop (start + size) (around s.region o) ++ ext = ap (drop (start + size)) e ∙ drop-append-le (start + size) (around s.region o) ext (front_long s.region o (start + size) h k) in
     f ∙ ap₂ (λ (x y : Octets). x ++ (header ++ y)) a b
     ∙ ap (λ (c : Bool). take start o ++ (header ++ (drop (start + size) (around s.region o) ++ extension_of s.bitmap (cond c (within s.region o) s.opens.items)))) (sym sequence)
+
+-- ---- what a closure leaves of the output
+pub begins_run : (r : Region) (old new : Octets) (seen : Octets) → around r new ≡ seen → BeginsWith old seen → length old ≤ r.start → r.start ≤ length new → BeginsWith old new
+begins_run r old new seen same b h k =
+    let whole : take (length old) new ≡ old = sym (front_of r new (length old) h k) ∙ ap (take (length old)) (same ∙ b.1) ∙ take_at old b.0 (length old) refl in
+    (drop (length old) new, sym (take-append-drop (length old) new) ∙ ap (λ (o : Octets). o ++ drop (length old) new) whole)
 
 -- ---- scopes
 
