@@ -1,12 +1,13 @@
 #!/usr/bin/env python3
 """Proves crates, each with those below it, ahead of the gate, without their must-fail edits.
 
-usage: ahead.py CRATE.., for example: ahead.py oer_types oergen
+usage: ahead.py CHAIN.., for example: ahead.py oer_spec,oer_write+oer_read,oer_types oergen
 
-Each crate and those below it are copied to a folder of their own, and `rt ci` runs there, all at the same time. It gives a proof
-the processors that no other task of its run asks for, and keeps beside the kit what it proved, which another run takes, the
-gate's own among them. So the proofs that wait for one another each get two processors or more; with edits and other crates in
-one run they get one. The exit status is 0 where each run's is.
+A chain names crates: with a comma in turn, with a plus side by side; chains run at the same time. Each crate and those below it
+are copied to a folder of their own, and `rt ci` runs there. It gives a proof the processors that no other task of its run asks
+for, and keeps beside the kit what it proved, which another run takes, the gate's own among them. So the proofs that wait for one
+another each get two processors or more; with edits and other crates in one run they get one. The exit status is 0 where each
+run's is.
 """
 import concurrent.futures
 import pathlib
@@ -46,9 +47,19 @@ def prove(name):
         return subprocess.run(["rt", "ci"], cwd=room, check=False).returncode
 
 
-def main(names):
+def beside(names, work):
+    """Does the work for each name at the same time; 0 where each answers 0."""
     with concurrent.futures.ThreadPoolExecutor(len(names)) as pool:
-        return 1 if any(pool.map(prove, names)) else 0
+        return 1 if any(list(pool.map(work, names))) else 0
+
+
+def chain(stages):
+    """Proves the stages of a chain in turn, up to the first that fails."""
+    return 1 if any(beside(stage.split("+"), prove) for stage in stages.split(",")) else 0
+
+
+def main(chains):
+    return beside(chains, chain)
 
 
 if __name__ == "__main__":

@@ -1,4 +1,7 @@
 //! A sequence with a component of each sort.
+ghost use Rattle.std.specs.Prelude.{refl, false, None, Some};
+ghost use Rattle.rasn_oer.specs.Bounded.{Single};
+ghost use Rattle.rasn_oer.specs.Values.{both};
 
 use rasn_oer::prelude::*;
 use std::alloc::Global;
@@ -7,9 +10,6 @@ use std::alloc::Global;
 pub struct OfThree;
 
 impl Limits for OfThree {
-    ghost use Rattle.std.specs.Prelude.{refl, false, None, Some};
-    ghost use Rattle.rasn_oer.specs.Bounded.{Single};
-
     ghost LIMITS = { record { value = None; size = Some (Single 3, false) } };
 
     const LIMITS: Constraints = Constraints {
@@ -44,8 +44,6 @@ type FromLevel = Defaults<Context<2>, Integer, IsNumber<5>, FromKey>;
 type FromKey = Needs<Context<3>, Key, Needs<Context<4>, ListOf<Octets>, NoMore>>;
 
 impl Rowed for MessageComponents {
-    ghost use Rattle.rasn_oer.specs.Values.{both};
-
     type Values = <MessageRow as Components>::Values;
 
     ghost EXTENSIBLE = { ⟦<MessageRow as Components>⟧.EXTENSIBLE };
@@ -70,14 +68,13 @@ impl Takes for MessageComponents {
 }
 
 impl Tabled<5, 0> for MessageComponents {
-    ghost use Rattle.std.specs.Prelude.{refl};
-
-    const FIELDS: Fields<5> = Fields {
-        fields: fields![
-            0 Required Context 0 "version", 1 Optional Context 1 "sent", 2 Default Context 2 "level",
-            3 Required Context 3 "key", 4 Required Context 4 "path"
-        ],
-    };
+    const FIELDS: Fields<5> = table![
+        0 Required Context 0 "version",
+        1 Optional Context 1 "sent",
+        2 Default Context 2 "level",
+        3 Required Context 3 "key",
+        4 Required Context 4 "path"
+    ];
 
     const EXTENDED_FIELDS: Option<Fields<0>> = None;
 
@@ -86,10 +83,7 @@ impl Tabled<5, 0> for MessageComponents {
     }
 
     fn addition_fields() -> &'static [Field<'static>] {
-        match Self::EXTENDED_FIELDS {
-            Some(table) => table.fields,
-            None => &[],
-        }
+        rows_of!(Self::EXTENDED_FIELDS)
     }
 
     fn put(&self, encoder: &mut Encoder<'_>) -> Result<(), EncodeError> {

@@ -1,4 +1,6 @@
 //! An extensible sequence: an addition, and a group.
+ghost use Rattle.rasn_oer.specs.Values.{both};
+ghost use Rattle.std.specs.Prelude.{refl};
 
 use rasn_oer::prelude::*;
 use std::alloc::Global;
@@ -16,8 +18,6 @@ pub struct ClosingComponents {
 type ClosingRow = Needs<Context<2>, bool, MayHave<Context<3>, u16, NoMore>>;
 
 impl Rowed for ClosingComponents {
-    ghost use Rattle.rasn_oer.specs.Values.{both};
-
     type Values = <ClosingRow as Components>::Values;
 
     ghost EXTENSIBLE = { ⟦<ClosingRow as Components>⟧.EXTENSIBLE };
@@ -44,11 +44,7 @@ impl Takes for ClosingComponents {
 }
 
 impl Tabled<2, 0> for ClosingComponents {
-    ghost use Rattle.std.specs.Prelude.{refl};
-
-    const FIELDS: Fields<2> = Fields {
-        fields: fields![0 Required Context 2 "last", 1 Optional Context 3 "count"],
-    };
+    const FIELDS: Fields<2> = table![0 Required Context 2 "last", 1 Optional Context 3 "count"];
 
     const EXTENDED_FIELDS: Option<Fields<0>> = None;
 
@@ -57,10 +53,7 @@ impl Tabled<2, 0> for ClosingComponents {
     }
 
     fn addition_fields() -> &'static [Field<'static>] {
-        match Self::EXTENDED_FIELDS {
-            Some(table) => table.fields,
-            None => &[],
-        }
+        rows_of!(Self::EXTENDED_FIELDS)
     }
 
     fn put(&self, encoder: &mut Encoder<'_>) -> Result<(), EncodeError> {
@@ -86,8 +79,6 @@ type NoticeRow = Needs<Context<0>, bool, Extensible<NoticeAdditions>>;
 type NoticeAdditions = MayAdd<Context<1>, Integer, MayAddGroup<2, 0, Closing, NoMore>>;
 
 impl Rowed for NoticeComponents {
-    ghost use Rattle.rasn_oer.specs.Values.{both};
-
     type Values = <NoticeRow as Components>::Values;
 
     ghost EXTENSIBLE = { ⟦<NoticeRow as Components>⟧.EXTENSIBLE };
@@ -112,25 +103,19 @@ impl Takes for NoticeComponents {
 }
 
 impl Tabled<1, 2> for NoticeComponents {
-    ghost use Rattle.std.specs.Prelude.{refl};
+    const FIELDS: Fields<1> = table![0 Required Context 0 "ok"];
 
-    const FIELDS: Fields<1> = Fields {
-        fields: fields![0 Required Context 0 "ok"],
-    };
-
-    const EXTENDED_FIELDS: Option<Fields<2>> = Some(Fields {
-        fields: fields![0 Optional Context 1 "level", 1 Optional Universal 16 "closing"],
-    });
+    const EXTENDED_FIELDS: Option<Fields<2>> = Some(table![
+        0 Optional Context 1 "level",
+        1 Optional Universal 16 "closing"
+    ]);
 
     fn root_fields() -> &'static [Field<'static>] {
         Self::FIELDS.fields
     }
 
     fn addition_fields() -> &'static [Field<'static>] {
-        match Self::EXTENDED_FIELDS {
-            Some(table) => table.fields,
-            None => &[],
-        }
+        rows_of!(Self::EXTENDED_FIELDS)
     }
 
     fn put(&self, encoder: &mut Encoder<'_>) -> Result<(), EncodeError> {

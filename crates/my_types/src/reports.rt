@@ -1,4 +1,6 @@
 //! A sequence of a component with a default, and an optional one.
+ghost use Rattle.rasn_oer.specs.Values.{both};
+ghost use Rattle.std.specs.Prelude.{refl};
 
 use rasn_oer::prelude::*;
 use std::alloc::Global;
@@ -16,8 +18,6 @@ pub struct ReportComponents {
 type ReportRow = Defaults<Context<0>, bool, IsFalse, MayHave<Context<1>, Integer, NoMore>>;
 
 impl Rowed for ReportComponents {
-    ghost use Rattle.rasn_oer.specs.Values.{both};
-
     type Values = <ReportRow as Components>::Values;
 
     ghost EXTENSIBLE = { ⟦<ReportRow as Components>⟧.EXTENSIBLE };
@@ -42,11 +42,7 @@ impl Takes for ReportComponents {
 }
 
 impl Tabled<2, 0> for ReportComponents {
-    ghost use Rattle.std.specs.Prelude.{refl};
-
-    const FIELDS: Fields<2> = Fields {
-        fields: fields![0 Default Context 0 "urgent", 1 Optional Context 1 "number"],
-    };
+    const FIELDS: Fields<2> = table![0 Default Context 0 "urgent", 1 Optional Context 1 "number"];
 
     const EXTENDED_FIELDS: Option<Fields<0>> = None;
 
@@ -55,10 +51,7 @@ impl Tabled<2, 0> for ReportComponents {
     }
 
     fn addition_fields() -> &'static [Field<'static>] {
-        match Self::EXTENDED_FIELDS {
-            Some(table) => table.fields,
-            None => &[],
-        }
+        rows_of!(Self::EXTENDED_FIELDS)
     }
 
     fn put(&self, encoder: &mut Encoder<'_>) -> Result<(), EncodeError> {

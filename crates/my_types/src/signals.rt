@@ -1,4 +1,6 @@
 //! A choice by the row of its alternatives.
+ghost use Rattle.std.specs.Prelude.{refl};
+ghost use Rattle.rasn_oer.specs.Alternative.{First, Rest};
 
 use rasn_oer::prelude::*;
 use std::alloc::Global;
@@ -23,8 +25,6 @@ const SIGNAL_ROOTS: &'static [Tag] = tags![Context 0, Context 1];
 const SIGNAL_ADDITIONS: &'static [Tag] = tags![Context 2];
 
 impl Alternating for SignalAlternatives {
-    ghost use Rattle.std.specs.Prelude.{refl};
-    ghost use Rattle.rasn_oer.specs.Alternative.{First, Rest};
     ghost use Rattle.my_types.specs.declared.signals.SignalAlternatives.TheVariants.{Busy, Level, Count};
 
     type Values = <SignalRow as Alternatives>::Values;

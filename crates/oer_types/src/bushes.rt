@@ -1,7 +1,10 @@
 //! A set with a list of itself.
-ghost use Rattle.std.specs.Prelude.{OnOk, IfErr};
+ghost use Rattle.std.specs.Prelude.{OnOk, IfErr, refl, ⊤};
 ghost use Rattle.oer_write.specs.Written.{Encodes, Refused};
 ghost use Rattle.asn1_core.specs.declared.constraints.TheConstants.Constraints.{NONE};
+ghost use Rattle.rasn_oer.specs.Values.{both};
+ghost use Rattle.asn1_core.specs.declared.tag.TheConstants.Tag.{SET};
+ghost use Rattle.rasn_oer.specs.Knots.{knot_tree, IsKnot, knot_typed, knot, knot_layers, layer, knot_layered};
 
 use rasn_oer::prelude::*;
 use std::alloc::Global;
@@ -27,8 +30,6 @@ const BUSH_FIELDS: &'static [Field<'static>] = fields![
 ];
 
 impl<K> KnotRowed<K> for BushComponents<K> {
-    ghost use Rattle.rasn_oer.specs.Values.{both};
-
     type KnotValues = <BushRow<K> as KnotRow<K>>::Values;
 
     ghost extended = { ⟦<BushRow<K> as KnotRow<K>>⟧.EXTENSIBLE };
@@ -43,8 +44,6 @@ impl<K> KnotRowed<K> for BushComponents<K> {
 }
 
 impl<K: Spelled> Rowed for BushComponents<K> {
-    ghost use Rattle.rasn_oer.specs.Values.{both};
-
     type Values = <BushRow<K> as Components>::Values;
 
     ghost EXTENSIBLE = { ⟦<BushRow<K> as Components>⟧.EXTENSIBLE };
@@ -57,7 +56,7 @@ impl<K: Spelled> Rowed for BushComponents<K> {
 
     ghost components = { λ v. both v.a (both v.b tt) };
 
-    fn from_row(row: <BushRow<K> as Components>::Values) -> BushComponents<K> {
+    fn from_row(row: Self::Values) -> Self {
         let Both(a, Both(b, ())) = row;
         BushComponents { a, b }
     }
@@ -80,8 +79,6 @@ impl<K: Spelled> TakesKnot<K> for BushComponents<K> {
 }
 
 impl<K: Encode> Tabled<2, 0> for BushComponents<K> {
-    ghost use Rattle.std.specs.Prelude.{refl};
-
     const FIELDS: Fields<2> = Fields {
         fields: BUSH_FIELDS,
     };
@@ -104,16 +101,10 @@ impl<K: Encode> Tabled<2, 0> for BushComponents<K> {
 }
 
 impl<K: Encode> InTagOrder<2, 0> for BushComponents<K> {
-    ghost use Rattle.std.specs.Prelude.{refl};
-
     ghost in_order = { refl };
 }
 
 impl AsnType for Bush {
-    ghost use Rattle.std.specs.Prelude.{refl};
-    ghost use Rattle.asn1_core.specs.declared.tag.TheConstants.Tag.{SET};
-    ghost use Rattle.asn1_core.specs.declared.constraints.TheConstants.Constraints.{NONE};
-
     ghost TAG = { SET };
 
     const TAG: Tag = Tag::SET;
@@ -126,7 +117,6 @@ impl AsnType for Bush {
 }
 
 impl Spelled for Bush {
-    ghost use Rattle.rasn_oer.specs.Knots.{knot_tree, IsKnot, knot_typed};
     ghost use Rattle.oer_types.specs.Bushes.{bush_smaller};
     ghost use Rattle.oer_types.specs.declared.bushes.Bush.{out-Bush, size-Bush};
 
@@ -140,7 +130,6 @@ impl Spelled for Bush {
 }
 
 impl Layered for Bush {
-    ghost use Rattle.rasn_oer.specs.Knots.{knot, knot_layers, layer};
     ghost use Rattle.oer_types.specs.Bushes.{bush_smaller};
     ghost use Rattle.oer_types.specs.declared.bushes.Bush.{out-Bush, size-Bush};
 
@@ -175,7 +164,6 @@ impl Encode for Bush {
 }
 
 impl Knot<BushContent<Bush>> for Bush {
-    ghost use Rattle.rasn_oer.specs.Knots.{knot_layered};
     ghost use Rattle.oer_types.specs.Bushes.{bush_smaller};
     ghost use Rattle.oer_types.specs.declared.bushes.Bush.{out-Bush, size-Bush};
 
@@ -189,8 +177,6 @@ impl Knot<BushContent<Bush>> for Bush {
 }
 
 impl Decode for Bush {
-    ghost use Rattle.std.specs.Prelude.{⊤};
-
     ghost Answered = { λ c s r t. ⊤ };
 
     fn decode_with_tag_and_constraints(

@@ -1,4 +1,6 @@
 //! Choices by the rows of their alternatives.
+ghost use Rattle.std.specs.Prelude.{refl};
+ghost use Rattle.oer_choices.specs.declared.alternatives.Either.TheVariants.{First, Rest};
 
 use rasn_oer::prelude::*;
 use std::alloc::Global;
@@ -72,8 +74,6 @@ const BOOL_ROOTS: &'static [Tag] = tags![Context 0, Context 2];
 const BOOL_ADDITIONS: &'static [Tag] = tags![Context 1];
 
 impl Alternating for PriorityAlternatives {
-    ghost use Rattle.std.specs.Prelude.{refl};
-    ghost use Rattle.oer_choices.specs.declared.alternatives.Either.TheVariants.{First, Rest};
     ghost use Rattle.oer_types.specs.declared.choices.PriorityAlternatives.TheVariants.{Normal, High, Medium};
 
     type Values = <PriorityRow as Alternatives>::Values;
@@ -123,8 +123,6 @@ impl TakesAlternative for PriorityAlternatives {
 }
 
 impl Alternating for WideAlternatives {
-    ghost use Rattle.std.specs.Prelude.{refl};
-    ghost use Rattle.oer_choices.specs.declared.alternatives.Either.TheVariants.{First, Rest};
     ghost use Rattle.oer_types.specs.declared.choices.WideAlternatives.TheVariants.{Normal, High, Medium};
 
     type Values = <WideRow as Alternatives>::Values;
@@ -174,8 +172,6 @@ impl TakesAlternative for WideAlternatives {
 }
 
 impl Alternating for OnlyAlternatives {
-    ghost use Rattle.std.specs.Prelude.{refl};
-    ghost use Rattle.oer_choices.specs.declared.alternatives.Either.TheVariants.{First};
     ghost use Rattle.oer_types.specs.declared.choices.OnlyAlternatives.TheVariants.{Only};
 
     type Values = <OnlyRow as Alternatives>::Values;
@@ -225,8 +221,6 @@ impl TakesAlternative for OnlyAlternatives {
 }
 
 impl Alternating for BoolAlternatives {
-    ghost use Rattle.std.specs.Prelude.{refl};
-    ghost use Rattle.oer_choices.specs.declared.alternatives.Either.TheVariants.{First, Rest};
     ghost use Rattle.oer_types.specs.declared.choices.BoolAlternatives.TheVariants.{A, C, B};
 
     type Values = <BoolRow as Alternatives>::Values;

@@ -1,4 +1,6 @@
 //! A sequence with an optional component that has constraints.
+ghost use Rattle.rasn_oer.specs.Values.{both};
+ghost use Rattle.std.specs.Prelude.{refl};
 
 use crate::components;
 use crate::wrappers::HashedId3;
@@ -11,8 +13,6 @@ pub type ConstrainedOptions = Sequence<components::ConstrainedOptions, 1, 0>;
 type ConstrainedOptionsRow = MayHave<Context<0>, HashedId3, NoMore>;
 
 impl Rowed for components::ConstrainedOptions {
-    ghost use Rattle.rasn_oer.specs.Values.{both};
-
     type Values = <ConstrainedOptionsRow as Components>::Values;
 
     ghost EXTENSIBLE = { ⟦<ConstrainedOptionsRow as Components>⟧.EXTENSIBLE };
@@ -25,9 +25,7 @@ impl Rowed for components::ConstrainedOptions {
 
     ghost components = { λ v. both v.a tt };
 
-    fn from_row(
-        Both(a, ()): <ConstrainedOptionsRow as Components>::Values,
-    ) -> components::ConstrainedOptions {
+    fn from_row(Both(a, ()): Self::Values) -> Self {
         components::ConstrainedOptions { a }
     }
 }
@@ -39,11 +37,7 @@ impl Takes for components::ConstrainedOptions {
 }
 
 impl Tabled<1, 0> for components::ConstrainedOptions {
-    ghost use Rattle.std.specs.Prelude.{refl};
-
-    const FIELDS: Fields<1> = Fields {
-        fields: fields![0 Optional Context 0 "a"],
-    };
+    const FIELDS: Fields<1> = table![0 Optional Context 0 "a"];
 
     const EXTENDED_FIELDS: Option<Fields<0>> = None;
 
@@ -52,10 +46,7 @@ impl Tabled<1, 0> for components::ConstrainedOptions {
     }
 
     fn addition_fields() -> &'static [Field<'static>] {
-        match Self::EXTENDED_FIELDS {
-            Some(table) => table.fields,
-            None => &[],
-        }
+        rows_of!(Self::EXTENDED_FIELDS)
     }
 
     fn put(&self, encoder: &mut Encoder<'_>) -> Result<(), EncodeError> {

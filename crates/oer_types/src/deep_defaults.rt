@@ -1,11 +1,14 @@
 //! A sequence whose default is as deep as what is read may be.
-ghost use Rattle.std.specs.Prelude.{◌≡◌, IfOk};
+ghost use Rattle.std.specs.Prelude.{◌≡◌, IfOk, false, refl, [], ⊤};
 ghost use Rattle.oer_spec.specs.Tree.{NoRows};
-ghost use Rattle.oer_types.specs.DeepDefaults.{deep_lists, deep_default_rows, deep_default_parts};
-ghost use Rattle.oer_types.specs.Nests.{nest_tree};
 ghost use Rattle.oer_rows.specs.Integers.{none_of};
 ghost use Rattle.oer_write.specs.Rows.{InSequence};
 ghost use Rattle.oer_read.specs.Parts.{NoParts, ReadsParts};
+ghost use Rattle.asn1_core.specs.declared.tag.TheConstants.Tag.{SEQUENCE};
+ghost use Rattle.asn1_core.specs.declared.constraints.TheConstants.Constraints.{NONE};
+ghost use Rattle.oer_spec.specs.Spelled.{IsAny};
+ghost use Rattle.oer_types.specs.DeepDefaults.{deep_lists, deep_default_rows, deep_default_parts};
+ghost use Rattle.oer_types.specs.Nests.{nest_tree};
 
 use crate::nests::Nest;
 use asn1_core::{
@@ -56,10 +59,6 @@ const DEEP_DEFAULT_FIELDS: &'static [Field<'static>] = &[Field {
 }];
 
 impl AsnType for DeepDefault {
-    ghost use Rattle.std.specs.Prelude.{false, refl};
-    ghost use Rattle.asn1_core.specs.declared.tag.TheConstants.Tag.{SEQUENCE};
-    ghost use Rattle.asn1_core.specs.declared.constraints.TheConstants.Constraints.{NONE};
-
     ghost TAG = { SEQUENCE };
 
     const TAG: Tag = Tag::SEQUENCE;
@@ -72,7 +71,6 @@ impl AsnType for DeepDefault {
 }
 
 impl Constructed<1, 0> for DeepDefault {
-    ghost use Rattle.std.specs.Prelude.{false, refl, []};
     ghost use Rattle.oer_types.specs.DeepDefaults.{deep_default_table};
 
     ghost is_set = { false };
@@ -106,7 +104,6 @@ impl Constructed<1, 0> for DeepDefault {
 }
 
 impl Spelled for DeepDefault {
-    ghost use Rattle.oer_spec.specs.Spelled.{IsAny};
     ghost use Rattle.oer_types.specs.DeepDefaults.{deep_default_tree, deep_default_is, deep_defaults_alike};
 
     ghost tree = { λ c v. deep_default_tree v };
@@ -152,8 +149,6 @@ impl Encode for DeepDefault {
 
 #[tactic(auto, using(oer_read::proofs::Reading::reading))]
 impl Decode for DeepDefault {
-    ghost use Rattle.std.specs.Prelude.{⊤};
-
     ghost Answered = { λ c s r t. ⊤ };
 
     fn decode_with_tag_and_constraints(

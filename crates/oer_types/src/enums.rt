@@ -1,4 +1,5 @@
 //! Enumerated types, by the lists of their values.
+ghost use Rattle.std.specs.Prelude.{pos, [], ◌∷◌, refl, negsuc};
 
 use rasn_oer::prelude::*;
 
@@ -24,7 +25,6 @@ pub enum Answer {
 }
 
 impl Numbered for Color {
-    ghost use Rattle.std.specs.Prelude.{pos, [], ◌∷◌, refl};
     ghost use Rattle.oer_types.specs.declared.enums.Color.TheVariants.{Red, Blue, Green};
 
     ghost number = { elim [ Red ↦ pos 5 | Blue ↦ pos 6 | Green ↦ pos 7 ] };
@@ -43,7 +43,6 @@ impl Numbered for Color {
 }
 
 impl Numbered for Answer {
-    ghost use Rattle.std.specs.Prelude.{pos, negsuc, [], ◌∷◌, refl};
     ghost use Rattle.oer_types.specs.declared.enums.Answer.TheVariants.{Yes, No};
 
     // -1000

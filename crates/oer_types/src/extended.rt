@@ -1,4 +1,6 @@
 //! An extensible sequence of many optional components and additions.
+ghost use Rattle.rasn_oer.specs.Values.{both};
+ghost use Rattle.std.specs.Prelude.{refl};
 
 use crate::components;
 use rasn_oer::prelude::*;
@@ -41,8 +43,6 @@ type FromInteger4 = MayAdd<
 >;
 
 impl Rowed for components::ExtendedOptional {
-    ghost use Rattle.rasn_oer.specs.Values.{both};
-
     type Values = <ExtendedRow as Components>::Values;
 
     ghost EXTENSIBLE = { ⟦<ExtendedRow as Components>⟧.EXTENSIBLE };
@@ -55,7 +55,7 @@ impl Rowed for components::ExtendedOptional {
 
     ghost components = { λ v. both v.value (both v.integer1 (both v.octet1 (both v.integer2 (both v.octet2 (both v.integer3 (both v.octet3 (both v.integer4 (both v.octet4 (both v.integer5 (both v.octet5 tt)))))))))) };
 
-    fn from_row(row: <ExtendedRow as Components>::Values) -> components::ExtendedOptional {
+    fn from_row(row: Self::Values) -> Self {
         let pairs![
             value, integer1, octet1, integer2, octet2, integer3, octet3, integer4, octet4,
             integer5, octet5
@@ -83,30 +83,29 @@ impl Takes for components::ExtendedOptional {
 }
 
 impl Tabled<7, 4> for components::ExtendedOptional {
-    ghost use Rattle.std.specs.Prelude.{refl};
+    const FIELDS: Fields<7> = table![
+        0 Required Context 0 "value",
+        1 Optional Context 1 "integer1",
+        2 Optional Context 2 "octet1",
+        3 Optional Context 3 "integer2",
+        4 Optional Context 4 "octet2",
+        5 Optional Context 5 "integer3",
+        6 Optional Context 6 "octet3"
+    ];
 
-    const FIELDS: Fields<7> = Fields {
-        fields: fields![
-    0 Required Context 0 "value", 1 Optional Context 1 "integer1", 2 Optional Context 2 "octet1", 3 Optional Context 3 "integer2",
-    4 Optional Context 4 "octet2", 5 Optional Context 5 "integer3", 6 Optional Context 6 "octet3"
-],
-    };
-
-    const EXTENDED_FIELDS: Option<Fields<4>> = Some(Fields {
-        fields: fields![
-    0 Optional Context 7 "integer4", 1 Optional Context 8 "octet4", 2 Optional Context 9 "integer5", 3 Optional Context 10 "octet5"
-],
-    });
+    const EXTENDED_FIELDS: Option<Fields<4>> = Some(table![
+        0 Optional Context 7 "integer4",
+        1 Optional Context 8 "octet4",
+        2 Optional Context 9 "integer5",
+        3 Optional Context 10 "octet5"
+    ]);
 
     fn root_fields() -> &'static [Field<'static>] {
         Self::FIELDS.fields
     }
 
     fn addition_fields() -> &'static [Field<'static>] {
-        match Self::EXTENDED_FIELDS {
-            Some(table) => table.fields,
-            None => &[],
-        }
+        rows_of!(Self::EXTENDED_FIELDS)
     }
 
     fn put(&self, encoder: &mut Encoder<'_>) -> Result<(), EncodeError> {

@@ -1,4 +1,6 @@
 //! Extensible sequences: what a newer version added stands behind an extension bitmap, each addition as an open type.
+ghost use Rattle.rasn_oer.specs.Values.{both};
+ghost use Rattle.std.specs.Prelude.{refl};
 
 use crate::components;
 use rasn_oer::prelude::*;
@@ -10,8 +12,6 @@ pub type Sequence1 = Sequence<components::Sequence1, 1, 0>;
 type Sequence1Row = Needs<Context<0>, bool, Extensible<NoMore>>;
 
 impl Rowed for components::Sequence1 {
-    ghost use Rattle.rasn_oer.specs.Values.{both};
-
     type Values = <Sequence1Row as Components>::Values;
 
     ghost EXTENSIBLE = { ⟦<Sequence1Row as Components>⟧.EXTENSIBLE };
@@ -24,7 +24,7 @@ impl Rowed for components::Sequence1 {
 
     ghost components = { λ v. both v.a tt };
 
-    fn from_row(Both(a, ()): <Sequence1Row as Components>::Values) -> components::Sequence1 {
+    fn from_row(Both(a, ()): Self::Values) -> Self {
         components::Sequence1 { a }
     }
 }
@@ -36,23 +36,16 @@ impl Takes for components::Sequence1 {
 }
 
 impl Tabled<1, 0> for components::Sequence1 {
-    ghost use Rattle.std.specs.Prelude.{refl};
+    const FIELDS: Fields<1> = table![0 Required Context 0 "a"];
 
-    const FIELDS: Fields<1> = Fields {
-        fields: fields![0 Required Context 0 "a"],
-    };
-
-    const EXTENDED_FIELDS: Option<Fields<0>> = Some(Fields { fields: fields![] });
+    const EXTENDED_FIELDS: Option<Fields<0>> = Some(table![]);
 
     fn root_fields() -> &'static [Field<'static>] {
         Self::FIELDS.fields
     }
 
     fn addition_fields() -> &'static [Field<'static>] {
-        match Self::EXTENDED_FIELDS {
-            Some(table) => table.fields,
-            None => &[],
-        }
+        rows_of!(Self::EXTENDED_FIELDS)
     }
 
     fn put(&self, encoder: &mut Encoder<'_>) -> Result<(), EncodeError> {
@@ -72,8 +65,6 @@ type Sequence2Row = Needs<
 >;
 
 impl Rowed for components::Sequence2 {
-    ghost use Rattle.rasn_oer.specs.Values.{both};
-
     type Values = <Sequence2Row as Components>::Values;
 
     ghost EXTENSIBLE = { ⟦<Sequence2Row as Components>⟧.EXTENSIBLE };
@@ -86,9 +77,7 @@ impl Rowed for components::Sequence2 {
 
     ghost components = { λ v. both v.a (both v.b (both v.c tt)) };
 
-    fn from_row(
-        Both(a, Both(b, Both(c, ()))): <Sequence2Row as Components>::Values,
-    ) -> components::Sequence2 {
+    fn from_row(Both(a, Both(b, Both(c, ()))): Self::Values) -> Self {
         components::Sequence2 { a, b, c }
     }
 }
@@ -100,25 +89,19 @@ impl Takes for components::Sequence2 {
 }
 
 impl Tabled<1, 2> for components::Sequence2 {
-    ghost use Rattle.std.specs.Prelude.{refl};
+    const FIELDS: Fields<1> = table![0 Required Context 0 "a"];
 
-    const FIELDS: Fields<1> = Fields {
-        fields: fields![0 Required Context 0 "a"],
-    };
-
-    const EXTENDED_FIELDS: Option<Fields<2>> = Some(Fields {
-        fields: fields![0 Optional Context 1 "b", 1 Optional Context 2 "c"],
-    });
+    const EXTENDED_FIELDS: Option<Fields<2>> = Some(table![
+        0 Optional Context 1 "b",
+        1 Optional Context 2 "c"
+    ]);
 
     fn root_fields() -> &'static [Field<'static>] {
         Self::FIELDS.fields
     }
 
     fn addition_fields() -> &'static [Field<'static>] {
-        match Self::EXTENDED_FIELDS {
-            Some(table) => table.fields,
-            None => &[],
-        }
+        rows_of!(Self::EXTENDED_FIELDS)
     }
 
     fn put(&self, encoder: &mut Encoder<'_>) -> Result<(), EncodeError> {
@@ -134,8 +117,6 @@ pub type Sequence5 = Sequence<components::Sequence5, 1, 1>;
 type Sequence5Row = Needs<Context<0>, bool, Extensible<MayAdd<Context<1>, bool, NoMore>>>;
 
 impl Rowed for components::Sequence5 {
-    ghost use Rattle.rasn_oer.specs.Values.{both};
-
     type Values = <Sequence5Row as Components>::Values;
 
     ghost EXTENSIBLE = { ⟦<Sequence5Row as Components>⟧.EXTENSIBLE };
@@ -148,9 +129,7 @@ impl Rowed for components::Sequence5 {
 
     ghost components = { λ v. both v.a (both v.b tt) };
 
-    fn from_row(
-        Both(a, Both(b, ())): <Sequence5Row as Components>::Values,
-    ) -> components::Sequence5 {
+    fn from_row(Both(a, Both(b, ())): Self::Values) -> Self {
         components::Sequence5 { a, b }
     }
 }
@@ -162,25 +141,16 @@ impl Takes for components::Sequence5 {
 }
 
 impl Tabled<1, 1> for components::Sequence5 {
-    ghost use Rattle.std.specs.Prelude.{refl};
+    const FIELDS: Fields<1> = table![0 Required Context 0 "a"];
 
-    const FIELDS: Fields<1> = Fields {
-        fields: fields![0 Required Context 0 "a"],
-    };
-
-    const EXTENDED_FIELDS: Option<Fields<1>> = Some(Fields {
-        fields: fields![0 Optional Context 1 "b"],
-    });
+    const EXTENDED_FIELDS: Option<Fields<1>> = Some(table![0 Optional Context 1 "b"]);
 
     fn root_fields() -> &'static [Field<'static>] {
         Self::FIELDS.fields
     }
 
     fn addition_fields() -> &'static [Field<'static>] {
-        match Self::EXTENDED_FIELDS {
-            Some(table) => table.fields,
-            None => &[],
-        }
+        rows_of!(Self::EXTENDED_FIELDS)
     }
 
     fn put(&self, encoder: &mut Encoder<'_>) -> Result<(), EncodeError> {
@@ -199,8 +169,6 @@ type OuterRow = Needs<Context<0>, bool, Extensible<OuterAdditions>>;
 type OuterAdditions = MayAdd<Context<1>, Sequence2, NoMore>;
 
 impl Rowed for components::Outer {
-    ghost use Rattle.rasn_oer.specs.Values.{both};
-
     type Values = <OuterRow as Components>::Values;
 
     ghost EXTENSIBLE = { ⟦<OuterRow as Components>⟧.EXTENSIBLE };
@@ -213,7 +181,7 @@ impl Rowed for components::Outer {
 
     ghost components = { λ v. both v.a (both v.b tt) };
 
-    fn from_row(Both(a, Both(b, ())): <OuterRow as Components>::Values) -> components::Outer {
+    fn from_row(Both(a, Both(b, ())): Self::Values) -> Self {
         components::Outer { a, b }
     }
 }
@@ -225,25 +193,16 @@ impl Takes for components::Outer {
 }
 
 impl Tabled<1, 1> for components::Outer {
-    ghost use Rattle.std.specs.Prelude.{refl};
+    const FIELDS: Fields<1> = table![0 Required Context 0 "a"];
 
-    const FIELDS: Fields<1> = Fields {
-        fields: fields![0 Required Context 0 "a"],
-    };
-
-    const EXTENDED_FIELDS: Option<Fields<1>> = Some(Fields {
-        fields: fields![0 Optional Context 1 "b"],
-    });
+    const EXTENDED_FIELDS: Option<Fields<1>> = Some(table![0 Optional Context 1 "b"]);
 
     fn root_fields() -> &'static [Field<'static>] {
         Self::FIELDS.fields
     }
 
     fn addition_fields() -> &'static [Field<'static>] {
-        match Self::EXTENDED_FIELDS {
-            Some(table) => table.fields,
-            None => &[],
-        }
+        rows_of!(Self::EXTENDED_FIELDS)
     }
 
     fn put(&self, encoder: &mut Encoder<'_>) -> Result<(), EncodeError> {
@@ -271,7 +230,7 @@ impl Rowed for components::EmptyExtensible {
 
     ghost components = { λ v. tt };
 
-    fn from_row((): <EmptyExtensibleRow as Components>::Values) -> components::EmptyExtensible {
+    fn from_row((): Self::Values) -> Self {
         components::EmptyExtensible
     }
 }
@@ -283,21 +242,16 @@ impl Takes for components::EmptyExtensible {
 }
 
 impl Tabled<0, 0> for components::EmptyExtensible {
-    ghost use Rattle.std.specs.Prelude.{refl};
+    const FIELDS: Fields<0> = table![];
 
-    const FIELDS: Fields<0> = Fields { fields: fields![] };
-
-    const EXTENDED_FIELDS: Option<Fields<0>> = Some(Fields { fields: fields![] });
+    const EXTENDED_FIELDS: Option<Fields<0>> = Some(table![]);
 
     fn root_fields() -> &'static [Field<'static>] {
         Self::FIELDS.fields
     }
 
     fn addition_fields() -> &'static [Field<'static>] {
-        match Self::EXTENDED_FIELDS {
-            Some(table) => table.fields,
-            None => &[],
-        }
+        rows_of!(Self::EXTENDED_FIELDS)
     }
 
     fn put(&self, encoder: &mut Encoder<'_>) -> Result<(), EncodeError> {

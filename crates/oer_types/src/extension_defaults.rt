@@ -1,4 +1,9 @@
 //! Additions with a default, and extensible sequences that are defaults.
+ghost use Rattle.rasn_oer.specs.Values.{both};
+ghost use Rattle.std.specs.Prelude.{refl, true, None};
+ghost use Rattle.oer_spec.specs.Spelled.{booleans_same, IsAny, boolean};
+ghost use Rattle.oer_rows.specs.Compared.{needed_same, roots_same, optional_same, tables_same};
+ghost use Rattle.std.specs.Bool.{beq};
 
 use crate::components;
 use crate::extensible::{Sequence1, Sequence5};
@@ -15,8 +20,6 @@ type AddDefRow = Needs<
 >;
 
 impl Rowed for components::AddDef {
-    ghost use Rattle.rasn_oer.specs.Values.{both};
-
     type Values = <AddDefRow as Components>::Values;
 
     ghost EXTENSIBLE = { ⟦<AddDefRow as Components>⟧.EXTENSIBLE };
@@ -29,7 +32,7 @@ impl Rowed for components::AddDef {
 
     ghost components = { λ v. both v.a (both v.b tt) };
 
-    fn from_row(Both(a, Both(b, ())): <AddDefRow as Components>::Values) -> components::AddDef {
+    fn from_row(Both(a, Both(b, ())): Self::Values) -> Self {
         components::AddDef { a, b }
     }
 }
@@ -41,25 +44,16 @@ impl Takes for components::AddDef {
 }
 
 impl Tabled<1, 1> for components::AddDef {
-    ghost use Rattle.std.specs.Prelude.{refl};
+    const FIELDS: Fields<1> = table![0 Required Context 0 "a"];
 
-    const FIELDS: Fields<1> = Fields {
-        fields: fields![0 Required Context 0 "a"],
-    };
-
-    const EXTENDED_FIELDS: Option<Fields<1>> = Some(Fields {
-        fields: fields![0 Default Context 1 "b"],
-    });
+    const EXTENDED_FIELDS: Option<Fields<1>> = Some(table![0 Default Context 1 "b"]);
 
     fn root_fields() -> &'static [Field<'static>] {
         Self::FIELDS.fields
     }
 
     fn addition_fields() -> &'static [Field<'static>] {
-        match Self::EXTENDED_FIELDS {
-            Some(table) => table.fields,
-            None => &[],
-        }
+        rows_of!(Self::EXTENDED_FIELDS)
     }
 
     fn put(&self, encoder: &mut Encoder<'_>) -> Result<(), EncodeError> {
@@ -78,8 +72,6 @@ type Holder1Row = Defaults<Context<0>, Sequence1, IsTrueSequence1, NoMore>;
 pub struct IsTrueSequence1;
 
 impl Standard<Sequence1> for IsTrueSequence1 {
-    ghost use Rattle.std.specs.Prelude.{true};
-
     ghost value = { record { 0 = record { a = true } } };
 
     fn value(_alloc: Global) -> Result<Sequence1, AllocError> {
@@ -95,15 +87,10 @@ impl Standard<Sequence1> for IsTrueSequence1 {
 
 /// Equal where `a` is.
 impl Compared<1, 0> for components::Sequence1 {
-    ghost use Rattle.oer_spec.specs.Spelled.{booleans_same};
-    ghost use Rattle.oer_rows.specs.Compared.{needed_same, roots_same};
-
     ghost decides = { λ v w i j. roots_same _ _ _ _ (needed_same _ _ _ _ (booleans_same v.a w.a)) };
 }
 
 impl Rowed for components::Holder1 {
-    ghost use Rattle.rasn_oer.specs.Values.{both};
-
     type Values = <Holder1Row as Components>::Values;
 
     ghost EXTENSIBLE = { ⟦<Holder1Row as Components>⟧.EXTENSIBLE };
@@ -116,7 +103,7 @@ impl Rowed for components::Holder1 {
 
     ghost components = { λ v. both v.a tt };
 
-    fn from_row(Both(a, ()): <Holder1Row as Components>::Values) -> components::Holder1 {
+    fn from_row(Both(a, ()): Self::Values) -> Self {
         components::Holder1 { a }
     }
 }
@@ -128,11 +115,7 @@ impl Takes for components::Holder1 {
 }
 
 impl Tabled<1, 0> for components::Holder1 {
-    ghost use Rattle.std.specs.Prelude.{refl};
-
-    const FIELDS: Fields<1> = Fields {
-        fields: fields![0 Default Context 0 "a"],
-    };
+    const FIELDS: Fields<1> = table![0 Default Context 0 "a"];
 
     const EXTENDED_FIELDS: Option<Fields<0>> = None;
 
@@ -141,10 +124,7 @@ impl Tabled<1, 0> for components::Holder1 {
     }
 
     fn addition_fields() -> &'static [Field<'static>] {
-        match Self::EXTENDED_FIELDS {
-            Some(table) => table.fields,
-            None => &[],
-        }
+        rows_of!(Self::EXTENDED_FIELDS)
     }
 
     fn put(&self, encoder: &mut Encoder<'_>) -> Result<(), EncodeError> {
@@ -163,8 +143,6 @@ type Holder2Row = Defaults<Context<0>, Sequence5, IsTrueSequence5, NoMore>;
 pub struct IsTrueSequence5;
 
 impl Standard<Sequence5> for IsTrueSequence5 {
-    ghost use Rattle.std.specs.Prelude.{None, true};
-
     ghost value = { record { 0 = record { a = true; b = None } } };
 
     fn value(_alloc: Global) -> Result<Sequence5, AllocError> {
@@ -180,16 +158,10 @@ impl Standard<Sequence5> for IsTrueSequence5 {
 
 /// Equal where `a` and `b` are.
 impl Compared<1, 1> for components::Sequence5 {
-    ghost use Rattle.oer_spec.specs.Spelled.{IsAny, boolean, booleans_same};
-    ghost use Rattle.std.specs.Bool.{beq};
-    ghost use Rattle.oer_rows.specs.Compared.{needed_same, optional_same, tables_same};
-
     ghost decides = { λ v w i j. tables_same _ _ _ _ _ _ _ (needed_same _ _ _ _ (booleans_same v.a w.a)) (optional_same boolean IsAny beq (λ a b k l. booleans_same a b) _ _ _ i.1.0 j.1.0) };
 }
 
 impl Rowed for components::Holder2 {
-    ghost use Rattle.rasn_oer.specs.Values.{both};
-
     type Values = <Holder2Row as Components>::Values;
 
     ghost EXTENSIBLE = { ⟦<Holder2Row as Components>⟧.EXTENSIBLE };
@@ -202,7 +174,7 @@ impl Rowed for components::Holder2 {
 
     ghost components = { λ v. both v.a tt };
 
-    fn from_row(Both(a, ()): <Holder2Row as Components>::Values) -> components::Holder2 {
+    fn from_row(Both(a, ()): Self::Values) -> Self {
         components::Holder2 { a }
     }
 }
@@ -214,11 +186,7 @@ impl Takes for components::Holder2 {
 }
 
 impl Tabled<1, 0> for components::Holder2 {
-    ghost use Rattle.std.specs.Prelude.{refl};
-
-    const FIELDS: Fields<1> = Fields {
-        fields: fields![0 Default Context 0 "a"],
-    };
+    const FIELDS: Fields<1> = table![0 Default Context 0 "a"];
 
     const EXTENDED_FIELDS: Option<Fields<0>> = None;
 
@@ -227,10 +195,7 @@ impl Tabled<1, 0> for components::Holder2 {
     }
 
     fn addition_fields() -> &'static [Field<'static>] {
-        match Self::EXTENDED_FIELDS {
-            Some(table) => table.fields,
-            None => &[],
-        }
+        rows_of!(Self::EXTENDED_FIELDS)
     }
 
     fn put(&self, encoder: &mut Encoder<'_>) -> Result<(), EncodeError> {

@@ -1,4 +1,6 @@
 //! Sequences with addition groups.
+ghost use Rattle.rasn_oer.specs.Values.{both};
+ghost use Rattle.std.specs.Prelude.{refl};
 
 use crate::components;
 use rasn_oer::prelude::*;
@@ -10,8 +12,6 @@ pub type Sequence4 = Sequence<components::Sequence4, 1, 0>;
 type Sequence4Row = Needs<Context<0>, bool, NoMore>;
 
 impl Rowed for components::Sequence4 {
-    ghost use Rattle.rasn_oer.specs.Values.{both};
-
     type Values = <Sequence4Row as Components>::Values;
 
     ghost EXTENSIBLE = { ⟦<Sequence4Row as Components>⟧.EXTENSIBLE };
@@ -24,7 +24,7 @@ impl Rowed for components::Sequence4 {
 
     ghost components = { λ v. both v.a tt };
 
-    fn from_row(Both(a, ()): <Sequence4Row as Components>::Values) -> components::Sequence4 {
+    fn from_row(Both(a, ()): Self::Values) -> Self {
         components::Sequence4 { a }
     }
 }
@@ -36,11 +36,7 @@ impl Takes for components::Sequence4 {
 }
 
 impl Tabled<1, 0> for components::Sequence4 {
-    ghost use Rattle.std.specs.Prelude.{refl};
-
-    const FIELDS: Fields<1> = Fields {
-        fields: fields![0 Required Context 0 "a"],
-    };
+    const FIELDS: Fields<1> = table![0 Required Context 0 "a"];
 
     const EXTENDED_FIELDS: Option<Fields<0>> = None;
 
@@ -49,10 +45,7 @@ impl Tabled<1, 0> for components::Sequence4 {
     }
 
     fn addition_fields() -> &'static [Field<'static>] {
-        match Self::EXTENDED_FIELDS {
-            Some(table) => table.fields,
-            None => &[],
-        }
+        rows_of!(Self::EXTENDED_FIELDS)
     }
 
     fn put(&self, encoder: &mut Encoder<'_>) -> Result<(), EncodeError> {
@@ -68,8 +61,6 @@ pub type Sequence3 = Sequence<components::Sequence3, 1, 1>;
 type Sequence3Row = Needs<Context<0>, bool, Extensible<MayAddGroup<1, 0, Sequence4, NoMore>>>;
 
 impl Rowed for components::Sequence3 {
-    ghost use Rattle.rasn_oer.specs.Values.{both};
-
     type Values = <Sequence3Row as Components>::Values;
 
     ghost EXTENSIBLE = { ⟦<Sequence3Row as Components>⟧.EXTENSIBLE };
@@ -82,9 +73,7 @@ impl Rowed for components::Sequence3 {
 
     ghost components = { λ v. both v.a (both v.b tt) };
 
-    fn from_row(
-        Both(a, Both(b, ())): <Sequence3Row as Components>::Values,
-    ) -> components::Sequence3 {
+    fn from_row(Both(a, Both(b, ())): Self::Values) -> Self {
         components::Sequence3 { a, b }
     }
 }
@@ -96,25 +85,16 @@ impl Takes for components::Sequence3 {
 }
 
 impl Tabled<1, 1> for components::Sequence3 {
-    ghost use Rattle.std.specs.Prelude.{refl};
+    const FIELDS: Fields<1> = table![0 Required Context 0 "a"];
 
-    const FIELDS: Fields<1> = Fields {
-        fields: fields![0 Required Context 0 "a"],
-    };
-
-    const EXTENDED_FIELDS: Option<Fields<1>> = Some(Fields {
-        fields: fields![0 Optional Universal 16 "b"],
-    });
+    const EXTENDED_FIELDS: Option<Fields<1>> = Some(table![0 Optional Universal 16 "b"]);
 
     fn root_fields() -> &'static [Field<'static>] {
         Self::FIELDS.fields
     }
 
     fn addition_fields() -> &'static [Field<'static>] {
-        match Self::EXTENDED_FIELDS {
-            Some(table) => table.fields,
-            None => &[],
-        }
+        rows_of!(Self::EXTENDED_FIELDS)
     }
 
     fn put(&self, encoder: &mut Encoder<'_>) -> Result<(), EncodeError> {
@@ -130,8 +110,6 @@ pub type Group6 = Sequence<components::Group6, 1, 0>;
 type Group6Row = MayHave<Context<0>, bool, NoMore>;
 
 impl Rowed for components::Group6 {
-    ghost use Rattle.rasn_oer.specs.Values.{both};
-
     type Values = <Group6Row as Components>::Values;
 
     ghost EXTENSIBLE = { ⟦<Group6Row as Components>⟧.EXTENSIBLE };
@@ -144,7 +122,7 @@ impl Rowed for components::Group6 {
 
     ghost components = { λ v. both v.a tt };
 
-    fn from_row(Both(a, ()): <Group6Row as Components>::Values) -> components::Group6 {
+    fn from_row(Both(a, ()): Self::Values) -> Self {
         components::Group6 { a }
     }
 }
@@ -156,11 +134,7 @@ impl Takes for components::Group6 {
 }
 
 impl Tabled<1, 0> for components::Group6 {
-    ghost use Rattle.std.specs.Prelude.{refl};
-
-    const FIELDS: Fields<1> = Fields {
-        fields: fields![0 Optional Context 0 "a"],
-    };
+    const FIELDS: Fields<1> = table![0 Optional Context 0 "a"];
 
     const EXTENDED_FIELDS: Option<Fields<0>> = None;
 
@@ -169,10 +143,7 @@ impl Tabled<1, 0> for components::Group6 {
     }
 
     fn addition_fields() -> &'static [Field<'static>] {
-        match Self::EXTENDED_FIELDS {
-            Some(table) => table.fields,
-            None => &[],
-        }
+        rows_of!(Self::EXTENDED_FIELDS)
     }
 
     fn put(&self, encoder: &mut Encoder<'_>) -> Result<(), EncodeError> {
@@ -188,8 +159,6 @@ pub type Sequence6 = Sequence<components::Sequence6, 1, 1>;
 type Sequence6Row = Needs<Context<0>, bool, Extensible<MayAddGroup<1, 0, Group6, NoMore>>>;
 
 impl Rowed for components::Sequence6 {
-    ghost use Rattle.rasn_oer.specs.Values.{both};
-
     type Values = <Sequence6Row as Components>::Values;
 
     ghost EXTENSIBLE = { ⟦<Sequence6Row as Components>⟧.EXTENSIBLE };
@@ -202,9 +171,7 @@ impl Rowed for components::Sequence6 {
 
     ghost components = { λ v. both v.a (both v.b tt) };
 
-    fn from_row(
-        Both(a, Both(b, ())): <Sequence6Row as Components>::Values,
-    ) -> components::Sequence6 {
+    fn from_row(Both(a, Both(b, ())): Self::Values) -> Self {
         components::Sequence6 { a, b }
     }
 }
@@ -216,25 +183,16 @@ impl Takes for components::Sequence6 {
 }
 
 impl Tabled<1, 1> for components::Sequence6 {
-    ghost use Rattle.std.specs.Prelude.{refl};
+    const FIELDS: Fields<1> = table![0 Required Context 0 "a"];
 
-    const FIELDS: Fields<1> = Fields {
-        fields: fields![0 Required Context 0 "a"],
-    };
-
-    const EXTENDED_FIELDS: Option<Fields<1>> = Some(Fields {
-        fields: fields![0 Optional Universal 16 "b"],
-    });
+    const EXTENDED_FIELDS: Option<Fields<1>> = Some(table![0 Optional Universal 16 "b"]);
 
     fn root_fields() -> &'static [Field<'static>] {
         Self::FIELDS.fields
     }
 
     fn addition_fields() -> &'static [Field<'static>] {
-        match Self::EXTENDED_FIELDS {
-            Some(table) => table.fields,
-            None => &[],
-        }
+        rows_of!(Self::EXTENDED_FIELDS)
     }
 
     fn put(&self, encoder: &mut Encoder<'_>) -> Result<(), EncodeError> {

@@ -1,4 +1,6 @@
 //! Types that hold a value of any other: a sequence, and a sequence that holds it as an addition.
+ghost use Rattle.rasn_oer.specs.Values.{both};
+ghost use Rattle.std.specs.Prelude.{refl};
 
 use rasn_oer::prelude::*;
 use std::alloc::Global;
@@ -17,8 +19,6 @@ type HoldingRow<T> = Needs<Context<0>, T, NoMore>;
 const INNER_FIELDS: &'static [Field<'static>] = fields![0 Required Context 0 "inner"];
 
 impl<T: Decode + Encode> Rowed for HoldingComponents<T> {
-    ghost use Rattle.rasn_oer.specs.Values.{both};
-
     type Values = <HoldingRow<T> as Components>::Values;
 
     ghost EXTENSIBLE = { ⟦<HoldingRow<T> as Components>⟧.EXTENSIBLE };
@@ -31,7 +31,7 @@ impl<T: Decode + Encode> Rowed for HoldingComponents<T> {
 
     ghost components = { λ v. both v.inner tt };
 
-    fn from_row(Both(inner, ()): <HoldingRow<T> as Components>::Values) -> HoldingComponents<T> {
+    fn from_row(Both(inner, ()): Self::Values) -> Self {
         HoldingComponents { inner }
     }
 }
@@ -43,8 +43,6 @@ impl<T: Decode + Encode> Takes for HoldingComponents<T> {
 }
 
 impl<T: Decode + Encode> Tabled<1, 0> for HoldingComponents<T> {
-    ghost use Rattle.std.specs.Prelude.{refl};
-
     const FIELDS: Fields<1> = Fields {
         fields: INNER_FIELDS,
     };
@@ -83,8 +81,6 @@ const OK_FIELDS: &'static [Field<'static>] = fields![0 Required Context 0 "ok"];
 const INNER_ADDITIONS: &'static [Field<'static>] = fields![0 Optional Context 1 "inner"];
 
 impl<T: Decode + Encode> Rowed for AddingComponents<T> {
-    ghost use Rattle.rasn_oer.specs.Values.{both};
-
     type Values = <AddingRow<T> as Components>::Values;
 
     ghost EXTENSIBLE = { ⟦<AddingRow<T> as Components>⟧.EXTENSIBLE };
@@ -97,9 +93,7 @@ impl<T: Decode + Encode> Rowed for AddingComponents<T> {
 
     ghost components = { λ v. both v.ok (both v.inner tt) };
 
-    fn from_row(
-        Both(ok, Both(inner, ())): <AddingRow<T> as Components>::Values,
-    ) -> AddingComponents<T> {
+    fn from_row(Both(ok, Both(inner, ())): Self::Values) -> Self {
         AddingComponents { ok, inner }
     }
 }
@@ -111,8 +105,6 @@ impl<T: Decode + Encode> Takes for AddingComponents<T> {
 }
 
 impl<T: Decode + Encode> Tabled<1, 1> for AddingComponents<T> {
-    ghost use Rattle.std.specs.Prelude.{refl};
-
     const FIELDS: Fields<1> = Fields { fields: OK_FIELDS };
 
     const EXTENDED_FIELDS: Option<Fields<1>> = Some(Fields {

@@ -1,7 +1,11 @@
 //! Two types that contain each other.
-ghost use Rattle.std.specs.Prelude.{OnOk, IfErr};
+ghost use Rattle.std.specs.Prelude.{OnOk, IfErr, refl, ⊤};
 ghost use Rattle.oer_write.specs.Written.{Encodes, Refused};
 ghost use Rattle.asn1_core.specs.declared.constraints.TheConstants.Constraints.{NONE};
+ghost use Rattle.rasn_oer.specs.Values.{both};
+ghost use Rattle.rasn_oer.specs.Alternative.{First, Rest};
+ghost use Rattle.asn1_core.specs.declared.tag.TheConstants.Tag.{SEQUENCE};
+ghost use Rattle.rasn_oer.specs.Knots.{knot_tree, IsKnot, knot_typed, knot, knot_layers, layer, knot_layered};
 
 use rasn_oer::prelude::*;
 use std::alloc::Global;
@@ -27,8 +31,6 @@ const LINK_FIELDS: &'static [Field<'static>] = fields![
 ];
 
 impl<K> KnotRowed<K> for LinkComponents<K> {
-    ghost use Rattle.rasn_oer.specs.Values.{both};
-
     type KnotValues = <LinkRow<K> as KnotRow<K>>::Values;
 
     ghost extended = { ⟦<LinkRow<K> as KnotRow<K>>⟧.EXTENSIBLE };
@@ -43,8 +45,6 @@ impl<K> KnotRowed<K> for LinkComponents<K> {
 }
 
 impl<K: Encode> Rowed for LinkComponents<K> {
-    ghost use Rattle.rasn_oer.specs.Values.{both};
-
     type Values = <LinkRow<K> as Components>::Values;
 
     ghost EXTENSIBLE = { ⟦<LinkRow<K> as Components>⟧.EXTENSIBLE };
@@ -57,7 +57,7 @@ impl<K: Encode> Rowed for LinkComponents<K> {
 
     ghost components = { λ v. both v.a (both v.b tt) };
 
-    fn from_row(row: <LinkRow<K> as Components>::Values) -> LinkComponents<K> {
+    fn from_row(row: Self::Values) -> Self {
         let Both(a, Both(b, ())) = row;
         LinkComponents { a, b }
     }
@@ -80,8 +80,6 @@ impl<K: Encode> TakesKnot<K> for LinkComponents<K> {
 }
 
 impl<K: Encode> Tabled<2, 0> for LinkComponents<K> {
-    ghost use Rattle.std.specs.Prelude.{refl};
-
     const FIELDS: Fields<2> = Fields {
         fields: LINK_FIELDS,
     };
@@ -118,8 +116,6 @@ type LinkChoiceRow<K> = Offers<Context<0>, bool, OffersKnot<Context<1>, Held<K>,
 const LINK_ROOTS: &'static [Tag] = tags![Context 0, Context 1];
 
 impl<K> KnotAlternating<K> for LinkAlternatives<K> {
-    ghost use Rattle.std.specs.Prelude.{refl};
-    ghost use Rattle.rasn_oer.specs.Alternative.{First, Rest};
     ghost use Rattle.oer_types.specs.Links.{link_choice_weight};
     ghost use Rattle.oer_types.specs.declared.links.LinkAlternatives.TheVariants.{A, B};
 
@@ -139,8 +135,6 @@ impl<K> KnotAlternating<K> for LinkAlternatives<K> {
 }
 
 impl<K: Encode> Alternating for LinkAlternatives<K> {
-    ghost use Rattle.std.specs.Prelude.{refl};
-    ghost use Rattle.rasn_oer.specs.Alternative.{First, Rest};
     ghost use Rattle.oer_types.specs.declared.links.LinkAlternatives.TheVariants.{A, B};
 
     type Values = <LinkChoiceRow<K> as Alternatives>::Values;
@@ -201,10 +195,6 @@ impl<K: Encode> TakesKnotAlternative<K> for LinkAlternatives<K> {
 }
 
 impl AsnType for Link {
-    ghost use Rattle.std.specs.Prelude.{refl};
-    ghost use Rattle.asn1_core.specs.declared.tag.TheConstants.Tag.{SEQUENCE};
-    ghost use Rattle.asn1_core.specs.declared.constraints.TheConstants.Constraints.{NONE};
-
     ghost TAG = { SEQUENCE };
 
     const TAG: Tag = Tag::SEQUENCE;
@@ -217,7 +207,6 @@ impl AsnType for Link {
 }
 
 impl Spelled for Link {
-    ghost use Rattle.rasn_oer.specs.Knots.{knot_tree, IsKnot, knot_typed};
     ghost use Rattle.oer_types.specs.Links.{link_smaller};
     ghost use Rattle.oer_types.specs.declared.links.Link.{out-Link, size-Link};
 
@@ -231,7 +220,6 @@ impl Spelled for Link {
 }
 
 impl Layered for Link {
-    ghost use Rattle.rasn_oer.specs.Knots.{knot, knot_layers, layer};
     ghost use Rattle.oer_types.specs.Links.{link_smaller};
     ghost use Rattle.oer_types.specs.declared.links.Link.{out-Link, size-Link};
 
@@ -266,7 +254,6 @@ impl Encode for Link {
 }
 
 impl Knot<LinkContent<Link>> for Link {
-    ghost use Rattle.rasn_oer.specs.Knots.{knot_layered};
     ghost use Rattle.oer_types.specs.Links.{link_smaller};
     ghost use Rattle.oer_types.specs.declared.links.Link.{out-Link, size-Link};
 
@@ -280,8 +267,6 @@ impl Knot<LinkContent<Link>> for Link {
 }
 
 impl Decode for Link {
-    ghost use Rattle.std.specs.Prelude.{⊤};
-
     ghost Answered = { λ c s r t. ⊤ };
 
     fn decode_with_tag_and_constraints(

@@ -1,4 +1,6 @@
 //! A sequence of many optional components.
+ghost use Rattle.rasn_oer.specs.Values.{both};
+ghost use Rattle.std.specs.Prelude.{refl};
 
 use crate::components;
 use rasn_oer::prelude::*;
@@ -39,8 +41,6 @@ type FromInteger7 = MayHave<
 >;
 
 impl Rowed for components::ManyOptional {
-    ghost use Rattle.rasn_oer.specs.Values.{both};
-
     type Values = <ManyRow as Components>::Values;
 
     ghost EXTENSIBLE = { ⟦<ManyRow as Components>⟧.EXTENSIBLE };
@@ -53,7 +53,7 @@ impl Rowed for components::ManyOptional {
 
     ghost components = { λ v. both v.value (both v.integer1 (both v.octet1 (both v.integer2 (both v.octet2 (both v.integer3 (both v.octet3 (both v.integer4 (both v.integer5 (both v.integer6 (both v.integer7 (both v.integer8 (both v.integer9 tt)))))))))))) };
 
-    fn from_row(row: <ManyRow as Components>::Values) -> components::ManyOptional {
+    fn from_row(row: Self::Values) -> Self {
         let pairs![
             value, integer1, octet1, integer2, octet2, integer3, octet3, integer4, integer5,
             integer6, integer7, integer8, integer9
@@ -83,16 +83,21 @@ impl Takes for components::ManyOptional {
 }
 
 impl Tabled<13, 0> for components::ManyOptional {
-    ghost use Rattle.std.specs.Prelude.{refl};
-
-    const FIELDS: Fields<13> = Fields {
-        fields: fields![
-    0 Required Context 0 "value", 1 Optional Context 1 "integer1", 2 Optional Context 2 "octet1", 3 Optional Context 3 "integer2",
-    4 Optional Context 4 "octet2", 5 Optional Context 5 "integer3", 6 Optional Context 6 "octet3", 7 Optional Context 7 "integer4",
-    8 Optional Context 8 "integer5", 9 Optional Context 9 "integer6", 10 Optional Context 10 "integer7", 11 Optional Context 11 "integer8",
-    12 Optional Context 12 "integer9"
-],
-    };
+    const FIELDS: Fields<13> = table![
+        0 Required Context 0 "value",
+        1 Optional Context 1 "integer1",
+        2 Optional Context 2 "octet1",
+        3 Optional Context 3 "integer2",
+        4 Optional Context 4 "octet2",
+        5 Optional Context 5 "integer3",
+        6 Optional Context 6 "octet3",
+        7 Optional Context 7 "integer4",
+        8 Optional Context 8 "integer5",
+        9 Optional Context 9 "integer6",
+        10 Optional Context 10 "integer7",
+        11 Optional Context 11 "integer8",
+        12 Optional Context 12 "integer9"
+    ];
 
     const EXTENDED_FIELDS: Option<Fields<0>> = None;
 
@@ -101,10 +106,7 @@ impl Tabled<13, 0> for components::ManyOptional {
     }
 
     fn addition_fields() -> &'static [Field<'static>] {
-        match Self::EXTENDED_FIELDS {
-            Some(table) => table.fields,
-            None => &[],
-        }
+        rows_of!(Self::EXTENDED_FIELDS)
     }
 
     fn put(&self, encoder: &mut Encoder<'_>) -> Result<(), EncodeError> {

@@ -1,4 +1,6 @@
 //! A sequence of a choice, and of a list.
+ghost use Rattle.rasn_oer.specs.Values.{both};
+ghost use Rattle.std.specs.Prelude.{refl};
 
 use crate::PriorityChoice;
 use rasn_oer::prelude::*;
@@ -17,8 +19,6 @@ pub struct MixedComponents {
 type MixedRow = Needs<Context<0>, PriorityChoice, Needs<Context<1>, ListOf<OctetString>, NoMore>>;
 
 impl Rowed for MixedComponents {
-    ghost use Rattle.rasn_oer.specs.Values.{both};
-
     type Values = <MixedRow as Components>::Values;
 
     ghost EXTENSIBLE = { ⟦<MixedRow as Components>⟧.EXTENSIBLE };
@@ -31,9 +31,7 @@ impl Rowed for MixedComponents {
 
     ghost components = { λ v. both v.priority (both v.names tt) };
 
-    fn from_row(
-        Both(priority, Both(names, ())): <MixedRow as Components>::Values,
-    ) -> MixedComponents {
+    fn from_row(Both(priority, Both(names, ())): Self::Values) -> Self {
         MixedComponents { priority, names }
     }
 }
@@ -45,11 +43,7 @@ impl Takes for MixedComponents {
 }
 
 impl Tabled<2, 0> for MixedComponents {
-    ghost use Rattle.std.specs.Prelude.{refl};
-
-    const FIELDS: Fields<2> = Fields {
-        fields: fields![0 Required Context 0 "priority", 1 Required Context 1 "names"],
-    };
+    const FIELDS: Fields<2> = table![0 Required Context 0 "priority", 1 Required Context 1 "names"];
 
     const EXTENDED_FIELDS: Option<Fields<0>> = None;
 
@@ -58,10 +52,7 @@ impl Tabled<2, 0> for MixedComponents {
     }
 
     fn addition_fields() -> &'static [Field<'static>] {
-        match Self::EXTENDED_FIELDS {
-            Some(table) => table.fields,
-            None => &[],
-        }
+        rows_of!(Self::EXTENDED_FIELDS)
     }
 
     fn put(&self, encoder: &mut Encoder<'_>) -> Result<(), EncodeError> {

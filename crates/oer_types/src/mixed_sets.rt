@@ -1,4 +1,6 @@
 //! Two versions of a set, each by the row of its components in the order of their tags.
+ghost use Rattle.rasn_oer.specs.Values.{both};
+ghost use Rattle.std.specs.Prelude.{refl};
 
 use crate::components;
 use rasn_oer::prelude::*;
@@ -25,8 +27,6 @@ const MIXED_SET_FIELDS: &'static [Field<'static>] = fields![
 const MIXED_SET_ADDITIONS: &'static [Field<'static>] = fields![0 Optional Context 0 "n"];
 
 impl Rowed for components::MixedSet {
-    ghost use Rattle.rasn_oer.specs.Values.{both};
-
     type Values = <MixedSetRow as Components>::Values;
 
     ghost EXTENSIBLE = { ⟦<MixedSetRow as Components>⟧.EXTENSIBLE };
@@ -39,9 +39,7 @@ impl Rowed for components::MixedSet {
 
     ghost components = { λ v. both v.z (both v.y (both v.x (both v.n tt))) };
 
-    fn from_row(
-        Both(z, Both(y, Both(x, Both(n, ())))): <MixedSetRow as Components>::Values,
-    ) -> components::MixedSet {
+    fn from_row(Both(z, Both(y, Both(x, Both(n, ())))): Self::Values) -> Self {
         components::MixedSet { x, y, z, n }
     }
 }
@@ -53,8 +51,6 @@ impl Takes for components::MixedSet {
 }
 
 impl Tabled<3, 1> for components::MixedSet {
-    ghost use Rattle.std.specs.Prelude.{refl};
-
     const FIELDS: Fields<3> = Fields {
         fields: MIXED_SET_FIELDS,
     };
@@ -68,10 +64,7 @@ impl Tabled<3, 1> for components::MixedSet {
     }
 
     fn addition_fields() -> &'static [Field<'static>] {
-        match Self::EXTENDED_FIELDS {
-            Some(table) => table.fields,
-            None => &[],
-        }
+        rows_of!(Self::EXTENDED_FIELDS)
     }
 
     fn put(&self, encoder: &mut Encoder<'_>) -> Result<(), EncodeError> {
@@ -85,8 +78,6 @@ impl Tabled<3, 1> for components::MixedSet {
 }
 
 impl InTagOrder<3, 1> for components::MixedSet {
-    ghost use Rattle.std.specs.Prelude.{refl};
-
     ghost in_order = { refl };
 }
 
@@ -107,8 +98,6 @@ const MIXED_SET2_ADDITIONS: &'static [Field<'static>] =
     fields![0 Optional Context 0 "n", 1 Optional Context 3 "m"];
 
 impl Rowed for components::MixedSet2 {
-    ghost use Rattle.rasn_oer.specs.Values.{both};
-
     type Values = <MixedSet2Row as Components>::Values;
 
     ghost EXTENSIBLE = { ⟦<MixedSet2Row as Components>⟧.EXTENSIBLE };
@@ -121,9 +110,7 @@ impl Rowed for components::MixedSet2 {
 
     ghost components = { λ v. both v.z (both v.y (both v.x (both v.n (both v.m tt)))) };
 
-    fn from_row(
-        Both(z, Both(y, Both(x, Both(n, Both(m, ()))))): <MixedSet2Row as Components>::Values,
-    ) -> components::MixedSet2 {
+    fn from_row(Both(z, Both(y, Both(x, Both(n, Both(m, ()))))): Self::Values) -> Self {
         components::MixedSet2 { x, y, z, n, m }
     }
 }
@@ -135,8 +122,6 @@ impl Takes for components::MixedSet2 {
 }
 
 impl Tabled<3, 2> for components::MixedSet2 {
-    ghost use Rattle.std.specs.Prelude.{refl};
-
     const FIELDS: Fields<3> = Fields {
         fields: MIXED_SET_FIELDS,
     };
@@ -150,10 +135,7 @@ impl Tabled<3, 2> for components::MixedSet2 {
     }
 
     fn addition_fields() -> &'static [Field<'static>] {
-        match Self::EXTENDED_FIELDS {
-            Some(table) => table.fields,
-            None => &[],
-        }
+        rows_of!(Self::EXTENDED_FIELDS)
     }
 
     fn put(&self, encoder: &mut Encoder<'_>) -> Result<(), EncodeError> {
@@ -170,7 +152,5 @@ impl Tabled<3, 2> for components::MixedSet2 {
 }
 
 impl InTagOrder<3, 2> for components::MixedSet2 {
-    ghost use Rattle.std.specs.Prelude.{refl};
-
     ghost in_order = { refl };
 }

@@ -1,7 +1,9 @@
 //! A list of itself.
-ghost use Rattle.std.specs.Prelude.{OnOk, IfErr};
+ghost use Rattle.std.specs.Prelude.{OnOk, IfErr, refl, ⊤};
 ghost use Rattle.oer_write.specs.Written.{Encodes, Refused};
 ghost use Rattle.asn1_core.specs.declared.constraints.TheConstants.Constraints.{NONE};
+ghost use Rattle.asn1_core.specs.declared.tag.TheConstants.Tag.{SEQUENCE};
+ghost use Rattle.rasn_oer.specs.Knots.{knot, knot_layers, layer, knot_layered};
 
 use rasn_oer::prelude::*;
 use std::alloc::Global;
@@ -14,10 +16,6 @@ pub struct Nest(pub NestContent<Nest>);
 pub type NestContent<K> = ListOf<Bare<K>>;
 
 impl AsnType for Nest {
-    ghost use Rattle.std.specs.Prelude.{refl};
-    ghost use Rattle.asn1_core.specs.declared.tag.TheConstants.Tag.{SEQUENCE};
-    ghost use Rattle.asn1_core.specs.declared.constraints.TheConstants.Constraints.{NONE};
-
     ghost TAG = { SEQUENCE };
 
     const TAG: Tag = Tag::SEQUENCE;
@@ -48,7 +46,6 @@ impl EqualAsSpelled for Nest {
 }
 
 impl Layered for Nest {
-    ghost use Rattle.rasn_oer.specs.Knots.{knot, knot_layers, layer};
     ghost use Rattle.oer_types.specs.Nests.{nest_content, nest_tied, nest_weight, nest_knotted};
     ghost use Rattle.oer_types.specs.declared.nests.Nest.{size-Nest};
 
@@ -83,7 +80,6 @@ impl Encode for Nest {
 }
 
 impl Knot<NestContent<Nest>> for Nest {
-    ghost use Rattle.rasn_oer.specs.Knots.{knot_layered};
     ghost use Rattle.oer_types.specs.Nests.{nest_content, nest_tied, nest_weight, nest_knotted};
     ghost use Rattle.oer_types.specs.declared.nests.Nest.{size-Nest};
 
@@ -97,8 +93,6 @@ impl Knot<NestContent<Nest>> for Nest {
 }
 
 impl Decode for Nest {
-    ghost use Rattle.std.specs.Prelude.{⊤};
-
     ghost Answered = { λ c s r t. ⊤ };
 
     fn decode_with_tag_and_constraints(

@@ -1,4 +1,6 @@
 //! Extensible sequences with octet strings, optional ones and a required addition.
+ghost use Rattle.rasn_oer.specs.Values.{both};
+ghost use Rattle.std.specs.Prelude.{refl};
 
 use crate::components;
 use rasn_oer::prelude::*;
@@ -10,8 +12,6 @@ pub type Omitted = Sequence<components::Omitted, 1, 1>;
 type OmittedRow = MayHave<Context<0>, OctetString, Extensible<MayAdd<Context<1>, (), NoMore>>>;
 
 impl Rowed for components::Omitted {
-    ghost use Rattle.rasn_oer.specs.Values.{both};
-
     type Values = <OmittedRow as Components>::Values;
 
     ghost EXTENSIBLE = { ⟦<OmittedRow as Components>⟧.EXTENSIBLE };
@@ -24,9 +24,7 @@ impl Rowed for components::Omitted {
 
     ghost components = { λ v. both v.a (both v.omitted tt) };
 
-    fn from_row(
-        Both(a, Both(omitted, ())): <OmittedRow as Components>::Values,
-    ) -> components::Omitted {
+    fn from_row(Both(a, Both(omitted, ())): Self::Values) -> Self {
         components::Omitted { a, omitted }
     }
 }
@@ -38,25 +36,16 @@ impl Takes for components::Omitted {
 }
 
 impl Tabled<1, 1> for components::Omitted {
-    ghost use Rattle.std.specs.Prelude.{refl};
+    const FIELDS: Fields<1> = table![0 Optional Context 0 "a"];
 
-    const FIELDS: Fields<1> = Fields {
-        fields: fields![0 Optional Context 0 "a"],
-    };
-
-    const EXTENDED_FIELDS: Option<Fields<1>> = Some(Fields {
-        fields: fields![0 Optional Context 1 "omitted"],
-    });
+    const EXTENDED_FIELDS: Option<Fields<1>> = Some(table![0 Optional Context 1 "omitted"]);
 
     fn root_fields() -> &'static [Field<'static>] {
         Self::FIELDS.fields
     }
 
     fn addition_fields() -> &'static [Field<'static>] {
-        match Self::EXTENDED_FIELDS {
-            Some(table) => table.fields,
-            None => &[],
-        }
+        rows_of!(Self::EXTENDED_FIELDS)
     }
 
     fn put(&self, encoder: &mut Encoder<'_>) -> Result<(), EncodeError> {
@@ -81,8 +70,6 @@ type SequenceDuplicatesExtendedRow = Needs<
 >;
 
 impl Rowed for components::SequenceDuplicatesExtended {
-    ghost use Rattle.rasn_oer.specs.Values.{both};
-
     type Values = <SequenceDuplicatesExtendedRow as Components>::Values;
 
     ghost EXTENSIBLE = { ⟦<SequenceDuplicatesExtendedRow as Components>⟧.EXTENSIBLE };
@@ -95,12 +82,7 @@ impl Rowed for components::SequenceDuplicatesExtended {
 
     ghost components = { λ v. both v.it (both v.is (both v.late (both v.today tt))) };
 
-    fn from_row(
-        Both(
-            it,
-            Both(is, Both(late, Both(today, ()))),
-        ): <SequenceDuplicatesExtendedRow as Components>::Values,
-    ) -> components::SequenceDuplicatesExtended {
+    fn from_row(Both(it, Both(is, Both(late, Both(today, ())))): Self::Values) -> Self {
         components::SequenceDuplicatesExtended {
             it,
             is,
@@ -117,25 +99,20 @@ impl Takes for components::SequenceDuplicatesExtended {
 }
 
 impl Tabled<3, 1> for components::SequenceDuplicatesExtended {
-    ghost use Rattle.std.specs.Prelude.{refl};
+    const FIELDS: Fields<3> = table![
+        0 Required Universal 2 "it",
+        1 Optional Universal 4 "is",
+        2 Optional Universal 2 "late"
+    ];
 
-    const FIELDS: Fields<3> = Fields {
-        fields: fields![0 Required Universal 2 "it", 1 Optional Universal 4 "is", 2 Optional Universal 2 "late"],
-    };
-
-    const EXTENDED_FIELDS: Option<Fields<1>> = Some(Fields {
-        fields: fields![0 Required Universal 4 "today"],
-    });
+    const EXTENDED_FIELDS: Option<Fields<1>> = Some(table![0 Required Universal 4 "today"]);
 
     fn root_fields() -> &'static [Field<'static>] {
         Self::FIELDS.fields
     }
 
     fn addition_fields() -> &'static [Field<'static>] {
-        match Self::EXTENDED_FIELDS {
-            Some(table) => table.fields,
-            None => &[],
-        }
+        rows_of!(Self::EXTENDED_FIELDS)
     }
 
     fn put(&self, encoder: &mut Encoder<'_>) -> Result<(), EncodeError> {

@@ -1,9 +1,13 @@
 //! A sequence of two required components, by closures.
 ghost use Rattle.oer_spec.specs.Tree.{NoRows};
-ghost use Rattle.oer_rows.specs.Integers.{none_of};
-ghost use Rattle.oer_types.specs.Pairs.{pair_rows, pair_parts};
+ghost use Rattle.oer_rows.specs.Integers.{none_of, two_rows};
 ghost use Rattle.oer_write.specs.Rows.{InSequence};
 ghost use Rattle.oer_read.specs.Parts.{NoParts, ReadsParts};
+ghost use Rattle.std.specs.Prelude.{false, refl, [], ⊤};
+ghost use Rattle.asn1_core.specs.declared.tag.TheConstants.Tag.{SEQUENCE};
+ghost use Rattle.asn1_core.specs.declared.constraints.TheConstants.Constraints.{NONE};
+ghost use Rattle.oer_spec.specs.Spelled.{IsAny};
+ghost use Rattle.oer_types.specs.Pairs.{pair_rows, pair_parts};
 
 use asn1_core::{
     AsnType, Class, Constraints, Constructed, DecodeError, EncodeError, Field, FieldPresence,
@@ -44,10 +48,6 @@ const PAIR_FIELDS: &'static [Field<'static>] = &[
 ];
 
 impl AsnType for Pair {
-    ghost use Rattle.std.specs.Prelude.{false, refl};
-    ghost use Rattle.asn1_core.specs.declared.tag.TheConstants.Tag.{SEQUENCE};
-    ghost use Rattle.asn1_core.specs.declared.constraints.TheConstants.Constraints.{NONE};
-
     ghost TAG = { SEQUENCE };
 
     const TAG: Tag = Tag::SEQUENCE;
@@ -60,9 +60,6 @@ impl AsnType for Pair {
 }
 
 impl Constructed<2, 0> for Pair {
-    ghost use Rattle.std.specs.Prelude.{false, refl, []};
-    ghost use Rattle.oer_rows.specs.Integers.{two_rows};
-
     ghost is_set = { false };
 
     ghost root_rows = { two_rows };
@@ -94,7 +91,6 @@ impl Constructed<2, 0> for Pair {
 }
 
 impl Spelled for Pair {
-    ghost use Rattle.oer_spec.specs.Spelled.{IsAny};
     ghost use Rattle.oer_types.specs.Pairs.{pair_tree, pair_is, pairs_alike};
 
     ghost tree = { λ c v. pair_tree v };
@@ -131,8 +127,6 @@ impl Encode for Pair {
 
 #[tactic(auto, using(oer_read::proofs::Reading::reading))]
 impl Decode for Pair {
-    ghost use Rattle.std.specs.Prelude.{⊤};
-
     ghost Answered = { λ c s r t. ⊤ };
 
     fn decode_with_tag_and_constraints(

@@ -1,4 +1,5 @@
 //! Integers of a range.
+ghost use Rattle.std.specs.Prelude.{pos, refl, ◌^◌, negsuc};
 
 use asn1_ints::{ConstrainedInteger, IntegerRange};
 
@@ -7,8 +8,6 @@ use asn1_ints::{ConstrainedInteger, IntegerRange};
 pub enum FromZeroTo64Bits {}
 
 impl IntegerRange for FromZeroTo64Bits {
-    ghost use Rattle.std.specs.Prelude.{pos, refl, ◌^◌};
-
     ghost MIN = { pos 0 };
 
     const MIN: i128 = 0;
@@ -25,8 +24,6 @@ impl IntegerRange for FromZeroTo64Bits {
 pub enum FiveAroundZero {}
 
 impl IntegerRange for FiveAroundZero {
-    ghost use Rattle.std.specs.Prelude.{negsuc, pos, refl};
-
     ghost MIN = { negsuc 4 };
 
     const MIN: i128 = -5;

@@ -1,4 +1,6 @@
 //! An extensible sequence with an addition that newer versions always have.
+ghost use Rattle.rasn_oer.specs.Values.{both};
+ghost use Rattle.std.specs.Prelude.{refl};
 
 use rasn_oer::prelude::*;
 use std::alloc::Global;
@@ -16,8 +18,6 @@ pub struct SureComponents {
 type SureRow = Needs<Context<0>, bool, Extensible<Adds<Context<1>, bool, NoMore>>>;
 
 impl Rowed for SureComponents {
-    ghost use Rattle.rasn_oer.specs.Values.{both};
-
     type Values = <SureRow as Components>::Values;
 
     ghost EXTENSIBLE = { ⟦<SureRow as Components>⟧.EXTENSIBLE };
@@ -30,7 +30,7 @@ impl Rowed for SureComponents {
 
     ghost components = { λ v. both v.ok (both v.sure tt) };
 
-    fn from_row(Both(ok, Both(sure, ())): <SureRow as Components>::Values) -> SureComponents {
+    fn from_row(Both(ok, Both(sure, ())): Self::Values) -> Self {
         SureComponents { ok, sure }
     }
 }
@@ -42,25 +42,16 @@ impl Takes for SureComponents {
 }
 
 impl Tabled<1, 1> for SureComponents {
-    ghost use Rattle.std.specs.Prelude.{refl};
+    const FIELDS: Fields<1> = table![0 Required Context 0 "ok"];
 
-    const FIELDS: Fields<1> = Fields {
-        fields: fields![0 Required Context 0 "ok"],
-    };
-
-    const EXTENDED_FIELDS: Option<Fields<1>> = Some(Fields {
-        fields: fields![0 Required Context 1 "sure"],
-    });
+    const EXTENDED_FIELDS: Option<Fields<1>> = Some(table![0 Required Context 1 "sure"]);
 
     fn root_fields() -> &'static [Field<'static>] {
         Self::FIELDS.fields
     }
 
     fn addition_fields() -> &'static [Field<'static>] {
-        match Self::EXTENDED_FIELDS {
-            Some(table) => table.fields,
-            None => &[],
-        }
+        rows_of!(Self::EXTENDED_FIELDS)
     }
 
     fn put(&self, encoder: &mut Encoder<'_>) -> Result<(), EncodeError> {

@@ -1,4 +1,6 @@
 //! Sequences of root components by their rows: required, optional and with defaults.
+ghost use Rattle.rasn_oer.specs.Values.{both};
+ghost use Rattle.std.specs.Prelude.{refl};
 
 use crate::components;
 use crate::pairs::Pair;
@@ -11,8 +13,6 @@ pub type Nested = Sequence<components::Nested, 2, 0>;
 type NestedRow = Needs<Context<0>, bool, Needs<Context<1>, Pair, NoMore>>;
 
 impl Rowed for components::Nested {
-    ghost use Rattle.rasn_oer.specs.Values.{both};
-
     type Values = <NestedRow as Components>::Values;
 
     ghost EXTENSIBLE = { ⟦<NestedRow as Components>⟧.EXTENSIBLE };
@@ -25,7 +25,7 @@ impl Rowed for components::Nested {
 
     ghost components = { λ v. both v.a (both v.b tt) };
 
-    fn from_row(Both(a, Both(b, ())): <NestedRow as Components>::Values) -> components::Nested {
+    fn from_row(Both(a, Both(b, ())): Self::Values) -> Self {
         components::Nested { a, b }
     }
 }
@@ -37,11 +37,7 @@ impl Takes for components::Nested {
 }
 
 impl Tabled<2, 0> for components::Nested {
-    ghost use Rattle.std.specs.Prelude.{refl};
-
-    const FIELDS: Fields<2> = Fields {
-        fields: fields![0 Required Context 0 "a", 1 Required Context 1 "b"],
-    };
+    const FIELDS: Fields<2> = table![0 Required Context 0 "a", 1 Required Context 1 "b"];
 
     const EXTENDED_FIELDS: Option<Fields<0>> = None;
 
@@ -50,10 +46,7 @@ impl Tabled<2, 0> for components::Nested {
     }
 
     fn addition_fields() -> &'static [Field<'static>] {
-        match Self::EXTENDED_FIELDS {
-            Some(table) => table.fields,
-            None => &[],
-        }
+        rows_of!(Self::EXTENDED_FIELDS)
     }
 
     fn put(&self, encoder: &mut Encoder<'_>) -> Result<(), EncodeError> {
@@ -81,7 +74,7 @@ impl Rowed for components::Empty {
 
     ghost components = { λ v. tt };
 
-    fn from_row((): <EmptyRow as Components>::Values) -> components::Empty {
+    fn from_row((): Self::Values) -> Self {
         components::Empty {}
     }
 }
@@ -93,9 +86,7 @@ impl Takes for components::Empty {
 }
 
 impl Tabled<0, 0> for components::Empty {
-    ghost use Rattle.std.specs.Prelude.{refl};
-
-    const FIELDS: Fields<0> = Fields { fields: fields![] };
+    const FIELDS: Fields<0> = table![];
 
     const EXTENDED_FIELDS: Option<Fields<0>> = None;
 
@@ -104,10 +95,7 @@ impl Tabled<0, 0> for components::Empty {
     }
 
     fn addition_fields() -> &'static [Field<'static>] {
-        match Self::EXTENDED_FIELDS {
-            Some(table) => table.fields,
-            None => &[],
-        }
+        rows_of!(Self::EXTENDED_FIELDS)
     }
 
     fn put(&self, encoder: &mut Encoder<'_>) -> Result<(), EncodeError> {
@@ -123,8 +111,6 @@ pub type DefaultInteger = Sequence<components::DefaultInteger, 1, 0>;
 type DefaultIntegerRow = Defaults<Context<0>, Integer, IsNumber<0>, NoMore>;
 
 impl Rowed for components::DefaultInteger {
-    ghost use Rattle.rasn_oer.specs.Values.{both};
-
     type Values = <DefaultIntegerRow as Components>::Values;
 
     ghost EXTENSIBLE = { ⟦<DefaultIntegerRow as Components>⟧.EXTENSIBLE };
@@ -137,9 +123,7 @@ impl Rowed for components::DefaultInteger {
 
     ghost components = { λ v. both v.a tt };
 
-    fn from_row(
-        Both(a, ()): <DefaultIntegerRow as Components>::Values,
-    ) -> components::DefaultInteger {
+    fn from_row(Both(a, ()): Self::Values) -> Self {
         components::DefaultInteger { a }
     }
 }
@@ -151,11 +135,7 @@ impl Takes for components::DefaultInteger {
 }
 
 impl Tabled<1, 0> for components::DefaultInteger {
-    ghost use Rattle.std.specs.Prelude.{refl};
-
-    const FIELDS: Fields<1> = Fields {
-        fields: fields![0 Default Context 0 "a"],
-    };
+    const FIELDS: Fields<1> = table![0 Default Context 0 "a"];
 
     const EXTENDED_FIELDS: Option<Fields<0>> = None;
 
@@ -164,10 +144,7 @@ impl Tabled<1, 0> for components::DefaultInteger {
     }
 
     fn addition_fields() -> &'static [Field<'static>] {
-        match Self::EXTENDED_FIELDS {
-            Some(table) => table.fields,
-            None => &[],
-        }
+        rows_of!(Self::EXTENDED_FIELDS)
     }
 
     fn put(&self, encoder: &mut Encoder<'_>) -> Result<(), EncodeError> {
@@ -188,8 +165,6 @@ type DefaultAndOptionalRow = Defaults<
 >;
 
 impl Rowed for components::DefaultAndOptional {
-    ghost use Rattle.rasn_oer.specs.Values.{both};
-
     type Values = <DefaultAndOptionalRow as Components>::Values;
 
     ghost EXTENSIBLE = { ⟦<DefaultAndOptionalRow as Components>⟧.EXTENSIBLE };
@@ -202,9 +177,7 @@ impl Rowed for components::DefaultAndOptional {
 
     ghost components = { λ v. both v.a (both v.b tt) };
 
-    fn from_row(
-        Both(a, Both(b, ())): <DefaultAndOptionalRow as Components>::Values,
-    ) -> components::DefaultAndOptional {
+    fn from_row(Both(a, Both(b, ())): Self::Values) -> Self {
         components::DefaultAndOptional { a, b }
     }
 }
@@ -216,11 +189,7 @@ impl Takes for components::DefaultAndOptional {
 }
 
 impl Tabled<2, 0> for components::DefaultAndOptional {
-    ghost use Rattle.std.specs.Prelude.{refl};
-
-    const FIELDS: Fields<2> = Fields {
-        fields: fields![0 Default Context 0 "a", 1 Optional Context 1 "b"],
-    };
+    const FIELDS: Fields<2> = table![0 Default Context 0 "a", 1 Optional Context 1 "b"];
 
     const EXTENDED_FIELDS: Option<Fields<0>> = None;
 
@@ -229,10 +198,7 @@ impl Tabled<2, 0> for components::DefaultAndOptional {
     }
 
     fn addition_fields() -> &'static [Field<'static>] {
-        match Self::EXTENDED_FIELDS {
-            Some(table) => table.fields,
-            None => &[],
-        }
+        rows_of!(Self::EXTENDED_FIELDS)
     }
 
     fn put(&self, encoder: &mut Encoder<'_>) -> Result<(), EncodeError> {
@@ -253,8 +219,6 @@ type AllDefaultRow = Defaults<
 >;
 
 impl Rowed for components::AllDefault {
-    ghost use Rattle.rasn_oer.specs.Values.{both};
-
     type Values = <AllDefaultRow as Components>::Values;
 
     ghost EXTENSIBLE = { ⟦<AllDefaultRow as Components>⟧.EXTENSIBLE };
@@ -267,9 +231,7 @@ impl Rowed for components::AllDefault {
 
     ghost components = { λ v. both v.a (both v.b tt) };
 
-    fn from_row(
-        Both(a, Both(b, ())): <AllDefaultRow as Components>::Values,
-    ) -> components::AllDefault {
+    fn from_row(Both(a, Both(b, ())): Self::Values) -> Self {
         components::AllDefault { a, b }
     }
 }
@@ -281,11 +243,7 @@ impl Takes for components::AllDefault {
 }
 
 impl Tabled<2, 0> for components::AllDefault {
-    ghost use Rattle.std.specs.Prelude.{refl};
-
-    const FIELDS: Fields<2> = Fields {
-        fields: fields![0 Default Context 0 "a", 1 Default Context 1 "b"],
-    };
+    const FIELDS: Fields<2> = table![0 Default Context 0 "a", 1 Default Context 1 "b"];
 
     const EXTENDED_FIELDS: Option<Fields<0>> = None;
 
@@ -294,10 +252,7 @@ impl Tabled<2, 0> for components::AllDefault {
     }
 
     fn addition_fields() -> &'static [Field<'static>] {
-        match Self::EXTENDED_FIELDS {
-            Some(table) => table.fields,
-            None => &[],
-        }
+        rows_of!(Self::EXTENDED_FIELDS)
     }
 
     fn put(&self, encoder: &mut Encoder<'_>) -> Result<(), EncodeError> {
@@ -313,8 +268,6 @@ pub type AllOptional = Sequence<components::AllOptional, 2, 0>;
 type AllOptionalRow = MayHave<Context<0>, Integer, MayHave<Context<1>, Integer, NoMore>>;
 
 impl Rowed for components::AllOptional {
-    ghost use Rattle.rasn_oer.specs.Values.{both};
-
     type Values = <AllOptionalRow as Components>::Values;
 
     ghost EXTENSIBLE = { ⟦<AllOptionalRow as Components>⟧.EXTENSIBLE };
@@ -327,9 +280,7 @@ impl Rowed for components::AllOptional {
 
     ghost components = { λ v. both v.a (both v.b tt) };
 
-    fn from_row(
-        Both(a, Both(b, ())): <AllOptionalRow as Components>::Values,
-    ) -> components::AllOptional {
+    fn from_row(Both(a, Both(b, ())): Self::Values) -> Self {
         components::AllOptional { a, b }
     }
 }
@@ -341,11 +292,7 @@ impl Takes for components::AllOptional {
 }
 
 impl Tabled<2, 0> for components::AllOptional {
-    ghost use Rattle.std.specs.Prelude.{refl};
-
-    const FIELDS: Fields<2> = Fields {
-        fields: fields![0 Optional Context 0 "a", 1 Optional Context 1 "b"],
-    };
+    const FIELDS: Fields<2> = table![0 Optional Context 0 "a", 1 Optional Context 1 "b"];
 
     const EXTENDED_FIELDS: Option<Fields<0>> = None;
 
@@ -354,10 +301,7 @@ impl Tabled<2, 0> for components::AllOptional {
     }
 
     fn addition_fields() -> &'static [Field<'static>] {
-        match Self::EXTENDED_FIELDS {
-            Some(table) => table.fields,
-            None => &[],
-        }
+        rows_of!(Self::EXTENDED_FIELDS)
     }
 
     fn put(&self, encoder: &mut Encoder<'_>) -> Result<(), EncodeError> {

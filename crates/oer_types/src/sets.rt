@@ -1,4 +1,6 @@
 //! A set by the row of its components in the order of their tags.
+ghost use Rattle.rasn_oer.specs.Values.{both};
+ghost use Rattle.std.specs.Prelude.{refl};
 
 use crate::components;
 use rasn_oer::prelude::*;
@@ -18,8 +20,6 @@ const FOO_FIELDS: &'static [Field<'static>] = fields![
 ];
 
 impl Rowed for components::Foo {
-    ghost use Rattle.rasn_oer.specs.Values.{both};
-
     type Values = <FooRow as Components>::Values;
 
     ghost EXTENSIBLE = { ⟦<FooRow as Components>⟧.EXTENSIBLE };
@@ -32,7 +32,7 @@ impl Rowed for components::Foo {
 
     ghost components = { λ v. both v.c (both v.b (both v.a tt)) };
 
-    fn from_row(Both(c, Both(b, Both(a, ()))): <FooRow as Components>::Values) -> components::Foo {
+    fn from_row(Both(c, Both(b, Both(a, ()))): Self::Values) -> Self {
         components::Foo { a, b, c }
     }
 }
@@ -44,8 +44,6 @@ impl Takes for components::Foo {
 }
 
 impl Tabled<3, 0> for components::Foo {
-    ghost use Rattle.std.specs.Prelude.{refl};
-
     const FIELDS: Fields<3> = Fields { fields: FOO_FIELDS };
 
     const EXTENDED_FIELDS: Option<Fields<0>> = None;
@@ -55,10 +53,7 @@ impl Tabled<3, 0> for components::Foo {
     }
 
     fn addition_fields() -> &'static [Field<'static>] {
-        match Self::EXTENDED_FIELDS {
-            Some(table) => table.fields,
-            None => &[],
-        }
+        rows_of!(Self::EXTENDED_FIELDS)
     }
 
     fn put(&self, encoder: &mut Encoder<'_>) -> Result<(), EncodeError> {
@@ -69,7 +64,5 @@ impl Tabled<3, 0> for components::Foo {
 }
 
 impl InTagOrder<3, 0> for components::Foo {
-    ghost use Rattle.std.specs.Prelude.{refl};
-
     ghost in_order = { refl };
 }

@@ -1,7 +1,12 @@
 //! A sequence and the choice in it, which may hold such a sequence.
-ghost use Rattle.std.specs.Prelude.{OnOk, IfErr};
+ghost use Rattle.std.specs.Prelude.{OnOk, IfErr, None, Some, false, pos, refl, ⊤};
 ghost use Rattle.oer_write.specs.Written.{Encodes, Refused};
 ghost use Rattle.asn1_core.specs.declared.constraints.TheConstants.Constraints.{NONE};
+ghost use Rattle.rasn_oer.specs.Bounded.{Range};
+ghost use Rattle.rasn_oer.specs.Values.{both};
+ghost use Rattle.rasn_oer.specs.Alternative.{First, Rest};
+ghost use Rattle.asn1_core.specs.declared.tag.TheConstants.Tag.{SEQUENCE};
+ghost use Rattle.rasn_oer.specs.Knots.{knot_tree, IsKnot, knot_typed, knot, knot_layers, layer, knot_layered};
 
 use rasn_oer::prelude::*;
 use std::alloc::Global;
@@ -14,9 +19,6 @@ pub type OneToEight = Limited<u8, OneToEightLimits>;
 pub enum OneToEightLimits {}
 
 impl Limits for OneToEightLimits {
-    ghost use Rattle.std.specs.Prelude.{None, Some, false, pos, refl};
-    ghost use Rattle.rasn_oer.specs.Bounded.{Range};
-
     ghost LIMITS = { record { value = Some (Range (Some (pos 1)) (Some (pos 8)), false); size = None } };
 
     const LIMITS: Constraints = Constraints {
@@ -54,8 +56,6 @@ const TOP_FIELDS: &'static [Field<'static>] = fields![
 ];
 
 impl<K> KnotRowed<K> for TopLevelComponents<K> {
-    ghost use Rattle.rasn_oer.specs.Values.{both};
-
     type KnotValues = <TopRow<K> as KnotRow<K>>::Values;
 
     ghost extended = { ⟦<TopRow<K> as KnotRow<K>>⟧.EXTENSIBLE };
@@ -70,8 +70,6 @@ impl<K> KnotRowed<K> for TopLevelComponents<K> {
 }
 
 impl<K: Encode> Rowed for TopLevelComponents<K> {
-    ghost use Rattle.rasn_oer.specs.Values.{both};
-
     type Values = <TopRow<K> as Components>::Values;
 
     ghost EXTENSIBLE = { ⟦<TopRow<K> as Components>⟧.EXTENSIBLE };
@@ -84,7 +82,7 @@ impl<K: Encode> Rowed for TopLevelComponents<K> {
 
     ghost components = { λ v. both v.test (both v.choice tt) };
 
-    fn from_row(row: <TopRow<K> as Components>::Values) -> TopLevelComponents<K> {
+    fn from_row(row: Self::Values) -> Self {
         let Both(test, Both(choice, ())) = row;
         TopLevelComponents { test, choice }
     }
@@ -107,8 +105,6 @@ impl<K: Encode> TakesKnot<K> for TopLevelComponents<K> {
 }
 
 impl<K: Encode> Tabled<2, 0> for TopLevelComponents<K> {
-    ghost use Rattle.std.specs.Prelude.{refl};
-
     const FIELDS: Fields<2> = Fields { fields: TOP_FIELDS };
 
     const EXTENDED_FIELDS: Option<Fields<0>> = None;
@@ -146,8 +142,6 @@ type TestNumber3<K> = OffersKnot<Context<2>, Held<K>, NoMore>;
 const TEST_ROOTS: &'static [Tag] = tags![Context 0, Context 1, Context 2];
 
 impl<K> KnotAlternating<K> for TestAlternatives<K> {
-    ghost use Rattle.std.specs.Prelude.{refl};
-    ghost use Rattle.rasn_oer.specs.Alternative.{First, Rest};
     ghost use Rattle.oer_types.specs.TopLevels.{test_weight};
     ghost use Rattle.oer_types.specs.declared.top_levels.TestAlternatives.TheVariants.{Number1, Number2, Number3};
 
@@ -167,8 +161,6 @@ impl<K> KnotAlternating<K> for TestAlternatives<K> {
 }
 
 impl<K: Encode> Alternating for TestAlternatives<K> {
-    ghost use Rattle.std.specs.Prelude.{refl};
-    ghost use Rattle.rasn_oer.specs.Alternative.{First, Rest};
     ghost use Rattle.oer_types.specs.declared.top_levels.TestAlternatives.TheVariants.{Number1, Number2, Number3};
 
     type Values = <TestRow<K> as Alternatives>::Values;
@@ -229,10 +221,6 @@ impl<K: Encode> TakesKnotAlternative<K> for TestAlternatives<K> {
 }
 
 impl AsnType for TopLevel {
-    ghost use Rattle.std.specs.Prelude.{refl};
-    ghost use Rattle.asn1_core.specs.declared.tag.TheConstants.Tag.{SEQUENCE};
-    ghost use Rattle.asn1_core.specs.declared.constraints.TheConstants.Constraints.{NONE};
-
     ghost TAG = { SEQUENCE };
 
     const TAG: Tag = Tag::SEQUENCE;
@@ -245,7 +233,6 @@ impl AsnType for TopLevel {
 }
 
 impl Spelled for TopLevel {
-    ghost use Rattle.rasn_oer.specs.Knots.{knot_tree, IsKnot, knot_typed};
     ghost use Rattle.oer_types.specs.TopLevels.{top_smaller};
     ghost use Rattle.oer_types.specs.declared.top_levels.TopLevel.{out-TopLevel, size-TopLevel};
 
@@ -259,7 +246,6 @@ impl Spelled for TopLevel {
 }
 
 impl Layered for TopLevel {
-    ghost use Rattle.rasn_oer.specs.Knots.{knot, knot_layers, layer};
     ghost use Rattle.oer_types.specs.TopLevels.{top_smaller};
     ghost use Rattle.oer_types.specs.declared.top_levels.TopLevel.{out-TopLevel, size-TopLevel};
 
@@ -294,7 +280,6 @@ impl Encode for TopLevel {
 }
 
 impl Knot<TopLevelContent<TopLevel>> for TopLevel {
-    ghost use Rattle.rasn_oer.specs.Knots.{knot_layered};
     ghost use Rattle.oer_types.specs.TopLevels.{top_smaller};
     ghost use Rattle.oer_types.specs.declared.top_levels.TopLevel.{out-TopLevel, size-TopLevel};
 
@@ -308,8 +293,6 @@ impl Knot<TopLevelContent<TopLevel>> for TopLevel {
 }
 
 impl Decode for TopLevel {
-    ghost use Rattle.std.specs.Prelude.{⊤};
-
     ghost Answered = { λ c s r t. ⊤ };
 
     fn decode_with_tag_and_constraints(

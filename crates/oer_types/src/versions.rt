@@ -1,4 +1,6 @@
 //! A later version of `SEQUENCE { a BOOLEAN, ..., b BOOLEAN OPTIONAL, c BOOLEAN OPTIONAL }`.
+ghost use Rattle.rasn_oer.specs.Values.{both};
+ghost use Rattle.std.specs.Prelude.{refl};
 
 use rasn_oer::prelude::*;
 use std::alloc::Global;
@@ -19,8 +21,6 @@ const ADDITION7_FIELDS: &'static [Field<'static>] =
     fields![0 Optional Context 0 "e", 1 Default Context 1 "f"];
 
 impl Rowed for Addition7Components {
-    ghost use Rattle.rasn_oer.specs.Values.{both};
-
     type Values = <Addition7Row as Components>::Values;
 
     ghost EXTENSIBLE = { ⟦<Addition7Row as Components>⟧.EXTENSIBLE };
@@ -33,7 +33,7 @@ impl Rowed for Addition7Components {
 
     ghost components = { λ v. both v.e (both v.f tt) };
 
-    fn from_row(Both(e, Both(f, ())): <Addition7Row as Components>::Values) -> Addition7Components {
+    fn from_row(Both(e, Both(f, ())): Self::Values) -> Self {
         Addition7Components { e, f }
     }
 }
@@ -45,8 +45,6 @@ impl Takes for Addition7Components {
 }
 
 impl Tabled<2, 0> for Addition7Components {
-    ghost use Rattle.std.specs.Prelude.{refl};
-
     const FIELDS: Fields<2> = Fields {
         fields: ADDITION7_FIELDS,
     };
@@ -58,10 +56,7 @@ impl Tabled<2, 0> for Addition7Components {
     }
 
     fn addition_fields() -> &'static [Field<'static>] {
-        match Self::EXTENDED_FIELDS {
-            Some(table) => table.fields,
-            None => &[],
-        }
+        rows_of!(Self::EXTENDED_FIELDS)
     }
 
     fn put(&self, encoder: &mut Encoder<'_>) -> Result<(), EncodeError> {
@@ -101,8 +96,6 @@ const SEQUENCE7_ADDITIONS: &'static [Field<'static>] = fields![
 ];
 
 impl Rowed for Sequence7Components {
-    ghost use Rattle.rasn_oer.specs.Values.{both};
-
     type Values = <Sequence7Row as Components>::Values;
 
     ghost EXTENSIBLE = { ⟦<Sequence7Row as Components>⟧.EXTENSIBLE };
@@ -115,9 +108,7 @@ impl Rowed for Sequence7Components {
 
     ghost components = { λ v. both v.a (both v.b (both v.c (both v.d (both v.group tt)))) };
 
-    fn from_row(
-        Both(a, Both(b, Both(c, Both(d, Both(group, ()))))): <Sequence7Row as Components>::Values,
-    ) -> Sequence7Components {
+    fn from_row(Both(a, Both(b, Both(c, Both(d, Both(group, ()))))): Self::Values) -> Self {
         Sequence7Components { a, b, c, d, group }
     }
 }
@@ -129,8 +120,6 @@ impl Takes for Sequence7Components {
 }
 
 impl Tabled<1, 4> for Sequence7Components {
-    ghost use Rattle.std.specs.Prelude.{refl};
-
     const FIELDS: Fields<1> = Fields {
         fields: SEQUENCE7_FIELDS,
     };
@@ -144,10 +133,7 @@ impl Tabled<1, 4> for Sequence7Components {
     }
 
     fn addition_fields() -> &'static [Field<'static>] {
-        match Self::EXTENDED_FIELDS {
-            Some(table) => table.fields,
-            None => &[],
-        }
+        rows_of!(Self::EXTENDED_FIELDS)
     }
 
     fn put(&self, encoder: &mut Encoder<'_>) -> Result<(), EncodeError> {

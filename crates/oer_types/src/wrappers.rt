@@ -1,4 +1,10 @@
 //! Wrappers: each narrows the constraints that its content is written and read under.
+ghost use Rattle.std.specs.Prelude.{false, refl};
+ghost use Rattle.asn1_core.specs.declared.tag.TheConstants.Tag.{INTEGER, OCTET_STRING};
+ghost use Rattle.asn1_core.specs.Bounds.{narrowed};
+ghost use Rattle.oer_spec.specs.Spelled.{integers_same, texts_same};
+ghost use Rattle.std.specs.Result.{result_map_both};
+ghost use Rattle.asn1_core.specs.Texts.{AnyOctets};
 
 use asn1_core::{AsnType, Bounded, Constraints, DecodeError, EncodeError, Tag};
 use asn1_ints::Integer;
@@ -21,8 +27,6 @@ pub struct Negative<T>(pub T);
 pub struct HashedId3(pub OctetString);
 
 impl AsnType for Positive {
-    ghost use Rattle.std.specs.Prelude.{false, refl};
-    ghost use Rattle.asn1_core.specs.declared.tag.TheConstants.Tag.{INTEGER};
     ghost use Rattle.oer_types.specs.Wrappers.{from_zero};
 
     ghost TAG = { INTEGER };
@@ -46,8 +50,6 @@ impl AsnType for Positive {
 }
 
 impl Spelled for Positive {
-    ghost use Rattle.std.specs.Prelude.{refl};
-    ghost use Rattle.asn1_core.specs.Bounds.{narrowed};
     ghost use Rattle.oer_types.specs.Wrappers.{from_zero, narrowed_consistent};
 
     ghost tree = { λ c v. ⟦<Integer as Spelled>⟧.tree (narrowed from_zero c) v.0 };
@@ -60,8 +62,6 @@ impl Spelled for Positive {
 }
 
 impl EqualAsSpelled for Positive {
-    ghost use Rattle.asn1_core.specs.Bounds.{narrowed};
-    ghost use Rattle.oer_spec.specs.Spelled.{integers_same};
     ghost use Rattle.oer_types.specs.Wrappers.{from_zero};
 
     ghost eq_is_same = { λ c k v w i j. integers_same (narrowed from_zero c) v.0 w.0 };
@@ -82,8 +82,6 @@ impl Encode for Positive {
 }
 
 impl Decode for Positive {
-    ghost use Rattle.asn1_core.specs.Bounds.{narrowed};
-    ghost use Rattle.std.specs.Result.{result_map_both};
     ghost use Rattle.oer_types.specs.Wrappers.{from_zero};
 
     ghost Answered = { λ c s r t. ⟦<Integer as Decode>⟧.Answered (narrowed from_zero c) s (result_map_both (λ v. v.0) (λ e. e) r) t };
@@ -104,7 +102,6 @@ impl Decode for Positive {
 }
 
 impl<T: AsnType> AsnType for Negative<T> {
-    ghost use Rattle.std.specs.Prelude.{false, refl};
     ghost use Rattle.oer_types.specs.Wrappers.{to_zero};
 
     ghost TAG = { T.TAG };
@@ -128,8 +125,6 @@ impl<T: AsnType> AsnType for Negative<T> {
 }
 
 impl<T: Spelled> Spelled for Negative<T> {
-    ghost use Rattle.std.specs.Prelude.{refl};
-    ghost use Rattle.asn1_core.specs.Bounds.{narrowed};
     ghost use Rattle.oer_types.specs.Wrappers.{to_zero, narrowed_consistent};
 
     ghost tree = { λ c v. T.tree (narrowed to_zero c) v.0 };
@@ -142,8 +137,6 @@ impl<T: Spelled> Spelled for Negative<T> {
 }
 
 impl<T: EqualAsSpelled> EqualAsSpelled for Negative<T> {
-    ghost use Rattle.std.specs.Prelude.{refl};
-    ghost use Rattle.asn1_core.specs.Bounds.{narrowed};
     ghost use Rattle.oer_types.specs.Wrappers.{to_zero, narrowed_consistent};
 
     ghost eq_is_same = { λ c k v w i j. T.eq_is_same (narrowed to_zero c) (narrowed_consistent to_zero c refl k) v.0 w.0 i j };
@@ -164,8 +157,6 @@ impl<T: Encode> Encode for Negative<T> {
 }
 
 impl<T: Decode> Decode for Negative<T> {
-    ghost use Rattle.asn1_core.specs.Bounds.{narrowed};
-    ghost use Rattle.std.specs.Result.{result_map_both};
     ghost use Rattle.oer_types.specs.Wrappers.{to_zero};
 
     ghost Answered = { λ c s r t. T.Answered (narrowed to_zero c) s (result_map_both (λ v. v.0) (λ e. e) r) t };
@@ -186,8 +177,6 @@ impl<T: Decode> Decode for Negative<T> {
 }
 
 impl AsnType for HashedId3 {
-    ghost use Rattle.std.specs.Prelude.{false, refl};
-    ghost use Rattle.asn1_core.specs.declared.tag.TheConstants.Tag.{OCTET_STRING};
     ghost use Rattle.oer_types.specs.Wrappers.{of_three};
 
     ghost TAG = { OCTET_STRING };
@@ -205,8 +194,6 @@ impl AsnType for HashedId3 {
 }
 
 impl Spelled for HashedId3 {
-    ghost use Rattle.std.specs.Prelude.{refl};
-    ghost use Rattle.asn1_core.specs.Bounds.{narrowed};
     ghost use Rattle.oer_types.specs.Wrappers.{of_three, narrowed_consistent};
 
     ghost tree = { λ c v. ⟦<OctetString as Spelled>⟧.tree (narrowed of_three c) v.0 };
@@ -219,9 +206,6 @@ impl Spelled for HashedId3 {
 }
 
 impl EqualAsSpelled for HashedId3 {
-    ghost use Rattle.asn1_core.specs.Bounds.{narrowed};
-    ghost use Rattle.asn1_core.specs.Texts.{AnyOctets};
-    ghost use Rattle.oer_spec.specs.Spelled.{texts_same};
     ghost use Rattle.oer_types.specs.Wrappers.{of_three};
 
     ghost eq_is_same = { λ c k v w i j. texts_same AnyOctets (narrowed of_three c) v.0 w.0 };
@@ -242,8 +226,6 @@ impl Encode for HashedId3 {
 }
 
 impl Decode for HashedId3 {
-    ghost use Rattle.asn1_core.specs.Bounds.{narrowed};
-    ghost use Rattle.std.specs.Result.{result_map_both};
     ghost use Rattle.oer_types.specs.Wrappers.{of_three};
 
     ghost Answered = { λ c s r t. ⟦<OctetString as Decode>⟧.Answered (narrowed of_three c) s (result_map_both (λ v. v.0) (λ e. e) r) t };

@@ -11,7 +11,7 @@ pub mod prelude;
 mod recode;
 
 #[doc(hidden)]
-pub use asn1_base::{Class, Field, FieldPresence, Tag};
+pub use asn1_base::{Class, Field, FieldPresence, Fields, Tag};
 #[doc(hidden)]
 pub use oer_choices::Either;
 pub use oer_read::{Decode, DecodeChoice, Decoder, DecoderOptions, de};

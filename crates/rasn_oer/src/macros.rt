@@ -1,6 +1,6 @@
 //! What a type by its row writes in fewer words: its tables, and the pairs and alternatives of its row.
 
-/// A table of components: the index, the need, the tag's class and number, and the name of each.
+/// The rows of a table of components: the index, the need, the tag's class and number, and the name of each.
 #[macro_export]
 macro_rules! fields {
     ($($index:literal $presence:ident $class:ident $number:literal $name:literal),*) => {
@@ -10,6 +10,25 @@ macro_rules! fields {
             presence: $crate::FieldPresence::$presence,
             name: $name,
         }),*]
+    };
+}
+
+/// A table of so many components as are listed: `table![0 Required Context 0 "a"]`.
+#[macro_export]
+macro_rules! table {
+    ($($cells:tt)*) => {
+        $crate::Fields { fields: $crate::fields![$($cells)*] }
+    };
+}
+
+/// The rows of a table of additions, none where it is absent: `rows_of!(Self::EXTENDED_FIELDS)`.
+#[macro_export]
+macro_rules! rows_of {
+    ($table:expr) => {
+        match $table {
+            Some(table) => table.fields,
+            None => &[],
+        }
     };
 }
 

@@ -4,6 +4,8 @@ pub use crate::built;
 pub use crate::fields;
 pub use crate::from_row;
 pub use crate::pairs;
+pub use crate::rows_of;
+pub use crate::table;
 pub use crate::tags;
 pub use crate::to_row;
 pub use crate::views;
