@@ -21,8 +21,8 @@ once_more : (n : ℕ) → nested_lists (suc n) ≡ ListOf true (More (nested_lis
 unfolding nested_lists
 once_more n = refl
 
-pub nested_none : (x : Nest-F Nest) → x.0.0.items ≡ [] → nest_tree (roll-Nest x) ≡ nested_lists zero
+pub nested_none : (x : Nest-F Nest) → x.0 ≡ [] → nest_tree (roll-Nest x) ≡ nested_lists zero
 nested_none x e = nest_of x ∙ ap (λ (vs : List (Bare Nest)). list_of true item_tree vs) e ∙ none_is
 
-pub nested_more : (n : ℕ) (x : Nest-F Nest) (v : Nest) → x.0.0.items ≡ record { 0 = v } ∷ [] → nest_tree v ≡ nested_lists n → nest_tree (roll-Nest x) ≡ nested_lists (n + 1)
+pub nested_more : (n : ℕ) (x : Nest-F Nest) (v : Nest) → x.0 ≡ record { 0 = v } ∷ [] → nest_tree v ≡ nested_lists n → nest_tree (roll-Nest x) ≡ nested_lists (n + 1)
 nested_more n x v e k = nest_of x ∙ ap (λ (vs : List (Bare Nest)). list_of true item_tree vs) e ∙ one_is (record { 0 = v }) ∙ ap (λ (t : Tree). ListOf true (More t NoTrees)) k ∙ sym (once_more n) ∙ ap nested_lists (sym (add-one n))
