@@ -19,8 +19,8 @@ module _ {A : Type 0} (eq : A → A → Bool) (k : IsEquivalence eq) where
   -- an item is counted among those behind which it stands
   counted : (x : A) (xs : List A) → (count_by (eq x) (x ∷ xs) == count_by (eq x) []) ≡ false
   counted x xs =
-      let n : count_by (eq x) (x ∷ xs) ≡ cond (eq x x) 1 0 + count_by (eq x) xs = sum_by-cons (λ y. cond (eq x y) 1 0) x xs in
-      let one : cond (eq x x) 1 0 ≡ 1 = ap (λ (b : Bool). cond b 1 0) (k.refl x) in
+      let n : ◌≡◌ {A = ℕ} (count_by (eq x) (x ∷ xs)) (cond (eq x x) 1 0 + count_by (eq x) xs) = sum_by-cons (λ y. cond (eq x y) 1 0) x xs in
+      let one : ◌≡◌ {A = ℕ} (cond (eq x x) 1 0) 1 = ap (λ (b : Bool). cond b 1 0) (k.refl x) in
       ne_eqb (count_by (eq x) (x ∷ xs)) 0 (λ e. omega (arith, e, n, one))
 
   pub none_gathered : (xs : List A) → (length xs == 0) ≡ same_items eq xs []
