@@ -1,5 +1,5 @@
 -- A UTF8String is read by the law, seen by its octets.
-use Rattle.std.proofs.Common.{◌≡◌, ℕ, Result, Ok, Err, refl, ap, ◌∙◌}
+use Rattle.std.proofs.Common.{◌≡◌, Result, Ok, Err, refl, ap, ◌∙◌}
 use Rattle.std.specs.Str.{is_utf8}
 use Rattle.std.proofs.lemmas.Str.{is_utf8-from_IsUtf8, IsUtf8-from_is_utf8}
 use Rattle.asn1_core.specs.Bounds.{size_bounds}
@@ -15,7 +15,7 @@ use Rattle.oer_spec.specs.ReadingTexts.{text_at}
 use Rattle.oer_spec.specs.Spelled.{IsTextOf, text, text_is, texts_alike}
 use Rattle.oer_spec.specs.Tree.{Text, InOctets}
 use Rattle.oer_read.specs.Answers.{Answers}
-use Rattle.oer_read.specs.Law.{Reads, NoEncoding, Decodes, IsForMemory}
+use Rattle.oer_read.specs.Law.{NoEncoding, Decodes, IsForMemory}
 use Rattle.oer_read.specs.State.{State}
 use Rattle.oer_read.proofs.LeafLaws.{AreSettled, reads_front, encoded}
 use Rattle.oer_read.proofs.ListLaw.{not_both}
