@@ -13,8 +13,7 @@ use Rattle.oer_knots.specs.Lists.{list_tied, list_ties}
 use Rattle.oer_knots.specs.Ties.{held_tied, held_weight, held_ties}
 use Rattle.oer_knots.specs.declared.held.Bare.{Bare}
 use Rattle.oer_types.specs.declared.nests.Nest.{Nest, size-Nest, size_is-Nest}
-use Rattle.oer_types.specs.declared.nests.Nest.TheOpen.{Nest-F}
-use Rattle.oer_types.specs.declared.nests.Nest.TheViews.{out-Nest, roll-Nest, out-roll-Nest}
+use Rattle.oer_types.specs.declared.nests.Nest.TheViews.{out-Nest}
 
 abbrev pub nest_weight : {K : Type 0} → (K → ℕ) → ListOf (Bare K) → ℕ
 nest_weight size v = most (λ h. size h.0) v
@@ -47,9 +46,6 @@ nest_items v = nest_content v
 -- a nest's tree is that of the list of its items
 pub nest_is_list : (v : Nest) → nest_tree v ≡ list_of true item_tree (nest_items v)
 nest_is_list v = knot_is_layer size-Nest nest_content nest_tied nest_weight nest_knotted v
-
-pub nest_of : (x : Nest-F Nest) → nest_tree (roll-Nest x) ≡ list_of true item_tree x.0
-nest_of x = nest_is_list (roll-Nest x) ∙ ap (λ (z : Nest-F Nest). list_of true item_tree z.0) (out-roll-Nest x)
 
 -- ---- each nest is one of its values
 
