@@ -14,7 +14,7 @@ use asn1_layouts::definitions::Definition;
 use asn1_layouts::numbers::{Spot, names_of, number_of, settled};
 use asn1_layouts::rows::Row;
 use asn1_layouts::scope::{Link, Scope};
-use asn1_layouts::visible::Limits;
+use asn1_layouts::visible::{Limits, Purpose, limits_of};
 use asn1_modules::ast::{Body, Simple, Value};
 use asn1_modules::lexer::TokenId;
 use asn1_modules::refusal::Refusal;
@@ -22,7 +22,11 @@ use std::alloc::Global;
 
 /// What can be read where a default isn't printed.
 const PRINTED: &str =
-    "a default that is a boolean, NULL, a number, an enumerated value, bits, octets or characters but UTF-8's: others aren't printed yet";
+    "a default that is a boolean, NULL, a number, an enumerated value, bits, octets, characters or an empty list: others aren't printed yet";
+
+/// What can be read where an empty list isn't printed.
+const COMPARED: &str =
+    "an empty list of elements that aren't sequences, sets or choices, as a default: others aren't printed yet";
 
 /// What can be read where a default is no value of its type.
 const ALLOWED: &str = "a default that the type's constraints allow";
@@ -218,34 +222,73 @@ fn push_bits<'m>(
     Ok(push_words(scope.alloc, out, name, is_limited, &words))
 }
 
+/// What shows that octets obey a type's rule.
+#[derive(Clone, Copy)]
+enum Obeys {
+    /// All do.
+    Any,
+    /// Each of them is tested.
+    Each,
+    /// They are twice as many as so many.
+    Pairs,
+    /// They are UTF-8.
+    Utf8,
+}
+
 /// A type of octets or characters: the struct that holds it, what makes one of octets, its rule, and what shows that they obey that.
 #[derive(Clone, Copy)]
 struct Held {
     holder: &'static str,
     made: &'static str,
     rule: &'static str,
-    obeys: &'static str,
+    obeys: Obeys,
 }
 
-/// The type of octets or characters; nothing of another type, and of UTF-8.
+/// The type of octets or characters; nothing of another type.
 fn held_of(simple: Simple) -> Option<Held> {
     let (holder, made, rule, obeys) = match simple {
-        Simple::OctetString => ("Octets", "OctetString::from_slice", "AnyOctets", "tt"),
-        Simple::NumericString => ("NumericText", "NumericString::from_text", "Numeric", "refl"),
+        Simple::OctetString => ("Octets", "OctetString::from_slice", "AnyOctets", Obeys::Any),
+        Simple::Utf8String => ("Utf8Text", "utf8_from", "Utf8", Obeys::Utf8),
+        Simple::NumericString => (
+            "NumericText",
+            "NumericString::from_text",
+            "Numeric",
+            Obeys::Each,
+        ),
         Simple::PrintableString => {
             (
                 "PrintableText",
                 "PrintableString::from_text",
                 "Printable",
-                "refl",
+                Obeys::Each,
             )
         }
-        Simple::VisibleString => ("VisibleText", "VisibleString::from_text", "Visible", "refl"),
-        Simple::Ia5String => ("Ia5Text", "Ia5String::from_text", "Ia5", "refl"),
-        Simple::GeneralString => ("GeneralText", "GeneralString::from_text", "General", "tt"),
-        Simple::GraphicString => ("GraphicText", "GraphicString::from_text", "Graphic", "tt"),
-        Simple::TeletexString => ("TeletexText", "TeletexString::from_text", "Teletex", "tt"),
-        Simple::BmpString => ("BmpText", "", "Bmp", ""),
+        Simple::VisibleString => (
+            "VisibleText",
+            "VisibleString::from_text",
+            "Visible",
+            Obeys::Each,
+        ),
+        Simple::Ia5String => ("Ia5Text", "Ia5String::from_text", "Ia5", Obeys::Each),
+        Simple::GeneralString => (
+            "GeneralText",
+            "GeneralString::from_text",
+            "General",
+            Obeys::Any,
+        ),
+        Simple::GraphicString => (
+            "GraphicText",
+            "GraphicString::from_text",
+            "Graphic",
+            Obeys::Any,
+        ),
+        Simple::TeletexString => (
+            "TeletexText",
+            "TeletexString::from_text",
+            "Teletex",
+            Obeys::Any,
+        ),
+        Simple::BmpString => ("BmpText", "bmp_from", "Bmp", Obeys::Pairs),
         _ => return None,
     };
     Some(Held {
@@ -256,49 +299,76 @@ fn held_of(simple: Simple) -> Option<Held> {
     })
 }
 
-/// Appends what makes a value of octets.
+/// Appends what makes a value of octets: what the type within makes, in its struct, or what the library makes.
 fn push_made(out: &mut Text, held: Held) {
-    if held.made.is_empty() {
-        out.push("bmp_from(alloc, &octets)");
-        return;
+    match held.obeys {
+        Obeys::Any | Obeys::Each => {
+            out.push_all(&[
+                "let content = ",
+                held.made,
+                "(alloc, &octets)?;\n        Ok(",
+            ]);
+            out.push_all(&[held.holder, "(content))"]);
+        }
+        Obeys::Pairs | Obeys::Utf8 => out.push_all(&[held.made, "(alloc, &octets)"]),
     }
-    out.push_all(&[
-        "let content = ",
-        held.made,
-        "(alloc, &octets)?;\n        Ok(",
-    ]);
-    out.push_all(&[held.holder, "(content))"]);
 }
 
-/// Appends what shows that octets obey a type's rule: of a BMPString, that they are twice as many as so many.
-fn push_obeys(out: &mut Text, held: Held, size: usize) {
-    if !held.made.is_empty() {
-        out.push(held.obeys);
-        return;
+/// Appends the value as definitions name it: of a UTF8String its octets, of another type the struct around them.
+fn push_value(out: &mut Text, held: Held, list: &Text) {
+    match held.obeys {
+        Obeys::Utf8 => out.push_text(list),
+        _ => {
+            out.push("record { 0 = ");
+            out.push_text(list);
+            out.push(" }");
+        }
     }
-    out.push("(");
-    out.push_count(size / 2);
-    out.push(", refl)");
+}
+
+/// Appends what shows that so many octets obey a type's rule.
+fn push_obeys(out: &mut Text, held: Held, list: &Text, size: usize) {
+    match held.obeys {
+        Obeys::Any => out.push("tt"),
+        Obeys::Each => out.push("refl"),
+        Obeys::Pairs => {
+            out.push("(");
+            out.push_count(size / 2);
+            out.push(", refl)");
+        }
+        Obeys::Utf8 => {
+            out.push("(spelled ");
+            out.push_text(list);
+            out.push(" refl)");
+        }
+    }
+}
+
+/// Appends the names that the definitions of octets or characters take.
+fn push_uses(out: &mut Text, held: Held) {
+    out.push("ghost use Rattle.std.specs.Prelude.{◌∷◌, [], refl};\n");
+    out.push("    ghost use Rattle.rasn_oer.specs.Literals.{written");
+    out.push(if matches!(held.obeys, Obeys::Utf8) {
+        ", spelled"
+    } else {
+        ""
+    });
+    out.push("};\n    ghost use Rattle.rasn_oer.specs.Texts as texts;");
 }
 
 /// The words of octets or characters, but for their text.
 fn held_words(alloc: Global, name: &str, held: Held, octets: &[u8]) -> Words {
-    const USES: &str =
-        "ghost use Rattle.std.specs.Prelude.{◌∷◌, [], refl};\n    ghost use Rattle.rasn_oer.specs.Literals.{written};\n    ghost use Rattle.rasn_oer.specs.Texts as texts;";
     let list = list_text(alloc, octets);
     let mut words = words_of(alloc, name, held.holder, true);
-    words.put("USES", USES);
-    let value = words.begin("GHOST");
-    value.push("record { 0 = ");
-    value.push_text(&list);
-    value.push(" }");
+    push_uses(words.begin("USES"), held);
+    push_value(words.begin("GHOST"), held, &list);
     push_made(begin_behind_octets(&mut words, "CODE", octets), held);
     begin_behind_octets(&mut words, "TEST", octets).push("other.0.as_bytes() == octets.as_slice()");
     let admitted = words.begin("ADMITTED");
     admitted.push_all(&["written texts.", held.rule, " "]);
     admitted.push_text(&list);
     admitted.push(" refl ");
-    push_obeys(admitted, held, octets.len());
+    push_obeys(admitted, held, &list, octets.len());
     words
 }
 
@@ -406,6 +476,53 @@ fn push_enumerated<'m>(
     Ok(push_words(scope.alloc, out, named.0, false, &words))
 }
 
+/// Whether the library compares the elements of a list, also of lists in it: not sequences, sets and choices.
+fn compares<'m>(scope: Scope<'m, '_>, list: Link<'m>) -> Result<bool, Refusal> {
+    const MAX_LISTS: usize = 64;
+    let mut at = list;
+    for _ in 0..MAX_LISTS {
+        let module = at.module;
+        at = match &at.of.body {
+            Body::SequenceOf(element) | Body::SetOf(element) => scope.base_of(Link {
+                module,
+                of: &**element,
+            })?,
+            Body::Sequence(_) | Body::Set(_) | Body::Choice(_) => return Ok(false),
+            _ => return Ok(true),
+        };
+    }
+    Ok(false)
+}
+
+/// Whether the sizes of a list allow one without elements.
+fn allows_none<'m>(scope: Scope<'m, '_>, link: Link<'m>) -> Result<bool, Refusal> {
+    let chain = scope.chain_of(link)?;
+    let limits = limits_of(scope, chain.as_slice(), None, Purpose::Size)?;
+    Ok(allows(limits, 0))
+}
+
+/// The default of a list, which is empty.
+fn list_default<'m>(
+    scope: Scope<'m, '_>,
+    row: Row<'m>,
+    spot: Spot<'m>,
+    base: Link<'m>,
+) -> Result<Text, Refusal> {
+    let is_empty = matches!(spot.value, Value::Names(_, names) if names.is_empty());
+    if !is_empty {
+        return Err(scope.refused(row.name, PRINTED));
+    }
+    if !compares(scope, base)? {
+        return Err(scope.refused(row.name, COMPARED));
+    }
+    if !allows_none(scope, row.link)? {
+        return Err(scope.refused(row.name, ALLOWED));
+    }
+    let mut name = Text::new(scope.alloc);
+    name.push("IsEmptyList");
+    Ok(name)
+}
+
 /// The default of a type without parts: printed, but where the library has a type for it.
 fn push_simple<'m>(
     scope: Scope<'m, '_>,
@@ -448,6 +565,12 @@ pub fn push_default<'m>(
         Body::Enumerated(_, _) => push_enumerated(scope, all, out, base, (row.name, value), named),
         Body::BitString(_) => push_bits(scope, out, row, settled(scope, spot)?, name),
         Body::Simple(simple) => push_simple(scope, out, row, spot, *simple, name),
+        Body::SequenceOf(_) | Body::SetOf(_) => list_default(
+            scope,
+            row,
+            settled(scope, spot)?,
+            base,
+        ),
         _ => Err(scope.refused(row.name, PRINTED)),
     }
 }

@@ -117,19 +117,30 @@ pub fn packed(alloc: Global, bits: &[bool]) -> Result<Vec<u8>, AllocError> {
 }
 
 /// Whether a type's text may have the character (X.680, clause 41), and the library has octets for it: ASCII where X.680 would have
-/// escape sequences.
+/// escape sequences. A text in several lines is read of no type.
 fn is_permitted(simple: Simple, c: char) -> bool {
     match simple {
         Simple::NumericString => c.is_ascii_digit() || c == ' ',
         Simple::PrintableString => c.is_ascii_alphanumeric() || " '()+,-./:=?".contains(c),
         Simple::VisibleString => c == ' ' || c.is_ascii_graphic(),
         Simple::BmpString => u32::from(c) <= 65535,
+        Simple::Utf8String => c != '\n',
         _ => c.is_ascii() && c != '\n',
     }
 }
 
-/// Puts a character's octets to others: two in a BMPString, else one.
+/// Puts the octets of a character in UTF-8 to others.
+fn push_utf8(octets: &mut Vec<u8>, c: char) -> Result<(), AllocError> {
+    let mut text = String::new(*octets.allocator());
+    text.push(c)?;
+    octets.extend_from_slice(text.as_bytes())
+}
+
+/// Puts a character's octets to others: those of UTF-8 in a UTF8String, two in a BMPString, else one.
 fn push_character(octets: &mut Vec<u8>, simple: Simple, c: char) -> Result<(), AllocError> {
+    if simple == Simple::Utf8String {
+        return push_utf8(octets, c);
+    }
     let number = u32::from(c);
     if simple == Simple::BmpString {
         octets.push(u8::try_from(number / 256).unwrap_or(0))?;
@@ -157,7 +168,7 @@ pub fn octets_of_text(
         if !is_permitted(simple, c) {
             return Err(scope.refused(
                 id,
-                "a text of the type's characters, ASCII but in a BMPString",
+                "a text of the type's characters, ASCII but in a UTF8String or a BMPString",
             ));
         }
         push_character(&mut octets, simple, c)?;

@@ -88,9 +88,9 @@ fn push_weight(out: &mut Text, reach: &Reach, size: &str, of: &str) {
         size,
         if reach.lists == 0 { of } else { "h" },
     );
-    out.push_times(") h.0.items", reach.lists.saturating_sub(1));
+    out.push_times(") h", reach.lists.saturating_sub(1));
     if reach.lists != 0 {
-        out.push_all(&[") ", of, ".0.items"]);
+        out.push_all(&[") ", of]);
     }
 }
 

@@ -6,7 +6,9 @@ use asn1_ints::{ConstrainedInteger, Integer, IntegerRange};
 use asn1_strings::{BitString, BmpString, OctetString};
 use asn1_times::{Date, GeneralizedTime, UtcTime};
 use jiff::civil;
-use oer_types::{Bare, DeepDefault, HashedId3, ListOf, Negative, Nest, Positive, Set, components};
+use oer_types::{
+    Bare, DeepDefault, HashedId3, ListOf, Negative, Nest, Positive, Sequence, Set, components,
+};
 use oer_write::enc::EncoderOptions;
 use oer_write::{Encode, Encoder};
 use rasn_oer::{Decode, coer, oer};
@@ -307,7 +309,7 @@ fn are_written(alloc: Global, value: &Nest, octets: &Vec<u8>) -> Result<bool, En
 
 /// Whether both modules write the sequence, whose default is 128 lists, as these octets.
 fn is_written(alloc: Global, n: Nest, octets: &[u8]) -> Result<bool, EncodeError> {
-    let value = DeepDefault { n };
+    let value: DeepDefault = Sequence(components::DeepDefault { n });
     let canonical = coer::encode(alloc, &value)?;
     let lenient = oer::encode(alloc, &value)?;
     Ok(canonical.as_slice() == octets && lenient.as_slice() == octets)
@@ -329,7 +331,7 @@ fn lists_are_written_at_any_depth(rt: HostRuntime) -> Result<(), Fail> {
 fn a_default_of_lists_is_left_out(rt: HostRuntime) -> Result<(), Fail> {
     let alloc = rt.alloc();
     assert!(rt; is_written(alloc, nested(alloc, 128)?, &[0])?);
-    let n = DeepDefault::default_n(alloc)?;
+    let n = components::DeepDefault::default_n(alloc)?;
     assert!(rt; is_written(alloc, n, &[0])?);
     Ok(())
 }

@@ -1,5 +1,5 @@
 -- Sequences that are same just where their components are equal, piece by piece.
-use Rattle.std.specs.Prelude.{◌≡◌, Bool, false, ◌&&◌, Option, Some, None, refl}
+use Rattle.std.specs.Prelude.{Bool, false, ◌&&◌, Option, Some, None, refl}
 use Rattle.std.specs.Bool.{Decides}
 use Rattle.std.specs.Option.{option_eq}
 use Rattle.std.proofs.lemmas.Bool.Decides.{Decides-and}

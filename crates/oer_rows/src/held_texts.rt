@@ -9,10 +9,39 @@ use oer_read::{Decode, Decoder};
 use oer_spec::{EqualAsSpelled, Spelled};
 use oer_write::{Encode, Encoder};
 use std::alloc::Global;
+use std::marker::Model;
 
-/// `UTF8String`
-#[derive(Debug, PartialEq, Eq, Drop)]
+/// `UTF8String`: contracts see its octets, so that a definition can name a value of it.
+#[derive(Debug, Drop)]
 pub struct Utf8Text(pub Utf8String);
+
+impl Model for Utf8Text {
+    ghost use Rattle.std.specs.Prelude.{List, ℕ, string_bytes};
+
+    ghost Value = { List ℕ };
+
+    ghost view = { λ t. string_bytes t.0 };
+}
+
+impl PartialEq for Utf8Text {
+    ghost use Rattle.std.specs.Prelude.{nat_eq};
+    ghost use Rattle.std.specs.Cmp.Lexicographic.{pointwise, nat_list_eq_equiv};
+    ghost use Rattle.std.specs.Cmp.{partial_equiv_from_equiv};
+
+    ghost eq = { pointwise nat_eq };
+
+    ghost laws = { partial_equiv_from_equiv nat_list_eq_equiv };
+
+    fn eq(&self, other: &Utf8Text) -> bool {
+        self.0 == other.0
+    }
+}
+
+impl Eq for Utf8Text {
+    ghost use Rattle.std.specs.Cmp.Lexicographic.{nat_list_eq_equiv};
+
+    ghost laws = { nat_list_eq_equiv };
+}
 
 impl AsnType for Utf8Text {
     ghost use Rattle.std.specs.Prelude.{refl};
@@ -31,21 +60,23 @@ impl AsnType for Utf8Text {
 }
 
 impl Spelled for Utf8Text {
-    ghost tree = { λ c v. ⟦<Utf8String as Spelled>⟧.tree c v.0 };
+    ghost use Rattle.asn1_core.specs.Texts.{Utf8};
+    ghost use Rattle.oer_spec.specs.Spelled.{IsTextOf, text, text_is, texts_alike};
 
-    ghost IsValue = { λ v. ⟦<Utf8String as Spelled>⟧.IsValue v.0 };
+    ghost tree = { text Utf8 };
 
-    ghost is_tree = { λ c k v i. ⟦<Utf8String as Spelled>⟧.is_tree c k v.0 i };
+    ghost IsValue = { IsTextOf Utf8 };
 
-    ghost alike = { λ c k v w i j. ⟦<Utf8String as Spelled>⟧.alike c k v.0 w.0 i j };
+    ghost is_tree = { λ c k o i. text_is Utf8 c o i };
+
+    ghost alike = { λ c k o p i j. texts_alike Utf8 c o p };
 }
 
 impl EqualAsSpelled for Utf8Text {
-    ghost use Rattle.std.specs.Prelude.{string_bytes};
     ghost use Rattle.asn1_core.specs.Texts.{Utf8};
     ghost use Rattle.oer_spec.specs.Spelled.{texts_same};
 
-    ghost eq_is_same = { λ c k v w i j. texts_same Utf8 c (string_bytes v.0) (string_bytes w.0) };
+    ghost eq_is_same = { λ c k o p i j. texts_same Utf8 c o p };
 }
 
 impl Encode for Utf8Text {
@@ -61,9 +92,14 @@ impl Encode for Utf8Text {
 }
 
 impl Decode for Utf8Text {
-    ghost use Rattle.std.specs.Result.{result_map_both};
+    ghost use Rattle.std.specs.Prelude.{true};
+    ghost use Rattle.std.specs.Str.{is_utf8};
+    ghost use Rattle.asn1_core.specs.Bounds.{size_bounds};
+    ghost use Rattle.asn1_core.specs.declared.error.DecodeErrorKind.TheVariants.{StringConversionFailed};
+    ghost use Rattle.oer_spec.specs.ReadingTexts.{text_at};
+    ghost use Rattle.oer_read.specs.Answers.{LeafAnswers};
 
-    ghost Answered = { λ c s r t. ⟦<Utf8String as Decode>⟧.Answered c s (result_map_both (λ v. v.0) (λ e. e) r) t };
+    ghost Answered = { λ c s r t. LeafAnswers (λ v. v) true s r t (text_at is_utf8 StringConversionFailed (size_bounds c) s.codec s.input) };
 
     fn decode_with_tag_and_constraints(
         alloc: Global,
@@ -71,7 +107,7 @@ impl Decode for Utf8Text {
         tag: Tag,
         constraints: Constraints,
     ) -> Result<Utf8Text, DecodeError> {
-        match Utf8String::decode_with_tag_and_constraints(alloc, decoder, tag, constraints) {
+        match decoder.decode_utf8_string(alloc, tag, constraints) {
             Ok(content) => Ok(Utf8Text(content)),
             Err(e) => Err(e),
         }

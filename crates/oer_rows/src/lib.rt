@@ -30,8 +30,8 @@ pub use defaults::read_default;
 pub use held_octets::{Octets, OpenOctets};
 pub use held_texts::{Ia5Text, NumericText, PrintableText, Utf8Text, VisibleText};
 pub use limited::{Limited, Limits};
-pub use lists::ListOf;
-pub use literals::{are_bits, bits_from, bmp_from};
+pub use lists::{IsEmptyList, ListOf};
+pub use literals::{are_bits, bits_from, bmp_from, utf8_from};
 pub use more_additions::{AddDefaults, Adds, MayAddGroup};
 pub use more_texts::{BmpText, GeneralText, GraphicText, TeletexText};
 pub use places::{

@@ -1,16 +1,55 @@
-//! Lists as components.
+//! Lists as components, and the empty list as a default.
 //!
-//! A `Vec` can't stand in a row of components yet, since no bound that holds one is stated; a struct of it can.
+//! A `Vec` can't stand in a row of components yet, since no bound that holds one is stated; a struct of it can. Contracts see the
+//! struct as the list of its items, so that a definition can name a value of it, as the empty list.
+ghost use Rattle.std.specs.Prelude.{◌≡◌, ◌==◌, length};
 
-use asn1_core::{AsnType, Constraints, DecodeError, EncodeError, Tag};
+use crate::places::Standard;
+use asn1_core::{AsnType, Constraints, DecodeError, EncodeError, SetOf, Tag};
 use oer_read::{Decode, Decoder};
-use oer_spec::Spelled;
+use oer_spec::{EqualAsSpelled, Spelled};
 use oer_write::{Encode, Encoder};
-use std::alloc::Global;
+use std::alloc::{AllocError, Global};
+use std::marker::Model;
 
 /// `SEQUENCE OF T`
-#[derive(Debug, PartialEq, Eq, Drop)]
+#[derive(Debug, Drop)]
 pub struct ListOf<T>(pub Vec<T>);
+
+impl<T> Model for ListOf<T> {
+    ghost use Rattle.std.specs.Prelude.{List};
+
+    ghost Value = { List T };
+
+    ghost view = { λ l. l.0.items };
+}
+
+impl<T> ListOf<T> {
+    /// Whether there is no item.
+    pub fn is_empty(&self) -> bool
+        ensures { result ≡ (length self.now == 0) }
+    {
+        self.0.is_empty()
+    }
+}
+
+impl<T: PartialEq> PartialEq for ListOf<T> {
+    ghost use Rattle.std.specs.Cmp.Lexicographic.{pointwise, lists_per};
+
+    ghost eq = { pointwise T.eq };
+
+    ghost laws = { lists_per T.laws };
+
+    fn eq(&self, other: &ListOf<T>) -> bool {
+        self.0 == other.0
+    }
+}
+
+impl<T: Eq> Eq for ListOf<T> {
+    ghost use Rattle.std.specs.Cmp.Lexicographic.{lists_equiv};
+
+    ghost laws = { lists_equiv T.Eq.laws };
+}
 
 impl<T: AsnType> AsnType for ListOf<T> {
     ghost use Rattle.std.specs.Prelude.{false, refl};
@@ -29,13 +68,22 @@ impl<T: AsnType> AsnType for ListOf<T> {
 }
 
 impl<T: Spelled> Spelled for ListOf<T> {
-    ghost tree = { λ c v. ⟦<Vec<T> as Spelled>⟧.tree c v.0 };
+    ghost use Rattle.std.specs.Prelude.{true};
+    ghost use Rattle.oer_spec.specs.Spelled.{EachValue, list_of, list_is, lists_alike};
 
-    ghost IsValue = { λ v. ⟦<Vec<T> as Spelled>⟧.IsValue v.0 };
+    ghost tree = { λ c vs. list_of true (T.tree T.CONSTRAINTS) vs };
 
-    ghost is_tree = { λ c k v i. ⟦<Vec<T> as Spelled>⟧.is_tree c k v.0 i };
+    ghost IsValue = { λ vs. EachValue T.IsValue vs };
 
-    ghost alike = { λ c k v w i j. ⟦<Vec<T> as Spelled>⟧.alike c k v.0 w.0 i j };
+    ghost is_tree = { λ c k vs i. list_is (T.tree T.CONSTRAINTS) T.IsValue true (T.is_tree T.CONSTRAINTS T.consistent) vs i };
+
+    ghost alike = { λ c k vs ws i j. lists_alike (T.tree T.CONSTRAINTS) T.IsValue true (T.alike T.CONSTRAINTS T.consistent) vs ws i j };
+}
+
+impl<T: EqualAsSpelled> EqualAsSpelled for ListOf<T> {
+    ghost use Rattle.oer_spec.specs.Spelled.{lists_same};
+
+    ghost eq_is_same = { λ c k vs ws i j. lists_same (T.tree T.CONSTRAINTS) T.IsValue T.eq (T.eq_is_same T.CONSTRAINTS T.consistent) vs ws i j };
 }
 
 impl<T: Encode> Encode for ListOf<T> {
@@ -61,9 +109,46 @@ impl<T: Decode> Decode for ListOf<T> {
         tag: Tag,
         constraints: Constraints,
     ) -> Result<ListOf<T>, DecodeError> {
-        match Vec::<T>::decode_with_tag_and_constraints(alloc, decoder, tag, constraints) {
+        match decoder.decode_sequence_of::<T>(alloc, tag, constraints) {
             Ok(content) => Ok(ListOf(content)),
             Err(e) => Err(e),
         }
     }
+}
+
+/// The default `{}` of a list.
+pub struct IsEmptyList;
+
+impl<T: EqualAsSpelled> Standard<ListOf<T>> for IsEmptyList {
+    ghost use Rattle.std.specs.Prelude.{[]};
+
+    ghost value = { [] };
+
+    fn value(alloc: Global) -> Result<ListOf<T>, AllocError> {
+        Ok(ListOf(Vec::new(alloc)))
+    }
+
+    #[tactic(auto, using(crate::proofs::EmptyLists::none_listed))]
+    fn is_value(other: &ListOf<T>) -> bool {
+        other.is_empty()
+    }
+
+    ghost admitted = { tt };
+}
+
+impl<T: EqualAsSpelled + Eq> Standard<SetOf<T>> for IsEmptyList {
+    ghost use Rattle.std.specs.Prelude.{[]};
+
+    ghost value = { [] };
+
+    fn value(alloc: Global) -> Result<SetOf<T>, AllocError> {
+        Ok(SetOf::from_vec(Vec::new(alloc)))
+    }
+
+    #[tactic(auto, using(crate::proofs::EmptyLists::none_gathered))]
+    fn is_value(other: &SetOf<T>) -> bool {
+        other.is_empty()
+    }
+
+    ghost admitted = { tt };
 }

@@ -1,10 +1,11 @@
 //! Bits and characters that a module writes: a value of them, and whether a value is of them.
-ghost use Rattle.std.specs.Prelude.{◌≡◌, ◌%◌, length, take, IfOk};
+ghost use Rattle.std.specs.Prelude.{◌≡◌, ◌%◌, true, length, take, IfOk};
 ghost use Rattle.std.specs.Bool.{beq};
 ghost use Rattle.std.specs.Cmp.Lexicographic.{pointwise};
 ghost use Rattle.asn1_core.specs.Octets.{bits_of, octets_for};
-ghost use Rattle.oer_rows.specs.Literals.{IsLiteral};
+ghost use Rattle.oer_rows.specs.Literals.{IsLiteral, is_spelled};
 
+use crate::held_texts::Utf8Text;
 use crate::more_texts::BmpText;
 use asn1_strings::{BitString, BmpString};
 use std::alloc::{AllocError, Global};
@@ -38,4 +39,18 @@ pub fn bmp_from(alloc: Global, octets: &[u8]) -> Result<BmpText, AllocError>
     ensures { IfOk result (λ s. s.0 ≡ octets.now) }
 {
     Ok(BmpText(BmpString::from_text(alloc, octets)?))
+}
+
+/// The UTF8String of these octets, which are UTF-8.
+///
+/// Refused for want of memory alone.
+#[tactic(auto, using(crate::specs::Literals::spelled))]
+pub fn utf8_from(alloc: Global, octets: &[u8]) -> Result<Utf8Text, AllocError>
+    requires { is_spelled octets.now ≡ true }
+    ensures { IfOk result (λ s. s ≡ octets.now) }
+{
+    match str::from_utf8(octets) {
+        Ok(text) => Ok(Utf8Text(String::from_str(alloc, text)?)),
+        Err(_) => unreachable!(),
+    }
 }

@@ -1,2 +1,1 @@
-pub mod DeepDefaultLaw
-pub mod NestedLaw
+pub mod DeepNests

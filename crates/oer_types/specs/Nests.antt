@@ -13,11 +13,10 @@ use Rattle.oer_knots.specs.Lists.{list_tied, list_ties}
 use Rattle.oer_knots.specs.Ties.{held_tied, held_weight, held_ties}
 use Rattle.oer_knots.specs.declared.held.Bare.{Bare}
 use Rattle.oer_types.specs.declared.nests.Nest.{Nest, size-Nest, size_is-Nest}
-use Rattle.oer_types.specs.declared.nests.Nest.TheOpen.{Nest-F}
-use Rattle.oer_types.specs.declared.nests.Nest.TheViews.{out-Nest, roll-Nest, out-roll-Nest}
+use Rattle.oer_types.specs.declared.nests.Nest.TheViews.{out-Nest}
 
 abbrev pub nest_weight : {K : Type 0} → (K → ℕ) → ListOf (Bare K) → ℕ
-nest_weight size v = most (λ h. size h.0) v.0.items
+nest_weight size v = most (λ h. size h.0) v
 
 abbrev pub nest_content : Nest → ListOf (Bare Nest)
 nest_content v = (out-Nest v).0
@@ -27,10 +26,10 @@ pub nest_smaller : (v : Nest) → nest_weight size-Nest (nest_content v) < size-
 nest_smaller v = grind (arith, size_is-Nest v)
 
 abbrev pub nest_tied : Typed Nest → Typed (ListOf (Bare Nest))
-nest_tied = list_tied (λ v. v.0.items) (held_tied (λ h. h.0)) (held_weight (λ h. h.0))
+nest_tied = list_tied (λ vs. vs) (held_tied (λ h. h.0)) (held_weight (λ h. h.0))
 
 abbrev pub nest_knotted : Knotted size-Nest nest_content nest_tied nest_weight
-nest_knotted = record { ties = list_ties (λ v. v.0.items) (held_tied (λ h. h.0)) (held_weight (λ h. h.0)) (held_ties (λ h. h.0)); smaller = nest_smaller }
+nest_knotted = record { ties = list_ties (λ vs. vs) (held_tied (λ h. h.0)) (held_weight (λ h. h.0)) (held_ties (λ h. h.0)); smaller = nest_smaller }
 
 abbrev pub nest_tree : Nest → Tree
 nest_tree = knot_tree size-Nest nest_content nest_tied
@@ -42,14 +41,11 @@ abbrev pub item_tree : Bare Nest → Tree
 item_tree h = nest_tree h.0
 
 abbrev pub nest_items : Nest → List (Bare Nest)
-nest_items v = (nest_content v).0.items
+nest_items v = nest_content v
 
 -- a nest's tree is that of the list of its items
 pub nest_is_list : (v : Nest) → nest_tree v ≡ list_of true item_tree (nest_items v)
 nest_is_list v = knot_is_layer size-Nest nest_content nest_tied nest_weight nest_knotted v
-
-pub nest_of : (x : Nest-F Nest) → nest_tree (roll-Nest x) ≡ list_of true item_tree x.0.0.items
-nest_of x = nest_is_list (roll-Nest x) ∙ ap (λ (z : Nest-F Nest). list_of true item_tree z.0.0.items) (out-roll-Nest x)
 
 -- ---- each nest is one of its values
 

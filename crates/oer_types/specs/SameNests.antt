@@ -18,10 +18,10 @@ use Rattle.oer_types.specs.declared.nests.Nest.{Nest, size-Nest}
 abbrev pub nest_eq : Nest → Nest → Bool
 nest_eq = ghosts.eq
 
-abbrev item_eq : Bare Nest → Bare Nest → Bool
+abbrev pub item_eq : Bare Nest → Bare Nest → Bool
 item_eq v w = nest_eq v.0 w.0
 
-eq_items : (v w : Nest) → nest_eq v w ≡ pointwise item_eq (nest_items v) (nest_items w)
+pub eq_items : (v w : Nest) → nest_eq v w ≡ pointwise item_eq (nest_items v) (nest_items w)
 eq_items v w = is v w
 
 abbrev IsDecided : Nest → Nest → Type 0

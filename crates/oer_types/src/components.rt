@@ -1,5 +1,6 @@
 //! The components of each sequence and set that is written by its row.
 
+use crate::nests::Nest;
 use crate::pairs::Pair;
 use crate::wrappers::HashedId3;
 use crate::{extensible, groups};
@@ -201,4 +202,10 @@ pub struct MixedSet2 {
 #[derive(Debug, PartialEq, Eq, Drop)]
 pub struct ConstrainedOptions {
     pub a: Option<HashedId3>,
+}
+
+/// The components of a `DeepDefault` of this crate.
+#[derive(Debug, PartialEq, Eq, Drop)]
+pub struct DeepDefault {
+    pub n: Nest,
 }

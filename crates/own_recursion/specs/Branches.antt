@@ -6,7 +6,7 @@ use Rattle.own_recursion.specs.declared.branches.Branch.{Branch, out-Branch, siz
 use Rattle.own_recursion.specs.declared.branches.BranchComponents.{BranchComponents}
 
 abbrev pub branch_weight : {K : Type 0} → (K → ℕ) → BranchComponents K → ℕ
-branch_weight size v = max (most (λ h. size h.0.value) v.children.0.items) 0
+branch_weight size v = max (most (λ h. size h.0.value) v.children) 0
 
 pub branch_smaller : (v : Branch) → branch_weight size-Branch (out-Branch v).0.0 < size-Branch v
 branch_smaller v = grind (arith, size_is-Branch v)

@@ -13,4 +13,6 @@ pub use types_02::{
     Bag, BagComponents, Letter, LetterComponents, LetterGroup1, LetterGroup1Components, LetterHead,
     LetterHeadComponents, Signal, SignalAlternatives,
 };
-pub use types_03::{Permit, PermitComponents, Rights};
+pub use types_03::{
+    Folder, FolderComponents, Labels, LabelsComponents, Permit, PermitComponents, Rights,
+};

@@ -5,10 +5,10 @@ use anyhow::{Error, Result};
 use rasn_oer::prelude::*;
 use rasn_oer::{coer, oer};
 use sample_types::{
-    Bag, BagComponents, Colour, ColourValues, Key, Letter, LetterComponents, LetterGroup1,
-    LetterGroup1Components, LetterHead, LetterHeadComponents, Name, Permit, PermitComponents,
-    Rights, Row, RowComponents, RowGroup1, RowGroup1Components, RowInner, RowInnerComponents,
-    Signal, SignalAlternatives,
+    Bag, BagComponents, Colour, ColourValues, Folder, FolderComponents, Key, Labels,
+    LabelsComponents, Letter, LetterComponents, LetterGroup1, LetterGroup1Components, LetterHead,
+    LetterHeadComponents, Name, Names, Permit, PermitComponents, Rights, Row, RowComponents,
+    RowGroup1, RowGroup1Components, RowInner, RowInnerComponents, Signal, SignalAlternatives,
 };
 use std::alloc::Global;
 
@@ -120,18 +120,29 @@ fn bag(alloc: Global, more: Option<()>) -> Result<Bag> {
 }
 
 /// Characters of the sorts that are ASCII's.
-fn plain_texts(alloc: Global) -> Result<(NumericText, PrintableText, VisibleText)> {
-    let digits = NumericString::from_bytes(alloc, b"12")?;
-    let plain = PrintableString::from_bytes(alloc, b"A.")?;
-    let seen = VisibleString::from_bytes(alloc, b"~")?;
+type PlainTexts = (NumericText, PrintableText, VisibleText);
+
+/// Characters of the sorts that have escape sequences.
+type OtherTexts = (GeneralText, GraphicText, TeletexText);
+
+/// Characters of the sorts that are ASCII's, by their octets.
+fn plain_texts(alloc: Global, digits: &[u8], plain: &[u8], seen: &[u8]) -> Result<PlainTexts> {
+    let digits = NumericString::from_bytes(alloc, digits)?;
+    let plain = PrintableString::from_bytes(alloc, plain)?;
+    let seen = VisibleString::from_bytes(alloc, seen)?;
     Ok((NumericText(digits), PrintableText(plain), VisibleText(seen)))
 }
 
-/// Characters of the sorts that have escape sequences.
-fn other_texts(alloc: Global) -> Result<(GeneralText, GraphicText, TeletexText)> {
-    let general = GeneralString::from_bytes(alloc, &[27])?;
-    let graphic = GraphicString::from_bytes(alloc, &[0xE9])?;
-    let teletex = TeletexString::from_bytes(alloc, &[1, 2, 3])?;
+/// Characters of the sorts that have escape sequences, by their octets.
+fn other_texts(
+    alloc: Global,
+    general: &[u8],
+    graphic: &[u8],
+    teletex: &[u8],
+) -> Result<OtherTexts> {
+    let general = GeneralString::from_bytes(alloc, general)?;
+    let graphic = GraphicString::from_bytes(alloc, graphic)?;
+    let teletex = TeletexString::from_bytes(alloc, teletex)?;
     Ok((
         GeneralText(general),
         GraphicText(graphic),
@@ -157,8 +168,8 @@ fn sender(alloc: Global) -> Result<(Name, Key)> {
 fn head(alloc: Global) -> Result<LetterHead> {
     let (from, key) = sender(alloc)?;
     let (open, wide) = open_and_wide(alloc)?;
-    let (digits, plain, seen) = plain_texts(alloc)?;
-    let (general, graphic, teletex) = other_texts(alloc)?;
+    let (digits, plain, seen) = plain_texts(alloc, b"12", b"A.", b"~")?;
+    let (general, graphic, teletex) = other_texts(alloc, &[27], &[0xE9], &[1, 2, 3])?;
     Ok(Sequence(LetterHeadComponents {
         from,
         key: Some(key),
@@ -257,6 +268,64 @@ fn other_permit(alloc: Global) -> Result<Permit> {
     )
 }
 
+/// A list of one name.
+fn one_name(alloc: Global, letters: &[u8]) -> Result<Names> {
+    let mut names = Vec::new(alloc);
+    names.push(name(alloc, letters)?)?;
+    Ok(ListOf(names))
+}
+
+/// A folder of empty lists, each its default.
+fn empty_folder(alloc: Global) -> Folder {
+    Sequence(FolderComponents {
+        names: ListOf(Vec::new(alloc)),
+        numbers: SetOf::from_vec(Vec::new(alloc)),
+        more: ListOf(Vec::new(alloc)),
+    })
+}
+
+/// A folder without an empty list.
+fn full_folder(alloc: Global) -> Result<Folder> {
+    let numbers = [Integer::from_i128(5), Integer::from_i128(-1)];
+    let numbers = Vec::from_array(alloc, numbers)?;
+    let names = one_name(alloc, b"Al")?;
+    let more = one_name(alloc, b"Bo")?;
+    Ok(Sequence(FolderComponents {
+        names,
+        numbers: SetOf::from_vec(numbers),
+        more,
+    }))
+}
+
+/// Labels of these texts.
+fn labels(title: Utf8Text, plain: PlainTexts, other: OtherTexts) -> Labels {
+    Sequence(LabelsComponents {
+        title,
+        digits: Limited::new(plain.0),
+        plain: plain.1,
+        seen: plain.2,
+        general: other.0,
+        graphic: other.1,
+        teletex: other.2,
+    })
+}
+
+/// Labels of which each is its default.
+fn usual_labels(alloc: Global) -> Result<Labels> {
+    let title = Utf8Text(String::from_str(alloc, "h\"é")?);
+    let plain = plain_texts(alloc, b"0 1", b"A.", b"~")?;
+    let other = other_texts(alloc, b"", b"g", b"t")?;
+    Ok(labels(title, plain, other))
+}
+
+/// Labels of which each differs from its default.
+fn other_labels(alloc: Global) -> Result<Labels> {
+    let title = Utf8Text(String::from_str(alloc, "é")?);
+    let plain = plain_texts(alloc, b"7", b"B", b"!")?;
+    let other = other_texts(alloc, &[27], b"", b"tt")?;
+    Ok(labels(title, plain, other))
+}
+
 /// Rows with and without what stands for itself.
 fn rows(alloc: Global) -> Result<Vec<Row>> {
     let mut rows = Vec::new(alloc);
@@ -289,6 +358,22 @@ fn permits(alloc: Global) -> Result<Vec<Permit>> {
     permits.push(other_permit(alloc)?)?;
     permits.push(usual_permit(alloc, 0x80)?)?;
     Ok(permits)
+}
+
+/// A folder of empty lists, and one without.
+fn folders(alloc: Global) -> Result<Vec<Folder>> {
+    let mut folders = Vec::new(alloc);
+    folders.push(empty_folder(alloc))?;
+    folders.push(full_folder(alloc)?)?;
+    Ok(folders)
+}
+
+/// Labels with and without their defaults.
+fn all_labels(alloc: Global) -> Result<Vec<Labels>> {
+    let mut all = Vec::new(alloc);
+    all.push(usual_labels(alloc)?)?;
+    all.push(other_labels(alloc)?)?;
+    Ok(all)
 }
 
 /// Why octets that spell a default out are refused in canonical mode. Refused where they aren't the value's in the other.
@@ -331,6 +416,30 @@ fn show_spelled_out<R: Print + AllocGlobal>(rt: &R) -> Result<()> {
     show_refusals(rt, &usual, spelled)
 }
 
+/// Prints folders, and why octets that spell their empty lists out are refused.
+fn show_folders<R: Print + AllocGlobal>(rt: &R) -> Result<()> {
+    let alloc = rt.alloc();
+    let spelled: &[&[u8]] = &[&[0x40, 1, 0], &[0x20, 1, 0], &[0x80, 2, 7, 0x80, 2, 1, 0]];
+    show(rt, &folders(alloc)?)?;
+    show_refusals(rt, &empty_folder(alloc), spelled)
+}
+
+/// Prints labels, and why octets that spell their defaults out are refused.
+fn show_labels<R: Print + AllocGlobal>(rt: &R) -> Result<()> {
+    let alloc = rt.alloc();
+    let spelled: &[&[u8]] = &[
+        &[0x80, 4, 0x68, 0x22, 0xC3, 0xA9],
+        &[0x40, 3, 0x30, 0x20, 0x31],
+        &[0x20, 2, 0x41, 0x2E],
+        &[0x10, 1, 0x7E],
+        &[8, 0],
+        &[4, 1, 0x67],
+        &[2, 1, 0x74],
+    ];
+    show(rt, &all_labels(alloc)?)?;
+    show_refusals(rt, &usual_labels(alloc)?, spelled)
+}
+
 /// Prints rows and bags.
 fn show_sequences<R: Print + AllocGlobal>(rt: &R) -> Result<()> {
     let alloc = rt.alloc();
@@ -356,5 +465,7 @@ fn main(rt: HostRuntime) -> Result<()> {
     show_choices(&rt)?;
     show_letters(&rt)?;
     show(&rt, &permits(rt.alloc())?)?;
-    show_spelled_out(&rt)
+    show_spelled_out(&rt)?;
+    show_folders(&rt)?;
+    show_labels(&rt)
 }

@@ -8,9 +8,10 @@ A ::= SEQUENCE { b B } B ::= SEQUENCE OF SET OF A => 2:49: met 'A'; can read a t
 A ::= SEQUENCE { a A OPTIONAL, b B OPTIONAL } B ::= SEQUENCE { a A OPTIONAL, b B OPTIONAL } => 2:7: met 'SEQUENCE'; can read types that contain themselves only through one of them: others aren't printed yet
 A ::= SEQUENCE { a A OPTIONAL, k K } K ::= NULL => 2:34: met 'K'; can read a type with another name than K, which types that contain themselves have for a parameter
 A ::= SEQUENCE { a A OPTIONAL } AContent ::= NULL => 2:46: met 'NULL'; can read a type none of whose printed names, in letters of either size, is another's
-A ::= SEQUENCE { a UTF8String DEFAULT "x" } => 2:18: met 'a'; can read a default that is a boolean, NULL, a number, an enumerated value, bits, octets or characters but UTF-8's: others aren't printed yet
-A ::= SEQUENCE { a SEQUENCE OF NULL DEFAULT {} } => 2:18: met 'a'; can read a default that is a boolean, NULL, a number, an enumerated value, bits, octets or characters but UTF-8's: others aren't printed yet
-A ::= SEQUENCE { a NumericString DEFAULT "x" } => 2:42: met '"x"'; can read a text of the type's characters, ASCII but in a BMPString
+A ::= SEQUENCE { a UTCTime DEFAULT "x" } => 2:18: met 'a'; can read a default that is a boolean, NULL, a number, an enumerated value, bits, octets, characters or an empty list: others aren't printed yet
+A ::= SEQUENCE { a SET OF SEQUENCE OF CHOICE { b NULL } DEFAULT {} } => 2:18: met 'a'; can read an empty list of elements that aren't sequences, sets or choices, as a default: others aren't printed yet
+A ::= SEQUENCE { a B DEFAULT {} } B ::= SEQUENCE (SIZE(1..2)) OF NULL => 2:18: met 'a'; can read a default that the type's constraints allow
+A ::= SEQUENCE { a NumericString DEFAULT "x" } => 2:42: met '"x"'; can read a text of the type's characters, ASCII but in a UTF8String or a BMPString
 A ::= SEQUENCE { a BMPString (SIZE(1)) DEFAULT "xy" } => 2:18: met 'a'; can read a default that the type's constraints allow
 A ::= SEQUENCE { a BIT STRING (SIZE(2)) DEFAULT '101'B } => 2:18: met 'a'; can read a default that the type's constraints allow
 A ::= SEQUENCE { a BIT STRING { b(8) } (SIZE(8)) DEFAULT {b} } => 2:18: met 'a'; can read a default that the type's constraints allow
@@ -28,7 +29,7 @@ A ::= SEQUENCE { a SET OF A }
 B ::= SEQUENCE { a A }
 C ::= NULL
 D ::= SEQUENCE { e E }
-E ::= CHOICE { d [0] D, u [1] SEQUENCE { t UTF8String DEFAULT "x" } }
+E ::= CHOICE { d [0] D, u [1] SEQUENCE { t UTCTime DEFAULT "x" } }
 END
 "#;
 
@@ -36,7 +37,7 @@ END
 pub const LEFT_OUT_LINES: &str = r#"m: rasn_oer
 # left out: A, m.asn:2:27: met 'A'; can read a type that doesn't contain itself through a SET OF: others aren't printed yet
 # left out: B, m.asn:3:20: met 'A'; can read a type that is printed
-# left out: EU, m.asn:6:42: met 't'; can read a default that is a boolean, NULL, a number, an enumerated value, bits, octets or characters but UTF-8's: others aren't printed yet
+# left out: EU, m.asn:6:42: met 't'; can read a default that is a boolean, NULL, a number, an enumerated value, bits, octets, characters or an empty list: others aren't printed yet
 # left out: E, m.asn:6:27: met '['; can read a type that is printed
 # left out: D, m.asn:6:27: met '['; can read a type that is printed
 "#;
@@ -63,7 +64,7 @@ use Rattle.m.specs.declared.types_01.BoxOf.{BoxOf, out-BoxOf, size-BoxOf, size_i
 
 abbrev pub body_weight : {K : Type 0} → (K → ℕ) → BodyAlternatives K → ℕ
 body_weight size (BodyInner x) = size x.0.value
-body_weight size (BodyMore x) = most (λ h. size h.0.value) x.0.items
+body_weight size (BodyMore x) = most (λ h. size h.0.value) x
 body_weight size _ = 0
 
 abbrev pub box_of_weight : {K : Type 0} → (K → ℕ) → BoxOfComponents K → ℕ
