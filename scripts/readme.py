@@ -1,6 +1,6 @@
 #!/usr/bin/env python3
-"""Says where README.md differs from crates/readme_calls, and docs/OWN_TYPE.md from crates/my_types and crates/my_closures, which the gate
-proves and runs."""
+"""Says where README.md differs from crates/readme_calls, docs/OWN_TYPE.md from crates/my_types, and docs/OWN_CLOSURES.md from
+crates/my_closures, which the gate proves and runs."""
 import pathlib
 import re
 import sys
@@ -26,12 +26,13 @@ for it in code:
     if it not in said:
         print("crates/readme_calls has what README.md has not:\n" + it)
 
-own = (top / "docs/OWN_TYPE.md").read_text()
-shown = dict(re.findall(r"`(crates/my_\S+)`\n\n```(?:rust)?\n(.*?)```", own, re.S))
-crates = [top / "crates/my_types", top / "crates/my_closures"]
-files = [it for crate in crates for part in ("src", "specs", "proofs") for it in (crate / part).rglob("*.*t")]
-there = {str(it.relative_to(top)): it.read_text() for it in files}
-for name in sorted(there.keys() | shown.keys()):
-    if there.get(name) != shown.get(name):
-        print(f"docs/OWN_TYPE.md has another {name}, or none")
-sys.exit(said != code or there != shown)
+differs = said != code
+for page, crate in [("docs/OWN_TYPE.md", "crates/my_types"), ("docs/OWN_CLOSURES.md", "crates/my_closures")]:
+    shown = dict(re.findall(r"`(crates/my_\S+)`\n\n```(?:rust)?\n(.*?)```", (top / page).read_text(), re.S))
+    files = [it for part in ("src", "specs", "proofs") for it in (top / crate / part).rglob("*.*t")]
+    there = {str(it.relative_to(top)): it.read_text() for it in files}
+    for name in sorted(there.keys() | shown.keys()):
+        if there.get(name) != shown.get(name):
+            print(f"{page} has another {name}, or none")
+    differs = differs or there != shown
+sys.exit(differs)

@@ -10,7 +10,7 @@ use std::alloc::Global;
 use std::test::Fail;
 
 /// Whether the value is written as these octets, and they are read as the value.
-fn agrees<T: Encode + Decode + PartialEq>(
+pub(crate) fn agrees<T: Encode + Decode + PartialEq>(
     alloc: Global,
     value: &T,
     octets: &[u8],

@@ -1,6 +1,10 @@
-//! A type of messages of one's own.
+//! Types of messages of one's own by closures, as docs/OWN_CLOSURES.md shows them: a sequence, a set and a choice.
 #![tactic(auto)]
 
+mod commands;
 mod reports;
+mod statuses;
 
+pub use commands::Command;
 pub use reports::Report;
+pub use statuses::Status;

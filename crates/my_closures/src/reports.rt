@@ -5,15 +5,8 @@ ghost use Rattle.oer_write.specs.Rows.{InSequence};
 ghost use Rattle.oer_rows.specs.Integers.{none_of};
 ghost use Rattle.my_closures.specs.Reports.{report_rows, report_parts};
 
-use asn1_core::{
-    AsnType, Class, Constraints, Constructed, DecodeError, EncodeError, Field, FieldPresence,
-    Fields, Tag,
-};
-use asn1_ints::Integer;
-use oer_read::{Decode, Decoder};
 use oer_rows::put_optional;
-use oer_spec::Spelled;
-use oer_write::{Encode, Encoder};
+use rasn_oer::prelude::*;
 use std::alloc::Global;
 
 /// `SEQUENCE { urgent BOOLEAN DEFAULT FALSE, number INTEGER OPTIONAL }`
@@ -22,27 +15,6 @@ pub struct Report {
     pub urgent: bool,
     pub number: Option<Integer>,
 }
-
-const REPORT_FIELDS: &'static [Field<'static>] = &[
-    Field {
-        index: 0,
-        tag: Tag {
-            class: Class::Context,
-            value: 0,
-        },
-        presence: FieldPresence::Default,
-        name: "urgent",
-    },
-    Field {
-        index: 1,
-        tag: Tag {
-            class: Class::Context,
-            value: 1,
-        },
-        presence: FieldPresence::Optional,
-        name: "number",
-    },
-];
 
 impl AsnType for Report {
     ghost use Rattle.std.specs.Prelude.{refl};
@@ -75,7 +47,7 @@ impl Constructed<2, 0> for Report {
     const IS_EXTENSIBLE: bool = false;
 
     const FIELDS: Fields<2> = Fields {
-        fields: REPORT_FIELDS,
+        fields: fields![0 Default Context 0 "urgent", 1 Optional Context 1 "number"],
     };
 
     const EXTENDED_FIELDS: Option<Fields<0>> = None;
@@ -85,10 +57,7 @@ impl Constructed<2, 0> for Report {
     }
 
     fn addition_fields() -> &'static [Field<'static>] {
-        match Self::EXTENDED_FIELDS {
-            Some(table) => table.fields,
-            None => &[],
-        }
+        &[]
     }
 
     ghost tables = { record { root_count = refl; addition_count = refl; root_indexes = (refl, (refl, tt)); addition_indexes = tt; only = λ e. refl; distinct = λ e. absurd (cc e) } };

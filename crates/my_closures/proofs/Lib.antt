@@ -1,0 +1,3 @@
+pub mod SetsByIndex
+pub mod StatusLaw
+pub mod CommandParts
