@@ -4,6 +4,7 @@
 mod types_01;
 mod types_02;
 mod types_03;
+mod types_04;
 
 pub use types_01::{
     Again, Below, Bits, Colour, ColourValues, Key, Name, Names, Narrow, Percent, Row,
@@ -13,4 +14,8 @@ pub use types_02::{
     Bag, BagComponents, Letter, LetterComponents, LetterGroup1, LetterGroup1Components, LetterHead,
     LetterHeadComponents, Signal, SignalAlternatives,
 };
-pub use types_03::{Permit, PermitComponents, Rights};
+pub use types_03::{
+    AreaBoxes, AreaBoxesComponents, AreaRound, AreaRoundComponents, Permit, PermitComponents,
+    Rights, Spot, SpotComponents,
+};
+pub use types_04::{Area, AreaAlternatives};

@@ -332,3 +332,228 @@ impl Tabled<6, 2> for PermitComponents {
 
     ghost counts = { (refl, refl) };
 }
+
+/// `Spot ::= SEQUENCE { x INTEGER (0..255), y INTEGER (0..255) }`
+pub type Spot = Sequence<SpotComponents, 2, 0>;
+
+/// The components of `Spot`.
+#[derive(Debug, PartialEq, Eq, Drop)]
+pub struct SpotComponents {
+    pub x: u8,
+    pub y: u8,
+}
+
+type SpotRow = Needs<Context<0>, u8, Needs<Context<1>, u8, NoMore>>;
+
+impl Rowed for SpotComponents {
+    ghost use Rattle.rasn_oer.specs.Values.{both};
+
+    type Values = <SpotRow as Components>::Values;
+
+    ghost EXTENSIBLE = { ⟦<SpotRow as Components>⟧.EXTENSIBLE };
+
+    const EXTENSIBLE: bool = false;
+
+    ghost row_schema = { ⟦<SpotRow as Components>⟧.schema };
+
+    ghost row_is_schema = { ⟦<SpotRow as Components>⟧.is_schema };
+
+    ghost components = { λ v. both v.x (both v.y tt) };
+
+    fn from_row(row: Self::Values) -> Self {
+        built![SpotComponents from row:
+            x,
+            y
+        ]
+    }
+}
+
+impl Takes for SpotComponents {
+    fn take(alloc: Global, decoder: &mut Decoder<'_>) -> Result<Self, DecodeError> {
+        read_row::<Self, SpotRow>(alloc, decoder)
+    }
+}
+
+impl Tabled<2, 0> for SpotComponents {
+    ghost use Rattle.std.specs.Prelude.{refl};
+
+    const FIELDS: Fields<2> = Fields {
+        fields: fields![
+            0 Required Context 0 "x",
+            1 Required Context 1 "y"
+        ],
+    };
+
+    const EXTENDED_FIELDS: Option<Fields<0>> = None;
+
+    fn root_fields() -> &'static [Field<'static>] {
+        Self::FIELDS.fields
+    }
+
+    fn addition_fields() -> &'static [Field<'static>] {
+        match Self::EXTENDED_FIELDS {
+            Some(table) => table.fields,
+            None => &[],
+        }
+    }
+
+    fn put(&self, encoder: &mut Encoder<'_>) -> Result<(), EncodeError> {
+        let view = views![self:
+            x,
+            y
+        ];
+        SpotRow::write(&view, encoder)
+    }
+
+    ghost counts = { (refl, refl) };
+}
+
+/// `SEQUENCE { middle Spot, radius INTEGER (0..65535) }`
+pub type AreaRound = Sequence<AreaRoundComponents, 2, 0>;
+
+/// The components of `AreaRound`.
+#[derive(Debug, PartialEq, Eq, Drop)]
+pub struct AreaRoundComponents {
+    pub middle: Spot,
+    pub radius: u16,
+}
+
+type AreaRoundRow = Needs<Context<0>, Spot, Needs<Context<1>, u16, NoMore>>;
+
+impl Rowed for AreaRoundComponents {
+    ghost use Rattle.rasn_oer.specs.Values.{both};
+
+    type Values = <AreaRoundRow as Components>::Values;
+
+    ghost EXTENSIBLE = { ⟦<AreaRoundRow as Components>⟧.EXTENSIBLE };
+
+    const EXTENSIBLE: bool = false;
+
+    ghost row_schema = { ⟦<AreaRoundRow as Components>⟧.schema };
+
+    ghost row_is_schema = { ⟦<AreaRoundRow as Components>⟧.is_schema };
+
+    ghost components = { λ v. both v.middle (both v.radius tt) };
+
+    fn from_row(row: Self::Values) -> Self {
+        built![AreaRoundComponents from row:
+            middle,
+            radius
+        ]
+    }
+}
+
+impl Takes for AreaRoundComponents {
+    fn take(alloc: Global, decoder: &mut Decoder<'_>) -> Result<Self, DecodeError> {
+        read_row::<Self, AreaRoundRow>(alloc, decoder)
+    }
+}
+
+impl Tabled<2, 0> for AreaRoundComponents {
+    ghost use Rattle.std.specs.Prelude.{refl};
+
+    const FIELDS: Fields<2> = Fields {
+        fields: fields![
+            0 Required Context 0 "middle",
+            1 Required Context 1 "radius"
+        ],
+    };
+
+    const EXTENDED_FIELDS: Option<Fields<0>> = None;
+
+    fn root_fields() -> &'static [Field<'static>] {
+        Self::FIELDS.fields
+    }
+
+    fn addition_fields() -> &'static [Field<'static>] {
+        match Self::EXTENDED_FIELDS {
+            Some(table) => table.fields,
+            None => &[],
+        }
+    }
+
+    fn put(&self, encoder: &mut Encoder<'_>) -> Result<(), EncodeError> {
+        let view = views![self:
+            middle,
+            radius
+        ];
+        AreaRoundRow::write(&view, encoder)
+    }
+
+    ghost counts = { (refl, refl) };
+}
+
+/// `SEQUENCE { from Spot, to Spot }`
+pub type AreaBoxes = Sequence<AreaBoxesComponents, 2, 0>;
+
+/// The components of `AreaBoxes`.
+#[derive(Debug, PartialEq, Eq, Drop)]
+pub struct AreaBoxesComponents {
+    pub from: Spot,
+    pub to: Spot,
+}
+
+type AreaBoxesRow = Needs<Context<0>, Spot, Needs<Context<1>, Spot, NoMore>>;
+
+impl Rowed for AreaBoxesComponents {
+    ghost use Rattle.rasn_oer.specs.Values.{both};
+
+    type Values = <AreaBoxesRow as Components>::Values;
+
+    ghost EXTENSIBLE = { ⟦<AreaBoxesRow as Components>⟧.EXTENSIBLE };
+
+    const EXTENSIBLE: bool = false;
+
+    ghost row_schema = { ⟦<AreaBoxesRow as Components>⟧.schema };
+
+    ghost row_is_schema = { ⟦<AreaBoxesRow as Components>⟧.is_schema };
+
+    ghost components = { λ v. both v.from (both v.to tt) };
+
+    fn from_row(row: Self::Values) -> Self {
+        built![AreaBoxesComponents from row:
+            from,
+            to
+        ]
+    }
+}
+
+impl Takes for AreaBoxesComponents {
+    fn take(alloc: Global, decoder: &mut Decoder<'_>) -> Result<Self, DecodeError> {
+        read_row::<Self, AreaBoxesRow>(alloc, decoder)
+    }
+}
+
+impl Tabled<2, 0> for AreaBoxesComponents {
+    ghost use Rattle.std.specs.Prelude.{refl};
+
+    const FIELDS: Fields<2> = Fields {
+        fields: fields![
+            0 Required Context 0 "from",
+            1 Required Context 1 "to"
+        ],
+    };
+
+    const EXTENDED_FIELDS: Option<Fields<0>> = None;
+
+    fn root_fields() -> &'static [Field<'static>] {
+        Self::FIELDS.fields
+    }
+
+    fn addition_fields() -> &'static [Field<'static>] {
+        match Self::EXTENDED_FIELDS {
+            Some(table) => table.fields,
+            None => &[],
+        }
+    }
+
+    fn put(&self, encoder: &mut Encoder<'_>) -> Result<(), EncodeError> {
+        let view = views![self:
+            from,
+            to
+        ];
+        AreaBoxesRow::write(&view, encoder)
+    }
+
+    ghost counts = { (refl, refl) };
+}
