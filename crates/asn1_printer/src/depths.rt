@@ -15,6 +15,9 @@ const MAX_DEPTH: usize = 64;
 /// How many lists may stand directly in one another: past some more the compiler gives up on their impls.
 const MAX_LISTS: usize = 40;
 
+/// How many components a row has at most: past some more the compiler gives up on its impls.
+const MAX_CELLS: usize = 50;
+
 /// The depth of a list, and of a type in a box: what they hold lies apart.
 const APART: usize = 4;
 
@@ -30,11 +33,12 @@ const VIEW: usize = 2;
 /// What stands around a value that a call answers with what is left behind it.
 const ANSWER: usize = 2;
 
-/// How deep a printed type is: itself, and what is printed or answered that holds it.
+/// How deep a printed type is: itself, and what is printed or answered that holds it; and how many components its row has.
 #[derive(Clone, Copy)]
 pub struct Depth {
     own: usize,
     within: usize,
+    cells: usize,
 }
 
 impl Depth {
@@ -43,14 +47,17 @@ impl Depth {
         Depth {
             own,
             within: own.saturating_add(ANSWER),
+            cells: 0,
         }
     }
 }
 
-/// What is counted of a row so far: its cells, the deepest of them, and the deepest within their pairs.
+/// What is counted of a row so far: its cells, the most of them that it or a group of it has, the deepest, and the deepest within
+/// their pairs.
 #[derive(Clone, Copy)]
 struct Row {
     count: usize,
+    most: usize,
     own: usize,
     within: usize,
 }
@@ -60,6 +67,7 @@ impl Row {
     fn empty() -> Row {
         Row {
             count: 0,
+            most: 0,
             own: 0,
             within: 0,
         }
@@ -71,6 +79,7 @@ impl Row {
         let within = count.saturating_add(VIEW).saturating_add(field);
         Row {
             count,
+            most: self.most.max(count),
             own: self.own.max(field),
             within: self.within.max(within),
         }
@@ -82,6 +91,7 @@ impl Row {
         Depth {
             own: whole.own,
             within: whole.within.max(self.within),
+            cells: self.most,
         }
     }
 }
@@ -189,6 +199,7 @@ fn with_group<'m>(
     let group = inner.depth();
     let row = before.with(group.own.saturating_add(1));
     Ok(Row {
+        most: row.most.max(group.cells),
         within: row.within.max(group.within),
         ..row
     })
@@ -269,6 +280,7 @@ fn told_depth<'m>(
         Ok(depth) if is_knot => Ok(Depth {
             own: depth.own.saturating_add(1),
             within: depth.within.saturating_add(1),
+            ..depth
         }),
         Ok(depth) => Ok(depth),
         Err(Refusal::OutOfMemory) => Err(AllocError),
@@ -340,6 +352,10 @@ pub fn require_depth<'m>(
 ) -> Result<(), Refusal> {
     require_lists(scope, all, definition)?;
     match depth {
+        Some(depth) if depth.cells > MAX_CELLS => Err(scope.refused(
+            definition.link.of.first,
+            "at most 50 components, and in a group as many: others aren't printed yet",
+        )),
         Some(depth) if depth.within > MAX_DEPTH => Err(scope.refused(
             definition.link.of.first,
             "a type that is at most 64 deep in Rust, as docs/COMPILER.md counts it: what a list holds is counted anew",

@@ -12,7 +12,7 @@ use std::process::Abort;
 use std::test::Fail;
 use unprinted::{
     CIRCLE, CIRCLE_WEIGHTS, DEEP_CHOICE, DEEP_LISTS, DEEP_SEQUENCE, LEFT_OUT, LEFT_OUT_LINES,
-    UNPRINTED,
+    UNPRINTED, WIDE,
 };
 
 /// The module of a row, and its message: typed from the place of what is met and from what can be read there.
@@ -80,15 +80,14 @@ fn nested(alloc: Global, front: &str, behind: &str, levels: usize) -> Result<Str
     text.end()
 }
 
-/// What is said of such a type; nothing where it is printed.
-fn said_of(alloc: Global, front: &str, behind: &str, levels: usize) -> Result<String, Fail> {
-    let text = nested(alloc, front, behind, levels)?;
+/// What is said of a module; nothing where it is printed.
+fn said_of(alloc: Global, text: &str) -> Result<String, Fail> {
     let wish = Wish {
         name: "m",
         files: &["m.asn"],
         leaves_out: false,
     };
-    match crates_of(alloc, &[text.as_str()], wish) {
+    match crates_of(alloc, &[text], wish) {
         Ok(_) => Ok(String::new(alloc)),
         Err(refusal) => Ok(format!(in alloc; "{refusal}")?),
     }
@@ -103,9 +102,11 @@ fn is_too_deep(
     message: &str,
 ) -> Result<(), Fail> {
     let (front, behind) = around;
-    let said = said_of(alloc, front, behind, levels)?;
+    let text = nested(alloc, front, behind, levels)?;
+    let said = said_of(alloc, text.as_str())?;
     assert_eq!(rt; said.as_str(), "", "at {front}");
-    let said = said_of(alloc, front, behind, levels.saturating_add(1))?;
+    let text = nested(alloc, front, behind, levels.saturating_add(1))?;
+    let said = said_of(alloc, text.as_str())?;
     assert_eq!(rt; said.as_str(), message, "at {front}");
     Ok(())
 }
@@ -123,6 +124,29 @@ fn types_that_are_too_deep_for_the_language_are_not_printed(rt: HostRuntime) -> 
     )?;
     is_too_deep(&rt, alloc, ("CHOICE { a ", " }"), 31, DEEP_CHOICE)?;
     is_too_deep(&rt, alloc, ("SEQUENCE OF ", ""), 40, DEEP_LISTS)?;
+    Ok(())
+}
+
+/// A module of a SEQUENCE of so many components.
+fn wide(alloc: Global, count: usize) -> Result<String, AllocError> {
+    let mut text = Text::new(alloc);
+    text.push("M DEFINITIONS AUTOMATIC TAGS ::= BEGIN\nA ::= SEQUENCE { c NULL");
+    for number in 1..count {
+        text.push(", c");
+        text.push_count(number);
+        text.push(" NULL");
+    }
+    text.push(" }\nEND\n");
+    text.end()
+}
+
+#[test]
+fn types_that_are_too_wide_for_the_language_are_not_printed(rt: HostRuntime) -> Result<(), Fail> {
+    let alloc = rt.alloc();
+    let said = said_of(alloc, wide(alloc, 50)?.as_str())?;
+    assert_eq!(rt; said.as_str(), "");
+    let said = said_of(alloc, wide(alloc, 51)?.as_str())?;
+    assert_eq!(rt; said.as_str(), WIDE);
     Ok(())
 }
 

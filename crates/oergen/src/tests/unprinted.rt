@@ -31,6 +31,10 @@ pub const DEEP_CHOICE: &str =
 pub const DEEP_LISTS: &str =
     "2:7: met 'SEQUENCE'; can read at most 40 lists directly inside one another";
 
+/// What is said of too many components.
+pub const WIDE: &str =
+    "2:7: met 'SEQUENCE'; can read at most 50 components, and in a group as many: others aren't printed yet";
+
 /// A type that contains itself in a form that isn't printed, one that stands on it, one that is printed, and two that contain each
 /// other, of which one stands on a type that isn't printed.
 pub const LEFT_OUT: &str = r#"M DEFINITIONS ::= BEGIN
