@@ -10,10 +10,13 @@ without names of types.
 """
 import pathlib
 import re
+import resource
 import shutil
 import subprocess
 import sys
 
+# values nest up to a thousand levels deep, each a few calls
+sys.setrecursionlimit(20000)
 top = pathlib.Path(__file__).resolve().parent.parent
 MODULE = "crates/oergen/data/words.asn"
 # Words, and the types of the module that stand for them.
@@ -34,6 +37,7 @@ NAMES = {
     "MixedSet": "MixedSet", "mixset2": "MixedSet2", "choice": "PriorityChoice", "tagmax": "WideChoice", "tag130": "OnlyChoice",
     "BoolChoice": "BoolChoice", "ints": "Integers", "nulls": "Nulls", "intset": "IntegerBag", "SetOfOctets": "OctetsBag",
     "bag1": "Bag1", "bag2": "Bag2", "bag3": "Bag3", "nest": "Nest", "Link": "Link", "toplevel": "TopLevel", "Bush": "Bush",
+    "Node": "Node", "Chain": "Chain",
 }
 ARM = re.compile(r'"([^"]+)" => (?:\{\s*)?(Ok|Some)\(work\.(on|under)::<.*?>\([^\n]*\)\)(?:\n\s*\}\n|,\n)')
 
@@ -56,7 +60,7 @@ def printed(copy, program):
     types = {}
     for crate in (it.split(":")[0] for it in crates):
         for file in (copy / "crates" / crate / "src").glob("*.rt"):
-            for name in re.findall(r"^pub type (\w+)", file.read_text(), re.M):
+            for name in re.findall(r"^pub (?:type|struct) (\w+)(?= =|\()", file.read_text(), re.M):
                 types[name] = crate
     return types, [it.split(",")[0].removeprefix("# left out: ") for it in lines if it.startswith("#")]
 
@@ -85,7 +89,7 @@ def turn(copy, types):
 
 
 # Structs around one value, which the printed types have otherwise; and names of components that they can't have.
-AROUND = {"Limited", "Octets", "OpenOctets", "ListOf", "HashedId3", "Positive", "Negative"}
+AROUND = {"Limited", "Octets", "OpenOctets", "ListOf", "HashedId3", "Positive", "Negative", "Held", "Bare"}
 OTHER = {"seq3": {"b": "group_1", "a2": "a"}, "seq6": {"b": "group_1", "a2": "a"}, "seq7": {"group": "group_1"}, "bag3": {"group": "group_1"}}
 PIECE = re.compile(r'b?"(?:[^"\\]|\\.)*"|PhantomData<_>|\d{4}-[\dT:.-]+|[^\s{}()\[\],:]+|[{}()\[\],:]')
 
@@ -154,6 +158,8 @@ def main(copy, program):
     types, left_out = printed(copy, pathlib.Path(program).resolve())
     turned = turn(copy, types)
     folder = copy / "crates/oer_vectors"
+    # with checks, 1,024 levels of a value outgrow 8 MiB
+    resource.setrlimit(resource.RLIMIT_STACK, (1 << 28, resource.getrlimit(resource.RLIMIT_STACK)[1]))
     with open(folder / "stdin", "rb") as rows:
         ran = subprocess.run(["rt", "try"], cwd=folder, stdin=rows, capture_output=True, text=True, check=False)
     wanted = (folder / "stdout").read_text().splitlines()

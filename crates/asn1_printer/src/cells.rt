@@ -53,6 +53,7 @@ impl Cell {
         let head = match self.head {
             "Needs" => "NeedsKnot",
             "MayHave" => "MayHaveKnot",
+            "MayAdd" => "MayAddKnot",
             "Offers" => "OffersKnot",
             other => other,
         };

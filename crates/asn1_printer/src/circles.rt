@@ -1,7 +1,7 @@
 //! Types that contain one another: which of them are printed, and all of a circle together.
 
 use asn1_layouts::definitions::{Circle, Definition, Part, Tie};
-use asn1_layouts::rows::Position;
+use asn1_layouts::rows::{Position, Row};
 use asn1_layouts::scope::Scope;
 use asn1_modules::ast::{Body, Need, Type};
 use asn1_modules::refusal::Refusal;
@@ -23,6 +23,25 @@ fn is_in_set_of(start: &Type) -> bool {
     false
 }
 
+/// Whether an addition that leads back into its circle is printed: it and those in front of it are OPTIONAL, and none is in a group.
+fn is_printed_addition(definition: &Definition<'_>, row: Row<'_>) -> bool {
+    for part in definition.parts.iter() {
+        let Some(one) = part.row else {
+            continue;
+        };
+        if one.position == Position::Root {
+            continue;
+        }
+        if one.position != Position::Addition || !matches!(one.need, Need::Optional) {
+            return false;
+        }
+        if one.name.index == row.name.index {
+            return true;
+        }
+    }
+    false
+}
+
 /// What can be read in the place of a component that leads back into its circle; nothing where it is printed.
 fn unprinted_row(definition: &Definition<'_>, part: &Part<'_>) -> Option<&'static str> {
     let Some(row) = part.row else {
@@ -30,12 +49,12 @@ fn unprinted_row(definition: &Definition<'_>, part: &Part<'_>) -> Option<&'stati
     };
     if matches!(definition.link.of.body, Body::Choice(_)) {
         None
-    } else if row.position != Position::Root {
-        Some(
-            "a type that doesn't contain itself through an extension addition: others aren't printed yet",
-        )
     } else if matches!(row.need, Need::Default(_)) {
         Some("a type that doesn't contain itself through a default: others aren't printed yet")
+    } else if row.position != Position::Root && !is_printed_addition(definition, row) {
+        Some(
+            "a type that contains itself through an extension addition only if that one and those in front of it are OPTIONAL, in no group: others aren't printed yet",
+        )
     } else {
         None
     }
@@ -47,9 +66,7 @@ fn unprinted(definition: &Definition<'_>, part: &Part<'_>) -> Option<&'static st
         Some(row) => row.link.of,
         None => definition.link.of,
     };
-    if matches!(definition.link.of.body, Body::Set(_)) {
-        Some("a type that doesn't contain itself through a SET: others aren't printed yet")
-    } else if is_in_set_of(whole) {
+    if is_in_set_of(whole) {
         Some("a type that doesn't contain itself through a SET OF: others aren't printed yet")
     } else {
         unprinted_row(definition, part)

@@ -1,4 +1,4 @@
-//! A SEQUENCE or a CHOICE of a circle, by the knots that it holds.
+//! A SEQUENCE, a SET or a CHOICE of a circle, by the knots that it holds.
 
 use crate::cells::Cell;
 use crate::chains::Chain;
@@ -6,17 +6,26 @@ use crate::choices::{push_addition_name, push_cases, push_names, push_table_name
 use crate::knot_templates::{
     ALTERNATIVES, COMPONENTS, KNOT_ADDITIONS, KNOT_ALTERNATING, KNOT_ROWED, KNOT_TABLES,
 };
-use crate::knots::push_own;
-use crate::sequences::{push_entries, push_fields, push_list, push_pairs, put_counts};
+use crate::knots::{push_own, put_parameter};
+use crate::sequences::{kind_of, push_entries, push_fields, push_list, push_pairs, put_counts};
+use crate::templates::IN_TAG_ORDER;
 use crate::text::{Text, Words};
 use asn1_layouts::names::component_name;
 use std::alloc::{AllocError, Global};
 
-/// Prints the name of a SEQUENCE and its struct.
-pub fn push_knot_struct(alloc: Global, out: &mut Text, doc: &str, of: Chain<'_>, knot: &str) {
+/// Prints the name of a SEQUENCE or a SET and its struct.
+pub fn push_knot_struct(
+    alloc: Global,
+    out: &mut Text,
+    doc: &str,
+    of: Chain<'_>,
+    knot: &str,
+    is_set: bool,
+) {
     push_own(alloc, out, doc, of.owner, knot);
     let mut words = Words::new(alloc);
     words.put("NAME", of.owner);
+    words.put("KIND", kind_of(is_set));
     push_fields(words.begin("FIELDS"), of.cells);
     put_counts(&mut words, of);
     out.fill(COMPONENTS, &words);
@@ -59,8 +68,8 @@ fn put_additions(alloc: Global, words: &mut Words, of: Chain<'_>) {
     push_table_name(words.begin("ADDITION_FIELDS"), of.owner, "ADDITIONS");
 }
 
-/// Prints the tables of a SEQUENCE.
-pub fn push_knot_tables(alloc: Global, out: &mut Text, of: Chain<'_>) {
+/// Prints the tables of a SEQUENCE or a SET, and of the latter that its components are in the order of their tags.
+pub fn push_knot_tables(alloc: Global, out: &mut Text, of: Chain<'_>, is_set: bool) {
     let mut words = Words::new(alloc);
     words.put("NAME", of.owner);
     push_list(words.begin("LIST"), of.cells);
@@ -68,7 +77,9 @@ pub fn push_knot_tables(alloc: Global, out: &mut Text, of: Chain<'_>) {
     push_components(words.begin("ROOT_FIELDS"), of.roots());
     put_additions(alloc, &mut words, of);
     put_counts(&mut words, of);
+    put_parameter(&mut words, of);
     out.fill(KNOT_TABLES, &words);
+    out.fill(if is_set { IN_TAG_ORDER } else { "" }, &words);
 }
 
 /// Prints the name of a CHOICE and its enum.

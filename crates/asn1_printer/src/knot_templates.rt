@@ -18,9 +18,8 @@ pub const LIST: &str = r#"pub type @NAME@Content<K> = @TYPE@;
 
 "#;
 
-/// A SEQUENCE of a circle, and the struct of its components.
-pub const COMPONENTS: &str =
-    r#"pub type @NAME@Content<K> = Sequence<@NAME@Components<K>, @RC@, @EC@>;
+/// A SEQUENCE or a SET of a circle, and the struct of its components.
+pub const COMPONENTS: &str = r#"pub type @NAME@Content<K> = @KIND@<@NAME@Components<K>, @RC@, @EC@>;
 
 /// The components of `@NAME@`.
 #[derive(Debug, PartialEq, Eq, Drop)]

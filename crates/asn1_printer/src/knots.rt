@@ -69,9 +69,13 @@ pub fn push_knot(
     definition: &Definition<'_>,
 ) -> Result<(), AllocError> {
     let mut words = name_words(alloc, definition.rust_name.as_str())?;
-    let is_choice = matches!(definition.link.of.body, Body::Choice(_));
-    words.put("TAG", if is_choice { "EOC" } else { "SEQUENCE" });
-    words.put("IS_CHOICE", if is_choice { IS_CHOICE } else { "" });
+    let (tag, is_choice) = match definition.link.of.body {
+        Body::Choice(_) => ("EOC", IS_CHOICE),
+        Body::Set(_) => ("SET", ""),
+        _ => ("SEQUENCE", ""),
+    };
+    words.put("TAG", tag);
+    words.put("IS_CHOICE", is_choice);
     let uses = filled(alloc, OWN_USES, &words);
     words.begin("USES").push_text(&uses);
     let tied = filled(alloc, TIED, &words);

@@ -6,6 +6,7 @@ pub mod chains;
 pub mod choices;
 pub mod circles;
 pub mod defaults;
+pub mod depths;
 pub mod enumerations;
 pub mod files;
 pub mod items;

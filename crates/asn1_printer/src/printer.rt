@@ -3,6 +3,7 @@ ghost use Rattle.std.specs.Prelude.{◌≡◌, ◌+◌, [], Err, false, IfOk, le
 
 use crate::choices::push_choice;
 use crate::circles::{again, require_circle, run_of};
+use crate::depths::{Depth, depths_of, require_depth};
 use crate::enumerations::push_enumerated;
 use crate::items::push_limits;
 use crate::knots::{knot_name, push_knot, push_list};
@@ -30,7 +31,7 @@ numericstring objectidentifier octetstring printablestring sequenceof setof tag 
 visiblestring constrainedinteger integer integerrange alternating alternativeviews alternatives either enumeration \
 numbered offers oneof decode decodechoice decodeinside decodeknot decoder decoderoptions adddefaults additionviews additions adds application \
 compared components context defaults extensible held holdsknot intagorder isfalse isnull isnumber istrue knot knotalternating knotalternatives knotrow knotrowed layered limited limits listof mayadd \
-mayaddgroup mayhave mayhaveknot needs needsknot nomore offersknot place private reads readsadditions readsalternatives \
+mayaddgroup mayaddknot mayhave mayhaveknot needs needsknot nomore offersknot place private reads readsadditions readsalternatives \
 readsknot readsknotalternatives rowed schemed sequence set standard tabled takes \
 takesalternative takesknot takesknotalternative universal views writes octets openoctets bmptext generaltext graphictext ia5text numerictext printabletext teletextext \
 utf8text visibletext within equalasspelled spelled encode encoder are_bits bits_from bmp_from built fields from_row pairs rows_of table tags to_row";
@@ -70,11 +71,12 @@ enum State {
     LeftOut,
 }
 
-/// What is known so far: what became of each type, the printed names in small letters, and what came of a circle's other types, which
-/// are printed with its first one, the next one last.
+/// What is known so far: what became of each type, how deep each is, the printed names in small letters, and what came of a circle's
+/// other types, which are printed with its first one, the next one last.
 #[derive(Drop)]
 struct Progress {
     states: Vec<State>,
+    depths: Vec<Depth>,
     seen: BTreeSet<String>,
     waiting: Vec<Result<Printed, Refusal>>,
 }
@@ -263,13 +265,15 @@ fn names_of_text<'m>(
     Ok(names)
 }
 
-/// Prints a type, with its names.
+/// Prints the type at a place, with its names.
 fn print_one<'m>(
     scope: Scope<'m, '_>,
     all: &[Definition<'m>],
+    at: usize,
     definition: &Definition<'m>,
     progress: &mut Progress,
 ) -> Result<Printed, Refusal> {
+    require_depth(scope, all, definition, progress.depths.get(at))?;
     let text = text_of(scope, all, definition, progress.states.as_slice())?;
     let names = names_of_text(scope, definition, text.as_str(), &mut progress.seen)?;
     Ok(Printed {
@@ -291,7 +295,7 @@ fn print_members<'m>(
     let mut made = Vec::new(scope.alloc);
     for (number, at) in run.iter().enumerate().rev() {
         if let Some(definition) = all.get(*at) {
-            let one = print_one(scope, all, definition, progress)?;
+            let one = print_one(scope, all, *at, definition, progress)?;
             made.push(Ok(Printed {
                 is_joined: number != 0,
                 ..one
@@ -343,7 +347,8 @@ fn print_at<'m>(
     progress: &mut Progress,
 ) -> Result<Printed, Refusal> {
     let Some(circle) = definition.circle else {
-        return print_one(scope, all, definition, progress);
+        let at = order.get(turn).copied().unwrap_or(turn);
+        return print_one(scope, all, at, definition, progress);
     };
     if progress.waiting.is_empty() {
         let run = run_of(all, order, turn, circle);
@@ -385,6 +390,7 @@ pub fn print_types<'m>(
     let alloc = scope.alloc;
     let mut progress = Progress {
         states: vec![in alloc; State::New; all.len()]?,
+        depths: depths_of(scope, all, order)?,
         seen: taken_names(alloc)?,
         waiting: Vec::new(alloc),
     };

@@ -87,12 +87,17 @@ pub fn put_counts(words: &mut Words, of: Chain<'_>) {
     words.begin("EC").push_count(of.additions().len());
 }
 
+/// The library's name for a SEQUENCE or a SET.
+pub fn kind_of(is_set: bool) -> &'static str {
+    if is_set { "Set" } else { "Sequence" }
+}
+
 /// Prints a type's name and its struct.
 fn push_struct(alloc: Global, out: &mut Text, doc: &str, of: Chain<'_>, is_set: bool) {
     let mut words = Words::new(alloc);
     words.put("DOC", doc);
     words.put("NAME", of.owner);
-    words.put("KIND", if is_set { "Set" } else { "Sequence" });
+    words.put("KIND", kind_of(is_set));
     push_fields(words.begin("FIELDS"), of.cells);
     put_counts(&mut words, of);
     out.fill(TYPE, &words);
@@ -126,11 +131,11 @@ fn push_tables(alloc: Global, out: &mut Text, of: Chain<'_>, is_set: bool) {
 fn push_members(alloc: Global, out: &mut Text, doc: &str, of: Chain<'_>, is_set: bool) {
     match of.knot {
         Some(knot) => {
-            push_knot_struct(alloc, out, doc, of, knot);
+            push_knot_struct(alloc, out, doc, of, knot, is_set);
             push_row(alloc, out, of);
             push_knot_rowed(alloc, out, of);
             push_conversions(alloc, out, of);
-            push_knot_tables(alloc, out, of);
+            push_knot_tables(alloc, out, of, is_set);
         }
         None => {
             push_struct(alloc, out, doc, of, is_set);
@@ -169,7 +174,7 @@ fn in_tag_order(alloc: Global, parts: &[Part<'_>]) -> Result<Vec<usize>, AllocEr
 }
 
 /// The components that stand at a position, as places among all.
-fn in_text_order(
+pub fn in_text_order(
     alloc: Global,
     parts: &[Part<'_>],
     position: Position,
@@ -311,7 +316,11 @@ fn require_names<'m>(scope: Scope<'m, '_>, parts: &[Part<'m>]) -> Result<(), Ref
 }
 
 /// The root components of a SEQUENCE or a SET in the order of the row, as places among all.
-fn root_places(alloc: Global, parts: &[Part<'_>], is_set: bool) -> Result<Vec<usize>, AllocError> {
+pub fn root_places(
+    alloc: Global,
+    parts: &[Part<'_>],
+    is_set: bool,
+) -> Result<Vec<usize>, AllocError> {
     if is_set {
         in_tag_order(alloc, parts)
     } else {

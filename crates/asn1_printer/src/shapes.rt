@@ -164,11 +164,13 @@ fn content(alloc: Global, name: &str) -> Shape {
     Shape { text, limits: None }
 }
 
-/// The Rust type of a part that leads back into its circle, without the lists around it; nothing of another.
-fn tied_shape(alloc: Global, all: &[Definition<'_>], tie: Tie) -> Option<Shape> {
-    match tie {
+/// The Rust type of a part that leads back into its circle, without the lists around it; nothing of another. In a list a knot needs no
+/// box, since the elements lie apart.
+fn tied_shape(alloc: Global, all: &[Definition<'_>], part: &Part<'_>) -> Option<Shape> {
+    match part.tie {
         Tie::Plain => None,
-        Tie::Knot => Some(plain(alloc, "Held<K>")),
+        Tie::Knot if part.lists == 0 => Some(plain(alloc, "Held<K>")),
+        Tie::Knot => Some(plain(alloc, "Bare<K>")),
         Tie::Member(at) => match all.get(at) {
             Some(definition) => Some(content(alloc, definition.rust_name.as_str())),
             None => None,
@@ -183,7 +185,7 @@ fn inner_shape<'m>(
     part: &Part<'m>,
     name: &str,
 ) -> Result<Shape, Refusal> {
-    if let Some(tied) = tied_shape(scope.alloc, all, part.tie) {
+    if let Some(tied) = tied_shape(scope.alloc, all, part) {
         return Ok(tied);
     }
     let chain = scope.chain_of(part.inner)?;

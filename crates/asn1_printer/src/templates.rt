@@ -72,7 +72,7 @@ pub const TABLES: &str = r#"impl Tabled<@RC@, @EC@> for @NAME@Components {
 "#;
 
 /// That the components of a SET stand in the order of their tags.
-pub const IN_TAG_ORDER: &str = r#"impl InTagOrder<@RC@, @EC@> for @NAME@Components {
+pub const IN_TAG_ORDER: &str = r#"impl@WRITES@ InTagOrder<@RC@, @EC@> for @NAME@Components@K@ {
     ghost use Rattle.std.specs.Prelude.{refl};
 
     ghost in_order = { refl };

@@ -52,35 +52,37 @@ fn behind_word(text: &str) -> &str {
     }
 }
 
-/// Puts the words of a text to others.
-fn push_words(alloc: Global, words: &mut BTreeSet<String>, text: &str) -> Result<(), AllocError> {
+/// Whether a word can be a type's name: others are left out, since they are many.
+fn is_type_name(word: &str) -> bool {
+    match word.chars().next() {
+        Some(first) => first.is_ascii_uppercase(),
+        None => false,
+    }
+}
+
+/// Puts the words of a text that can be names of types to others.
+fn push_words<'t>(words: &mut BTreeSet<&'t str>, text: &'t str) -> Result<(), AllocError> {
     for word in text.split(|c: char| ends_word(c)) {
-        let _ = words.insert(String::from_str(alloc, word)?)?;
+        if is_type_name(word) {
+            let _ = words.insert(word)?;
+        }
     }
     Ok(())
 }
 
 /// Puts the words of a line to others, but for those that stand behind a colon, as in a path.
-fn push_line_words(
-    alloc: Global,
-    words: &mut BTreeSet<String>,
-    line: &str,
-) -> Result<(), AllocError> {
+fn push_line_words<'t>(words: &mut BTreeSet<&'t str>, line: &'t str) -> Result<(), AllocError> {
     for (at, piece) in line.split(':').enumerate() {
-        push_words(
-            alloc,
-            words,
-            if at == 0 { piece } else { behind_word(piece) },
-        )?;
+        push_words(words, if at == 0 { piece } else { behind_word(piece) })?;
     }
     Ok(())
 }
 
-/// The words of a text's code.
-fn words_of(alloc: Global, body: &str) -> Result<BTreeSet<String>, AllocError> {
+/// The words of a text's code that can be names of types.
+fn words_of<'t>(alloc: Global, body: &'t str) -> Result<BTreeSet<&'t str>, AllocError> {
     let mut words = BTreeSet::new(alloc);
     for line in body.lines() {
-        push_line_words(alloc, &mut words, code_of(line))?;
+        push_line_words(&mut words, code_of(line))?;
     }
     Ok(words)
 }
@@ -204,14 +206,10 @@ pub fn path_lines(alloc: Global, word: &str, paths: &Paths) -> Result<String, Al
 pub type Homes = BTreeMap<String, (String, String)>;
 
 /// Puts the paths of those names from elsewhere that stand among words.
-fn push_known(
-    alloc: Global,
-    paths: &mut Paths,
-    words: &BTreeSet<String>,
-) -> Result<(), AllocError> {
+fn push_known(alloc: Global, paths: &mut Paths, words: &BTreeSet<&str>) -> Result<(), AllocError> {
     for path in KNOWN.split(' ') {
         if let Some((home, name)) = path.rsplit_once("::") {
-            if words.contains(name) {
+            if words.contains(&name) {
                 push_path(alloc, paths, home, name)?;
             }
         }
@@ -232,11 +230,11 @@ pub fn use_lines(
     push_path(alloc, &mut paths, PRELUDE, "*")?;
     push_known(alloc, &mut paths, &words)?;
     for word in words.iter() {
-        if let Some((home, file)) = homes.get(word.as_str()) {
+        if let Some((home, file)) = homes.get(*word) {
             if home.as_str() != library {
-                push_path(alloc, &mut paths, home.as_str(), word.as_str())?;
+                push_path(alloc, &mut paths, home.as_str(), *word)?;
             } else if file.as_str() != module {
-                push_path(alloc, &mut paths, "crate", word.as_str())?;
+                push_path(alloc, &mut paths, "crate", *word)?;
             }
         }
     }

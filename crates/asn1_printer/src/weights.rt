@@ -3,10 +3,11 @@
 use crate::cells::variant_name;
 use crate::knot_templates::WEIGHTS;
 use crate::knots::knot_name;
+use crate::sequences::{in_text_order, root_places};
 use crate::text::{Text, Words};
 use asn1_layouts::definitions::{Definition, Part, Tie};
 use asn1_layouts::names::component_name;
-use asn1_layouts::rows::Row;
+use asn1_layouts::rows::{Position, Row};
 use asn1_layouts::scope::Scope;
 use asn1_modules::ast::{Body, Need};
 use std::alloc::{AllocError, Global};
@@ -71,23 +72,23 @@ fn reach_of(alloc: Global, all: &[Definition<'_>], part: &Part<'_>) -> Result<Re
     Ok(Reach { lists, snake })
 }
 
-/// Appends what a value weighs that is no list.
-fn push_leaf(out: &mut Text, snake: &Option<String>, size: &str, of: &str) {
+/// Appends what a value weighs that is no list: of a knot what is in its box, where it has one.
+fn push_leaf(out: &mut Text, snake: &Option<String>, size: &str, of: &str, knot: &str) {
     match snake {
         Some(snake) => out.push_all(&[snake.as_str(), "_weight ", size, " ", of, ".0"]),
-        None => out.push_all(&[size, " ", of, ".0.value"]),
+        None => out.push_all(&[size, " ", of, knot]),
     }
 }
 
 /// Appends what a value weighs: of a list the most that one of its elements does.
 fn push_weight(out: &mut Text, reach: &Reach, size: &str, of: &str) {
     out.push_times("most (λ h. ", reach.lists);
-    push_leaf(
-        out,
-        &reach.snake,
-        size,
-        if reach.lists == 0 { of } else { "h" },
-    );
+    let (leaf, knot) = if reach.lists == 0 {
+        (of, ".0.value")
+    } else {
+        ("h", ".0")
+    };
+    push_leaf(out, &reach.snake, size, leaf, knot);
     out.push_times(") h", reach.lists.saturating_sub(1));
     if reach.lists != 0 {
         out.push_all(&[") ", of]);
@@ -126,19 +127,38 @@ fn push_component(
     Ok(true)
 }
 
-/// Appends what the components weigh.
+/// Appends what the components at some places weigh, behind so many that hold knots; how many these are then.
+fn push_components_at(
+    alloc: Global,
+    out: &mut Text,
+    all: &[Definition<'_>],
+    parts: &[Part<'_>],
+    places: &[usize],
+    before: usize,
+) -> Result<usize, AllocError> {
+    let mut count = before;
+    for at in places.iter() {
+        if let Some(part) = parts.get(*at) {
+            if push_component(alloc, out, all, part, count == 0)? {
+                count = count.saturating_add(1);
+            }
+        }
+    }
+    Ok(count)
+}
+
+/// Appends what the components weigh, in the order of the row: those of the root, and behind them the additions.
 fn push_components(
     alloc: Global,
     out: &mut Text,
     all: &[Definition<'_>],
     parts: &[Part<'_>],
+    is_set: bool,
 ) -> Result<(), AllocError> {
-    let mut count = 0usize;
-    for part in parts.iter() {
-        if push_component(alloc, out, all, part, count == 0)? {
-            count = count.saturating_add(1);
-        }
-    }
+    let roots = root_places(alloc, parts, is_set)?;
+    let count = push_components_at(alloc, out, all, parts, roots.as_slice(), 0)?;
+    let additions = in_text_order(alloc, parts, Position::Addition)?;
+    let count = push_components_at(alloc, out, all, parts, additions.as_slice(), count)?;
     out.push("0");
     out.push_times(")", count.saturating_sub(1));
     Ok(())
@@ -222,7 +242,7 @@ fn push_use(out: &mut Text, owner: &str, kind: &str) {
     out.push_all(&["use Rattle.@HOME@.", owner, kind, ".{", owner, kind, "}\n"]);
 }
 
-/// What a SEQUENCE's values weigh.
+/// What a SEQUENCE's or a SET's values weigh.
 fn sequence_weights(
     alloc: Global,
     all: &[Definition<'_>],
@@ -235,7 +255,8 @@ fn sequence_weights(
     push_use(&mut uses, owner, "Components");
     push_signature(&mut lines, snake.as_str(), owner, "Components");
     push_head(&mut lines, snake.as_str(), "v");
-    push_components(alloc, &mut lines, all, definition.parts.as_slice())?;
+    let is_set = matches!(definition.link.of.body, Body::Set(_));
+    push_components(alloc, &mut lines, all, definition.parts.as_slice(), is_set)?;
     lines.push("\n\n");
     Ok(Weights {
         uses: uses.end()?,
@@ -275,7 +296,7 @@ pub fn weights_of(
     definition: &Definition<'_>,
 ) -> Result<Weights, AllocError> {
     match definition.link.of.body {
-        Body::Sequence(_) if definition.circle.is_some() => sequence_weights(
+        Body::Sequence(_) | Body::Set(_) if definition.circle.is_some() => sequence_weights(
             scope.alloc,
             all,
             definition,

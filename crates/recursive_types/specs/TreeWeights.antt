@@ -7,7 +7,7 @@ use Rattle.recursive_types.specs.declared.types_02.TreeComponents.{TreeComponent
 use Rattle.recursive_types.specs.declared.types_02.Tree.{Tree, out-Tree, size-Tree, size_is-Tree}
 
 abbrev pub tree_weight : {K : Type 0} → (K → ℕ) → TreeComponents K → ℕ
-tree_weight size v = max (most (λ h. size h.0.value) v.leaves) (max (option_weight (λ w. most (λ h. size h.0.value) w) v.shade) 0)
+tree_weight size v = max (most (λ h. size h.0) v.leaves) (max (option_weight (λ w. most (λ h. size h.0) w) v.shade) 0)
 
 pub tree_smaller : (v : Tree) → tree_weight size-Tree (out-Tree v).0.0 < size-Tree v
 tree_smaller v = grind (arith, size_is-Tree v)

@@ -11,7 +11,7 @@ use std::alloc::Global;
 pub type Forest = ForestContent<Tree>;
 
 /// A `Forest` with `K` in the place of `Tree`.
-pub type ForestContent<K> = ListOf<Held<K>>;
+pub type ForestContent<K> = ListOf<Bare<K>>;
 
 /// `Tree ::= SEQUENCE { label IA5String, leaves Forest, shade Forest OPTIONAL }`
 #[derive(Debug, PartialEq, Eq, Drop)]

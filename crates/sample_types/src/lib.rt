@@ -4,6 +4,7 @@
 mod types_01;
 mod types_02;
 mod types_03;
+mod types_04;
 
 pub use types_01::{
     Again, Below, Bits, Colour, ColourValues, Key, Name, Names, Narrow, Percent, Row,
@@ -15,4 +16,8 @@ pub use types_02::{
 };
 pub use types_03::{
     Folder, FolderComponents, Labels, LabelsComponents, Permit, PermitComponents, Rights,
+};
+pub use types_04::{
+    Area, AreaAlternatives, AreaBoxes, AreaBoxesComponents, AreaRound, AreaRoundComponents, Spot,
+    SpotComponents,
 };

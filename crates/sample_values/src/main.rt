@@ -1,7 +1,10 @@
 //! Values of the types that oergen printed: each is written, and read again from its octets.
 #![tactic(auto)]
 
+mod areas;
+
 use anyhow::{Error, Result};
+use areas::show_areas;
 use rasn_oer::prelude::*;
 use rasn_oer::{coer, oer};
 use sample_types::{
@@ -23,7 +26,7 @@ fn digits_of<T: Encode + Decode + PartialEq>(alloc: Global, value: &T) -> Result
 }
 
 /// Prints the octets of values, a line each.
-fn show<R: Print + AllocGlobal, T: Encode + Decode + PartialEq>(
+pub(crate) fn show<R: Print + AllocGlobal, T: Encode + Decode + PartialEq>(
     rt: &R,
     values: &[T],
 ) -> Result<()> {
@@ -35,7 +38,7 @@ fn show<R: Print + AllocGlobal, T: Encode + Decode + PartialEq>(
 }
 
 /// A name of these letters.
-fn name(alloc: Global, letters: &[u8]) -> Result<Name> {
+pub(crate) fn name(alloc: Global, letters: &[u8]) -> Result<Name> {
     Ok(Limited::new(Ia5Text(Ia5String::from_bytes(alloc, letters)?)))
 }
 
@@ -467,5 +470,6 @@ fn main(rt: HostRuntime) -> Result<()> {
     show(&rt, &permits(rt.alloc())?)?;
     show_spelled_out(&rt)?;
     show_folders(&rt)?;
-    show_labels(&rt)
+    show_labels(&rt)?;
+    show_areas(&rt)
 }

@@ -1,9 +1,9 @@
 //! What can be listed and isn't printed: the text between a module's BEGIN and END, and the message. The text begins at line 2.
 
 pub const UNPRINTED: &str =
-    r#"A ::= SEQUENCE { ..., a A OPTIONAL } => 2:25: met 'A'; can read a type that doesn't contain itself through an extension addition: others aren't printed yet
+    r#"A ::= SEQUENCE { ..., b NULL, a A OPTIONAL } => 2:33: met 'A'; can read a type that contains itself through an extension addition only if that one and those in front of it are OPTIONAL, in no group: others aren't printed yet
+A ::= SET { ..., [[ a A OPTIONAL ]] } => 2:23: met 'A'; can read a type that contains itself through an extension addition only if that one and those in front of it are OPTIONAL, in no group: others aren't printed yet
 A ::= SEQUENCE { b B DEFAULT {} } B ::= SEQUENCE OF A => 2:20: met 'B'; can read a type that doesn't contain itself through a default: others aren't printed yet
-A ::= SET { a A OPTIONAL } => 2:15: met 'A'; can read a type that doesn't contain itself through a SET: others aren't printed yet
 A ::= SEQUENCE { b B } B ::= SEQUENCE OF SET OF A => 2:49: met 'A'; can read a type that doesn't contain itself through a SET OF: others aren't printed yet
 A ::= SEQUENCE { a A OPTIONAL, b B OPTIONAL } B ::= SEQUENCE { a A OPTIONAL, b B OPTIONAL } => 2:7: met 'SEQUENCE'; can read types that contain themselves only through one of them: others aren't printed yet
 A ::= SEQUENCE { a A OPTIONAL, k K } K ::= NULL => 2:34: met 'K'; can read a type with another name than K, which types that contain themselves have for a parameter
@@ -21,6 +21,20 @@ A ::= CHOICE { a-b NULL, aB NULL } => 2:7: met 'CHOICE'; can read alternatives w
 A ::= ENUMERATED { a-b, aB } => 2:25: met 'aB'; can read a value whose Rust name no other has, and a number of 64 bits
 Sequence ::= NULL => 2:14: met 'NULL'; can read a type none of whose printed names, in letters of either size, is another's
 A ::= SEQUENCE { a-b NULL, aB NULL } => 2:28: met 'aB'; can read a component whose Rust name no other has"#;
+
+/// What is said of too many sequences in one another, of choices, and of lists.
+pub const DEEP_SEQUENCE: &str =
+    "2:7: met 'SEQUENCE'; can read a type that is at most 64 deep in Rust, as docs/COMPILER.md counts it: what a list holds is counted anew";
+
+pub const DEEP_CHOICE: &str =
+    "2:7: met 'CHOICE'; can read a type that is at most 64 deep in Rust, as docs/COMPILER.md counts it: what a list holds is counted anew";
+
+pub const DEEP_LISTS: &str =
+    "2:7: met 'SEQUENCE'; can read at most 40 lists directly inside one another";
+
+/// What is said of too many components.
+pub const WIDE: &str =
+    "2:7: met 'SEQUENCE'; can read at most 50 components, and in a group as many: others aren't printed yet";
 
 /// A type that contains itself in a form that isn't printed, one that stands on it, one that is printed, and two that contain each
 /// other, of which one stands on a type that isn't printed.
@@ -64,7 +78,7 @@ use Rattle.m.specs.declared.types_01.BoxOf.{BoxOf, out-BoxOf, size-BoxOf, size_i
 
 abbrev pub body_weight : {K : Type 0} → (K → ℕ) → BodyAlternatives K → ℕ
 body_weight size (BodyInner x) = size x.0.value
-body_weight size (BodyMore x) = most (λ h. size h.0.value) x
+body_weight size (BodyMore x) = most (λ h. size h.0) x
 body_weight size _ = 0
 
 abbrev pub box_of_weight : {K : Type 0} → (K → ℕ) → BoxOfComponents K → ℕ

@@ -1,0 +1,299 @@
+//! Types of ASN.1 modules, as oergen printed them.
+
+use crate::Names;
+use rasn_oer::prelude::*;
+use std::alloc::Global;
+
+/// `Spot ::= SEQUENCE { x INTEGER (0..255), y INTEGER (0..255) }`
+pub type Spot = Sequence<SpotComponents, 2, 0>;
+
+/// The components of `Spot`.
+#[derive(Debug, PartialEq, Eq, Drop)]
+pub struct SpotComponents {
+    pub x: u8,
+    pub y: u8,
+}
+
+type SpotRow = Needs<Context<0>, u8, Needs<Context<1>, u8, NoMore>>;
+
+impl Rowed for SpotComponents {
+    ghost use Rattle.rasn_oer.specs.Values.{both};
+
+    type Values = <SpotRow as Components>::Values;
+
+    ghost EXTENSIBLE = { ⟦<SpotRow as Components>⟧.EXTENSIBLE };
+
+    const EXTENSIBLE: bool = false;
+
+    ghost row_schema = { ⟦<SpotRow as Components>⟧.schema };
+
+    ghost row_is_schema = { ⟦<SpotRow as Components>⟧.is_schema };
+
+    ghost components = { λ v. both v.x (both v.y tt) };
+
+    fn from_row(row: Self::Values) -> Self {
+        built![SpotComponents from row:
+            x,
+            y
+        ]
+    }
+}
+
+impl Takes for SpotComponents {
+    fn take(alloc: Global, decoder: &mut Decoder<'_>) -> Result<Self, DecodeError> {
+        read_row::<Self, SpotRow>(alloc, decoder)
+    }
+}
+
+impl Tabled<2, 0> for SpotComponents {
+    ghost use Rattle.std.specs.Prelude.{refl};
+
+    const FIELDS: Fields<2> = Fields {
+        fields: fields![
+            0 Required Context 0 "x",
+            1 Required Context 1 "y"
+        ],
+    };
+
+    const EXTENDED_FIELDS: Option<Fields<0>> = None;
+
+    fn root_fields() -> &'static [Field<'static>] {
+        Self::FIELDS.fields
+    }
+
+    fn addition_fields() -> &'static [Field<'static>] {
+        rows_of!(Self::EXTENDED_FIELDS)
+    }
+
+    fn put(&self, encoder: &mut Encoder<'_>) -> Result<(), EncodeError> {
+        let view = views![self:
+            x,
+            y
+        ];
+        SpotRow::write(&view, encoder)
+    }
+
+    ghost counts = { (refl, refl) };
+}
+
+/// `SEQUENCE { middle Spot, radius INTEGER (0..65535) }`
+pub type AreaRound = Sequence<AreaRoundComponents, 2, 0>;
+
+/// The components of `AreaRound`.
+#[derive(Debug, PartialEq, Eq, Drop)]
+pub struct AreaRoundComponents {
+    pub middle: Spot,
+    pub radius: u16,
+}
+
+type AreaRoundRow = Needs<Context<0>, Spot, Needs<Context<1>, u16, NoMore>>;
+
+impl Rowed for AreaRoundComponents {
+    ghost use Rattle.rasn_oer.specs.Values.{both};
+
+    type Values = <AreaRoundRow as Components>::Values;
+
+    ghost EXTENSIBLE = { ⟦<AreaRoundRow as Components>⟧.EXTENSIBLE };
+
+    const EXTENSIBLE: bool = false;
+
+    ghost row_schema = { ⟦<AreaRoundRow as Components>⟧.schema };
+
+    ghost row_is_schema = { ⟦<AreaRoundRow as Components>⟧.is_schema };
+
+    ghost components = { λ v. both v.middle (both v.radius tt) };
+
+    fn from_row(row: Self::Values) -> Self {
+        built![AreaRoundComponents from row:
+            middle,
+            radius
+        ]
+    }
+}
+
+impl Takes for AreaRoundComponents {
+    fn take(alloc: Global, decoder: &mut Decoder<'_>) -> Result<Self, DecodeError> {
+        read_row::<Self, AreaRoundRow>(alloc, decoder)
+    }
+}
+
+impl Tabled<2, 0> for AreaRoundComponents {
+    ghost use Rattle.std.specs.Prelude.{refl};
+
+    const FIELDS: Fields<2> = Fields {
+        fields: fields![
+            0 Required Context 0 "middle",
+            1 Required Context 1 "radius"
+        ],
+    };
+
+    const EXTENDED_FIELDS: Option<Fields<0>> = None;
+
+    fn root_fields() -> &'static [Field<'static>] {
+        Self::FIELDS.fields
+    }
+
+    fn addition_fields() -> &'static [Field<'static>] {
+        rows_of!(Self::EXTENDED_FIELDS)
+    }
+
+    fn put(&self, encoder: &mut Encoder<'_>) -> Result<(), EncodeError> {
+        let view = views![self:
+            middle,
+            radius
+        ];
+        AreaRoundRow::write(&view, encoder)
+    }
+
+    ghost counts = { (refl, refl) };
+}
+
+/// `SEQUENCE { from Spot, to Spot }`
+pub type AreaBoxes = Sequence<AreaBoxesComponents, 2, 0>;
+
+/// The components of `AreaBoxes`.
+#[derive(Debug, PartialEq, Eq, Drop)]
+pub struct AreaBoxesComponents {
+    pub from: Spot,
+    pub to: Spot,
+}
+
+type AreaBoxesRow = Needs<Context<0>, Spot, Needs<Context<1>, Spot, NoMore>>;
+
+impl Rowed for AreaBoxesComponents {
+    ghost use Rattle.rasn_oer.specs.Values.{both};
+
+    type Values = <AreaBoxesRow as Components>::Values;
+
+    ghost EXTENSIBLE = { ⟦<AreaBoxesRow as Components>⟧.EXTENSIBLE };
+
+    const EXTENSIBLE: bool = false;
+
+    ghost row_schema = { ⟦<AreaBoxesRow as Components>⟧.schema };
+
+    ghost row_is_schema = { ⟦<AreaBoxesRow as Components>⟧.is_schema };
+
+    ghost components = { λ v. both v.from (both v.to tt) };
+
+    fn from_row(row: Self::Values) -> Self {
+        built![AreaBoxesComponents from row:
+            from,
+            to
+        ]
+    }
+}
+
+impl Takes for AreaBoxesComponents {
+    fn take(alloc: Global, decoder: &mut Decoder<'_>) -> Result<Self, DecodeError> {
+        read_row::<Self, AreaBoxesRow>(alloc, decoder)
+    }
+}
+
+impl Tabled<2, 0> for AreaBoxesComponents {
+    ghost use Rattle.std.specs.Prelude.{refl};
+
+    const FIELDS: Fields<2> = Fields {
+        fields: fields![
+            0 Required Context 0 "from",
+            1 Required Context 1 "to"
+        ],
+    };
+
+    const EXTENDED_FIELDS: Option<Fields<0>> = None;
+
+    fn root_fields() -> &'static [Field<'static>] {
+        Self::FIELDS.fields
+    }
+
+    fn addition_fields() -> &'static [Field<'static>] {
+        rows_of!(Self::EXTENDED_FIELDS)
+    }
+
+    fn put(&self, encoder: &mut Encoder<'_>) -> Result<(), EncodeError> {
+        let view = views![self:
+            from,
+            to
+        ];
+        AreaBoxesRow::write(&view, encoder)
+    }
+
+    ghost counts = { (refl, refl) };
+}
+
+/// `Area ::= CHOICE { round SEQUENCE { middle Spot, radius INTEGER (0..65535) }, boxes SEQUENCE OF
+/// SEQUENCE { from Spot, to Spot }, corners SEQUENCE (SIZE(3..MAX)) OF Spot, names Names, ... }`
+pub type Area = OneOf<AreaAlternatives>;
+
+/// The alternatives of `Area`.
+#[derive(Debug, PartialEq, Eq, Drop)]
+pub enum AreaAlternatives {
+    Round(AreaRound),
+    Boxes(ListOf<AreaBoxes>),
+    Corners(ListOf<Spot>),
+    Names(Names),
+}
+
+type AreaRow = Offers<
+    Context<0>,
+    AreaRound,
+    Offers<
+        Context<1>,
+        ListOf<AreaBoxes>,
+        Offers<Context<2>, ListOf<Spot>, Offers<Context<3>, Names, Extensible<NoMore>>>,
+    >,
+>;
+
+const AREA_ROOTS: &'static [Tag] = tags![Context 0, Context 1, Context 2, Context 3];
+
+const AREA_ADDITIONS: &'static [Tag] = &[];
+
+impl Alternating for AreaAlternatives {
+    ghost use Rattle.std.specs.Prelude.{refl};
+    ghost use Rattle.rasn_oer.specs.Alternative.{First, Rest};
+    ghost use Rattle.sample_types.specs.declared.types_04.AreaAlternatives.TheVariants.{Round, Boxes, Corners, Names};
+
+    type Values = <AreaRow as Alternatives>::Values;
+
+    ghost row_choices = { ⟦<AreaRow as Alternatives>⟧.choices };
+
+    ghost row_are_choices = { ⟦<AreaRow as Alternatives>⟧.are_choices };
+
+    ghost alternative = { elim [ Round held ↦ First held | Boxes held ↦ Rest (First held) | Corners held ↦ Rest (Rest (First held)) | Names held ↦ Rest (Rest (Rest (First held))) ] };
+
+    const VARIANTS: &'static [Tag] = AREA_ROOTS;
+
+    const EXTENDED_VARIANTS: Option<&'static [Tag]> = Some(AREA_ADDITIONS);
+
+    fn root_tags() -> &'static [Tag] {
+        Self::VARIANTS
+    }
+
+    fn addition_tags() -> Option<&'static [Tag]> {
+        Self::EXTENDED_VARIANTS
+    }
+
+    fn from_alternative(value: Self::Values) -> Self {
+        from_row!(value => AreaAlternatives: Round, Boxes, Corners, Names)
+    }
+
+    fn put<E: Choice>(
+        &self,
+        encoder: &mut Encoder<'_>,
+        constraints: Constraints,
+    ) -> Result<(), EncodeError> {
+        let view = to_row!(self => AreaAlternatives: Round, Boxes, Corners, Names);
+        AreaRow::write_alternative::<E>(&view, encoder, constraints)
+    }
+
+    ghost apart = { refl };
+}
+
+impl TakesAlternative for AreaAlternatives {
+    fn take<D: Choice>(
+        alloc: Global,
+        decoder: &mut Decoder<'_>,
+        tag: Tag,
+    ) -> Result<Self, DecodeError> {
+        read_alternative::<Self, AreaRow, D>(alloc, decoder, tag)
+    }
+}
