@@ -5,6 +5,7 @@ mod types_01;
 mod types_02;
 mod types_03;
 mod types_04;
+mod types_05;
 
 pub use types_01::{
     Again, Below, Bits, Colour, ColourValues, Key, Name, Names, Narrow, Percent, Row,
@@ -18,6 +19,8 @@ pub use types_03::{
     Folder, FolderComponents, Labels, LabelsComponents, Permit, PermitComponents, Rights,
 };
 pub use types_04::{
-    Area, AreaAlternatives, AreaBoxes, AreaBoxesComponents, AreaRound, AreaRoundComponents, Spot,
-    SpotComponents,
+    Area, AreaAlternatives, AreaBoxes, AreaBoxesComponents, AreaRound, AreaRoundComponents,
+    Colours, ColoursAlternatives, Level, Named, Plain, PlainComponents, Spot, SpotComponents, Then,
+    ThenComponents,
 };
+pub use types_05::{Leaves, LeavesComponents, Taken, TakenComponents};

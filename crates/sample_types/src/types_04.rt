@@ -297,3 +297,263 @@ impl TakesAlternative for AreaAlternatives {
         read_alternative::<Self, AreaRow, D>(alloc, decoder, tag)
     }
 }
+
+/// `Named ::= INTEGER { low(-3), high(3) } (low..high)`
+pub type Named = Limited<i8, NamedLimits>;
+
+/// The limits of `Named`.
+#[derive(Drop)]
+pub enum NamedLimits {}
+
+impl Limits for NamedLimits {
+    ghost use Rattle.std.specs.Prelude.{None, Some, false, negsuc, pos, refl};
+    ghost use Rattle.rasn_oer.specs.Bounded.{Range, Single};
+
+    ghost LIMITS = { record { value = Some (Range (Some (negsuc 2)) (Some (pos 3)), false); size = None } };
+
+    const LIMITS: Constraints = Constraints {
+        value: Some((
+            Bounded::Range {
+                start: Some(-3),
+                end: Some(3),
+            },
+            false,
+        )),
+        size: None,
+    };
+
+    ghost consistent = { refl };
+}
+
+/// `Then ::= SEQUENCE { at UTCTime, on GeneralizedTime, day DATE }`
+pub type Then = Sequence<ThenComponents, 3, 0>;
+
+/// The components of `Then`.
+#[derive(Debug, PartialEq, Eq, Drop)]
+pub struct ThenComponents {
+    pub at: UtcTime,
+    pub on: GeneralizedTime,
+    pub day: Date,
+}
+
+type ThenRow = Needs<
+    Context<0>,
+    UtcTime,
+    Needs<Context<1>, GeneralizedTime, Needs<Context<2>, Date, NoMore>>,
+>;
+
+impl Rowed for ThenComponents {
+    ghost use Rattle.rasn_oer.specs.Values.{both};
+
+    type Values = <ThenRow as Components>::Values;
+
+    ghost EXTENSIBLE = { ⟦<ThenRow as Components>⟧.EXTENSIBLE };
+
+    const EXTENSIBLE: bool = false;
+
+    ghost row_schema = { ⟦<ThenRow as Components>⟧.schema };
+
+    ghost row_is_schema = { ⟦<ThenRow as Components>⟧.is_schema };
+
+    ghost components = { λ v. both v.at (both v.on (both v.day tt)) };
+
+    fn from_row(row: Self::Values) -> Self {
+        built![ThenComponents from row:
+            at,
+            on,
+            day
+        ]
+    }
+}
+
+impl Takes for ThenComponents {
+    fn take(alloc: Global, decoder: &mut Decoder<'_>) -> Result<Self, DecodeError> {
+        read_row::<Self, ThenRow>(alloc, decoder)
+    }
+}
+
+impl Tabled<3, 0> for ThenComponents {
+    ghost use Rattle.std.specs.Prelude.{refl};
+
+    const FIELDS: Fields<3> = Fields {
+        fields: fields![
+            0 Required Context 0 "at",
+            1 Required Context 1 "on",
+            2 Required Context 2 "day"
+        ],
+    };
+
+    const EXTENDED_FIELDS: Option<Fields<0>> = None;
+
+    fn root_fields() -> &'static [Field<'static>] {
+        Self::FIELDS.fields
+    }
+
+    fn addition_fields() -> &'static [Field<'static>] {
+        rows_of!(Self::EXTENDED_FIELDS)
+    }
+
+    fn put(&self, encoder: &mut Encoder<'_>) -> Result<(), EncodeError> {
+        let view = views![self:
+            at,
+            on,
+            day
+        ];
+        ThenRow::write(&view, encoder)
+    }
+
+    ghost counts = { (refl, refl) };
+}
+
+/// `Level ::= [PRIVATE 2] EXPLICIT INTEGER (0..top)`
+pub type Level = u16;
+
+/// `Colours ::= CHOICE { one [1] NULL, two [UNIVERSAL 7] NULL, three INTEGER }`
+pub type Colours = OneOf<ColoursAlternatives>;
+
+/// The alternatives of `Colours`.
+#[derive(Debug, PartialEq, Eq, Drop)]
+pub enum ColoursAlternatives {
+    One(()),
+    Two(()),
+    Three(Integer),
+}
+
+type ColoursRow = Offers<
+    Context<1>,
+    (),
+    Offers<Universal<7>, (), Offers<Universal<2>, Integer, NoMore>>,
+>;
+
+const COLOURS_ROOTS: &'static [Tag] = tags![Context 1, Universal 7, Universal 2];
+
+impl Alternating for ColoursAlternatives {
+    ghost use Rattle.std.specs.Prelude.{refl};
+    ghost use Rattle.rasn_oer.specs.Alternative.{First, Rest};
+    ghost use Rattle.sample_types.specs.declared.types_04.ColoursAlternatives.TheVariants.{One, Two, Three};
+
+    type Values = <ColoursRow as Alternatives>::Values;
+
+    ghost row_choices = { ⟦<ColoursRow as Alternatives>⟧.choices };
+
+    ghost row_are_choices = { ⟦<ColoursRow as Alternatives>⟧.are_choices };
+
+    ghost alternative = { elim [ One held ↦ First held | Two held ↦ Rest (First held) | Three held ↦ Rest (Rest (First held)) ] };
+
+    const VARIANTS: &'static [Tag] = COLOURS_ROOTS;
+
+    const EXTENDED_VARIANTS: Option<&'static [Tag]> = None;
+
+    fn root_tags() -> &'static [Tag] {
+        Self::VARIANTS
+    }
+
+    fn addition_tags() -> Option<&'static [Tag]> {
+        Self::EXTENDED_VARIANTS
+    }
+
+    fn from_alternative(value: Self::Values) -> Self {
+        from_row!(value => ColoursAlternatives: One, Two, Three)
+    }
+
+    fn put<E: Choice>(
+        &self,
+        encoder: &mut Encoder<'_>,
+        constraints: Constraints,
+    ) -> Result<(), EncodeError> {
+        let view = to_row!(self => ColoursAlternatives: One, Two, Three);
+        ColoursRow::write_alternative::<E>(&view, encoder, constraints)
+    }
+
+    ghost apart = { refl };
+}
+
+impl TakesAlternative for ColoursAlternatives {
+    fn take<D: Choice>(
+        alloc: Global,
+        decoder: &mut Decoder<'_>,
+        tag: Tag,
+    ) -> Result<Self, DecodeError> {
+        read_alternative::<Self, ColoursRow, D>(alloc, decoder, tag)
+    }
+}
+
+/// `Plain ::= SEQUENCE { a BOOLEAN, l Levels.Level, c Colours OPTIONAL }`
+pub type Plain = Sequence<PlainComponents, 3, 0>;
+
+/// The components of `Plain`.
+#[derive(Debug, PartialEq, Eq, Drop)]
+pub struct PlainComponents {
+    pub a: bool,
+    pub l: Level,
+    pub c: Option<Colours>,
+}
+
+type PlainRow = Needs<
+    Universal<1>,
+    bool,
+    Needs<Private<2>, Level, MayHave<Universal<0>, Colours, NoMore>>,
+>;
+
+impl Rowed for PlainComponents {
+    ghost use Rattle.rasn_oer.specs.Values.{both};
+
+    type Values = <PlainRow as Components>::Values;
+
+    ghost EXTENSIBLE = { ⟦<PlainRow as Components>⟧.EXTENSIBLE };
+
+    const EXTENSIBLE: bool = false;
+
+    ghost row_schema = { ⟦<PlainRow as Components>⟧.schema };
+
+    ghost row_is_schema = { ⟦<PlainRow as Components>⟧.is_schema };
+
+    ghost components = { λ v. both v.a (both v.l (both v.c tt)) };
+
+    fn from_row(row: Self::Values) -> Self {
+        built![PlainComponents from row:
+            a,
+            l,
+            c
+        ]
+    }
+}
+
+impl Takes for PlainComponents {
+    fn take(alloc: Global, decoder: &mut Decoder<'_>) -> Result<Self, DecodeError> {
+        read_row::<Self, PlainRow>(alloc, decoder)
+    }
+}
+
+impl Tabled<3, 0> for PlainComponents {
+    ghost use Rattle.std.specs.Prelude.{refl};
+
+    const FIELDS: Fields<3> = Fields {
+        fields: fields![
+            0 Required Universal 1 "a",
+            1 Required Private 2 "l",
+            2 Optional Universal 0 "c"
+        ],
+    };
+
+    const EXTENDED_FIELDS: Option<Fields<0>> = None;
+
+    fn root_fields() -> &'static [Field<'static>] {
+        Self::FIELDS.fields
+    }
+
+    fn addition_fields() -> &'static [Field<'static>] {
+        rows_of!(Self::EXTENDED_FIELDS)
+    }
+
+    fn put(&self, encoder: &mut Encoder<'_>) -> Result<(), EncodeError> {
+        let view = views![self:
+            a,
+            l,
+            c
+        ];
+        PlainRow::write(&view, encoder)
+    }
+
+    ghost counts = { (refl, refl) };
+}
