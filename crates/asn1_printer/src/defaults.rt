@@ -244,58 +244,46 @@ struct Held {
     obeys: Obeys,
 }
 
-/// The type of octets or characters; nothing of another type.
-fn held_of(simple: Simple) -> Option<Held> {
-    let (holder, made, rule, obeys) = match simple {
-        Simple::OctetString => ("Octets", "OctetString::from_slice", "AnyOctets", Obeys::Any),
-        Simple::Utf8String => ("Utf8Text", "utf8_from", "Utf8", Obeys::Utf8),
-        Simple::NumericString => (
-            "NumericText",
-            "NumericString::from_text",
-            "Numeric",
-            Obeys::Each,
-        ),
-        Simple::PrintableString => {
-            (
-                "PrintableText",
-                "PrintableString::from_text",
-                "Printable",
-                Obeys::Each,
-            )
-        }
-        Simple::VisibleString => (
-            "VisibleText",
-            "VisibleString::from_text",
-            "Visible",
-            Obeys::Each,
-        ),
-        Simple::Ia5String => ("Ia5Text", "Ia5String::from_text", "Ia5", Obeys::Each),
-        Simple::GeneralString => (
-            "GeneralText",
-            "GeneralString::from_text",
-            "General",
-            Obeys::Any,
-        ),
-        Simple::GraphicString => (
-            "GraphicText",
-            "GraphicString::from_text",
-            "Graphic",
-            Obeys::Any,
-        ),
-        Simple::TeletexString => (
-            "TeletexText",
-            "TeletexString::from_text",
-            "Teletex",
-            Obeys::Any,
-        ),
-        Simple::BmpString => ("BmpText", "bmp_from", "Bmp", Obeys::Pairs),
-        _ => return None,
-    };
-    Some(Held {
+/// A type all of whose octets obey.
+fn any(holder: &'static str, made: &'static str, rule: &'static str) -> Held {
+    Held {
         holder,
         made,
         rule,
+        obeys: Obeys::Any,
+    }
+}
+
+/// A type each of whose octets is tested.
+fn each(holder: &'static str, made: &'static str, rule: &'static str) -> Held {
+    Held {
+        obeys: Obeys::Each,
+        ..any(holder, made, rule)
+    }
+}
+
+/// A type whose octets are tested as a whole.
+fn whole(holder: &'static str, made: &'static str, rule: &'static str, obeys: Obeys) -> Held {
+    Held {
         obeys,
+        ..any(holder, made, rule)
+    }
+}
+
+/// The type of octets or characters; nothing of another type.
+fn held_of(simple: Simple) -> Option<Held> {
+    Some(match simple {
+        Simple::OctetString => any("Octets", "OctetString::from_slice", "AnyOctets"),
+        Simple::Utf8String => whole("Utf8Text", "utf8_from", "Utf8", Obeys::Utf8),
+        Simple::NumericString => each("NumericText", "NumericString::from_text", "Numeric"),
+        Simple::PrintableString => each("PrintableText", "PrintableString::from_text", "Printable"),
+        Simple::VisibleString => each("VisibleText", "VisibleString::from_text", "Visible"),
+        Simple::Ia5String => each("Ia5Text", "Ia5String::from_text", "Ia5"),
+        Simple::GeneralString => any("GeneralText", "GeneralString::from_text", "General"),
+        Simple::GraphicString => any("GraphicText", "GraphicString::from_text", "Graphic"),
+        Simple::TeletexString => any("TeletexText", "TeletexString::from_text", "Teletex"),
+        Simple::BmpString => whole("BmpText", "bmp_from", "Bmp", Obeys::Pairs),
+        _ => return None,
     })
 }
 

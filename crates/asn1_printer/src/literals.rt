@@ -123,7 +123,7 @@ fn is_permitted(simple: Simple, c: char) -> bool {
         Simple::NumericString => c.is_ascii_digit() || c == ' ',
         Simple::PrintableString => c.is_ascii_alphanumeric() || " '()+,-./:=?".contains(c),
         Simple::VisibleString => c == ' ' || c.is_ascii_graphic(),
-        Simple::BmpString => u32::from(c) <= 65535,
+        Simple::BmpString => u32::from(c) <= 65535 && c != '\n',
         Simple::Utf8String => c != '\n',
         _ => c.is_ascii() && c != '\n',
     }
