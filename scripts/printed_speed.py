@@ -125,7 +125,7 @@ def measured(copy, rows):
                 case = pathlib.Path(cases) / f"{word}_{count}_{way}"
                 case.write_text("")
                 pathlib.Path(f"{case}.args").write_text(f"{word}\n{count}\n{way}\n1\n")
-        ran = subprocess.run(["rt", "try", "--cases", cases], cwd=copy / "crates/oer_speed", capture_output=True, text=True, check=False)
+        ran = subprocess.run(["rt", "try", "--seconds", "300", "--cases", cases], cwd=copy / "crates/oer_speed", capture_output=True, text=True, check=False)
     found = re.findall(r"== (\w+?)_(\d+)_(\w+)[^=]*?(\d+) octets, (\d+) ns, (\d+) ns", ran.stdout)
     if not found:
         sys.exit(f"printed_speed: {ran.stdout[-2000:]}{ran.stderr[-2000:]}")
