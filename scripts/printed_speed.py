@@ -3,10 +3,10 @@
 
 usage: printed_speed.py COPY PROGRAM [WORD..], for example: taskset -c 3 scripts/printed_speed.py /tmp/copy crates/oergen/out/oergen
 
-COPY is a folder to be made, in which the repository's crates are laid, and beside them the printed ones. There each value that
-oer_speed makes is also read as the printed type of TYPES, from its own octets, so both are values of one sort; and both are
-written, or read, by the same calls: in ROUNDS rounds of some MILLISECONDS each, now the one, now the other. The program is built
-once, as `rt try` builds it: with checks, and unproved. Printed are the least nanoseconds of each, and their ratio.
+COPY is a folder to be made, in which the repository's crates are laid, and beside them the printed ones. There the octets of each
+value that oer_speed makes are read as a value of its type by hand, and as one of the printed type of TYPES; and both are written, or
+read, by the same calls: in ROUNDS rounds of some MILLISECONDS each, now the one, now the other. The program is built once, as
+`rt try` builds it: with checks, and unproved. Printed are the least nanoseconds of each, and their ratio.
 """
 import pathlib
 import re
@@ -18,7 +18,7 @@ sys.dont_write_bytecode = True
 sys.path.insert(0, str(pathlib.Path(__file__).resolve().parent))
 from words import lay, printed  # noqa: E402
 
-ROUNDS, MILLISECONDS = 3, 100
+ROUNDS, MILLISECONDS = 3, 300
 # Words of oer_speed, how many, and the printed type.
 ROWS = [("ints", 1000), ("octets", 65536), ("nest", 64), ("link", 64), ("linked", 65536), ("added", 65536), ("additions", 30)]
 ROWS += [("seq2", 1), ("outer", 1), ("extopt", 1), ("foo", 1), ("seqs", 1000), ("intset", 1000), ("mixed", 1000)]
@@ -40,17 +40,18 @@ pub(crate) fn measure_both<P: Encode + Decode, C: Clock, T: Encode + Decode>(
     value: &T,
 ) -> Result<Option<Figures>> {{
     let octets = coer::encode(alloc, value)?;
+    let own: T = coer::decode(alloc, octets.as_slice())?;
     let printed: P = coer::decode(alloc, octets.as_slice())?;
     let mut plan = Plan {{
         count: plan.count,
         way: plan.way,
         times: 10,
     }};
-    let first = nanoseconds(clock, alloc, &plan, value)?;
+    let first = nanoseconds(clock, alloc, &plan, &own)?;
     plan.times = u32::try_from({MILLISECONDS}_000_000 / first.max(1)).unwrap_or(1).max(1);
     let mut least = (u128::MAX, u128::MAX);
     for _ in 0..{ROUNDS} {{
-        least.0 = least.0.min(nanoseconds(clock, alloc, &plan, value)?);
+        least.0 = least.0.min(nanoseconds(clock, alloc, &plan, &own)?);
         least.1 = least.1.min(nanoseconds(clock, alloc, &plan, &printed)?);
     }}
     Ok(Some(Figures {{
@@ -124,7 +125,7 @@ def measured(copy, rows):
                 case = pathlib.Path(cases) / f"{word}_{count}_{way}"
                 case.write_text("")
                 pathlib.Path(f"{case}.args").write_text(f"{word}\n{count}\n{way}\n1\n")
-        ran = subprocess.run(["rt", "try", "--cases", cases], cwd=copy / "crates/oer_speed", capture_output=True, text=True, check=False)
+        ran = subprocess.run(["rt", "try", "--seconds", "300", "--cases", cases], cwd=copy / "crates/oer_speed", capture_output=True, text=True, check=False)
     found = re.findall(r"== (\w+?)_(\d+)_(\w+)[^=]*?(\d+) octets, (\d+) ns, (\d+) ns", ran.stdout)
     if not found:
         sys.exit(f"printed_speed: {ran.stdout[-2000:]}{ran.stderr[-2000:]}")

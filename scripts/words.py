@@ -161,7 +161,7 @@ def main(copy, program):
     # with checks, 1,024 levels of a value outgrow 8 MiB
     resource.setrlimit(resource.RLIMIT_STACK, (1 << 28, resource.getrlimit(resource.RLIMIT_STACK)[1]))
     with open(folder / "stdin", "rb") as rows:
-        ran = subprocess.run(["rt", "try"], cwd=folder, stdin=rows, capture_output=True, text=True, check=False)
+        ran = subprocess.run(["rt", "try", "--seconds", "900"], cwd=folder, stdin=rows, capture_output=True, text=True, check=False)
     wanted = (folder / "stdout").read_text().splitlines()
     got = ran.stdout.splitlines()
     faults = 0
