@@ -76,78 +76,6 @@ impl Tabled<2, 0> for SpotComponents {
     ghost counts = { (refl, refl) };
 }
 
-/// `SEQUENCE { middle Spot, radius INTEGER (0..65535) }`
-pub type AreaRound = Sequence<AreaRoundComponents, 2, 0>;
-
-/// The components of `AreaRound`.
-#[derive(Debug, PartialEq, Eq, Drop)]
-pub struct AreaRoundComponents {
-    pub middle: Spot,
-    pub radius: u16,
-}
-
-type AreaRoundRow = Needs<Context<0>, Spot, Needs<Context<1>, u16, NoMore>>;
-
-impl Rowed for AreaRoundComponents {
-    ghost use Rattle.rasn_oer.specs.Values.{both};
-
-    type Values = <AreaRoundRow as Components>::Values;
-
-    ghost EXTENSIBLE = { ⟦<AreaRoundRow as Components>⟧.EXTENSIBLE };
-
-    const EXTENSIBLE: bool = false;
-
-    ghost row_schema = { ⟦<AreaRoundRow as Components>⟧.schema };
-
-    ghost row_is_schema = { ⟦<AreaRoundRow as Components>⟧.is_schema };
-
-    ghost components = { λ v. both v.middle (both v.radius tt) };
-
-    fn from_row(row: Self::Values) -> Self {
-        built![AreaRoundComponents from row:
-            middle,
-            radius
-        ]
-    }
-}
-
-impl Takes for AreaRoundComponents {
-    fn take(alloc: Global, decoder: &mut Decoder<'_>) -> Result<Self, DecodeError> {
-        read_row::<Self, AreaRoundRow>(alloc, decoder)
-    }
-}
-
-impl Tabled<2, 0> for AreaRoundComponents {
-    ghost use Rattle.std.specs.Prelude.{refl};
-
-    const FIELDS: Fields<2> = Fields {
-        fields: fields![
-            0 Required Context 0 "middle",
-            1 Required Context 1 "radius"
-        ],
-    };
-
-    const EXTENDED_FIELDS: Option<Fields<0>> = None;
-
-    fn root_fields() -> &'static [Field<'static>] {
-        Self::FIELDS.fields
-    }
-
-    fn addition_fields() -> &'static [Field<'static>] {
-        rows_of!(Self::EXTENDED_FIELDS)
-    }
-
-    fn put(&self, encoder: &mut Encoder<'_>) -> Result<(), EncodeError> {
-        let view = views![self:
-            middle,
-            radius
-        ];
-        AreaRoundRow::write(&view, encoder)
-    }
-
-    ghost counts = { (refl, refl) };
-}
-
 /// `SEQUENCE { from Spot, to Spot }`
 pub type AreaBoxes = Sequence<AreaBoxesComponents, 2, 0>;
 
@@ -220,26 +148,98 @@ impl Tabled<2, 0> for AreaBoxesComponents {
     ghost counts = { (refl, refl) };
 }
 
-/// `Area ::= CHOICE { round SEQUENCE { middle Spot, radius INTEGER (0..65535) }, boxes SEQUENCE OF
-/// SEQUENCE { from Spot, to Spot }, corners SEQUENCE (SIZE(3..MAX)) OF Spot, names Names, ... }`
+/// `SEQUENCE { middle Spot, radius INTEGER (0..65535) }`
+pub type AreaRound = Sequence<AreaRoundComponents, 2, 0>;
+
+/// The components of `AreaRound`.
+#[derive(Debug, PartialEq, Eq, Drop)]
+pub struct AreaRoundComponents {
+    pub middle: Spot,
+    pub radius: u16,
+}
+
+type AreaRoundRow = Needs<Context<0>, Spot, Needs<Context<1>, u16, NoMore>>;
+
+impl Rowed for AreaRoundComponents {
+    ghost use Rattle.rasn_oer.specs.Values.{both};
+
+    type Values = <AreaRoundRow as Components>::Values;
+
+    ghost EXTENSIBLE = { ⟦<AreaRoundRow as Components>⟧.EXTENSIBLE };
+
+    const EXTENSIBLE: bool = false;
+
+    ghost row_schema = { ⟦<AreaRoundRow as Components>⟧.schema };
+
+    ghost row_is_schema = { ⟦<AreaRoundRow as Components>⟧.is_schema };
+
+    ghost components = { λ v. both v.middle (both v.radius tt) };
+
+    fn from_row(row: Self::Values) -> Self {
+        built![AreaRoundComponents from row:
+            middle,
+            radius
+        ]
+    }
+}
+
+impl Takes for AreaRoundComponents {
+    fn take(alloc: Global, decoder: &mut Decoder<'_>) -> Result<Self, DecodeError> {
+        read_row::<Self, AreaRoundRow>(alloc, decoder)
+    }
+}
+
+impl Tabled<2, 0> for AreaRoundComponents {
+    ghost use Rattle.std.specs.Prelude.{refl};
+
+    const FIELDS: Fields<2> = Fields {
+        fields: fields![
+            0 Required Context 0 "middle",
+            1 Required Context 1 "radius"
+        ],
+    };
+
+    const EXTENDED_FIELDS: Option<Fields<0>> = None;
+
+    fn root_fields() -> &'static [Field<'static>] {
+        Self::FIELDS.fields
+    }
+
+    fn addition_fields() -> &'static [Field<'static>] {
+        rows_of!(Self::EXTENDED_FIELDS)
+    }
+
+    fn put(&self, encoder: &mut Encoder<'_>) -> Result<(), EncodeError> {
+        let view = views![self:
+            middle,
+            radius
+        ];
+        AreaRoundRow::write(&view, encoder)
+    }
+
+    ghost counts = { (refl, refl) };
+}
+
+/// `Area ::= CHOICE { boxes SEQUENCE OF SEQUENCE { from Spot, to Spot }, corners SEQUENCE (SIZE(3..MAX))
+/// OF Spot, names Names, round SEQUENCE { middle Spot, radius INTEGER (0..65535) }, ... }`
 pub type Area = OneOf<AreaAlternatives>;
 
 /// The alternatives of `Area`.
 #[derive(Debug, PartialEq, Eq, Drop)]
 pub enum AreaAlternatives {
-    Round(AreaRound),
     Boxes(ListOf<AreaBoxes>),
     Corners(ListOf<Spot>),
     Names(Names),
+    Round(AreaRound),
 }
 
 type AreaRow = Offers<
     Context<0>,
-    AreaRound,
+    ListOf<AreaBoxes>,
     Offers<
         Context<1>,
-        ListOf<AreaBoxes>,
-        Offers<Context<2>, ListOf<Spot>, Offers<Context<3>, Names, Extensible<NoMore>>>,
+        ListOf<Spot>,
+        Offers<Context<2>, Names, Offers<Context<3>, AreaRound, Extensible<NoMore>>>,
     >,
 >;
 
@@ -250,7 +250,7 @@ const AREA_ADDITIONS: &'static [Tag] = &[];
 impl Alternating for AreaAlternatives {
     ghost use Rattle.std.specs.Prelude.{refl};
     ghost use Rattle.rasn_oer.specs.Alternative.{First, Rest};
-    ghost use Rattle.sample_types.specs.declared.types_04.AreaAlternatives.TheVariants.{Round, Boxes, Corners, Names};
+    ghost use Rattle.sample_types.specs.declared.types_04.AreaAlternatives.TheVariants.{Boxes, Corners, Names, Round};
 
     type Values = <AreaRow as Alternatives>::Values;
 
@@ -258,7 +258,7 @@ impl Alternating for AreaAlternatives {
 
     ghost row_are_choices = { ⟦<AreaRow as Alternatives>⟧.are_choices };
 
-    ghost alternative = { elim [ Round held ↦ First held | Boxes held ↦ Rest (First held) | Corners held ↦ Rest (Rest (First held)) | Names held ↦ Rest (Rest (Rest (First held))) ] };
+    ghost alternative = { elim [ Boxes held ↦ First held | Corners held ↦ Rest (First held) | Names held ↦ Rest (Rest (First held)) | Round held ↦ Rest (Rest (Rest (First held))) ] };
 
     const VARIANTS: &'static [Tag] = AREA_ROOTS;
 
@@ -273,7 +273,7 @@ impl Alternating for AreaAlternatives {
     }
 
     fn from_alternative(value: Self::Values) -> Self {
-        from_row!(value => AreaAlternatives: Round, Boxes, Corners, Names)
+        from_row!(value => AreaAlternatives: Boxes, Corners, Names, Round)
     }
 
     fn put<E: Choice>(
@@ -281,7 +281,7 @@ impl Alternating for AreaAlternatives {
         encoder: &mut Encoder<'_>,
         constraints: Constraints,
     ) -> Result<(), EncodeError> {
-        let view = to_row!(self => AreaAlternatives: Round, Boxes, Corners, Names);
+        let view = to_row!(self => AreaAlternatives: Boxes, Corners, Names, Round);
         AreaRow::write_alternative::<E>(&view, encoder, constraints)
     }
 
