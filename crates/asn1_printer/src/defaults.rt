@@ -14,7 +14,7 @@ use asn1_layouts::definitions::Definition;
 use asn1_layouts::numbers::{Spot, names_of, number_of, settled};
 use asn1_layouts::rows::Row;
 use asn1_layouts::scope::{Link, Scope};
-use asn1_layouts::visible::{Limits, Purpose, limits_of};
+use asn1_layouts::visible::Limits;
 use asn1_modules::ast::{Body, Simple, Value};
 use asn1_modules::lexer::TokenId;
 use asn1_modules::refusal::Refusal;
@@ -482,14 +482,7 @@ fn compares<'m>(scope: Scope<'m, '_>, list: Link<'m>) -> Result<bool, Refusal> {
     Ok(false)
 }
 
-/// Whether the sizes of a list allow one without elements.
-fn allows_none<'m>(scope: Scope<'m, '_>, link: Link<'m>) -> Result<bool, Refusal> {
-    let chain = scope.chain_of(link)?;
-    let limits = limits_of(scope, chain.as_slice(), None, Purpose::Size)?;
-    Ok(allows(limits, 0))
-}
-
-/// The default of a list, which is empty.
+/// The default of a list, which is empty. As everywhere, no size of a list is looked at.
 fn list_default<'m>(
     scope: Scope<'m, '_>,
     row: Row<'m>,
@@ -502,9 +495,6 @@ fn list_default<'m>(
     }
     if !compares(scope, base)? {
         return Err(scope.refused(row.name, COMPARED));
-    }
-    if !allows_none(scope, row.link)? {
-        return Err(scope.refused(row.name, ALLOWED));
     }
     let mut name = Text::new(scope.alloc);
     name.push("IsEmptyList");

@@ -10,7 +10,6 @@ A ::= SEQUENCE { a A OPTIONAL, k K } K ::= NULL => 2:34: met 'K'; can read a typ
 A ::= SEQUENCE { a A OPTIONAL } AContent ::= NULL => 2:46: met 'NULL'; can read a type none of whose printed names, in letters of either size, is another's
 A ::= SEQUENCE { a UTCTime DEFAULT "x" } => 2:18: met 'a'; can read a default that is a boolean, NULL, a number, an enumerated value, bits, octets, characters or an empty list: others aren't printed yet
 A ::= SEQUENCE { a SET OF SEQUENCE OF CHOICE { b NULL } DEFAULT {} } => 2:18: met 'a'; can read an empty list of elements that aren't sequences, sets or choices, as a default: others aren't printed yet
-A ::= SEQUENCE { a B DEFAULT {} } B ::= SEQUENCE (SIZE(1..2)) OF NULL => 2:18: met 'a'; can read a default that the type's constraints allow
 A ::= SEQUENCE { a NumericString DEFAULT "x" } => 2:42: met '"x"'; can read a text of the type's characters, ASCII but in a UTF8String or a BMPString
 A ::= SEQUENCE { a BMPString (SIZE(1)) DEFAULT "xy" } => 2:18: met 'a'; can read a default that the type's constraints allow
 A ::= SEQUENCE { a BIT STRING (SIZE(2)) DEFAULT '101'B } => 2:18: met 'a'; can read a default that the type's constraints allow
