@@ -118,6 +118,7 @@ ROWS = [
     Row("Link", "80 01 01 81 80 01 02 80 ff", LINK.format(number(1), "B(Held(%s))" % LINK.format(number(2), "A(true)"))),
     Row("Node", "80 01 01 00 01 05 ff 00", NODE.format(number(1), "Some(Held(%s))" % NODE.format(number(5), "None", "true"), "false")),
     Row("deepdef", "80 01 00", "DeepDefault { n: %s }" % (NEST % "")),
+    Row("deepdef", "00", "DeepDefault { n: %s%s%s }" % ("Nest(ListOf([Bare(" * 127, NEST % "", ")]))" * 127)),
     Row("Chain", "80 00 02 07 80 02 00 ff", CHAIN.format("false", "Some(Held(%s))" % CHAIN.format("true", "None"))),
     Row("seq6", "80 ff 02 07 80 02 80 ff", "Sequence6 { a: true, b: Some(Group6 { a: Some(true) }) }"),
     Row("AddDef", "80 ff 02 07 80 02 01 08", f"AddDef {{ a: true, b: {number(8)} }}"),
