@@ -11,6 +11,7 @@ data = pathlib.Path(__file__).resolve().parent.parent / "crates/oergen/data"
 for number in range(1, int(sys.argv[1]) + 1):
     for file in ("samples.asn", "recursive.asn"):
         text = (data / file).read_text()
-        for name in [re.search(r"^(\w+) DEFINITIONS", text, re.M)[1], *re.findall(r"^([A-Z][\w-]*) ::=", text, re.M)]:
+        modules = re.findall(r"^(\w+)(?: \{[^}]*\})? DEFINITIONS", text, re.M)
+        for name in [*modules, *re.findall(r"^([A-Z][\w-]*) ::=", text, re.M)]:
             text = re.sub(rf"(?<![\w-]){name}(?![\w-])", f"{name}{number}", text)
         print(text)
