@@ -224,7 +224,7 @@ fn push_bits<'m>(
 
 /// What shows that octets obey a type's rule.
 #[derive(Clone, Copy)]
-enum Obeys {
+enum Evidence {
     /// All do.
     Any,
     /// Each of them is tested.
@@ -241,7 +241,7 @@ struct Held {
     holder: &'static str,
     made: &'static str,
     rule: &'static str,
-    obeys: Obeys,
+    evidence: Evidence,
 }
 
 /// A type all of whose octets obey.
@@ -250,22 +250,22 @@ fn any(holder: &'static str, made: &'static str, rule: &'static str) -> Held {
         holder,
         made,
         rule,
-        obeys: Obeys::Any,
+        evidence: Evidence::Any,
     }
 }
 
 /// A type each of whose octets is tested.
 fn each(holder: &'static str, made: &'static str, rule: &'static str) -> Held {
     Held {
-        obeys: Obeys::Each,
+        evidence: Evidence::Each,
         ..any(holder, made, rule)
     }
 }
 
 /// A type whose octets are tested as a whole.
-fn whole(holder: &'static str, made: &'static str, rule: &'static str, obeys: Obeys) -> Held {
+fn whole(holder: &'static str, made: &'static str, rule: &'static str, evidence: Evidence) -> Held {
     Held {
-        obeys,
+        evidence,
         ..any(holder, made, rule)
     }
 }
@@ -274,7 +274,7 @@ fn whole(holder: &'static str, made: &'static str, rule: &'static str, obeys: Ob
 fn held_of(simple: Simple) -> Option<Held> {
     Some(match simple {
         Simple::OctetString => any("Octets", "OctetString::from_slice", "AnyOctets"),
-        Simple::Utf8String => whole("Utf8Text", "utf8_from", "Utf8", Obeys::Utf8),
+        Simple::Utf8String => whole("Utf8Text", "utf8_from", "Utf8", Evidence::Utf8),
         Simple::NumericString => each("NumericText", "NumericString::from_text", "Numeric"),
         Simple::PrintableString => each("PrintableText", "PrintableString::from_text", "Printable"),
         Simple::VisibleString => each("VisibleText", "VisibleString::from_text", "Visible"),
@@ -282,15 +282,15 @@ fn held_of(simple: Simple) -> Option<Held> {
         Simple::GeneralString => any("GeneralText", "GeneralString::from_text", "General"),
         Simple::GraphicString => any("GraphicText", "GraphicString::from_text", "Graphic"),
         Simple::TeletexString => any("TeletexText", "TeletexString::from_text", "Teletex"),
-        Simple::BmpString => whole("BmpText", "bmp_from", "Bmp", Obeys::Pairs),
+        Simple::BmpString => whole("BmpText", "bmp_from", "Bmp", Evidence::Pairs),
         _ => return None,
     })
 }
 
 /// Appends what makes a value of octets: what the type within makes, in its struct, or what the library makes.
 fn push_made(out: &mut Text, held: Held) {
-    match held.obeys {
-        Obeys::Any | Obeys::Each => {
+    match held.evidence {
+        Evidence::Any | Evidence::Each => {
             out.push_all(&[
                 "let content = ",
                 held.made,
@@ -298,14 +298,14 @@ fn push_made(out: &mut Text, held: Held) {
             ]);
             out.push_all(&[held.holder, "(content))"]);
         }
-        Obeys::Pairs | Obeys::Utf8 => out.push_all(&[held.made, "(alloc, &octets)"]),
+        Evidence::Pairs | Evidence::Utf8 => out.push_all(&[held.made, "(alloc, &octets)"]),
     }
 }
 
 /// Appends the value as definitions name it: of a UTF8String its octets, of another type the struct around them.
 fn push_value(out: &mut Text, held: Held, list: &Text) {
-    match held.obeys {
-        Obeys::Utf8 => out.push_text(list),
+    match held.evidence {
+        Evidence::Utf8 => out.push_text(list),
         _ => {
             out.push("record { 0 = ");
             out.push_text(list);
@@ -316,15 +316,15 @@ fn push_value(out: &mut Text, held: Held, list: &Text) {
 
 /// Appends what shows that so many octets obey a type's rule.
 fn push_obeys(out: &mut Text, held: Held, list: &Text, size: usize) {
-    match held.obeys {
-        Obeys::Any => out.push("tt"),
-        Obeys::Each => out.push("refl"),
-        Obeys::Pairs => {
+    match held.evidence {
+        Evidence::Any => out.push("tt"),
+        Evidence::Each => out.push("refl"),
+        Evidence::Pairs => {
             out.push("(");
             out.push_count(size / 2);
             out.push(", refl)");
         }
-        Obeys::Utf8 => {
+        Evidence::Utf8 => {
             out.push("(spelled ");
             out.push_text(list);
             out.push(" refl)");
@@ -336,7 +336,7 @@ fn push_obeys(out: &mut Text, held: Held, list: &Text, size: usize) {
 fn push_uses(out: &mut Text, held: Held) {
     out.push("ghost use Rattle.std.specs.Prelude.{◌∷◌, [], refl};\n");
     out.push("    ghost use Rattle.rasn_oer.specs.Literals.{written");
-    out.push(if matches!(held.obeys, Obeys::Utf8) {
+    out.push(if matches!(held.evidence, Evidence::Utf8) {
         ", spelled"
     } else {
         ""
@@ -466,9 +466,10 @@ fn push_enumerated<'m>(
 
 /// Whether the library compares the elements of a list, also of lists in it: not sequences, sets and choices.
 fn compares<'m>(scope: Scope<'m, '_>, list: Link<'m>) -> Result<bool, Refusal> {
-    const MAX_LISTS: usize = 64;
+    // more lists than may stand in one another (`depths`)
+    const LISTS: usize = 64;
     let mut at = list;
-    for _ in 0..MAX_LISTS {
+    for _ in 0..LISTS {
         let module = at.module;
         at = match &at.of.body {
             Body::SequenceOf(element) | Body::SetOf(element) => scope.base_of(Link {

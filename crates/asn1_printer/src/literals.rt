@@ -117,7 +117,7 @@ pub fn packed(alloc: Global, bits: &[bool]) -> Result<Vec<u8>, AllocError> {
 }
 
 /// Whether a type's text may have the character (X.680, clause 41), and the library has octets for it: ASCII where X.680 would have
-/// escape sequences. A text in several lines is read of no type.
+/// escape sequences. No type has the end of a line, so a text in several lines is refused.
 fn is_permitted(simple: Simple, c: char) -> bool {
     match simple {
         Simple::NumericString => c.is_ascii_digit() || c == ' ',

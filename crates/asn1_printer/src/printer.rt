@@ -34,7 +34,7 @@ compared components context defaults extensible held holdsknot intagorder isfals
 mayaddgroup mayaddknot mayhave mayhaveknot needs needsknot nomore offersknot place private reads readsadditions readsalternatives \
 readsknot readsknotalternatives rowed schemed sequence set standard tabled takes \
 takesalternative takesknot takesknotalternative universal views writes octets openoctets bmptext generaltext graphictext ia5text numerictext printabletext teletextext \
-utf8text visibletext within equalasspelled spelled encode encoder are_bits bits_from bmp_from built fields from_row pairs rows_of table tags to_row";
+utf8text visibletext within equalasspelled spelled encode encoder bare isemptylist utf8_from are_bits bits_from bmp_from built fields from_row pairs rows_of table tags to_row";
 
 /// A type that was printed: its text, and the names that others may use.
 #[derive(Drop)]

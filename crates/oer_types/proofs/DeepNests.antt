@@ -1,5 +1,6 @@
 -- Nested lists are made from within, and compared from without.
 use Rattle.std.proofs.Common.{◌≡◌, ◌<◌, ℕ, zero, suc, ◌+◌, ◌-◌, ◌==◌, add-one, Bool, true, false, ◌&&◌, List, [], ◌∷◌, length, Option, Some, None, refl, ap, sym, ◌∙◌, arith}
+use Rattle.std.proofs.Math.Bool.{and-true, and-false}
 use Rattle.std.specs.Cmp.Lexicographic.{pointwise}
 use Rattle.oer_rows.proofs.EmptyLists.{none_listed}
 use Rattle.oer_knots.specs.declared.held.Bare.{Bare}
@@ -32,14 +33,6 @@ unfolding deep_nest
 one_in n = ap (λ (x : Nest-F Nest). x.0) (out-roll-Nest (record { 0 = record { 0 = deep_nest n } ∷ [] }))
 
 -- ---- whether a nest is equal to them
-
-and-true : (b : Bool) → (b && true) ≡ b
-and-true true = refl
-and-true false = refl
-
-and-false : (b : Bool) → (b && false) ≡ false
-and-false true = refl
-and-false false = refl
 
 abbrev holds : (Nest → Bool) → Option Nest → Bool
 holds is None = false

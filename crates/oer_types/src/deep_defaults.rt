@@ -50,7 +50,6 @@ fn item_of(nest: &Nest) -> Option<&Nest>
 }
 
 impl Standard<Nest> for IsDeep {
-    ghost use Rattle.oer_types.specs.DeepDefaults.{deep_nest};
     ghost use Rattle.oer_types.specs.Nests.{each_nest};
 
     ghost value = { deep_nest 127 };

@@ -18,6 +18,7 @@ A ::= SEQUENCE { a INTEGER (0..9) DEFAULT 10 } => 2:18: met 'a'; can read a defa
 A ::= CHOICE { a NULL, b NULL, c NULL, d NULL, e NULL, f NULL, g NULL, h NULL, i NULL, j NULL, k NULL, l NULL, m NULL, n NULL, o NULL, p NULL, q NULL } => 2:7: met 'CHOICE'; can read a CHOICE of 1 to 16 alternatives: others aren't printed yet
 A ::= CHOICE { a-b NULL, aB NULL } => 2:7: met 'CHOICE'; can read alternatives whose Rust names differ
 A ::= ENUMERATED { a-b, aB } => 2:25: met 'aB'; can read a value whose Rust name no other has, and a number of 64 bits
+Bare ::= NULL => 2:10: met 'NULL'; can read a type none of whose printed names, in letters of either size, is another's
 Sequence ::= NULL => 2:14: met 'NULL'; can read a type none of whose printed names, in letters of either size, is another's
 A ::= SEQUENCE { a-b NULL, aB NULL } => 2:28: met 'aB'; can read a component whose Rust name no other has"#;
 
