@@ -1,12 +1,13 @@
 #!/usr/bin/env python3
 """Says where crates/sample_types or crates/recursive_types, or the line of one in crates.txt, isn't what oergen prints of its module
-in crates/oergen/data.
+in crates/oergen/data, and where types of made modules are put into other crates than they should be.
 
 usage: printed.py PROGRAM, for example: printed.py crates/oergen/out/oergen
 
 It prints twice: the second time into a folder that has the files of the first.
 """
 import pathlib
+import re
 import subprocess
 import sys
 import tempfile
@@ -15,9 +16,26 @@ top = pathlib.Path(__file__).resolve().parent.parent
 MODULES = {"sample_types": "samples.asn", "recursive_types": "recursive.asn"}
 
 
-def printed(program, folder, name):
+def sequences(count):
+    """So many sequences of twenty components each."""
+    components = ", ".join(f"c{at} INTEGER" for at in range(20))
+    return [f"S{at} ::= SEQUENCE {{ {components} }}" for at in range(count)]
+
+
+CIRCLE = ["Tree ::= SEQUENCE { leaves Leaves OPTIONAL }", "Leaves ::= SEQUENCE { tree Tree OPTIONAL, last NULL }"]
+
+# types, and how many of them each crate should have
+CRATES = (
+    ([f"N{at} ::= NULL" for at in range(81)], [40, 40, 1]),
+    (sequences(2) + CIRCLE, [4]),
+    (sequences(30) + CIRCLE, [30, 2]),
+    (sequences(30) + CIRCLE + ["Last ::= NULL"], [30, 3]),
+)
+
+
+def printed(program, folder, name, module=None):
     """The lines for crates.txt, and each file below the folder with its text."""
-    words = [program, "--out", folder, "--name", name, str(top / "crates/oergen/data" / MODULES[name])]
+    words = [program, "--out", folder, "--name", name, str(module or top / "crates/oergen/data" / MODULES[name])]
     lines = subprocess.run(words, check=True, capture_output=True, text=True, timeout=60).stdout
     root = pathlib.Path(folder)
     return lines, {str(it.relative_to(root)): it.read_text() for it in root.rglob("*") if it.is_file()}
@@ -43,8 +61,25 @@ def faults_of(program, name):
     return faults, len(files)
 
 
+def misplaced(program):
+    """The made modules whose types are put into other crates than they should be."""
+    faults = []
+    for types, wanted in CRATES:
+        with tempfile.TemporaryDirectory() as folder:
+            module = pathlib.Path(folder) / "made.asn"
+            module.write_text("Made DEFINITIONS AUTOMATIC TAGS ::= BEGIN\n" + "\n".join(types) + "\nEND\n")
+            lines, _ = printed(program, folder, "made", module)
+            crates = [pathlib.Path(folder) / line.partition(":")[0] / "src" for line in lines.splitlines()]
+            found = [sum(len(re.findall(r"^/// `\w+ ::= ", it.read_text(), re.M)) for it in at.glob("types_*.rt")) for at in crates]
+        faults += [f"{len(types)} types, of which the last is {types[-1]}: crates of {found}, and not {wanted}"] if found != wanted else []
+    return faults
+
+
 def main(program):
-    status = 0
+    faults = misplaced(program)
+    for fault in faults:
+        print(f"printed: {fault}")
+    status = 1 if faults else 0
     for name in MODULES:
         faults, count = faults_of(program, name)
         for fault in faults:

@@ -18,6 +18,9 @@ use std::collections::BTreeMap;
 /// How many types a crate has, but for the rest of a circle: so that its check stays within a few minutes.
 const TYPES_A_CRATE: usize = 40;
 
+/// How many lines a crate has, at least, that ends where a circle begins: the circle's own check takes as long as theirs.
+const LINES_BEFORE_A_CIRCLE: usize = 1000;
+
 /// How many lines a file has, but for its last type or circle.
 const LINES_A_FILE: usize = 500;
 
@@ -116,6 +119,16 @@ fn is_joined(types: &[Printed], at: usize) -> bool {
     }
 }
 
+/// Whether a circle of several types begins there.
+fn begins_circle(types: &[Printed], at: usize) -> bool {
+    !is_joined(types, at) && is_joined(types, at.saturating_add(1))
+}
+
+/// Whether a crate of so many types and lines ends before the type.
+fn is_full(types: &[Printed], count: usize, lines: usize, at: usize) -> bool {
+    count >= TYPES_A_CRATE || lines >= LINES_BEFORE_A_CIRCLE && begins_circle(types, at)
+}
+
 /// Cuts the types into crates and files; a circle isn't cut.
 fn cuts(alloc: Global, types: &[Printed]) -> Result<Vec<Cut>, AllocError> {
     let mut all: Vec<Cut> = Vec::new(alloc);
@@ -126,18 +139,24 @@ fn cuts(alloc: Global, types: &[Printed]) -> Result<Vec<Cut>, AllocError> {
         to: 0,
     };
     let mut crate_from = 0usize;
+    let mut crate_lines = 0usize;
     let mut lines = 0usize;
     for (at, one) in types.iter().enumerate() {
-        lines = lines.saturating_add(line_count(one.text.as_str()));
+        let count = line_count(one.text.as_str());
+        lines = lines.saturating_add(count);
+        crate_lines = crate_lines.saturating_add(count);
         cut.to = at.saturating_add(1);
         let count = cut.to.saturating_sub(crate_from);
-        let ends_crate = count >= TYPES_A_CRATE || cut.to == types.len();
+        let ends_crate = is_full(types, count, crate_lines, cut.to) || cut.to == types.len();
         if is_joined(types, cut.to) || !ends_crate && lines < LINES_A_FILE {
             continue;
         }
         all.push(cut)?;
         cut = cut.next(ends_crate);
-        crate_from = if ends_crate { cut.from } else { crate_from };
+        if ends_crate {
+            crate_from = cut.from;
+            crate_lines = 0;
+        }
         lines = 0;
     }
     Ok(all)
