@@ -1,3 +1,2 @@
-pub mod SetsByIndex
 pub mod StatusLaw
 pub mod CommandParts

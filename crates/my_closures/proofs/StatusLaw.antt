@@ -11,13 +11,13 @@ use Rattle.oer_read.specs.SetRows.{slot_of_found}
 use Rattle.oer_read.specs.Sets.{Call, SetRead, SetRefused}
 use Rattle.oer_read.specs.State.{State}
 use Rattle.oer_read.proofs.Alternatives.{Holds}
+use Rattle.oer_read.proofs.SetsByIndex.{MadeOf, set_by_index}
 use Rattle.oer_rows.specs.Integers.{plain_integer, integer_slot, IsWhole}
 use Rattle.oer_rows.specs.Schema.{context}
 use Rattle.my_closures.specs.Statuses.{status_table, status_tree, status_slot, part_index, part_tree, IsPartAt, StatusMade}
 use Rattle.my_closures.specs.declared.statuses.Status.{Status}
 use Rattle.my_closures.specs.declared.statuses.Part.{Part}
 use Rattle.my_closures.specs.declared.statuses.Part.TheVariants.{Ready, Code}
-use Rattle.my_closures.proofs.SetsByIndex.{MadeOf, set_by_index}
 
 -- the components of an index
 pub ready_holds : (n : ℕ) → n ≡ 0 → Holds part_tree (IsPartAt n) boolean IsAny Ready

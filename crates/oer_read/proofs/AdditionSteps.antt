@@ -260,9 +260,6 @@ module _ {B : Type 0} (tree : B → Tree) (IsPart : B → Type 0) (Says : State 
       (row_takes s u t q g false (OptionalPart g (Admits tree IsPart) qs) qs (λ a. Optional g (slot_of tree o) a) (OptionalItem s g (slot_of tree o)) a d.octets (optional_row s g (slot_of tree o)) refl
       (optional_gave s u q g o added) (optional_split s q g qs asked) (λ x. (refl, added_fits s u q o added, x)) k)
 
-  pub addition_refuses : (s : State) (q : Option Tag) (g : Tag) (qs : Parts) (e : DecodeError) → AddRefused tree IsPart Says s q e → IsAskedBy q g → (IsForMemory e → ⊥) → NoneCome s NoParts (OptionalPart g (Admits tree IsPart) qs)
-  addition_refuses s q g qs e d asked m = refused_refuses s q e (OptionalPart g (Admits tree IsPart) qs) qs (optional_split s q g qs asked) d m
-
   added_next : (s u : State) (q : Option Tag) (o : Option B) → Added tree IsPart Says s q o u → (x : Option Octets) × (addition_at s q ≡ Ok (x, u))
   added_next s u q None d = (None, d.next)
   added_next s u q (Some v) d = (Some d.content, d.next)

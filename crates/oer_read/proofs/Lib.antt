@@ -12,7 +12,7 @@ pub mod SetLaw
 pub mod SetCalls
 pub mod SetFound
 pub mod SetPromises
-pub mod SetAdditions
+pub mod SetsByIndex
 pub mod Promises
 pub mod SameTrees
 pub mod Steps

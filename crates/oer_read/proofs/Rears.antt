@@ -1,5 +1,5 @@
 -- What a component, or an addition, leaves of the octets that its reader was lent: what a closure by hand has to say of its answer.
-use Rattle.std.proofs.Common.{List, [], Bool, Option, Some, None, Result, Ok, Err, sym, ap}
+use Rattle.std.proofs.Common.{[], Bool, Option, Some, None, Result, Ok, Err, sym, ap}
 use Rattle.std.specs.Result.{OnOk}
 use Rattle.asn1_core.specs.Octets.{AreOctets}
 use Rattle.asn1_core.specs.declared.error.DecodeError.{DecodeError}
@@ -7,8 +7,8 @@ use Rattle.asn1_core.specs.declared.tag.Tag.{Tag}
 use Rattle.oer_spec.specs.Tree.{Tree}
 use Rattle.oer_read.proofs.AdditionRows.{passes}
 use Rattle.oer_read.specs.Additions.{Added, AddRefused, Adds}
-use Rattle.oer_read.specs.Components.{Asked, AskRefused, Asks}
-use Rattle.oer_read.specs.Defaults.{Defaulted, Unset, Set, AsksDefault, AddsDefault}
+use Rattle.oer_read.specs.Components.{Asks}
+use Rattle.oer_read.specs.Defaults.{Defaulted, Unset, Set, AddsDefault}
 use Rattle.oer_read.specs.Law.{IsRear}
 use Rattle.oer_read.specs.State.{State}
 
@@ -24,17 +24,6 @@ pub adds_rear : {A : Type 0} (tree : A → Tree) (IsValue : A → Type 0) (Says 
 adds_rear tree IsValue Says s g (Ok None) t k = let p = passes s t g None k.octets k.read.next in record { front = p.front; split = p.split }
 adds_rear tree IsValue Says s g (Ok (Some v)) t k = let p = passes s t g (Some k.read.content) k.octets k.read.next in record { front = p.front; split = p.split }
 adds_rear tree IsValue Says s g (Err e) t k = tt
-
-defaulted_rear : {A : Type 0} (tree : A → Tree) (IsValue : A → Type 0) (Says : State → Result A DecodeError → State → Type 0) (eq : A → A → Bool) (s : State) (g : Tag) (default v : A) (t : State)
-    → Defaulted eq (Asked tree IsValue Says s g) (AskRefused tree IsValue Says s g) s default v t → IsRear s.input t.input
-defaulted_rear tree IsValue Says eq s g default v t (Unset a e) = record { front = []; split = sym (ap (λ (z : State). z.input) a.left) }
-defaulted_rear tree IsValue Says eq s g default v t (Set a e) = record { front = a.reads.taken; split = a.reads.split }
-
--- the same of a component with a default
-pub defaults_rear : {A : Type 0} (tree : A → Tree) (IsValue : A → Type 0) (Says : State → Result A DecodeError → State → Type 0) (eq : A → A → Bool) (s : State) (g : Tag) (default : A) (answer : Result A DecodeError) (t : State)
-    → AsksDefault tree IsValue Says eq s g default answer t → OnOk answer (IsRear s.input t.input)
-defaults_rear tree IsValue Says eq s g default (Ok v) t k = defaulted_rear tree IsValue Says eq s g default v t k.read
-defaults_rear tree IsValue Says eq s g default (Err e) t k = tt
 
 added_defaulted_rear : {A : Type 0} (tree : A → Tree) (IsValue : A → Type 0) (Says : State → Result A DecodeError → State → Type 0) (eq : A → A → Bool) (s : State) (g : Tag) (default v : A) (t : State)
     → AreOctets s.input → Defaulted eq (Added tree IsValue Says s (Some g)) (AddRefused tree IsValue Says s (Some g)) s default v t → IsRear s.input t.input

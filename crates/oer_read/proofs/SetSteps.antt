@@ -1,5 +1,5 @@
 -- Calls of a set's closure, in turn.
-use Rattle.std.proofs.Common.{◌≡◌, ℕ, suc, ◌+◌, ◌-◌, Bool, true, false, cond, List, [], ◌∷◌, ◌++◌, ◌⊎◌, inl, inr, Result, Ok, Err, refl, sym, ap, ap₂, ◌∙◌, subst, append_assoc, append-nil, map, zero, drop, get_or, length, add-one, drop-cons, arith, ◌<◌, ◌≤◌}
+use Rattle.std.proofs.Common.{◌≡◌, ℕ, suc, ◌+◌, ◌-◌, Bool, true, cond, List, [], ◌∷◌, ◌++◌, ◌⊎◌, inl, inr, Result, Ok, Err, refl, sym, ap, ◌∙◌, subst, append_assoc, append-nil, map, zero, drop, get_or, length, add-one, drop-cons, arith, ◌<◌, ◌≤◌}
 use Rattle.asn1_core.specs.Octets.{Octets, AreOctets}
 use Rattle.oer_leaf_read.proofs.ReadPlaces.{preamble_reads}
 use Rattle.oer_spec.proofs.Steps.{bind_ok}
@@ -14,7 +14,7 @@ use Rattle.oer_read.specs.Law.{IsRear, WantsMemory}
 use Rattle.oer_read.specs.Scopes.{level_at, bits_for, presence_in}
 use Rattle.oer_read.specs.Sets.{Call, is_there, bits_behind, root_calls, addition_calls, set_calls, set_frame, set_opened_at, RanInTurn, RefusedInTurn, CalledInTurn, SetRefused, NoMemory, Stopped}
 use Rattle.oer_read.specs.State.{State}
-use Rattle.oer_read.proofs.Openings.{rear_trans, level_ok, level_again}
+use Rattle.oer_read.proofs.Openings.{rear_trans, level_ok}
 
 drop_nil : {X : Type 0} (i : ℕ) → drop {A = X} i [] ≡ []
 drop_nil zero = refl
@@ -23,9 +23,6 @@ drop_nil (suc i) = refl
 -- the calls of a table's first row, and of the others
 pub calls_there : (r : Row) (rs : List Row) (b : List Bool) → is_there r.presence b ≡ true → root_calls (r ∷ rs) b ≡ record { index = r.index; tag = r.tag } ∷ root_calls rs (bits_behind r.presence b)
 calls_there r rs b e = ap (λ (x : Bool). cond x (record { index = r.index; tag = r.tag } ∷ root_calls rs (bits_behind r.presence b)) (root_calls rs (bits_behind r.presence b))) e
-
-pub calls_absent : (r : Row) (rs : List Row) (b : List Bool) → is_there r.presence b ≡ false → root_calls (r ∷ rs) b ≡ root_calls rs (bits_behind r.presence b)
-calls_absent r rs b e = ap (λ (x : Bool). cond x (record { index = r.index; tag = r.tag } ∷ root_calls rs (bits_behind r.presence b)) (root_calls rs (bits_behind r.presence b))) e
 
 module _ {V : Type 0} (Ran : Call → State → Result V DecodeError → State → Type 0) where
   pub ran_append : (s : State) (cs : List Call) (vs : List V) (t : State) (ds : List Call) (ws : List V) (u : State) → RanInTurn Ran s cs vs t → RanInTurn Ran t ds ws u → RanInTurn Ran s (cs ++ ds) (vs ++ ws) u
@@ -71,9 +68,6 @@ pub record SoFar {V : Type 0} (Ran : Call → State → Result V DecodeError →
   pub called : (d : Call) (t : State) → CalledInTurn Ran here left d t → CalledInTurn Ran start all d t
 
 module _ {V : Type 0} (Ran : Call → State → Result V DecodeError → State → Type 0) (start : State) (all : List Call) (before : List V) where
-  pub so_far_first : SoFar Ran start all before start all before
-  so_far_first = record { ran = λ vs t k. (vs, k, refl); refused = λ e k. k; called = λ d t k. k }
-
   -- one call more
   pub so_far_next : (here : State) (c : Call) (left : List Call) (now : List V) (v : V) (after : State) → SoFar Ran start all before here (c ∷ left) now → Ran c here (Ok v) after → SoFar Ran start all before after left (now ++ v ∷ [])
   so_far_next here c left now v after s k = record {
@@ -191,12 +185,6 @@ set_opens s extensible roots additions lent presence fits e =
       is = sym both.0 ∙ ap (λ (m : ℕ). record { input = p.0.1; codec = s.codec; levels = m; frame = set_frame extensible additions p.0.0 }) n.1;
       shows = sym both.1;
     }
-
-pub set_opened_again : (s : State) (extensible : Bool) (roots additions : List Row) (lent : State) (presence : List Bool) → SetOpens s extensible roots additions lent presence → set_opened_at s extensible roots additions ≡ Ok (lent, presence)
-unfolding set_opened_at
-set_opened_again s extensible roots additions lent presence o =
-    let again : preamble_at (bits_for extensible roots) s.input ≡ Ok (o.bits, o.rest) = ap (preamble_at (bits_for extensible roots)) o.split ∙ (preamble_reads (bits_for extensible roots)).again o.preamble o.rest o.bits (o.spelled, o.count) in
-    rw (level_again s.levels o.level, again) (ap₂ (λ (t : State) (b : List Bool). Ok (t, b)) (sym o.is) (sym o.shows))
 
 pub set_opened_rear : (s : State) (extensible : Bool) (roots additions : List Row) (lent : State) (presence : List Bool) → AreOctets s.input → set_opened_at s extensible roots additions ≡ Ok (lent, presence) → IsRear s.input lent.input
 set_opened_rear s extensible roots additions lent presence fits e =

@@ -4,7 +4,6 @@ use Rattle.std.specs.Borrow.{Bor}
 use Rattle.asn1_core.specs.Bounds.{value_bounds}
 use Rattle.asn1_core.specs.Octets.{Octets}
 use Rattle.asn1_core.specs.declared.constraints.Constraints.{Constraints}
-use Rattle.asn1_core.specs.declared.codec.Codec.{Codec}
 use Rattle.asn1_core.specs.declared.error.DecodeError.{DecodeError}
 use Rattle.asn1_core.specs.declared.error.DecodeErrorKind.{DecodeErrorKind}
 use Rattle.asn1_core.specs.declared.error.DecodeErrorKind.TheVariants.{OutOfMemory}
@@ -29,11 +28,6 @@ LeafAnswers show takes old result new read = Answers show old result new read ×
 -- What an integer type promises: the number is read by the value constraint.
 abbrev pub IntegerAnswers : {V : Type 0} → (V → ℤ) → (ℤ → Bool) → Bool → Constraints → State → Result V DecodeError → State → Type 0
 IntegerAnswers number admits takes c old result new = LeafAnswers number takes old result new (integer_at admits (value_bounds c) old.codec old.input)
-
--- What a function answered, seen by view, is what the reading gives, its refusal in that mode.
-abbrev pub Refuses : {X Y : Type 0} → (X → Y) → Codec → Result X DecodeError → Result Y DecodeErrorKind → Type 0
-Refuses view codec (Ok x) read = read ≡ Ok (view x)
-Refuses view codec (Err e) read = (read ≡ Err e.kind) × (e.codec ≡ codec)
 
 -- What is promised of a box: what its content's type promises, or memory was refused.
 abbrev pub BoxAnswers : {A B : Type 0} → (State → Result A DecodeError → State → Type 0) → (B → A) → State → Result B DecodeError → State → Type 0

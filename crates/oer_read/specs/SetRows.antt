@@ -1,5 +1,5 @@
 -- The rows of a set by its table: what each of its components reads.
-use Rattle.std.specs.Prelude.{◌≡◌, ◌==◌, ℕ, Bool, true, false, Option, Some, None, List, [], ◌∷◌, ◌⊎◌, Result, Ok, Err, IfOk, IfErr}
+use Rattle.std.specs.Prelude.{◌≡◌, ◌==◌, ℕ, Bool, true, false, Option, Some, None, List, [], ◌∷◌, ◌⊎◌, Result, IfOk, IfErr}
 use Rattle.asn1_core.specs.Rows.{Row}
 use Rattle.asn1_core.specs.declared.codec.Codec.TheVariants.{Coer}
 use Rattle.asn1_core.specs.declared.error.DecodeError.{DecodeError}
@@ -8,7 +8,6 @@ use Rattle.asn1_core.specs.declared.fields.FieldPresence.TheVariants as presence
 use Rattle.asn1_core.specs.declared.tag.Tag.{Tag}
 use Rattle.oer_spec.specs.Same.{SameSlot}
 use Rattle.oer_spec.specs.Tree.{Tree, Primitive, Null, Rows, NoRows, Required, Optional, Default, Slot, Absent, Present}
-use Rattle.oer_read.specs.Additions.{Adds}
 use Rattle.oer_read.specs.Defaults.{only_lenient}
 use Rattle.oer_read.specs.Law.{Reads, NoEncoding, IsForMemory}
 use Rattle.oer_read.specs.Parts.{Parts, NoParts, NeededPart, OptionalPart, DefaultPart, Admits, OnPresent}
@@ -36,21 +35,7 @@ pub record ReadsDefault {V : Type 0} (tree : V → Tree) (IsPart : V → Type 0)
   pub read : IfOk result (λ v. Reads tree IsPart s v t × (s.codec ≡ Coer → eq v default ≡ false))
   pub refused : IfErr result (λ e. ((e.codec ≡ s.codec) × ((IsForMemory e → ⊥) → NoEncoding tree IsPart s)) ⊎ ((v : V) × (u : State) × Reads tree IsPart s v u × (s.codec ≡ Coer) × (eq v default ≡ true) × (e ≡ only_lenient s)))
 
--- an answer, as a component holds it
-abbrev pub held_as : {B V : Type 0} → (Option B → V) → Result (Option B) DecodeError → Result V DecodeError
-held_as hold (Ok o) = Ok (hold o)
-held_as hold (Err e) = Err e
-
--- An addition was asked, and the component holds what was answered.
-pub record AsksAddition {B V : Type 0} (tree : B → Tree) (IsPart : B → Type 0) (Says : State → Result B DecodeError → State → Type 0) (hold : Option B → V) (s : State) (g : Tag) (result : Result V DecodeError) (t : State) : Type 0 where
-  pub answer : Result (Option B) DecodeError
-  pub adds : Adds tree IsPart Says s (Some g) answer t
-  pub is : result ≡ held_as hold answer
-
 module _ {V : Type 0} (tree : V → Tree) (Is : ℕ → V → Type 0) (default : ℕ → V) where
-  abbrev pub default_tree : ℕ → Tree
-  default_tree n = tree (default n)
-
   -- the parts of a row, and of a table's rows
   abbrev pub part_at : FieldPresence → ℕ → Tag → Parts → Parts
   part_at presence.Required n g ps = NeededPart g (Admits tree (Is n)) ps

@@ -1,16 +1,14 @@
 -- Integers without constraints as components: required, optional, and with a default.
-use Rattle.std.specs.Prelude.{◌≡◌, ℕ, ℤ, Bool, true, List, [], ◌∷◌, Option, Some, None, refl}
+use Rattle.std.specs.Prelude.{◌≡◌, ℤ, Bool, true, List, [], ◌∷◌, Option, Some, None, refl}
 use Rattle.std.specs.Ordering.{int_eq}
 use Rattle.asn1_core.specs.Rows.{Row}
 use Rattle.asn1_core.specs.declared.fields.FieldPresence.TheVariants as presence
 use Rattle.asn1_core.specs.declared.constraints.TheConstants.Constraints.{NONE}
 use Rattle.oer_spec.specs.Encoding.{AreSlot}
-use Rattle.oer_spec.specs.Same.{AlikeSlot, SameSlot}
-use Rattle.oer_spec.specs.Spelled.{integer, integer_is, integers_alike, integers_same}
-use Rattle.oer_spec.specs.Tree.{Tree, Rows, NoRows, Slot, Present, present_unless, slot_of}
-use Rattle.oer_read.specs.Defaults.{IsDefault}
+use Rattle.oer_spec.specs.Same.{AlikeSlot}
+use Rattle.oer_spec.specs.Spelled.{integer, integer_is, integers_alike}
+use Rattle.oer_spec.specs.Tree.{Tree, Rows, NoRows, Slot, present_unless, slot_of}
 use Rattle.oer_read.specs.Parts.{Admits, OnPresent}
-use Rattle.oer_rows.specs.DefaultSlots.{default_slot_is, default_slot_differs, default_slot_admitted}
 use Rattle.oer_rows.specs.Schema.{context}
 use Rattle.oer_rows.specs.Slots.{IfThere, slot_is, slots_alike, slot_made}
 
@@ -28,25 +26,12 @@ none_of v = NoRows
 
 -- ---- integers with a default
 
--- any number may be a default
-pub whole_default : (n : ℤ) → IsDefault plain_integer IsWhole int_eq n
-whole_default n = record { value = refl; is_tree = λ v i. integer_is NONE v; alike = λ v w i j. integers_alike NONE v w; decides = λ v w i j. integers_same NONE v w }
-
 -- a number's slot: absent where it is that default
 abbrev pub integer_unless : ℤ → ℤ → Slot
 integer_unless d n = present_unless (int_eq n d) (plain_integer n)
 
 abbrev pub WholePart : Tree → Type 0
 WholePart = Admits plain_integer IsWhole
-
-pub unless_is : (d n : ℤ) → AreSlot (integer_unless d n)
-unless_is d n = default_slot_is plain_integer IsWhole int_eq d (whole_default d) n (λ e. refl)
-
-pub unless_differs : (d n : ℤ) → SameSlot (integer_unless d n) (Present (plain_integer d)) → ⊥
-unless_differs d n = default_slot_differs plain_integer IsWhole int_eq d (whole_default d) n (λ e. refl)
-
-pub unless_admitted : (d n : ℤ) → OnPresent WholePart (integer_unless d n)
-unless_admitted d n = default_slot_admitted plain_integer IsWhole int_eq d (whole_default d) n (λ e. refl)
 
 -- ---- optional integers
 
@@ -65,13 +50,6 @@ options_alike o p = slots_alike plain_integer IsWhole (λ v w i j. integers_alik
 
 pub option_admitted : (o : Option ℤ) → OnPresent WholePart (integer_slot o)
 option_admitted o = slot_made plain_integer IsWhole o (whole_option o)
-
--- a row of a default, of an optional component
-abbrev default_row : ℕ → Row
-default_row n = record { index = n; tag = context n; presence = presence.Default }
-
-abbrev pub optional_row : ℕ → Row
-optional_row n = record { index = n; tag = context n; presence = presence.Optional }
 
 -- a table of two required components
 abbrev pub two_rows : List Row

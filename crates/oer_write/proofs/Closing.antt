@@ -86,9 +86,6 @@ begins_run r old new seen same b h k =
 
 -- ---- scopes
 
-pub is_sequence : (s : Scope) → s.is_open ≡ true → s.is_set ≡ false → (s.is_open && not s.is_set) ≡ true
-is_sequence s a b = ap₂ (λ (x y : Bool). x && not y) a b
-
 false_right : (a b : Bool) → b ≡ true → (a && not b) ≡ false
 false_right true b e = ap not e
 false_right false b e = refl

@@ -1,5 +1,5 @@
 -- What the closure of a scope does, row by row.
-use Rattle.std.specs.Prelude.{◌≡◌, ◌≤◌, Bool, true, false, List, [], ◌∷◌, ◌++◌, ◌⊎◌, ⊤, length, Result, Ok, Err, Option, Some, None}
+use Rattle.std.specs.Prelude.{◌≡◌, ◌≤◌, Bool, true, false, List, [], ◌∷◌, ◌++◌, ◌⊎◌, ⊤, length, Result, Ok, Err}
 use Rattle.asn1_core.specs.Octets.{Octets, usize_max}
 use Rattle.asn1_core.specs.declared.codec.Codec.TheVariants.{Coer}
 use Rattle.asn1_core.specs.declared.error.EncodeError.{EncodeError}
@@ -168,10 +168,3 @@ optional g s = Optional g s NoRows
 
 abbrev pub defaulted : Tag → Tree → Slot → Rows
 defaulted g u s = Default g u s NoRows
-
--- the rows of both, one after the other
-abbrev pub join : Rows → Rows → Rows
-join NoRows more = more
-join (Required g t r) more = Required g t (join r more)
-join (Optional g s r) more = Optional g s (join r more)
-join (Default g u s r) more = Default g u s (join r more)
