@@ -45,13 +45,13 @@ def label(pid):
 
 
 def processes():
-    """Each process: its parent, and the seconds of processor that it took."""
+    """Each process: its parent, and the seconds of processor that it took, with those of its children that ended."""
     found = {}
     for name in os.listdir("/proc"):
         if name.isdigit():
             fields = read(f"/proc/{name}/stat").rpartition(")")[2].split()
             if fields:
-                found[int(name)] = (int(fields[1]), (int(fields[11]) + int(fields[12])) / TICKS)
+                found[int(name)] = (int(fields[1]), sum(map(int, fields[11:15])) / TICKS)
     return found
 
 
@@ -69,10 +69,17 @@ class Watch(threading.Thread):
 
     def look(self):
         found = processes()
-        for pid, (_, seconds) in found.items():
+        for pid in found:
             if self.is_below(pid, found):
                 self.labels[pid] = self.labels.get(pid) or label(pid)
-                self.taken[pid] = seconds
+        # A prover has a child for each function, which may end between two looks: what the child took is its parent's then.
+        taken = {}
+        for pid, (parent, seconds) in found.items():
+            while self.labels.get(parent):
+                pid, parent = parent, found.get(parent, (0,))[0]
+            if self.labels.get(pid):
+                taken[pid] = taken.get(pid, 0.0) + seconds
+        self.taken.update(taken)
 
     def run(self):
         while not self.over.wait(1):
