@@ -1,6 +1,7 @@
 #!/usr/bin/env python3
 """Says where crates/sample_types or crates/recursive_types, or the line of one in crates.txt, isn't what oergen prints of its module
-in crates/oergen/data, and where types of made modules are put into other crates than they should be.
+in crates/oergen/data, where types of made modules are put into other crates than they should be, and where the types of
+scripts/printed.d/circle.asn, which contain each other, aren't printed with the definitions beside it.
 
 usage: printed.py PROGRAM, for example: printed.py crates/oergen/out/oergen
 
@@ -13,6 +14,7 @@ import sys
 import tempfile
 
 top = pathlib.Path(__file__).resolve().parent.parent
+DATA = top / "scripts/printed.d"
 MODULES = {"sample_types": "samples.asn", "recursive_types": "recursive.asn"}
 
 
@@ -31,6 +33,14 @@ CRATES = (
     (sequences(30) + CIRCLE, [30, 2]),
     (sequences(30) + CIRCLE + ["Last ::= NULL"], [30, 3]),
 )
+
+# what is printed of circle.asn: the line for crates.txt, how many files, and the definitions among them
+CIRCLE_LINE = "m: rasn_oer oer_write asn1_core\n"
+CIRCLE_FILES = 5
+CIRCLE_DEFINITIONS = {
+    "m/specs/Lib.antt": "pub mod BoxOfWeights\n",
+    "m/specs/BoxOfWeights.antt": (DATA / "BoxOfWeights.antt.txt").read_text(encoding="utf-8"),
+}
 
 
 def printed(program, folder, name, module=None):
@@ -75,8 +85,18 @@ def misplaced(program):
     return faults
 
 
+def undefined(program):
+    """Where types that contain each other are printed without what defines what they weigh, or as another crate."""
+    with tempfile.TemporaryDirectory() as folder:
+        lines, files = printed(program, folder, "m", DATA / "circle.asn")
+    faults = [f"circle.asn: {it} isn't what it should be" for it, text in CIRCLE_DEFINITIONS.items() if files.get(it) != text]
+    faults += [] if lines == CIRCLE_LINE else [f"circle.asn: the line {lines!r}, and not {CIRCLE_LINE!r}"]
+    faults += [] if len(files) == CIRCLE_FILES else [f"circle.asn: {len(files)} files, and not {CIRCLE_FILES}"]
+    return faults
+
+
 def main(program):
-    faults = misplaced(program)
+    faults = misplaced(program) + undefined(program)
     for fault in faults:
         print(f"printed: {fault}")
     status = 1 if faults else 0

@@ -2,9 +2,6 @@
 //! `oergen --out FOLDER --name NAME MODULE.asn..` writes crates of these types.
 #![tactic(auto)]
 
-#[cfg(test)]
-mod tests;
-
 use asn1_layouts::listing::list;
 use asn1_modules::refusal::Refusal;
 use asn1_printer::files::{Output, Wish, crates_of};
