@@ -34,6 +34,9 @@ DEEP_CHOICE = (
 DEEP_LISTS = "2:7: met 'SEQUENCE'; can read at most 40 lists directly inside one another"
 WIDE = "2:7: met 'SEQUENCE'; can read at most 50 components, and in a group as many: others aren't printed yet"
 
+# how many rows the files have: one that was cut short would pass
+ROWS = (44, 20)
+
 # what stands in front of a type and behind it, how often at most, and what is said of once more
 DEPTHS = (
     ("SEQUENCE { a ", " }", 31, DEEP_SEQUENCE),
@@ -111,6 +114,7 @@ def main(program):
     with concurrent.futures.ThreadPoolExecutor(len(os.sched_getaffinity(0))) as pool:
         found = list(pool.map(lambda case: faults_of(program, case), unlisted + unprinted + limits + rest))
     faults = [fault for some in found for fault in some]
+    faults += [] if (len(unlisted), len(unprinted)) == ROWS else [f"rows are not {ROWS}"]
     for fault in faults:
         print(f"refused: {fault}")
     counts = f"{len(unlisted)} modules not listed, {len(unprinted)} not printed, {len(limits)} at bounds, {len(rest)} with types left out"

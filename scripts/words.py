@@ -172,7 +172,7 @@ def main(copy, program):
     if len(wanted) != len(got):
         faults += 1
         print(f"words: {len(got)} lines of {len(wanted)}; {ran.stderr[-600:]}")
-    of = [it for it in wanted if any(f" {word} " in it.split(" => ")[0] for word in turned)]
+    of = [it for it in wanted if any(f" {word} " in it.split(" => ")[0] + " " for word in turned)]
     print(f"words: {len(turned)} words stand for printed types; left out: {' '.join(left_out) or 'none'}")
     print(f"words: {len(wanted)} rows, {len(of)} of them of these words, {faults} faults")
     return 1 if faults else 0

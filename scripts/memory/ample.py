@@ -4,7 +4,7 @@
 usage: ample.py [CRATES]
 
 CRATES is the folder with crates/oer_vectors, whose binary lies in out/ once `rt ci` or `rt run` built it: it reads each row by every
-call and writes it again by every call. All inputs of at most two octets are tests of crates/oertool.
+call and writes it again by every call. All inputs of at most two octets are rows of that crate.
 """
 import pathlib
 import subprocess

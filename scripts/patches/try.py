@@ -30,7 +30,7 @@ def rows_of(folder):
     """The rows that are answered otherwise than they have to be, and how many there are; no rows where nothing was built."""
     crate = folder / "crates/oer_vectors"
     asked, wanted = (crate / "stdin").read_text(), (crate / "stdout").read_text().splitlines()
-    done = subprocess.run(["rt", "try"], cwd=crate, input=asked, capture_output=True, text=True, check=False)
+    done = subprocess.run(["rt", "try", "--seconds", "900"], cwd=crate, input=asked, capture_output=True, text=True, check=False)
     if "checked: ended" not in done.stderr:
         return None, done.stderr[-2000:]
     found = done.stdout.splitlines()

@@ -11,14 +11,17 @@
 //! - `depth N MODE WORD HEX`: the same as `read` within N levels; `none` where so many can't be chosen.
 //! - `fronts WORD HEX`: how many proper fronts of the octets are refused for want of octets, in both modes: by the modules' calls and
 //!   by a decoder behind a boolean, which lack as many octets, at most those that are missing, and leave the whole front.
+//! - `tally MODE WORD`: of every input of at most two octets, a checksum of the answers, how many are read, and how many are refused
+//!   by each kind, by its place in `DecodeErrorKind`.
 //!
-//! MODE is `oer` or `coer`; WORD is one of the program's, or one of a type under constraints (not for `run`).
+//! MODE is `oer` or `coer`; WORD is one of the program's, or one of a type under constraints (not for `run` and `tally`).
 #![tactic(auto)]
 
 mod depth;
 mod front;
 mod program;
 mod reading;
+mod tally;
 mod values;
 
 use anyhow::{Error, Result};
@@ -31,6 +34,7 @@ use rasn_oer::DecoderOptions;
 use reading::Reading;
 use std::alloc::Global;
 use std::io::{BufRead, BufReader};
+use tally::tallied;
 use values::Shown;
 
 fn codec_of(word: &str) -> Result<Codec> {
@@ -135,6 +139,7 @@ fn answer(alloc: Global, row: &str) -> Result<String> {
             match verb {
                 "read" => read(alloc, codec, second, octets.as_slice()),
                 "value" => shown(alloc, codec, second, octets.as_slice()),
+                "tally" => tallied(alloc, codec, second),
                 _ => Err(Error::msg("no such verb")),
             }
         }

@@ -1,9 +1,6 @@
 //! `oertool oer|coer [depth N] TYPE HEX` reads octets as a value of a type, and prints its canonical octets and what is left.
 #![tactic(auto)]
 
-#[cfg(test)]
-mod tests;
-
 use oer_words::run::{run, run_without_text};
 use std::process::ExitCode;
 use std::rt::Env;
