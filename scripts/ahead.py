@@ -1,14 +1,13 @@
 #!/usr/bin/env python3
-"""Proves crates, each with those below it, ahead of the gate, and tries the must-fail edits of some.
+"""Proves crates, each with those below it, ahead of the gate.
 
-usage: ahead.py CHAIN.., for example: ahead.py oer_spec,oer_write+oer_read,oer_types oergen,oer_read:edits
+usage: ahead.py CHAIN.., for example: ahead.py oer_words oergen,oer_tests
 
-A chain names crates: with a comma in turn, with a plus side by side; chains run at the same time, those behind the first on the
-processors that it leaves idle. Each crate and those below it are copied to a folder of their own, and `rt ci` runs there, with
-their edits where the name has `:edits` behind it. It gives a proof the processors that no other task of its run asks for, and keeps
-beside the kit what it proved or tried, which another run takes, the gate's own among them. So the proofs that wait for one another
-each get two processors or more, where with edits and other crates in one run they get one, and edits fill what these can't use. The
-exit status is 0 where each run's is.
+A chain names crates, with a comma in turn; chains go on at the same time, those behind the first on the processors that it leaves
+idle. Each crate and those below it are copied to a folder of their own, without their edits, and `rt ci` runs there. It gives a
+proof the processors that no other task of its run asks for, and keeps beside the kit what it proved, which another run takes, the
+gate's own among them. So the proofs that wait for one another each get two processors or more, where with edits and other crates
+in one run they get one. The exit status is 0 where each run's is.
 """
 import concurrent.futures
 import pathlib
@@ -34,11 +33,10 @@ def lines_below(name):
     return {crate: uses for crate, uses in lines.items() if crate in wanted}
 
 
-def prove(part, niceness):
+def prove(name, niceness):
     """Runs `rt ci` over a copy of the crate and of those below it; its exit status."""
-    name, _, with_edits = part.partition(":")
     below = lines_below(name)
-    skip = shutil.ignore_patterns("out", *([] if with_edits else ["must-fail"]))
+    skip = shutil.ignore_patterns("out", "must-fail")
     with tempfile.TemporaryDirectory(prefix=f"ahead-{name}-") as room:
         room = pathlib.Path(room)
         for crate in below:
@@ -49,22 +47,14 @@ def prove(part, niceness):
         return subprocess.run(["nice", "-n", str(niceness), "rt", "ci"], cwd=room, check=False).returncode
 
 
-def beside(names, work):
-    """Does the work for each name at the same time; 0 where each answers 0."""
-    with concurrent.futures.ThreadPoolExecutor(len(names)) as pool:
-        return 1 if any(list(pool.map(work, names))) else 0
-
-
-def chain(stages, niceness):
-    """Runs the stages of a chain in turn, up to the first that fails."""
-    def run(part):
-        return prove(part, niceness)
-
-    return 1 if any(beside(stage.split("+"), run) for stage in stages.split(",")) else 0
+def chain(names, niceness):
+    """Proves the crates of a chain in turn, up to the first that fails."""
+    return 1 if any(prove(name, niceness) for name in names.split(",")) else 0
 
 
 def main(chains):
-    return beside([*enumerate(chains)], lambda it: chain(it[1], 10 if it[0] else 0))
+    with concurrent.futures.ThreadPoolExecutor(len(chains)) as pool:
+        return max(pool.map(chain, chains, [10 if at else 0 for at in range(len(chains))]))
 
 
 if __name__ == "__main__":
