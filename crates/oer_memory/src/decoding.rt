@@ -5,9 +5,10 @@ use crate::marks::begin;
 use crate::one_row::read_set;
 use anyhow::{Error, Result};
 use asn1_core::{Constraints, DecodeError, Tag};
-use asn1_ints::Integer;
+use asn1_ints::{Integer, IntegerType};
 use oer_types::{Enum4, GreatPositive, PriorityChoice};
 use rasn_oer::{Decode, Decoder};
+use std::fmt::Debug;
 
 const NONE: Constraints = Constraints::NONE;
 
@@ -23,10 +24,7 @@ fn with_memory(call: Call<'_>, d: &mut Decoder<'_>) -> Result<Option<String>> {
             let it = d.decode_bit_string(alloc, Tag::BIT_STRING, NONE);
             left(alloc, d, &it)?
         }
-        "decode_integer::<Integer>" => {
-            let it = d.decode_integer::<Integer>(alloc, Tag::INTEGER, NONE);
-            left(alloc, d, &it)?
-        }
+        "decode_integer::<Integer>" => return number::<Integer>(call, d),
         _ => return further_with_memory(call, d),
     };
     Ok(Some(line))
@@ -36,10 +34,7 @@ fn with_memory(call: Call<'_>, d: &mut Decoder<'_>) -> Result<Option<String>> {
 fn further_with_memory(call: Call<'_>, d: &mut Decoder<'_>) -> Result<Option<String>> {
     let alloc = call.alloc;
     let line = match call.word {
-        "decode_integer::<GreatPositive>" => {
-            let it = d.decode_integer::<GreatPositive>(alloc, Tag::INTEGER, NONE);
-            left(alloc, d, &it)?
-        }
+        "decode_integer::<GreatPositive>" => return number::<GreatPositive>(call, d),
         "decode_object_identifier" => {
             let it = d.decode_object_identifier(alloc, Tag::OBJECT_IDENTIFIER);
             left(alloc, d, &it)?
@@ -219,88 +214,36 @@ fn times(call: Call<'_>, d: &mut Decoder<'_>) -> Result<Option<String>> {
     Ok(Some(line))
 }
 
-/// `decode_integer` into Rust's types of up to 32 bits.
-fn short_numbers(call: Call<'_>, d: &mut Decoder<'_>) -> Result<Option<String>> {
-    let alloc = call.alloc;
-    let line = match call.word {
-        "decode_integer::<i8>" => {
-            let it = d.decode_integer::<i8>(alloc, Tag::INTEGER, NONE);
-            left(alloc, d, &it)?
-        }
-        "decode_integer::<i16>" => {
-            let it = d.decode_integer::<i16>(alloc, Tag::INTEGER, NONE);
-            left(alloc, d, &it)?
-        }
-        "decode_integer::<i32>" => {
-            let it = d.decode_integer::<i32>(alloc, Tag::INTEGER, NONE);
-            left(alloc, d, &it)?
-        }
-        _ => return short_unsigned(call, d),
-    };
-    Ok(Some(line))
+/// `decode_integer` into a type.
+fn number<I: IntegerType + Debug>(call: Call<'_>, d: &mut Decoder<'_>) -> Result<Option<String>> {
+    let it = d.decode_integer::<I>(call.alloc, Tag::INTEGER, NONE);
+    Ok(Some(left(call.alloc, d, &it)?))
 }
 
-/// `decode_integer` into those without a sign.
-fn short_unsigned(call: Call<'_>, d: &mut Decoder<'_>) -> Result<Option<String>> {
-    let alloc = call.alloc;
-    let line = match call.word {
-        "decode_integer::<u8>" => {
-            let it = d.decode_integer::<u8>(alloc, Tag::INTEGER, NONE);
-            left(alloc, d, &it)?
-        }
-        "decode_integer::<u16>" => {
-            let it = d.decode_integer::<u16>(alloc, Tag::INTEGER, NONE);
-            left(alloc, d, &it)?
-        }
-        "decode_integer::<u32>" => {
-            let it = d.decode_integer::<u32>(alloc, Tag::INTEGER, NONE);
-            left(alloc, d, &it)?
-        }
-        _ => return long_numbers(call, d),
-    };
-    Ok(Some(line))
+/// `decode_integer` into Rust's types with a sign.
+fn signed(call: Call<'_>, d: &mut Decoder<'_>) -> Result<Option<String>> {
+    match call.word {
+        "decode_integer::<i8>" => number::<i8>(call, d),
+        "decode_integer::<i16>" => number::<i16>(call, d),
+        "decode_integer::<i32>" => number::<i32>(call, d),
+        "decode_integer::<i64>" => number::<i64>(call, d),
+        "decode_integer::<i128>" => number::<i128>(call, d),
+        "decode_integer::<isize>" => number::<isize>(call, d),
+        _ => unsigned(call, d),
+    }
 }
 
-/// `decode_integer` into the longer ones.
-fn long_numbers(call: Call<'_>, d: &mut Decoder<'_>) -> Result<Option<String>> {
-    let alloc = call.alloc;
-    let line = match call.word {
-        "decode_integer::<i64>" => {
-            let it = d.decode_integer::<i64>(alloc, Tag::INTEGER, NONE);
-            left(alloc, d, &it)?
-        }
-        "decode_integer::<i128>" => {
-            let it = d.decode_integer::<i128>(alloc, Tag::INTEGER, NONE);
-            left(alloc, d, &it)?
-        }
-        "decode_integer::<isize>" => {
-            let it = d.decode_integer::<isize>(alloc, Tag::INTEGER, NONE);
-            left(alloc, d, &it)?
-        }
-        _ => return long_unsigned(call, d),
-    };
-    Ok(Some(line))
-}
-
-/// `decode_integer` into those without a sign.
-fn long_unsigned(call: Call<'_>, d: &mut Decoder<'_>) -> Result<Option<String>> {
-    let alloc = call.alloc;
-    let line = match call.word {
-        "decode_integer::<u64>" => {
-            let it = d.decode_integer::<u64>(alloc, Tag::INTEGER, NONE);
-            left(alloc, d, &it)?
-        }
-        "decode_integer::<u128>" => {
-            let it = d.decode_integer::<u128>(alloc, Tag::INTEGER, NONE);
-            left(alloc, d, &it)?
-        }
-        "decode_integer::<usize>" => {
-            let it = d.decode_integer::<usize>(alloc, Tag::INTEGER, NONE);
-            left(alloc, d, &it)?
-        }
-        _ => return Ok(None),
-    };
-    Ok(Some(line))
+/// `decode_integer` into those without one.
+fn unsigned(call: Call<'_>, d: &mut Decoder<'_>) -> Result<Option<String>> {
+    match call.word {
+        "decode_integer::<u8>" => number::<u8>(call, d),
+        "decode_integer::<u16>" => number::<u16>(call, d),
+        "decode_integer::<u32>" => number::<u32>(call, d),
+        "decode_integer::<u64>" => number::<u64>(call, d),
+        "decode_integer::<u128>" => number::<u128>(call, d),
+        "decode_integer::<usize>" => number::<usize>(call, d),
+        _ => Ok(None),
+    }
 }
 
 /// What a method answers, by its word; nothing where it is no leaf's.
@@ -317,5 +260,5 @@ pub fn leaf_method(call: Call<'_>) -> Result<Option<String>> {
     if let Some(line) = without_memory(call, &mut decoder)? {
         return Ok(Some(line));
     }
-    short_numbers(call, &mut decoder)
+    signed(call, &mut decoder)
 }

@@ -294,7 +294,7 @@ fn run(alloc: Global, word: &str, d: &mut Decoder<'_>, e: &mut Encoder<'_>) -> R
 
 /// What the calls of the encoder itself answer; nothing where the word is none of them.
 fn own_calls(alloc: Global, word: &str) -> Result<Option<String>> {
-    if !["from_buffer", "codec", "output"].contains(&word) {
+    if !matches!(word, "from_buffer" | "codec" | "output") {
         return Ok(None);
     }
     let mut output = Vec::from_slice(alloc, &[0xff])?;

@@ -35,7 +35,7 @@ use versions::other_version;
 
 /// What a call of a module, or a method of a decoder, answers.
 fn by_codec(call: Call<'_>, type_word: &str) -> Result<String> {
-    if ["as_older", "as_newer"].contains(&call.word) {
+    if matches!(call.word, "as_older" | "as_newer") {
         return other_version(call, type_word);
     }
     if type_word != "-" {

@@ -111,9 +111,8 @@ pub fn closures(
     d: &mut Decoder<'_>,
     e: &mut Encoder<'_>,
 ) -> Result<Done> {
-    if !word.ends_with("_with")
-        && !["encode_sequence", "encode_choice", "encode_set"].contains(&word)
-    {
+    let is_scope = matches!(word, "encode_sequence" | "encode_choice" | "encode_set");
+    if !is_scope && !word.ends_with("_with") {
         return Ok(None);
     }
     let a: Integer = d.decode_integer(alloc, Tag::INTEGER, NONE)?;
