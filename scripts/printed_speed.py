@@ -3,10 +3,10 @@
 
 usage: printed_speed.py COPY PROGRAM [WORD..], for example: taskset -c 3 scripts/printed_speed.py /tmp/copy crates/oergen/out/oergen
 
-COPY is a folder to be made, in which the repository's crates are laid, and beside them the printed ones. There the octets of each
-value that oer_speed makes are read as a value of its type by hand, and as one of the printed type of TYPES; and both are written, or
-read, by the same calls: in ROUNDS rounds of some MILLISECONDS each, now the one, now the other. The program is built once, as
-`rt try` builds it: with checks, and unproved. Printed are the least nanoseconds of each, and their ratio.
+COPY is a folder to be made, in which the repository's crates are laid, and beside them the printed ones. There oer_speed reads the
+octets of each value of speed_values.py as a value of its type by hand, and as one of the printed type of TYPES; and both are
+written, or read, by the same calls: in ROUNDS rounds of some MILLISECONDS each, now the one, now the other. The program is built
+once, as `rt try` builds it: with checks, and unproved. Printed are the least nanoseconds of each, and their ratio.
 """
 import pathlib
 import re
@@ -16,102 +16,92 @@ import tempfile
 
 sys.dont_write_bytecode = True
 sys.path.insert(0, str(pathlib.Path(__file__).resolve().parent))
+from speed_values import digits, type_of  # noqa: E402
 from words import lay, printed  # noqa: E402
 
 ROUNDS, MILLISECONDS = 3, 300
-# Words of oer_speed, how many, and the printed type.
+# Values of speed_values.py, and how many.
 ROWS = [("ints", 1000), ("octets", 65536), ("nest", 64), ("link", 64), ("linked", 65536), ("added", 65536), ("additions", 30)]
 ROWS += [("seq2", 1), ("outer", 1), ("extopt", 1), ("foo", 1), ("seqs", 1000), ("intset", 1000), ("mixed", 1000)]
 ROWS += [("text", 65536), ("bits", 524288), ("great", 65536), ("times", 1000), ("colors", 1000)]
+# Words of oer_speed, and the printed type.
 TYPES = {
-    "ints": "Integers", "intset": "IntegerBag", "mixed": "IntegerBag", "nest": "Nest", "link": "Link", "linked": "Link",
-    "added": "Adding", "additions": "Chain", "octets": "Content", "text": "Text", "bits": "Flags", "great": "Whole",
-    "times": "Times", "colors": "Colours", "seq2": "Sequence2", "outer": "Outer", "foo": "Foo", "seqs": "Sequences",
-    "extopt": "ExtendedOptional",
+    "ints": "Integers", "intset": "IntegerBag", "nest": "Nest", "link": "Link", "added": "Adding", "additions": "Chain",
+    "octets": "Content", "utf8": "Text", "bits": "Flags", "int": "Whole", "times": "Times", "colors": "Colours",
+    "seq2": "Sequence2", "outer": "Outer", "foo": "Foo", "seqs": "Sequences", "extopt": "ExtendedOptional",
 }
-# Functions of oer_speed that measure one word's value, each by one call of `measure`.
-ALONE = {"measure_link": "link", "measure_list_of_sequences": "seqs", "measure_extended": "extopt", "measure_linked": "linked"}
-BOTH = f"""
-/// Measures a value as it is, and as a value of `P`, in turns: the least of a few rounds of each.
-pub(crate) fn measure_both<P: Encode + Decode, C: Clock, T: Encode + Decode>(
-    clock: &C,
-    alloc: Global,
-    plan: &Plan,
-    value: &T,
-) -> Result<Option<Figures>> {{
-    let octets = coer::encode(alloc, value)?;
-    let own: T = coer::decode(alloc, octets.as_slice())?;
-    let printed: P = coer::decode(alloc, octets.as_slice())?;
-    let mut plan = Plan {{
-        count: plan.count,
-        way: plan.way,
-        times: 10,
+WITH_WORD = """    match with_word(word, work) {
+        Some(figures) => figures,
+        None => Ok(None),
+    }
+"""
+IN_TURNS = f"""
+/// Measures the octets as a value of that word's type, and of the printed one, in turns: the least of a few rounds of each.
+pub(crate) fn in_turns<C: Clock>(word: &str, work: Octets<'_, C>) -> Result<Option<Figures>> {{
+    let Some(mut least) = figures(with_word(word, work.again(10)))? else {{
+        return Ok(None);
     }};
-    let first = nanoseconds(clock, alloc, &plan, &own)?;
-    plan.times = u32::try_from({MILLISECONDS}_000_000 / first.max(1)).unwrap_or(1).max(1);
-    let mut least = (u128::MAX, u128::MAX);
+    let times = u32::try_from({MILLISECONDS}_000_000 / least.nanoseconds.max(1)).unwrap_or(1).max(1);
+    least.nanoseconds = u128::MAX;
     for _ in 0..{ROUNDS} {{
-        least.0 = least.0.min(nanoseconds(clock, alloc, &plan, &own)?);
-        least.1 = least.1.min(nanoseconds(clock, alloc, &plan, &printed)?);
+        if let Some(own) = figures(with_word(word, work.again(times)))? {{
+            least.nanoseconds = least.nanoseconds.min(own.nanoseconds);
+        }}
+        if let Some(printed) = figures(with_printed(word, work.again(times)))? {{
+            least.printed = least.printed.min(printed.nanoseconds);
+        }}
     }}
-    Ok(Some(Figures {{
-        octets: octets.len(),
-        nanoseconds: least.0,
-        printed: least.1,
-    }}))
+    Ok(Some(least))
 }}
 
-/// The nanoseconds of one run.
-fn nanoseconds<C: Clock, T: Encode + Decode>(
-    clock: &C,
-    alloc: Global,
-    plan: &Plan,
-    value: &T,
-) -> Result<u128> {{
-    match measure(clock, alloc, plan, value)? {{
-        Some(figures) => Ok(figures.nanoseconds),
-        None => Ok(0),
+/// The figures, where a type has the word.
+fn figures(answer: Option<Result<Option<Figures>>>) -> Result<Option<Figures>> {{
+    match answer {{
+        Some(figures) => figures,
+        None => Ok(None),
+    }}
+}}
+
+impl<'a, C: Clock> Octets<'a, C> {{
+    /// The same, so often.
+    fn again(&self, times: u32) -> Octets<'a, C> {{
+        Octets {{
+            clock: self.clock,
+            alloc: self.alloc,
+            plan: Plan {{
+                way: self.plan.way,
+                times,
+            }},
+            octets: self.octets,
+        }}
     }}
 }}
 """
 
 
-def replaced(text, old, new, count=1):
-    """The text with another in the place of one, which stands in it so many times."""
-    if text.count(old) != count:
+def replaced(text, old, new):
+    """The text with another in the place of one, which stands in it once."""
+    if text.count(old) != 1:
         sys.exit(f"printed_speed: oer_speed has '{old}' {text.count(old)} times")
     return text.replace(old, new)
-
-
-def turn_values(text, types):
-    """values.rt with a call of `measure_both` in the place of each of `measure`, for the printed type of its word."""
-    words, function = [], ""
-
-    def call(found):
-        word = found[1] or ALONE.get(function)
-        path = f"{types[TYPES[word]]}::{TYPES[word]}"
-        words.append(word)
-        return f"{found[0].removesuffix('measure(')}measure_both::<{path}, C, _>("
-
-    lines = []
-    for piece in re.split(r"(?m)^(?=(?:pub\(crate\) )?fn )", text):
-        named = re.match(r"(?:pub\(crate\) )?fn (\w+)", piece)
-        function = named[1] if named else ""
-        lines.append(re.sub(r'(?:"(\w+)" => )?\bmeasure\(', call, piece))
-    if sorted(words) != sorted(TYPES):
-        sys.exit(f"printed_speed: measured are {' '.join(words)}")
-    return replaced("".join(lines), "use crate::{Figures, Plan, measure};", "use crate::{Figures, Plan, measure_both};")
 
 
 def turn(copy, types):
     """Lets oer_speed measure each value as that of a printed type too."""
     source = copy / "crates/oer_speed/src"
-    (source / "values.rt").write_text(turn_values((source / "values.rt").read_text(), types))
-    text = (source / "main.rt").read_text()
-    text = replaced(text, "    nanoseconds: u128,\n", "    nanoseconds: u128,\n    printed: u128,\n")
-    text = replaced(text, "else { spent / times },\n", "else { spent / times },\n        printed: 0,\n")
+    text = replaced((source / "main.rt").read_text(), WITH_WORD, "    measuring::in_turns(word, work)\n")
+    text = replaced(text, "use words::with_word;\n", "")
     text = replaced(text, '"{} octets, {} ns", it.octets, it.nanoseconds', '"{} octets, {} ns, {} ns", it.octets, it.nanoseconds, it.printed')
-    (source / "main.rt").write_text(replaced(text, "\n/// What the words ask for; nothing", f"{BOTH}\n/// What the words ask for; nothing"))
+    (source / "main.rt").write_text(text)
+    text = (source / "measuring.rt").read_text()
+    text = replaced(text, "    pub(crate) nanoseconds: u128,\n", "    pub(crate) nanoseconds: u128,\n    pub(crate) printed: u128,\n")
+    text = replaced(text, "else { spent / times },\n", "else { spent / times },\n        printed: u128::MAX,\n")
+    text = replaced(text, "use anyhow::Result;\n", "use crate::words::{with_printed, with_word};\nuse anyhow::Result;\n")
+    (source / "measuring.rt").write_text(text + IN_TURNS)
+    arms = "".join(f'        "{word}" => Some(work.on::<{types[name]}::{name}>()),\n' for word, name in TYPES.items())
+    with open(source / "words.rt", "a", encoding="utf-8") as file:
+        file.write("\n/// The same with the printed type.\npub(crate) fn with_printed<W: OnType + Drop>(word: &str, work: W) -> Option<W::Output> {\n")
+        file.write(f"    match word {{\n{arms}        _ => None,\n    }}\n}}\n")
     listed = (copy / "crates.txt").read_text()
     below = " ".join(sorted(set(types.values())))
     (copy / "crates.txt").write_text(re.sub(r"^oer_speed:", f"oer_speed: {below}", listed, flags=re.M))
@@ -123,8 +113,8 @@ def measured(copy, rows):
         for word, count in rows:
             for way in ("encode", "decode"):
                 case = pathlib.Path(cases) / f"{word}_{count}_{way}"
-                case.write_text("")
-                pathlib.Path(f"{case}.args").write_text(f"{word}\n{count}\n{way}\n1\n")
+                case.write_text(digits(word, count))
+                pathlib.Path(f"{case}.args").write_text(f"{type_of(word)}\n{way}\n1\n")
         ran = subprocess.run(["rt", "try", "--seconds", "300", "--cases", cases], cwd=copy / "crates/oer_speed", capture_output=True, text=True, check=False)
     found = re.findall(r"== (\w+?)_(\d+)_(\w+)[^=]*?(\d+) octets, (\d+) ns, (\d+) ns", ran.stdout)
     if not found:

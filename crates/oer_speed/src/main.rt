@@ -1,117 +1,81 @@
-//! `oer_speed WHAT COUNT encode|decode|lenient TIMES` makes a value once, writes it canonically or reads it canonically or
-//! leniently again and again, and prints how many octets it has and how many nanoseconds one run takes. It is run by hand:
-//! docs/PERFORMANCE.md has its figures.
+//! `oer_speed WORD encode|decode|lenient TIMES` reads a value's octets in hexadecimal on standard input, writes the value
+//! canonically or reads its canonical octets canonically or leniently again and again, and prints how many octets it has and how
+//! many nanoseconds one run takes. `oer_speed deep WORD COUNT TIMES` makes a value that may be too deep to be read, and writes it.
+//! It is run by hand: scripts/speed_values.py prints the octets, and docs/PERFORMANCE.md has its figures.
 #![tactic(auto)]
 
-mod leaves;
-mod nested;
-mod values;
+mod deep;
+mod measuring;
+mod words;
 
 use anyhow::Result;
-use oer_write::Encode;
-use rasn_oer::{Decode, coer, oer};
-use std::alloc::Global;
-use std::env;
+use deep::measure_deep;
+use measuring::{Figures, Octets, Plan, Way};
 use std::process::ExitCode;
-use std::rt::{Clock, Env, Runtime};
-use std::time::Instant;
-use values::measure_word;
+use std::rt::{Clock, Env};
+use std::{env, io};
+use words::with_word;
 
-const USAGE: &str = "usage: oer_speed WHAT COUNT encode|decode|lenient TIMES
-WHAT: ints, intset, mixed, nest, link, seq2, seqs, outer, extopt, foo, linked,
-  added, additions, octets, text, bits, great, times or colors";
+const USAGE: &str =
+    "usage: oer_speed WORD encode|decode|lenient TIMES, with octets in hexadecimal on standard input
+       oer_speed deep nest|link|additions COUNT TIMES
+WORD: one of oertool, or link, added, additions, times, colors or seqs";
 
-/// What is done with the value.
-#[derive(Clone, Copy)]
-enum Way {
-    /// It is written in canonical octets.
-    Encode,
-    /// These are read canonically.
-    Decode,
-    /// These are read leniently.
-    Lenient,
-}
-
-/// How large the value is, what is done with it, and how often.
-#[derive(Drop)]
-struct Plan {
-    count: u32,
-    way: Way,
-    times: u32,
-}
-
-/// The octets of the value, and the nanoseconds of one run.
-#[derive(Drop)]
-struct Figures {
-    octets: usize,
-    nanoseconds: u128,
-}
-
-/// Writes the value, or reads its octets.
-fn once<T: Encode + Decode>(alloc: Global, way: Way, value: &T, octets: &[u8]) -> Result<()> {
-    match way {
-        Way::Encode => {
-            let _octets = coer::encode(alloc, value)?;
-        }
-        Way::Decode => {
-            let _value: T = coer::decode(alloc, octets)?;
-        }
-        Way::Lenient => {
-            let _value: T = oer::decode(alloc, octets)?;
-        }
-    }
-    Ok(())
-}
-
-/// Writes the value, or reads its octets, as often as the plan says.
-fn measure<C: Clock, T: Encode + Decode>(
-    clock: &C,
-    alloc: Global,
-    plan: &Plan,
-    value: &T,
-) -> Result<Option<Figures>> {
-    let octets = coer::encode(alloc, value)?;
-    let start = Instant::now(clock)?;
-    for _ in 0..plan.times {
-        once(alloc, plan.way, value, octets.as_slice())?;
-    }
-    let spent = start.elapsed(clock)?.as_nanos();
-    let times = u128::from(plan.times);
-    Ok(Some(Figures {
-        octets: octets.len(),
-        nanoseconds: if times == 0 { 0 } else { spent / times },
-    }))
-}
-
-/// What the words ask for; nothing where they are none that the program knows.
-fn plan_of(words: &[String]) -> Option<(&str, Plan)> {
-    let [what, count, way, times] = words else {
-        return None;
-    };
-    let way = match way.as_str() {
+/// What is done, and how often; nothing where the words don't say so.
+fn plan_of(way: &str, times: &str) -> Option<Plan> {
+    let way = match way {
         "encode" => Way::Encode,
         "decode" => Way::Decode,
         "lenient" => Way::Lenient,
         _ => return None,
     };
-    let plan = Plan {
-        count: count.parse().ok()?,
-        way,
-        times: times.parse().ok()?,
-    };
-    Some((what.as_str(), plan))
+    match times.parse() {
+        Ok(times) => Some(Plan { way, times }),
+        Err(_) => None,
+    }
 }
 
-fn answer<R: Clock + Env + AllocGlobal>(rt: &R) -> Result<Option<Figures>> {
-    let mut words = Vec::new(rt.alloc());
+/// Measures the value of that word's type whose octets stand on standard input; nothing where no type has the word.
+fn measure_input<R: Clock + Input + AllocGlobal>(
+    rt: &R,
+    word: &str,
+    plan: Plan,
+) -> Result<Option<Figures>> {
+    let alloc = rt.alloc();
+    let text = io::read_to_string(alloc, rt.reader())?;
+    let octets = hex::decode(alloc, text.as_str().trim_end())?;
+    let work = Octets {
+        clock: rt,
+        alloc,
+        plan,
+        octets: octets.as_slice(),
+    };
+    match with_word(word, work) {
+        Some(figures) => figures,
+        None => Ok(None),
+    }
+}
+
+fn answer<R: Clock + Env + Input + AllocGlobal>(rt: &R) -> Result<Option<Figures>> {
+    let alloc = rt.alloc();
+    let mut words = Vec::new(alloc);
     let mut args = env::args(rt)?;
     let _program = args.next();
     for word in args {
         words.push(word)?;
     }
-    match plan_of(words.as_slice()) {
-        Some((what, plan)) => measure_word(rt, what, &plan),
-        None => Ok(None),
+    match words.as_slice() {
+        [deep, word, count, times] if deep.as_str() == "deep" => {
+            match (count.parse(), plan_of("encode", times.as_str())) {
+                (Ok(count), Some(plan)) => measure_deep(rt, alloc, word.as_str(), count, &plan),
+                _ => Ok(None),
+            }
+        }
+        [word, way, times] => match plan_of(way.as_str(), times.as_str()) {
+            Some(plan) => measure_input(rt, word.as_str(), plan),
+            None => Ok(None),
+        },
+        _ => Ok(None),
     }
 }
 
