@@ -186,9 +186,7 @@ impl<K: Spelled> DecodeKnot<K> for Bare<K> {
         _tag: Tag,
         knot: &F,
     ) -> Result<Bare<K>, DecodeError> {
-        match read_knot(decoder, knot) {
-            Ok(content) => Ok(Bare(content)),
-            Err(e) => Err(e),
-        }
+        let content = read_knot(decoder, knot)?;
+        Ok(Bare(content))
     }
 }

@@ -61,8 +61,6 @@ pub fn decode_knotted<C: DecodeInside<K>, K: Knot<C>>(
         let _bound = levels;
         decode_knotted::<C, K>(alloc, inner, K::TAG)
     };
-    match C::decode_inside(alloc, decoder, tag, &read) {
-        Ok(content) => Ok(K::from_content(content)),
-        Err(e) => Err(e),
-    }
+    let content = C::decode_inside(alloc, decoder, tag, &read)?;
+    Ok(K::from_content(content))
 }

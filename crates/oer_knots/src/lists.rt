@@ -39,7 +39,7 @@ impl<K: Spelled, B: DecodeKnot<K>> DecodeInside<K> for ListOf<B> {
         tag: Tag,
         knot: &F,
     ) -> Result<ListOf<B>, DecodeError> {
-        match decoder.decode_sequence_of_with::<B, _>(
+        let items = decoder.decode_sequence_of_with::<B, _>(
             alloc,
             tag,
             ListOf::<B>::CONSTRAINTS,
@@ -47,9 +47,7 @@ impl<K: Spelled, B: DecodeKnot<K>> DecodeInside<K> for ListOf<B> {
                 requires { ReadsKnots F.Fn knot.now (K.tree K.CONSTRAINTS) K.IsValue inner.old.levels }
                 ensures { Decodes (B.tree B.CONSTRAINTS) B.IsValue inner.old result inner.new }
             { B::decode_knot(alloc, inner, B::TAG, knot) },
-        ) {
-            Ok(items) => Ok(ListOf(items)),
-            Err(e) => Err(e),
-        }
+        )?;
+        Ok(ListOf(items))
     }
 }
