@@ -1,10 +1,11 @@
 -- A type that contains itself: its trees and its values, by those of what it holds.
-use Rattle.std.specs.Prelude.{◌≡◌, ◌+◌, ◌<◌, ℕ, zero, suc}
+use Rattle.std.specs.Prelude.{refl, ◌≡◌, ◌+◌, ◌<◌, ℕ, zero, suc}
 use Rattle.std.proofs.Common.{sym, subst, arith}
 use Rattle.oer_spec.specs.Same.{Alike}
 use Rattle.oer_spec.specs.Tree.{Tree, Primitive, Null}
 use Rattle.oer_rows.specs.Schema.{Typed, IsTyped}
 use Rattle.oer_knots.specs.Ties.{AgreeAt, Ties}
+use Rattle.oer_knots.specs.declared.held.Bare.{Bare}
 
 -- values that aren't seen
 abbrev unseen : {A : Type 0} → Typed A
@@ -108,3 +109,7 @@ knot_layered size content tied weight k = record { same = knot_is_layer size con
 pub knot_layers : {K B : Type 0} (size : K → ℕ) (content : K → B) (tied : Typed K → Typed B) (weight : (K → ℕ) → B → ℕ) → Knotted size content tied weight
     → IsLayered (knot_tree size content tied) (IsKnot size content tied) (λ v. v) (layer size content tied (knot size content tied)).tree (layer size content tied (knot size content tied)).IsPart
 knot_layers size content tied weight k = record { same = knot_is_layer size content tied weight k; out = knot_in_layer size content tied weight k; back = layer_in_knot size content tied weight k }
+
+-- what an element of a list holds
+pub bare_layered : {K : Type 0} (tree : K → Tree) (IsValue : K → Type 0) → IsLayered (λ (h : Bare K). tree h.0) (λ (h : Bare K). IsValue h.0) (λ (h : Bare K). h.0) tree IsValue
+bare_layered tree IsValue = record { same = λ h. refl; out = λ h i. i; back = λ h i. i }

@@ -101,6 +101,6 @@ impl Decode for Nest {
         tag: Tag,
         _constraints: Constraints,
     ) -> Result<Nest, DecodeError> {
-        decode_knotted::<NestContent<Nest>, Nest>(alloc, decoder, tag)
+        decode_list_of_itself::<Bare<Nest>, Nest>(alloc, decoder, tag)
     }
 }

@@ -80,6 +80,7 @@ pub use oer_knots::ReadsKnotAlternatives;
 pub use oer_knots::TakesKnot;
 pub use oer_knots::TakesKnotAlternative;
 pub use oer_knots::decode_knotted;
+pub use oer_knots::decode_list_of_itself;
 pub use oer_knots::layer_of;
 pub use oer_knots::read_knot_alternative;
 pub use oer_knots::read_knot_row;

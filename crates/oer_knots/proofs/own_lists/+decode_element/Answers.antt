@@ -1,0 +1,22 @@
+use Rattle.std.proofs.lemmas.Result.{err_from_is_err_and}
+use Rattle.oer_read.proofs.ListLaw.{list_law}
+use Rattle.oer_read.proofs.Promises.{promise_of_fn, decodes_rear}
+use Rattle.oer_read.specs.Law.{Decodes}
+use Rattle.oer_knots.proofs.Layers.{layer_read, layer_stops}
+use Rattle.oer_knots.proofs.own_lists.+decode_element.Goals as goal
+
+pub decode_sequence_of_with-requires-clause-keeps : goal.decode_sequence_of_with-requires-clause-keeps
+decode_sequence_of_with-requires-clause-keeps g t c rest v after k =
+    let tree = g.B.Spelled.tree g.B.AsnType.CONSTRAINTS in
+    decodes_rear tree g.B.Spelled.IsValue _ v after (promise_of_fn _ _ (λ s r u. Decodes tree g.B.Spelled.IsValue s r u) (λ p q r k. k) _ _ _ k)
+
+pub returns-in_err-items : goal.returns-in_err-items
+returns-in_err-items g t c =
+    let p = err_from_is_err_and c.from_residual.result c.from_residual.ensures.1 in
+    let law = list_law (g.B.Spelled.tree g.B.AsnType.CONSTRAINTS) g.B.Spelled.IsValue _ (promise_of_fn _ _ _ (λ p q r k. k)) (g.B.Spelled.is_tree g.B.AsnType.CONSTRAINTS g.B.AsnType.consistent) (λ vs. vs) _ _ _ c.in_err-items.ensures.read c.in_err-items.ensures.refused c.in_err-items.ensures.unchanged in
+    rw (p.1, p.2) (layer_stops _ _ _ _ _ g.met.B.Knot.layered _ _ _ (layer_stops _ _ _ _ _ g.met.K.Knot.layered _ _ _ law))
+
+pub returns : goal.returns
+returns g t c =
+    let law = list_law (g.B.Spelled.tree g.B.AsnType.CONSTRAINTS) g.B.Spelled.IsValue _ (promise_of_fn _ _ _ (λ p q r k. k)) (g.B.Spelled.is_tree g.B.AsnType.CONSTRAINTS g.B.AsnType.consistent) (λ vs. vs) _ _ _ c.in_ok-items.ensures.read c.in_ok-items.ensures.refused c.in_ok-items.ensures.unchanged in
+    layer_read _ _ _ _ _ g.met.B.Knot.layered _ _ _ _ c.from_content-2.ensures (layer_read _ _ _ _ _ g.met.K.Knot.layered _ _ _ _ c.from_content.ensures law)
