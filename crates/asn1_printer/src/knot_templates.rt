@@ -230,11 +230,17 @@ impl Decode for @NAME@ {
         tag: Tag,
         _constraints: Constraints,
     ) -> Result<@NAME@, DecodeError> {
-        decode_knotted::<@NAME@Content<Self>, Self>(alloc, decoder, tag)
+        @READER@(alloc, decoder, tag)
     }
 }
 
 "#;
+
+/// What reads a knot by its content.
+pub const READER: &str = "decode_knotted::<@NAME@Content<Self>, Self>";
+
+/// What reads a knot that is a list of itself.
+pub const LIST_READER: &str = "decode_list_of_itself::<Bare<Self>, Self>";
 
 /// That a knot is a CHOICE.
 pub const IS_CHOICE: &str = r#"

@@ -1,9 +1,11 @@
 //! What the types of a circle have beside those that don't contain themselves.
 
 use crate::chains::Chain;
-use crate::knot_templates::{IS_CHOICE, KNOT, KNOT_IMPLS, LIST, MEMBER, OWN_USES, TIED, WEIGHED};
+use crate::knot_templates::{
+    IS_CHOICE, KNOT, KNOT_IMPLS, LIST, LIST_READER, MEMBER, OWN_USES, READER, TIED, WEIGHED,
+};
 use crate::text::{Text, Words};
-use asn1_layouts::definitions::Definition;
+use asn1_layouts::definitions::{Definition, Tie};
 use asn1_layouts::names::component_name;
 use asn1_modules::ast::Body;
 use std::alloc::{AllocError, Global};
@@ -62,6 +64,14 @@ fn filled(alloc: Global, template: &str, words: &Words) -> Text {
     out
 }
 
+/// Whether a knot is a list of itself, and no more.
+fn is_list_of_itself(definition: &Definition<'_>) -> bool {
+    match (&definition.link.of.body, definition.parts.first()) {
+        (Body::SequenceOf(_), Some(part)) => part.lists == 1 && matches!(part.tie, Tie::Knot),
+        _ => false,
+    }
+}
+
 /// Prints what a knot has of the codec's traits.
 pub fn push_knot(
     alloc: Global,
@@ -82,6 +92,13 @@ pub fn push_knot(
     words.begin("TIED").push_text(&tied);
     let weighed = filled(alloc, WEIGHED, &words);
     words.begin("WEIGHED").push_text(&weighed);
+    let reader = if is_list_of_itself(definition) {
+        LIST_READER
+    } else {
+        READER
+    };
+    let reader = filled(alloc, reader, &words);
+    words.begin("READER").push_text(&reader);
     out.fill(KNOT_IMPLS, &words);
     Ok(())
 }

@@ -1,3 +1,4 @@
 pub mod NodeWeights
 pub mod EnvelopeWeights
 pub mod TreeWeights
+pub mod NestWeights

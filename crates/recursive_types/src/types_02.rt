@@ -219,6 +219,107 @@ impl Decode for Tree {
     }
 }
 
+/// `Nest ::= SEQUENCE OF Nest`
+#[derive(Debug, PartialEq, Eq, Drop)]
+pub struct Nest(pub NestContent<Nest>);
+
+/// What a `Nest` holds.
+pub type NestContent<K> = ListOf<Bare<K>>;
+
+impl AsnType for Nest {
+    ghost use Rattle.std.specs.Prelude.{refl};
+    ghost use Rattle.asn1_core.specs.declared.tag.TheConstants.Tag.{SEQUENCE};
+    ghost use Rattle.asn1_core.specs.declared.constraints.TheConstants.Constraints.{NONE};
+
+    ghost TAG = { SEQUENCE };
+
+    const TAG: Tag = Tag::SEQUENCE;
+
+    ghost CONSTRAINTS = { NONE };
+
+    const CONSTRAINTS: Constraints = Constraints::NONE;
+
+    ghost consistent = { refl };
+}
+
+impl Spelled for Nest {
+    ghost use Rattle.rasn_oer.specs.Knots.{knot_tree, IsKnot, knot_typed};
+    ghost use Rattle.recursive_types.specs.NestWeights.{nest_smaller};
+    ghost use Rattle.recursive_types.specs.declared.types_02.Nest.{out-Nest, size-Nest};
+
+    ghost tree = { λ c v. knot_tree size-Nest (λ v. (out-Nest v).0) ⟦<NestContent<Nest> as HoldsKnot<Nest>>⟧.tied v };
+
+    ghost IsValue = { IsKnot size-Nest (λ v. (out-Nest v).0) ⟦<NestContent<Nest> as HoldsKnot<Nest>>⟧.tied };
+
+    ghost is_tree = { λ c k v i. (knot_typed size-Nest (λ v. (out-Nest v).0) ⟦<NestContent<Nest> as HoldsKnot<Nest>>⟧.tied ⟦<NestContent<Nest> as HoldsKnot<Nest>>⟧.weight (record { ties = ⟦<NestContent<Nest> as HoldsKnot<Nest>>⟧.ties; smaller = nest_smaller })).is v i };
+
+    ghost alike = { λ c k v w i j. (knot_typed size-Nest (λ v. (out-Nest v).0) ⟦<NestContent<Nest> as HoldsKnot<Nest>>⟧.tied ⟦<NestContent<Nest> as HoldsKnot<Nest>>⟧.weight (record { ties = ⟦<NestContent<Nest> as HoldsKnot<Nest>>⟧.ties; smaller = nest_smaller })).like v w i j };
+}
+
+impl Layered for Nest {
+    ghost use Rattle.rasn_oer.specs.Knots.{knot, knot_layers, layer};
+    ghost use Rattle.recursive_types.specs.NestWeights.{nest_smaller};
+    ghost use Rattle.recursive_types.specs.declared.types_02.Nest.{out-Nest, size-Nest};
+
+    ghost inner = { layer size-Nest (λ v. (out-Nest v).0) ⟦<NestContent<Nest> as HoldsKnot<Nest>>⟧.tied (knot size-Nest (λ v. (out-Nest v).0) ⟦<NestContent<Nest> as HoldsKnot<Nest>>⟧.tied) };
+
+    ghost layers = { knot_layers size-Nest (λ v. (out-Nest v).0) ⟦<NestContent<Nest> as HoldsKnot<Nest>>⟧.tied ⟦<NestContent<Nest> as HoldsKnot<Nest>>⟧.weight (record { ties = ⟦<NestContent<Nest> as HoldsKnot<Nest>>⟧.ties; smaller = nest_smaller }) };
+}
+
+/// Writes what a `Nest` holds.
+fn encode_nest<K: Encode>(
+    inner: &NestContent<K>,
+    encoder: &mut Encoder<'_>,
+    tag: Tag,
+) -> Result<(), EncodeError>
+    ensures done { OnOk result (Encodes (⟦<NestContent<K> as Spelled>⟧.tree NONE inner.now) encoder.old encoder.new) }
+    ensures value { OnOk result (⟦<NestContent<K> as Spelled>⟧.IsValue inner.now) }
+    ensures refused { IfErr result (λ x. Refused (⟦<NestContent<K> as Spelled>⟧.tree NONE inner.now) x encoder.old encoder.new) }
+{
+    inner.encode_with_tag(encoder, tag)
+}
+
+impl Encode for Nest {
+    fn encode_with_tag_and_constraints(
+        &self,
+        encoder: &mut Encoder<'_>,
+        tag: Tag,
+        _constraints: Constraints,
+    ) -> Result<(), EncodeError> {
+        layer_of::<Nest>(self);
+        encode_nest::<Nest>(&self.0, encoder, tag)
+    }
+}
+
+impl Knot<NestContent<Nest>> for Nest {
+    ghost use Rattle.rasn_oer.specs.Knots.{knot_layered};
+    ghost use Rattle.recursive_types.specs.NestWeights.{nest_smaller};
+    ghost use Rattle.recursive_types.specs.declared.types_02.Nest.{out-Nest, size-Nest};
+
+    ghost content = { λ v. (out-Nest v).0 };
+
+    fn from_content(inner: NestContent<Nest>) -> Nest {
+        Nest(inner)
+    }
+
+    ghost layered = { knot_layered size-Nest (λ v. (out-Nest v).0) ⟦<NestContent<Nest> as HoldsKnot<Nest>>⟧.tied ⟦<NestContent<Nest> as HoldsKnot<Nest>>⟧.weight (record { ties = ⟦<NestContent<Nest> as HoldsKnot<Nest>>⟧.ties; smaller = nest_smaller }) };
+}
+
+impl Decode for Nest {
+    ghost use Rattle.std.specs.Prelude.{⊤};
+
+    ghost Answered = { λ c s r t. ⊤ };
+
+    fn decode_with_tag_and_constraints(
+        alloc: Global,
+        decoder: &mut Decoder<'_>,
+        tag: Tag,
+        _constraints: Constraints,
+    ) -> Result<Nest, DecodeError> {
+        decode_list_of_itself::<Bare<Self>, Self>(alloc, decoder, tag)
+    }
+}
+
 /// `Post ::= SEQUENCE { letter Envelope, answer Body OPTIONAL }`
 pub type Post = Sequence<PostComponents, 2, 0>;
 
