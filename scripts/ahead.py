@@ -8,7 +8,7 @@ idle. Each crate and those below it are copied to a folder of their own, without
 proof the processors that no other task of its run asks for, and keeps beside the kit what it proved, which another run takes, the
 gate's own among them. So the proofs that wait for one another each get two processors or more, where with edits and other crates
 in one run they get one. The edits of the crates behind `--edits` are tried two at a time, on the processors that the chains leave
-idle, from when the first chain has proved these crates. The exit status is 0 where each run's is.
+idle, from when the first chain has proved these crates, and not where it fails. The exit status is 0 where each run's is.
 """
 import argparse
 import concurrent.futures
@@ -65,14 +65,16 @@ def main(chains, edited):
         if not left:
             proved.set()
 
+    def chain(names, niceness, see=lambda line: None):
+        """Runs the crates of a chain in turn, up to the first that fails."""
+        words = ["nice", "-n", str(niceness), "rt", "ci"]
+        return 1 if any(run([name], words, see=see) for name in names.split(",")) else 0
+
     def first():
         try:
-            return run([chains[0]], ["rt", "ci"], see=see)
+            return chain(chains[0], 0, see)
         finally:
-            proved.set()
-
-    def behind(chain):
-        return 1 if any(run([name], ["nice", "-n", "10", "rt", "ci"]) for name in chain.split(",")) else 0
+            proved.set()  # where it failed too: then none is tried
 
     def edits():
         proved.wait()
@@ -80,7 +82,7 @@ def main(chains, edited):
         return run(edited, words, edited) if edited and not left else 0
 
     with concurrent.futures.ThreadPoolExecutor(len(chains) + 1) as pool:
-        runs = [pool.submit(first), *(pool.submit(behind, chain) for chain in chains[1:]), pool.submit(edits)]
+        runs = [pool.submit(first), *(pool.submit(chain, names, 10) for names in chains[1:]), pool.submit(edits)]
         return max(it.result() for it in runs)
 
 

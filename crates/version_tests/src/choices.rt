@@ -1,9 +1,6 @@
 //! Choices that hold a value of another type, in two versions, of which the newer has a further alternative.
 
 use crate::pairs::{OnPair, with_pair};
-use crate::turning::{Everywhere, Turning};
-use anyhow::Result;
-use oer_types::{Sequence1, Sequence2};
 use rasn_oer::Decode;
 use rasn_oer::prelude::*;
 use std::alloc::Global;
@@ -164,24 +161,15 @@ impl<W: OnPair> OnPair for InTwo<W> {
     }
 }
 
-/// Turns what the words name: a pair in five other types too, `seq2/seq1`; a pair within versions of a choice, which stand in front
-/// of it, alone, `choice2/choice1:seq5/seq1`, but for one pair, since each type that is named is compiled in each of the others.
-/// None where they name none.
-pub fn with_versions(words: &str, turning: Turning<'_>) -> Option<Result<String>> {
+/// Does it with the versions that the words name, within those of a choice that stand in front of them: `seq2/seq1`,
+/// `choice2/choice1:seq2/seq1`. None where they name none.
+pub fn with_versions<W: OnPair + Drop>(words: &str, work: W) -> Option<W::Output> {
     match words.split_once(':') {
-        None => with_pair(words, Everywhere(turning)),
-        Some((choices, "seq2/seq1")) => with_everywhere(choices, Everywhere(turning)),
-        Some(("choice2/choice2", pair)) => with_pair(pair, InOne(turning)),
-        Some(("choice2/choice1", pair)) => with_pair(pair, InTwo(turning)),
-        Some(_) => None,
-    }
-}
-
-/// Turns one pair within versions of a choice, in five other types too.
-fn with_everywhere(choices: &str, everywhere: Everywhere<'_>) -> Option<Result<String>> {
-    match choices {
-        "choice2/choice2" => Some(InOne(everywhere).on::<Sequence2, Sequence1>()),
-        "choice2/choice1" => Some(InTwo(everywhere).on::<Sequence2, Sequence1>()),
-        _ => None,
+        None => with_pair(words, work),
+        Some((choices, pair)) => match choices {
+            "choice2/choice2" => with_pair(pair, InOne(work)),
+            "choice2/choice1" => with_pair(pair, InTwo(work)),
+            _ => None,
+        },
     }
 }

@@ -4,9 +4,8 @@
 //!   and what `as_newer` answers of that, both in canonical octets; or the mode and the kind of the refusal of the first.
 //! - `newer MODE NEW/OLD HEX`: canonical octets of the older type, by `as_newer` and then by `as_older`.
 //!
-//! `NEW/OLD` is two versions of a type, `seq2/seq1`, or these in two versions of a choice, `choice2/choice1:seq2/seq1`. Each row
-//! of two versions by themselves, and of `seq2/seq1` in a choice, is answered in the same way in a box, in a sequence, twice in a
-//! list and in an unordered list, and as an addition.
+//! Each row is answered in the same way in a box, in a sequence, twice in a list and in an unordered list, and as an addition.
+//! `NEW/OLD` is two versions of a type, `seq2/seq1`, or these in two versions of a choice, `choice2/choice1:seq2/seq1`.
 #![tactic(auto)]
 
 mod choices;

@@ -167,41 +167,23 @@ impl<'a> Turning<'a> {
     }
 }
 
-/// The octets of what a turning answered, or the mode and the kind of its refusal.
-fn shown(alloc: Global, turned: Turned) -> Result<String> {
-    match turned {
-        Ok((other, own)) => {
-            let other = hex::encode(alloc, other.as_slice())?;
-            let own = hex::encode(alloc, own.as_slice())?;
-            Ok(format!(in alloc; "{};{}", other, own)?)
-        }
-        Err(kind) => Ok(kind),
-    }
-}
-
 impl<'a> OnPair for Turning<'a> {
     type Output = Result<String>;
 
     fn on<New: Decode + Encode + Eq, Old: Decode + Encode + Eq>(self) -> Result<String> {
-        shown(self.alloc, self.turned::<New, Old>(self.octets)?)
-    }
-}
-
-/// A turning that is made in five other types too, where it must answer the same.
-#[derive(Drop)]
-pub struct Everywhere<'a>(pub Turning<'a>);
-
-impl<'a> OnPair for Everywhere<'a> {
-    type Output = Result<String>;
-
-    fn on<New: Decode + Encode + Eq, Old: Decode + Encode + Eq>(self) -> Result<String> {
-        let turning = self.0;
-        let plain = turning.turned::<New, Old>(turning.octets)?;
-        turning.in_box::<New, Old>(&plain)?;
-        turning.in_sequence::<New, Old>(&plain)?;
-        turning.in_list::<New, Old>(&plain)?;
-        turning.in_unordered_list::<New, Old>(&plain)?;
-        turning.in_addition::<New, Old>(&plain)?;
-        shown(turning.alloc, plain)
+        let plain = self.turned::<New, Old>(self.octets)?;
+        self.in_box::<New, Old>(&plain)?;
+        self.in_sequence::<New, Old>(&plain)?;
+        self.in_list::<New, Old>(&plain)?;
+        self.in_unordered_list::<New, Old>(&plain)?;
+        self.in_addition::<New, Old>(&plain)?;
+        match plain {
+            Ok((other, own)) => {
+                let other = hex::encode(self.alloc, other.as_slice())?;
+                let own = hex::encode(self.alloc, own.as_slice())?;
+                Ok(format!(in self.alloc; "{};{}", other, own)?)
+            }
+            Err(kind) => Ok(kind),
+        }
     }
 }
