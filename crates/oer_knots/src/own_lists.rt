@@ -50,8 +50,8 @@ impl<K: Spelled> Element<K> for Bare<K> {
 
 /// Reads a value of a type that is a list of itself (X.696, 17), within the levels left: each element within fewer.
 ///
-/// `decode_knotted` reads the same, in a fifth more time: here a result is the element of the list around it as it stands, and
-/// there it is taken apart and put together twice more.
+/// `decode_knotted` reads the same, and takes longer: here a result is the element of the list around it as it stands, and there
+/// it is taken apart and put together twice more.
 ///
 /// Refused, the first that applies: no level is left, as `ExceedsMaxParseDepth`; the quantity of elements as the decoder's
 /// `read_quantity` refuses it; in turn for each element, what it refuses, and the 65,537th without octets as
