@@ -1,14 +1,17 @@
 #!/usr/bin/env python3
-"""Proves crates, each with those below it, ahead of the gate, and tries the must-fail edits of some.
+"""Proves crates, each with those below it, ahead of the gate, tries the must-fail edits of some, and begins the gate.
 
-usage: ahead.py CHAIN.. [--edits NAMES], for example: ahead.py oer_words oergen,oer_tests --edits oer_read,oer_write
+usage: ahead.py CHAIN.. [--edits NAMES].. --gate COMMAND.., for example: ahead.py oer_words oergen --edits oer_read,oer_write --gate rt ci
 
 A chain names crates, with a comma in turn; chains go on at the same time, those behind the first on the processors that it leaves
 idle. Each crate and those below it are copied to a folder of their own, without their edits, and `rt ci` runs there. It gives a
 proof the processors that no other task of its run asks for, and keeps beside the kit what it proved, which another run takes, the
 gate's own among them. So the proofs that wait for one another each get two processors or more, where with edits and other crates
-in one run they get one. The edits of the crates behind `--edits` are tried two at a time, on the processors that the chains leave
-idle, from when the first chain has proved these crates, and not where it fails. The exit status is 0 where each run's is.
+in one run they get one. The edits of the crates behind an `--edits` are tried two at a time, on the processors that the chains leave
+idle, from when the first chain has proved these crates, and not where it fails.
+
+The command runs from when the first chain has ended, and not where it fails. Its last line is the last that is printed, once the
+other runs have ended too. The exit status is 0 where each run's is.
 """
 import argparse
 import concurrent.futures
@@ -55,15 +58,27 @@ def run(names, words, edited=(), see=lambda line: None):
         return process.returncode
 
 
-def main(chains, edited):
-    left, proved = set(edited), threading.Event()
+def run_gate(words):
+    """Runs the words here, and prints what they write but for the last line: their exit status, and that line."""
+    last = ""
+    with subprocess.Popen(words, cwd=top, stdout=subprocess.PIPE, text=True) as process:
+        for line in process.stdout:
+            print(last, end="", flush=True)
+            last = line
+    return process.returncode, last
+
+
+def main(chains, groups, gate):
+    # the crates that each group still waits for, and whether it need not wait any more
+    waits = [(set(edited), threading.Event()) for edited in groups]
 
     def see(line):
         """Looks for the crates whose edits are to be tried."""
         said = re.match(r"rt: (\w+) (proved|is kept)\b", line)
-        left.discard(said and said[1])
-        if not left:
-            proved.set()
+        for left, proved in waits:
+            left.discard(said and said[1])
+            if not left:
+                proved.set()
 
     def chain(names, niceness, see=lambda line: None):
         """Runs the crates of a chain in turn, up to the first that fails."""
@@ -74,21 +89,30 @@ def main(chains, edited):
         try:
             return chain(chains[0], 0, see)
         finally:
-            proved.set()  # where it failed too: then none is tried
+            for _, proved in waits:
+                proved.set()  # where it failed too: then none is tried
 
-    def edits():
+    def edits(edited, left, proved):
         proved.wait()
         words = ["nice", "-n", "15", "env", "RT_JOBS=2", "rt", "ci"]
-        return run(edited, words, edited) if edited and not left else 0
+        return 0 if left else run(edited, words, edited)
 
-    with concurrent.futures.ThreadPoolExecutor(len(chains) + 1) as pool:
-        runs = [pool.submit(first), *(pool.submit(chain, names, 10) for names in chains[1:]), pool.submit(edits)]
-        return max(it.result() for it in runs)
+    with concurrent.futures.ThreadPoolExecutor(len(chains) + len(groups)) as pool:
+        begun = pool.submit(first)
+        runs = [pool.submit(chain, names, 10) for names in chains[1:]]
+        runs += [pool.submit(edits, edited, *wait) for edited, wait in zip(groups, waits)]
+        status, line = begun.result(), ""
+        if status == 0:
+            status, line = run_gate(gate)
+        others = [it.result() for it in runs]
+    print(line, end="", flush=True)
+    return 1 if status or any(others) else 0
 
 
 if __name__ == "__main__":
     parser = argparse.ArgumentParser(usage=__doc__)
     parser.add_argument("chains", nargs="+")
-    parser.add_argument("--edits", default="")
+    parser.add_argument("--edits", action="append", default=[])
+    parser.add_argument("--gate", nargs=argparse.REMAINDER, required=True)
     options = parser.parse_args()
-    sys.exit(main(options.chains, [it for it in options.edits.split(",") if it]))
+    sys.exit(main(options.chains, [it.split(",") for it in options.edits], options.gate))
