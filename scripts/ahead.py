@@ -11,7 +11,8 @@ in one run they get one. The edits of the crates behind an `--edits` are tried t
 idle, from when the first chain has proved these crates, and not where it fails.
 
 The command runs from when the first chain has ended, and not where it fails. Its last line is the last that is printed, once the
-other runs have ended too. The exit status is 0 where each run's is.
+other runs have ended too, and its exit status is this one's: it judges by itself what they were at. Where the first chain fails the
+status is 1.
 """
 import argparse
 import concurrent.futures
@@ -101,12 +102,13 @@ def main(chains, groups, gate):
         begun = pool.submit(first)
         runs = [pool.submit(chain, names, 10) for names in chains[1:]]
         runs += [pool.submit(edits, edited, *wait) for edited, wait in zip(groups, waits)]
-        status, line = begun.result(), ""
+        status, line = begun.result(), f"{chains[0]}: not proved ahead, 1 failed\n"
         if status == 0:
             status, line = run_gate(gate)
-        others = [it.result() for it in runs]
+    for it in runs:
+        it.result()
     print(line, end="", flush=True)
-    return 1 if status or any(others) else 0
+    return status
 
 
 if __name__ == "__main__":
