@@ -168,13 +168,9 @@ pub const CHOICE_IMPLS: &str = r#"impl@WRITES@ Alternating for @NAME@Alternative
         from_row!(value => @NAME@Alternatives: @LIST@)
     }
 
-    fn put<E: Choice>(
-        &self,
-        encoder: &mut Encoder<'_>,
-        constraints: Constraints,
-    ) -> Result<(), EncodeError> {
+    fn put<E: Choice>(&self, encoder: &mut Encoder<'_>) -> Result<(), EncodeError> {
         let view = to_row!(self => @NAME@Alternatives: @LIST@);
-        @NAME@Row@TURBO@::write_alternative::<E>(&view, encoder, constraints)
+        @NAME@Row@TURBO@::write_alternative::<E>(&view, encoder)
     }
 
     ghost apart = { refl };

@@ -51,13 +51,9 @@ impl Alternating for SignalAlternatives {
         from_row!(value => SignalAlternatives: Busy, Level, Count)
     }
 
-    fn put<E: Choice>(
-        &self,
-        encoder: &mut Encoder<'_>,
-        constraints: Constraints,
-    ) -> Result<(), EncodeError> {
+    fn put<E: Choice>(&self, encoder: &mut Encoder<'_>) -> Result<(), EncodeError> {
         let view = to_row!(self => SignalAlternatives: Busy, Level, Count);
-        SignalRow::write_alternative::<E>(&view, encoder, constraints)
+        SignalRow::write_alternative::<E>(&view, encoder)
     }
 
     ghost apart = { refl };

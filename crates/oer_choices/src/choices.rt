@@ -52,11 +52,7 @@ pub trait Alternating: Drop {
     /// admitted value.
     ///
     /// Refused by what the value is refused by, or for want of memory.
-    fn put<E: Choice>(
-        &self,
-        encoder: &mut Encoder<'_>,
-        constraints: Constraints,
-    ) -> Result<(), EncodeError>
+    fn put<E: Choice>(&self, encoder: &mut Encoder<'_>) -> Result<(), EncodeError>
         ensures { PutsOne E.root_tags E.addition_tags (Self.row_choices.tag_of (Self.alternative self.now)) (Self.row_choices.child (Self.alternative self.now)) (Self.row_choices.IsValue (Self.alternative self.now)) encoder.old result encoder.new };
 
     /// No tag stands twice, and each number is one of u32.
@@ -166,9 +162,9 @@ impl<T: Alternating> Encode for OneOf<T> {
         &self,
         encoder: &mut Encoder<'_>,
         _tag: Tag,
-        constraints: Constraints,
+        _constraints: Constraints,
     ) -> Result<(), EncodeError> {
-        self.0.put::<OneOf<T>>(encoder, constraints)
+        self.0.put::<OneOf<T>>(encoder)
     }
 }
 

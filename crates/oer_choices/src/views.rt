@@ -14,14 +14,13 @@ use oer_write::{Encode, Encoder};
 /// Refused by what the value is refused by, or for want of memory.
 pub fn put_alternative<E: Choice, T: Encode>(
     encoder: &mut Encoder<'_>,
-    constraints: Constraints,
     tag: Tag,
     value: &T,
 ) -> Result<(), EncodeError>
     ensures { PutsOne E.root_tags E.addition_tags tag (T.tree T.CONSTRAINTS value.now) (T.IsValue value.now) encoder.old result encoder.new }
 {
     encoder.encode_choice::<E, _>(
-        constraints,
+        Constraints::NONE,
         tag,
         |encoder: &mut Encoder<'_>| -> Result<Tag, EncodeError>
             ensures written { WritesAlternative (T.tree T.CONSTRAINTS value.entry.now) tag encoder.old result encoder.new }
@@ -48,7 +47,6 @@ pub trait AlternativeViews<'v>: Alternatives {
     fn write_alternative<E: Choice>(
         view: &Self::View,
         encoder: &mut Encoder<'_>,
-        constraints: Constraints,
     ) -> Result<(), EncodeError>
         ensures { SeesOne view.now (λ v. PutsOne E.root_tags E.addition_tags (Self.choices.tag_of v) (Self.choices.child v) (Self.choices.IsValue v) encoder.old result encoder.new) };
 }
@@ -63,7 +61,6 @@ impl<'v> AlternativeViews<'v> for NoMore {
     fn write_alternative<E: Choice>(
         _view: &(),
         _encoder: &mut Encoder<'_>,
-        _constraints: Constraints,
     ) -> Result<(), EncodeError> {
         Ok(())
     }
@@ -80,13 +77,10 @@ impl<'v, G: Place, B: Encode + 'v, R: AlternativeViews<'v>> AlternativeViews<'v>
     fn write_alternative<E: Choice>(
         view: &Either<&'v B, R::View>,
         encoder: &mut Encoder<'_>,
-        constraints: Constraints,
     ) -> Result<(), EncodeError> {
         match view {
-            Either::First(value) => {
-                put_alternative::<E, B>(encoder, constraints, G::tag(), *value)
-            }
-            Either::Rest(rest) => R::write_alternative::<E>(rest, encoder, constraints),
+            Either::First(value) => { put_alternative::<E, B>(encoder, G::tag(), *value) }
+            Either::Rest(rest) => R::write_alternative::<E>(rest, encoder),
         }
     }
 }
@@ -99,8 +93,7 @@ impl<'v, R: AlternativeViews<'v>> AlternativeViews<'v> for Extensible<R> {
     fn write_alternative<E: Choice>(
         view: &R::View,
         encoder: &mut Encoder<'_>,
-        constraints: Constraints,
     ) -> Result<(), EncodeError> {
-        R::write_alternative::<E>(view, encoder, constraints)
+        R::write_alternative::<E>(view, encoder)
     }
 }

@@ -7,7 +7,7 @@ ghost use Rattle.oer_read.specs.Law.{Decodes};
 ghost use Rattle.oer_knots.specs.Reading.{ReadsKnots};
 
 use crate::ties::{DecodeInside, DecodeKnot, HoldsKnot};
-use asn1_core::{AsnType, Choice, Constraints, DecodeError, EncodeError, Tag};
+use asn1_core::{AsnType, Choice, DecodeError, EncodeError, Tag};
 use oer_choices::{
     Alternating, AlternativeViews, Alternatives, Either, Offers, OneOf, ReadsAlternatives,
     put_alternative,
@@ -137,13 +137,10 @@ impl<'v, G: Place, B: Encode + 'v, R: AlternativeViews<'v>> AlternativeViews<'v>
     fn write_alternative<E: Choice>(
         view: &Either<&'v B, R::View>,
         encoder: &mut Encoder<'_>,
-        constraints: Constraints,
     ) -> Result<(), EncodeError> {
         match view {
-            Either::First(value) => {
-                put_alternative::<E, B>(encoder, constraints, G::tag(), *value)
-            }
-            Either::Rest(rest) => R::write_alternative::<E>(rest, encoder, constraints),
+            Either::First(value) => { put_alternative::<E, B>(encoder, G::tag(), *value) }
+            Either::Rest(rest) => R::write_alternative::<E>(rest, encoder),
         }
     }
 }

@@ -100,13 +100,9 @@ impl Alternating for PriorityAlternatives {
         from_row!(value => PriorityAlternatives: Normal, High, Medium)
     }
 
-    fn put<E: Choice>(
-        &self,
-        encoder: &mut Encoder<'_>,
-        constraints: Constraints,
-    ) -> Result<(), EncodeError> {
+    fn put<E: Choice>(&self, encoder: &mut Encoder<'_>) -> Result<(), EncodeError> {
         let view = to_row!(self => PriorityAlternatives: Normal, High, Medium);
-        PriorityRow::write_alternative::<E>(&view, encoder, constraints)
+        PriorityRow::write_alternative::<E>(&view, encoder)
     }
 
     ghost apart = { refl };
@@ -149,13 +145,9 @@ impl Alternating for WideAlternatives {
         from_row!(value => WideAlternatives: Normal, High, Medium)
     }
 
-    fn put<E: Choice>(
-        &self,
-        encoder: &mut Encoder<'_>,
-        constraints: Constraints,
-    ) -> Result<(), EncodeError> {
+    fn put<E: Choice>(&self, encoder: &mut Encoder<'_>) -> Result<(), EncodeError> {
         let view = to_row!(self => WideAlternatives: Normal, High, Medium);
-        WideRow::write_alternative::<E>(&view, encoder, constraints)
+        WideRow::write_alternative::<E>(&view, encoder)
     }
 
     ghost apart = { refl };
@@ -198,13 +190,9 @@ impl Alternating for OnlyAlternatives {
         from_row!(value => OnlyAlternatives: Only)
     }
 
-    fn put<E: Choice>(
-        &self,
-        encoder: &mut Encoder<'_>,
-        constraints: Constraints,
-    ) -> Result<(), EncodeError> {
+    fn put<E: Choice>(&self, encoder: &mut Encoder<'_>) -> Result<(), EncodeError> {
         let view = to_row!(self => OnlyAlternatives: Only);
-        OnlyRow::write_alternative::<E>(&view, encoder, constraints)
+        OnlyRow::write_alternative::<E>(&view, encoder)
     }
 
     ghost apart = { refl };
@@ -247,13 +235,9 @@ impl Alternating for BoolAlternatives {
         from_row!(value => BoolAlternatives: A, C, B)
     }
 
-    fn put<E: Choice>(
-        &self,
-        encoder: &mut Encoder<'_>,
-        constraints: Constraints,
-    ) -> Result<(), EncodeError> {
+    fn put<E: Choice>(&self, encoder: &mut Encoder<'_>) -> Result<(), EncodeError> {
         let view = to_row!(self => BoolAlternatives: A, C, B);
-        BoolRow::write_alternative::<E>(&view, encoder, constraints)
+        BoolRow::write_alternative::<E>(&view, encoder)
     }
 
     ghost apart = { refl };

@@ -161,13 +161,9 @@ impl<K: Encode> Alternating for LinkAlternatives<K> {
         from_row!(value => LinkAlternatives: A, B)
     }
 
-    fn put<E: Choice>(
-        &self,
-        encoder: &mut Encoder<'_>,
-        constraints: Constraints,
-    ) -> Result<(), EncodeError> {
+    fn put<E: Choice>(&self, encoder: &mut Encoder<'_>) -> Result<(), EncodeError> {
         let view = to_row!(self => LinkAlternatives: A, B);
-        LinkChoiceRow::<K>::write_alternative::<E>(&view, encoder, constraints)
+        LinkChoiceRow::<K>::write_alternative::<E>(&view, encoder)
     }
 
     ghost apart = { refl };

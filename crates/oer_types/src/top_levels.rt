@@ -187,13 +187,9 @@ impl<K: Encode> Alternating for TestAlternatives<K> {
         from_row!(value => TestAlternatives: Number1, Number2, Number3)
     }
 
-    fn put<E: Choice>(
-        &self,
-        encoder: &mut Encoder<'_>,
-        constraints: Constraints,
-    ) -> Result<(), EncodeError> {
+    fn put<E: Choice>(&self, encoder: &mut Encoder<'_>) -> Result<(), EncodeError> {
         let view = to_row!(self => TestAlternatives: Number1, Number2, Number3);
-        TestRow::<K>::write_alternative::<E>(&view, encoder, constraints)
+        TestRow::<K>::write_alternative::<E>(&view, encoder)
     }
 
     ghost apart = { refl };

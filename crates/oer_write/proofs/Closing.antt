@@ -1,16 +1,18 @@
 -- How a scope whose additions lie in the output is closed.
-use Rattle.std.proofs.Common.{◌≡◌, ℕ, ◌+◌, ◌-◌, ◌≤◌, Bool, true, false, cond, not, ◌&&◌, List, [], ◌++◌, length, take, drop, refl, ap, ap₂, sym, ◌∙◌, ◌<◌, ◌^◌, Ok, arith, append-nil, length-append}
-use Rattle.std.proofs.lemmas.List.{take-append-le, drop-append-le, take-append-drop, length-take-le, take_at, take_all, drop_all, take-take}
+use Rattle.std.specs.Prelude.{⊤, IfErr}
+use Rattle.std.proofs.Common.{◌≡◌, ℕ, ◌+◌, ◌-◌, ◌≤◌, Bool, true, false, cond, not, ◌&&◌, List, [], ◌++◌, length, take, drop, refl, ap, ap₂, sym, ◌∙◌, Ok, Err, Result, arith, append-nil, length-append}
+use Rattle.std.proofs.lemmas.List.{take-append-le, drop-append-le, take-append-drop, length-take-le, take_all, drop_all, take-take}
 use Rattle.asn1_core.specs.Octets.{Octets, pack}
+use Rattle.asn1_core.specs.declared.error.EncodeErrorKind.{EncodeErrorKind}
+use Rattle.asn1_core.specs.declared.error.EncodeErrorKind.TheVariants.{OutOfMemory}
 use Rattle.oer_spec.specs.Lengths.{counted_bits}
 use Rattle.oer_spec.specs.Places.{extension_bit}
 use Rattle.oer_spec.specs.Writing.{BeginsWith}
-use Rattle.oer_write.specs.Scopes.{Runs, RanInScope, any_true, extension_of, sequence_octets}
-use Rattle.oer_write.specs.Written.{Written, WriteFrame, Keeps, fresh}
+use Rattle.oer_write.specs.Scopes.{any_true, extension_of, sequence_octets}
 use Rattle.oer_write.specs.declared.region.Region.{Region}
 use Rattle.oer_write.specs.declared.scope.Scope.{Scope}
-use Rattle.oer_write.specs.Seen.{around, within, IsSound, frame_of, opens_in}
-use Rattle.oer_write.proofs.Filling.{filled, behind_free}
+use Rattle.oer_write.specs.Seen.{around, within, frame_of, opens_in}
+use Rattle.oer_write.proofs.Filling.{filled}
 use Rattle.oer_write.proofs.Keeping.{begins_then}
 
 -- the octets before additions that nothing follows
@@ -22,7 +24,7 @@ rear : (r : Region) (p : Octets) → r.end ≡ length p → within r p ≡ drop 
 unfolding within
 rear r p e = ap (drop r.opens) (take_all r.end p (omega (arith, e)))
 
-front_of : (r : Region) (o : Octets) (n : ℕ) → n ≤ r.start → r.start ≤ length o → take n (around r o) ≡ take n o
+pub front_of : (r : Region) (o : Octets) (n : ℕ) → n ≤ r.start → r.start ≤ length o → take n (around r o) ≡ take n o
 unfolding around
 front_of r o n h k = take-append-le n (take r.start o) (drop r.end o) (let l = length-take-le r.start o k in omega (arith, l, h)) ∙ take-take n r.start o h
 
@@ -78,11 +80,10 @@ sequence_closed s start size o mid new sequence h k e f =
     f ∙ ap₂ (λ (x y : Octets). x ++ (header ++ y)) a b
     ∙ ap (λ (c : Bool). take start o ++ (header ++ (drop (start + size) (around s.region o) ++ extension_of s.bitmap (cond c (within s.region o) s.opens.items)))) (sym sequence)
 
--- ---- what a closure leaves of the output
-pub begins_run : (r : Region) (old new : Octets) (seen : Octets) → around r new ≡ seen → BeginsWith old seen → length old ≤ r.start → r.start ≤ length new → BeginsWith old new
-begins_run r old new seen same b h k =
-    let whole : take (length old) new ≡ old = sym (front_of r new (length old) h k) ∙ ap (take (length old)) (same ∙ b.1) ∙ take_at old b.0 (length old) refl in
-    (drop (length old) new, sym (take-append-drop (length old) new) ∙ ap (λ (o : Octets). o ++ drop (length old) new) whole)
+-- what refuses leaves octets that begin with the same, however these are seen
+pub refused_as : (r : Result ⊤ EncodeErrorKind) (p q new : Octets) → p ≡ q → IfErr r (λ k. (k ≡ OutOfMemory) × BeginsWith p new) → IfErr r (λ k. (k ≡ OutOfMemory) × BeginsWith q new)
+refused_as (Ok x) p q new e h = tt
+refused_as (Err k) p q new e (m, b) = (m, (b.0, b.1 ∙ ap (λ (o : Octets). o ++ b.0) e))
 
 -- ---- scopes
 
@@ -93,49 +94,3 @@ false_right false b e = refl
 -- the additions of a set lie apart
 pub apart : (o : Octets) (s : Scope) → s.is_set ≡ true → opens_in o s ≡ s.opens.items
 apart o s e = ap (λ (b : Bool). cond b (within s.region o) s.opens.items) (false_right s.is_open s.is_set e)
-
--- a sequence, of which the preamble's octets were free
-pub sequence_written : (s : Scope) (old free mid all new o : Octets) (start size : ℕ) → start ≡ length old → length free ≡ size → mid ≡ old ++ free → IsSound s.is_open (length mid) s.region (length all) → around s.region all ≡ mid ++ o
-    → new ≡ take start all ++ sequence_octets (frame_of all s) (drop (start + size) (around s.region all)) → new ≡ old ++ sequence_octets (frame_of all s) o
-sequence_written s old free mid all new o start size h n m sound e g =
-    let p = behind_free old free o start size h n in
-    let laid : around s.region all ≡ (old ++ free) ++ o = e ∙ ap (λ (x : Octets). x ++ o) m in
-    let long : length mid ≡ start + size = omega (arith, ap length m, length-append old free, h, n) in
-    let begun : start ≤ s.region.start = (let b = sound.begun in omega (arith, long, b)) in
-    let within_all : s.region.start ≤ length all = (let l = sound.laid in omega arith) in
-    g ∙ ap (λ (x : Octets). x ++ sequence_octets (frame_of all s) (drop (start + size) (around s.region all))) (sym (front_of s.region all start begun within_all) ∙ ap (take start) laid ∙ p.0)
-    ∙ ap (λ (x : Octets). old ++ sequence_octets (frame_of all s) (drop (start + size) x)) laid ∙ ap (λ (x : Octets). old ++ sequence_octets (frame_of all s) x) p.1
-
--- a closure that keeps the octets before its scope leaves them in the output
-pub begins_left : (is_set extensible : Bool) (old new : Octets) (e e' : Written) (s : Scope) → e ≡ record { octets = old; frame = fresh is_set extensible (length old); outer = [] } → Keeps e e' → around s.region new ≡ e'.octets → frame_of new s ≡ e'.frame
-    → IsSound s.is_open s.start s.region (length new) → BeginsWith old new
-begins_left is_set extensible old new e e' s entered keeps octets frame sound =
-    let begins : BeginsWith old e'.octets = (keeps.octets.0, keeps.octets.1 ∙ ap (λ (w : Written). w.octets ++ keeps.octets.0) entered) in
-    let start : s.start ≡ length old = ap (λ (f : WriteFrame). f.start) frame ∙ keeps.start ∙ ap (λ (w : Written). w.frame.start) entered in
-    begins_run s.region old new e'.octets octets begins (let b = sound.begun in omega (arith, b, start)) (let l = sound.laid in omega arith)
-
--- what a closure that ran in a new scope leaves
-pub record Left (runs : Runs) (is_set extensible : Bool) (old new : Octets) (s : Scope) : Type 0 where
-  pub components : Octets
-  pub ran : RanInScope runs is_set extensible (frame_of new s) components
-  pub wrote : around s.region new ≡ old ++ components
-  pub sound : IsSound s.is_open (length old) s.region (length new)
-
-pub left_by : (runs : Runs) (is_set extensible : Bool) (old new : Octets) (e e' : Written) (s : Scope) → e ≡ record { octets = old; frame = fresh is_set extensible (length old); outer = [] } → runs e (Ok tt) e' → Keeps e e' → around s.region new ≡ e'.octets → frame_of new s ≡ e'.frame
-    → IsSound s.is_open s.start s.region (length new) → length s.bitmap < 2 ^ 64 → Left runs is_set extensible old new s
-left_by runs is_set extensible old new e e' s entered ran keeps octets frame sound counted =
-    let start : s.start ≡ length old = ap (λ (f : WriteFrame). f.start) frame ∙ keeps.start ∙ ap (λ (w : Written). w.frame.start) entered in
-    record {
-      components = keeps.octets.0;
-      ran = record {
-        entered = e;
-        left = e';
-        opened = ap (λ (w : Written). w.frame) entered ∙ ap (λ (w : Written). fresh is_set extensible (length w.octets)) (sym entered);
-        ran = ran;
-        closed = sym frame;
-        wrote = keeps.octets.1;
-        counted = counted;
-      };
-      wrote = octets ∙ keeps.octets.1 ∙ ap (λ (w : Written). w.octets ++ keeps.octets.0) entered;
-      sound = record { laid = sound.laid; begun = (let b = sound.begun in omega (arith, b, start)); shut = sound.shut };
-    }

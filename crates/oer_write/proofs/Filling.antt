@@ -140,7 +140,7 @@ pub preamble_moved : (start size : ℕ) (all header mid new : Octets) → start 
 preamble_moved start size all header mid new h e g = g ∙ ap (λ (o : Octets). take start o ++ (drop (length all) o ++ drop (start + size) (take (length all) o))) e ∙ filled start size all header h
 
 -- what stands behind octets that are free
-pub behind_free : (old free more : Octets) (start size : ℕ) → start ≡ length old → length free ≡ size → (take start ((old ++ free) ++ more) ≡ old) × (drop (start + size) ((old ++ free) ++ more) ≡ more)
+behind_free : (old free more : Octets) (start size : ℕ) → start ≡ length old → length free ≡ size → (take start ((old ++ free) ++ more) ≡ old) × (drop (start + size) ((old ++ free) ++ more) ≡ more)
 behind_free old free more start size s f =
     (ap (take start) (append_assoc old free more) ∙ take_at old (free ++ more) start (sym s), drop_at (old ++ free) more (start + size) (omega (arith, length-append old free, s, f)))
 

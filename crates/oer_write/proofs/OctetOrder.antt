@@ -1,5 +1,5 @@
 -- Octets in ascending order, as a sort gives them.
-use Rattle.std.proofs.Common.{◌≡◌, Bool, true, false, cond, List, [], ◌∷◌, map, refl, ap, sym, ◌∙◌}
+use Rattle.std.proofs.Common.{◌≡◌, Bool, true, false, cond, List, [], ◌∷◌, map, refl, ap, ◌∙◌}
 use Rattle.std.specs.Borrow.{Bor}
 use Rattle.asn1_core.specs.Octets.{Octets}
 use Rattle.oer_spec.specs.Orders.{octets_le}

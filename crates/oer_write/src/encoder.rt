@@ -1,12 +1,16 @@
 //! The encoder.
-ghost use Rattle.std.specs.Prelude.{◌≡◌, ◌≤◌, false, List, [], ◌∷◌, ◌++◌, length, cond};
+ghost use Rattle.std.specs.Prelude.{◌≡◌, ◌≤◌, ◌+◌, ◌<◌, ◌^◌, ◌&&◌, not, true, false, List, [], ◌∷◌, ◌++◌, length, take, drop, cond, OnOk, IfErr};
 ghost use Rattle.asn1_core.specs.declared.codec.Codec.TheVariants.{Coer};
+ghost use Rattle.asn1_core.specs.declared.error.EncodeErrorKind.TheVariants.{OutOfMemory};
+ghost use Rattle.oer_spec.specs.Writing.{AppendsOrMemory, BeginsWith};
+ghost use Rattle.oer_write.specs.Scopes.{sequence_octets, set_octets};
 ghost use Rattle.oer_write.specs.Seen.{around, frame_of, IsSound};
 ghost use Rattle.oer_write.specs.Written.{Written, no_scope, fresh};
 
 use crate::enc::EncoderOptions;
+use crate::region::Region;
 use crate::scope::Scope;
-use asn1_core::Codec;
+use asn1_core::{Codec, EncodeErrorKind};
 use std::alloc::Global;
 use std::marker::Model;
 
@@ -120,19 +124,46 @@ impl<'buffer> Encoder<'buffer> {
         self.output.len() - (self.scope.region.end - self.scope.region.start)
     }
 
-    /// The output, and the open scope.
-    pub(crate) fn into_parts(self) -> (Vec<u8>, Scope)
-        ensures octets { around result.1.region result.0.items ≡ self.entry.octets }
-        ensures frame { frame_of result.0.items result.1 ≡ self.entry.frame }
-        ensures sound { IsSound result.1.is_open result.1.start result.1.region (length result.0.items) }
+    /// The output, once its open sequence is closed: `size` octets that are free at `start` are filled with the preamble.
+    ///
+    /// The scope stays where it is, so that nothing of it is copied; nothing may be written behind it.
+    #[tactic(auto, using(crate::proofs::Closing::front_of))]
+    pub(crate) fn close_sequence(
+        &mut self,
+        start: usize,
+        size: usize,
+    ) -> (Vec<u8>, Result<(), EncodeErrorKind>)
+        requires sequence { (self.old.frame.is_open && not self.old.frame.is_set) ≡ true }
+        requires behind { start + size ≤ self.old.frame.start }
+        ensures done { OnOk result.1 (result.0.items ≡ take start self.old.octets ++ sequence_octets self.old.frame (drop (start + size) self.old.octets)) }
+        ensures refused { IfErr result.1 (λ k. (k ≡ OutOfMemory) × BeginsWith (take start self.old.octets) result.0.items) }
+        ensures counted { length self.old.frame.bitmap < 2 ^ 64 }
     {
-        let Encoder {
-            output,
-            scope,
-            is_lent: _,
-            alloc,
-        } = self;
-        (std::mem::replace(output, Vec::new(alloc)), scope)
+        let alloc = self.alloc;
+        let _count = self.scope.bitmap.len();
+        let mut octets = std::mem::replace(&mut *self.output, Vec::new(alloc));
+        let closed = self.scope.close_sequence(alloc, start, size, &mut octets);
+        self.scope.start = 0;
+        self.scope.region = Region::at(0, 0);
+        (octets, closed)
+    }
+
+    /// The output cut at `start`, and behind it its open set; nothing may be written behind it.
+    #[tactic(auto, using(crate::proofs::Closing::front_of))]
+    pub(crate) fn close_set(&mut self, start: usize) -> (Vec<u8>, Result<(), EncodeErrorKind>)
+        requires set { self.old.frame.is_set ≡ true }
+        requires behind { start ≤ self.old.frame.start }
+        ensures written { AppendsOrMemory result.1 (set_octets self.old.frame) (take start self.old.octets) result.0.items }
+        ensures counted { length self.old.frame.bitmap < 2 ^ 64 }
+    {
+        let alloc = self.alloc;
+        let _count = self.scope.bitmap.len();
+        let mut octets = std::mem::replace(&mut *self.output, Vec::new(alloc));
+        octets.truncate(start);
+        let closed = self.scope.write_set(alloc, &mut octets);
+        self.scope.start = 0;
+        self.scope.region = Region::at(0, 0);
+        (octets, closed)
     }
 
     /// The octets written, where no scope is open.

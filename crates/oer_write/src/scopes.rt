@@ -55,13 +55,15 @@ fn write_sequence<F: FnOnce(&mut Encoder<'_>) -> Result<(), EncodeError>>(
 {
     let start = output.len();
     keep_free(sizes.preamble, output)?;
-    let mut inner = Encoder::open(alloc, false, extensible, sizes.bitmap, &mut *output);
-    let answer = lend(&mut inner, f);
-    let (octets, scope) = inner.into_parts();
+    let (answer, octets, closed) = {
+        let mut inner = Encoder::open(alloc, false, extensible, sizes.bitmap, &mut *output);
+        let answer = lend(&mut inner, f);
+        let (octets, closed) = inner.close_sequence(start, sizes.preamble);
+        (answer, octets, closed)
+    };
     *output = octets;
     answer?;
-    let _count = scope.bitmap.len();
-    scope.close_sequence(alloc, start, sizes.preamble, output)?;
+    closed?;
     Ok(())
 }
 

@@ -94,14 +94,15 @@ fn write_set<F: FnOnce(&mut Encoder<'_>) -> Result<(), EncodeError>>(
     ensures begins { BeginsWith output.old.items output.new.items }
 {
     let start = output.len();
-    let mut inner = Encoder::open(alloc, true, extensible, 0, &mut *output);
-    let answer = lend(&mut inner, f);
-    let (octets, mut scope) = inner.into_parts();
+    let (answer, octets, closed) = {
+        let mut inner = Encoder::open(alloc, true, extensible, 0, &mut *output);
+        let answer = lend(&mut inner, f);
+        let (octets, closed) = inner.close_set(start);
+        (answer, octets, closed)
+    };
     *output = octets;
     answer?;
-    let _count = scope.bitmap.len();
-    output.truncate(start);
-    scope.write_set(alloc, output)?;
+    closed?;
     Ok(())
 }
 

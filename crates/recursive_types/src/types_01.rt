@@ -320,13 +320,9 @@ impl<K: Encode> Alternating for BodyAlternatives<K> {
         from_row!(value => BodyAlternatives: Text, Inner, Count)
     }
 
-    fn put<E: Choice>(
-        &self,
-        encoder: &mut Encoder<'_>,
-        constraints: Constraints,
-    ) -> Result<(), EncodeError> {
+    fn put<E: Choice>(&self, encoder: &mut Encoder<'_>) -> Result<(), EncodeError> {
         let view = to_row!(self => BodyAlternatives: Text, Inner, Count);
-        BodyRow::<K>::write_alternative::<E>(&view, encoder, constraints)
+        BodyRow::<K>::write_alternative::<E>(&view, encoder)
     }
 
     ghost apart = { refl };

@@ -148,13 +148,9 @@ impl Alternating for SignalAlternatives {
         from_row!(value => SignalAlternatives: Busy, Level, NewKey)
     }
 
-    fn put<E: Choice>(
-        &self,
-        encoder: &mut Encoder<'_>,
-        constraints: Constraints,
-    ) -> Result<(), EncodeError> {
+    fn put<E: Choice>(&self, encoder: &mut Encoder<'_>) -> Result<(), EncodeError> {
         let view = to_row!(self => SignalAlternatives: Busy, Level, NewKey);
-        SignalRow::write_alternative::<E>(&view, encoder, constraints)
+        SignalRow::write_alternative::<E>(&view, encoder)
     }
 
     ghost apart = { refl };

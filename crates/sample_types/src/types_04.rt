@@ -276,13 +276,9 @@ impl Alternating for AreaAlternatives {
         from_row!(value => AreaAlternatives: Boxes, Corners, Names, Round)
     }
 
-    fn put<E: Choice>(
-        &self,
-        encoder: &mut Encoder<'_>,
-        constraints: Constraints,
-    ) -> Result<(), EncodeError> {
+    fn put<E: Choice>(&self, encoder: &mut Encoder<'_>) -> Result<(), EncodeError> {
         let view = to_row!(self => AreaAlternatives: Boxes, Corners, Names, Round);
-        AreaRow::write_alternative::<E>(&view, encoder, constraints)
+        AreaRow::write_alternative::<E>(&view, encoder)
     }
 
     ghost apart = { refl };
@@ -456,13 +452,9 @@ impl Alternating for ColoursAlternatives {
         from_row!(value => ColoursAlternatives: One, Two, Three)
     }
 
-    fn put<E: Choice>(
-        &self,
-        encoder: &mut Encoder<'_>,
-        constraints: Constraints,
-    ) -> Result<(), EncodeError> {
+    fn put<E: Choice>(&self, encoder: &mut Encoder<'_>) -> Result<(), EncodeError> {
         let view = to_row!(self => ColoursAlternatives: One, Two, Three);
-        ColoursRow::write_alternative::<E>(&view, encoder, constraints)
+        ColoursRow::write_alternative::<E>(&view, encoder)
     }
 
     ghost apart = { refl };

@@ -63,13 +63,9 @@ impl<T: Decode + Encode> Alternating for Choice1Alternatives<T> {
         from_row!(value => Choice1Alternatives: Inner)
     }
 
-    fn put<E: Choice>(
-        &self,
-        encoder: &mut Encoder<'_>,
-        constraints: Constraints,
-    ) -> Result<(), EncodeError> {
+    fn put<E: Choice>(&self, encoder: &mut Encoder<'_>) -> Result<(), EncodeError> {
         let view = to_row!(self => Choice1Alternatives: Inner);
-        <Choice1Row<T>>::write_alternative::<E>(&view, encoder, constraints)
+        <Choice1Row<T>>::write_alternative::<E>(&view, encoder)
     }
 
     ghost apart = { refl };
@@ -114,13 +110,9 @@ impl<T: Decode + Encode> Alternating for Choice2Alternatives<T> {
         from_row!(value => Choice2Alternatives: Inner, Added)
     }
 
-    fn put<E: Choice>(
-        &self,
-        encoder: &mut Encoder<'_>,
-        constraints: Constraints,
-    ) -> Result<(), EncodeError> {
+    fn put<E: Choice>(&self, encoder: &mut Encoder<'_>) -> Result<(), EncodeError> {
         let view = to_row!(self => Choice2Alternatives: Inner, Added);
-        <Choice2Row<T>>::write_alternative::<E>(&view, encoder, constraints)
+        <Choice2Row<T>>::write_alternative::<E>(&view, encoder)
     }
 
     ghost apart = { refl };
