@@ -319,9 +319,9 @@ def encoder():
         ("encode_set", "01050103", "e001030105ff0207800100"),
     ]
     rows += [(name, "", "ff") for name in (
-        "encode_component", "encode_some", "encode_some_with_tag_and_constraints", "encode_default",
-        "encode_default_with_tag_and_constraints", "encode_explicit_prefix", "Encode::encode", "Encode::encode_with_tag",
-        "Encode::encode_with_constraints", "Encode::encode_with_tag_and_constraints",
+        "encode_component", "encode_optional_in_sequence", "encode_some", "encode_some_with_tag_and_constraints",
+        "encode_default", "encode_default_with_tag_and_constraints", "encode_explicit_prefix", "Encode::encode",
+        "Encode::encode_with_tag", "Encode::encode_with_constraints", "Encode::encode_with_tag_and_constraints",
     )]  # fmt: skip
     # no scope is open: nothing is appended
     rows += [(name, "", "") for name in (

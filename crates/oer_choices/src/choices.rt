@@ -48,8 +48,8 @@ pub trait Alternating: Drop {
     fn from_alternative(value: Self::Values) -> Self
         ensures { alternative result ≡ value };
 
-    /// Writes the alternative of the choice `E` that is there, by `AlternativeViews::write` of the row: `Ok` only for an
-    /// admitted value.
+    /// Writes the alternative of the choice `E` that is there, by `AlternativeViews::write_alternative` of the row: `Ok`
+    /// only for an admitted value.
     ///
     /// Refused by what the value is refused by, or for want of memory.
     fn put<E: Choice>(&self, encoder: &mut Encoder<'_>) -> Result<(), EncodeError>

@@ -6,7 +6,7 @@ ghost use Rattle.oer_rows.specs.Values.{both};
 
 use asn1_core::{DecodeError, EncodeError};
 use oer_read::{Decode, Decoder};
-use oer_rows::{Both, Components, Place, Reads, Views, put_needed, put_optional};
+use oer_rows::{Both, Components, Place, Reads, Views};
 use oer_spec::Spelled;
 use oer_write::{Encode, Encoder};
 use std::alloc::Global;
@@ -112,7 +112,7 @@ impl<'v, G: Place, B: Encode + 'v, R: Views<'v>> Views<'v> for NeedsKnot<G, B, R
     ghost seen = { λ v. both v.0.now (R.seen v.1) };
 
     fn write(view: &Both<&'v B, R::View>, encoder: &mut Encoder<'_>) -> Result<(), EncodeError> {
-        put_needed(encoder, G::tag(), view.0)?;
+        view.0.encode_with_tag(encoder, G::tag())?;
         R::write(&view.1, encoder)
     }
 }
@@ -126,7 +126,7 @@ impl<'v, G: Place, B: Encode + 'v, R: Views<'v>> Views<'v> for MayHaveKnot<G, B,
         view: &Both<&'v Option<B>, R::View>,
         encoder: &mut Encoder<'_>,
     ) -> Result<(), EncodeError> {
-        put_optional(encoder, G::tag(), view.0)?;
+        encoder.encode_optional_in_sequence(G::tag(), view.0.as_ref())?;
         R::write(&view.1, encoder)
     }
 }

@@ -202,6 +202,7 @@ fn components(alloc: Global, word: &str, e: &mut Encoder<'_>) -> Result<Done> {
     begin(alloc)?;
     let done = match word {
         "encode_component" => e.encode_component(one(), NONE, &true),
+        "encode_optional_in_sequence" => e.encode_optional_in_sequence(one(), Some(&true)),
         "encode_some" => e.encode_some(&true),
         "encode_some_with_tag_and_constraints" => {
             e.encode_some_with_tag_and_constraints(one(), NONE, &true)

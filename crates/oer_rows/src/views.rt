@@ -9,9 +9,7 @@ use crate::both::Both;
 use crate::components::{Components, Defaults, MayHave, Needs, NoMore};
 use crate::more_additions::{AddDefaults, Adds, MayAddGroup};
 use crate::places::{Place, Standard};
-use crate::writing::{
-    put_added, put_addition, put_default, put_default_addition, put_group, put_needed, put_optional,
-};
+use crate::writing::{put_added, put_addition, put_default, put_default_addition, put_group};
 use asn1_core::{Constructed, EncodeError};
 use oer_spec::EqualAsSpelled;
 use oer_write::{Encode, Encoder};
@@ -47,7 +45,7 @@ impl<'v, G: Place, B: Encode + 'v, R: Views<'v>> Views<'v> for Needs<G, B, R> {
     ghost seen = { λ v. both v.0.now (R.seen v.1) };
 
     fn write(view: &Both<&'v B, R::View>, encoder: &mut Encoder<'_>) -> Result<(), EncodeError> {
-        put_needed(encoder, G::tag(), view.0)?;
+        view.0.encode_with_tag(encoder, G::tag())?;
         R::write(&view.1, encoder)
     }
 }
@@ -61,7 +59,7 @@ impl<'v, G: Place, B: Encode + 'v, R: Views<'v>> Views<'v> for MayHave<G, B, R> 
         view: &Both<&'v Option<B>, R::View>,
         encoder: &mut Encoder<'_>,
     ) -> Result<(), EncodeError> {
-        put_optional(encoder, G::tag(), view.0)?;
+        encoder.encode_optional_in_sequence(G::tag(), view.0.as_ref())?;
         R::write(&view.1, encoder)
     }
 }

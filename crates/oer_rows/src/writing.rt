@@ -47,26 +47,22 @@ pub fn put_optional<E: Encode>(
     }
 }
 
-/// Writes a component with the DEFAULT `D`: nothing but its presence bit where the value equals it.
+/// Writes a component of a sequence with the DEFAULT `D`: nothing but its presence bit where the value equals it.
 ///
-/// Refused by what the value is refused by.
+/// It doesn't ask what scope is open: as a set closes, what it wrote is dropped. Refused by what the value is refused by.
 #[inline]
 pub fn put_default<D: Standard<E>, E: Encode + EqualAsSpelled>(
     encoder: &mut Encoder<'_>,
     tag: Tag,
     value: &E,
 ) -> Result<(), EncodeError>
-    ensures in_sequence { encoder.old.frame.is_set ≡ false → OnOk result (RowsDone (defaulted tag (E.tree E.CONSTRAINTS D.value) (present_unless (E.eq value.now D.value) (E.tree E.CONSTRAINTS value.now))) NoRows encoder.old encoder.new) }
-    ensures in_set { encoder.old.frame.is_set ≡ true → OnOk result (SetDone (defaulted tag (E.tree E.CONSTRAINTS D.value) (present_unless (E.eq value.now D.value) (E.tree E.CONSTRAINTS value.now))) NoRows encoder.old encoder.new) }
+    ensures done { OnOk result (RowsDone (defaulted tag (E.tree E.CONSTRAINTS D.value) (present_unless (E.eq value.now D.value) (E.tree E.CONSTRAINTS value.now))) NoRows encoder.old encoder.new) }
     ensures value { E.eq value.now D.value ≡ false → OnOk result (E.IsValue value.now) }
     ensures known { IsDefault (E.tree E.CONSTRAINTS) E.IsValue E.eq D.value }
     ensures refused { IfErr result (λ x. RowsRefused (defaulted tag (E.tree E.CONSTRAINTS D.value) (present_unless (E.eq value.now D.value) (E.tree E.CONSTRAINTS value.now))) NoRows x encoder.old encoder.new) }
 {
-    if D::is_value(value) {
-        encoder.encode_none_with_tag(tag)
-    } else {
-        encoder.encode_some_with_tag_and_constraints(tag, E::CONSTRAINTS, value)
-    }
+    let is_spelled = !D::is_value(value);
+    encoder.encode_optional_in_sequence(tag, is_spelled.then_some(value))
 }
 
 /// Writes an OPTIONAL extension addition, one that is there as an open type (X.696, 16.4 and 30).

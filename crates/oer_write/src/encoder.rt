@@ -126,7 +126,7 @@ impl<'buffer> Encoder<'buffer> {
 
     /// The output, once its open sequence is closed: `size` octets that are free at `start` are filled with the preamble.
     ///
-    /// The scope stays where it is, so that nothing of it is copied; nothing may be written behind it.
+    /// The scope stays where it is, so that nothing of it is copied; what is written afterwards is lost.
     #[tactic(auto, using(crate::proofs::Closing::front_of))]
     pub(crate) fn close_sequence(
         &mut self,
@@ -148,7 +148,7 @@ impl<'buffer> Encoder<'buffer> {
         (octets, closed)
     }
 
-    /// The output cut at `start`, and behind it its open set; nothing may be written behind it.
+    /// The output cut at `start`, and behind it its open set; what is written afterwards is lost.
     #[tactic(auto, using(crate::proofs::Closing::front_of))]
     pub(crate) fn close_set(&mut self, start: usize) -> (Vec<u8>, Result<(), EncodeErrorKind>)
         requires set { self.old.frame.is_set ≡ true }

@@ -1,10 +1,10 @@
 //! Components of the open scope: required, optional and default ones.
-ghost use Rattle.std.specs.Prelude.{◌≡◌, ◌^◌, ◌<◌, Bool, true, false, List, [], ◌∷◌, ◌++◌, ◌⊎◌, length, OnOk, IfOk, IfErr};
+ghost use Rattle.std.specs.Prelude.{◌≡◌, ◌^◌, ◌<◌, Bool, true, false, List, [], ◌∷◌, ◌++◌, ◌⊎◌, length, OnOk, IfOk, IfErr, IfSome};
 ghost use Rattle.asn1_core.specs.declared.codec.Codec.TheVariants.{Coer};
 ghost use Rattle.asn1_core.specs.declared.error.EncodeErrorKind.TheVariants.{OutOfMemory};
 ghost use Rattle.oer_spec.specs.Encoding.{IsEncodable, canonical_octets};
 ghost use Rattle.oer_spec.specs.Spelled.{IsConsistent};
-ghost use Rattle.oer_spec.specs.Tree.{NoRows, Present, Absent, present_unless};
+ghost use Rattle.oer_spec.specs.Tree.{NoRows, Present, Absent, slot_of, present_unless};
 ghost use Rattle.oer_spec.specs.Failures.{Fails};
 ghost use Rattle.oer_spec.specs.Writing.{BeginsWith};
 ghost use Rattle.oer_write.specs.Rows.{RowsDone, SetDone, RowsRefused, required, optional, defaulted};
@@ -48,6 +48,23 @@ impl<'buffer> Encoder<'buffer> {
         Ok(())
     }
 
+    /// Writes an optional component of a sequence that is present, whatever scope is open.
+    #[inline]
+    fn write_present<E: Encode>(
+        &mut self,
+        tag: Tag,
+        constraints: Constraints,
+        value: &E,
+    ) -> Result<(), EncodeError>
+        requires { IsConsistent constraints }
+        ensures done { OnOk result (RowsDone (optional tag (Present (E.tree constraints value.now))) NoRows self.old self.new) }
+        ensures value { OnOk result (E.IsValue value.now) }
+        ensures refused { IfErr result (λ x. RowsRefused (optional tag (Present (E.tree constraints value.now))) NoRows x self.old self.new) }
+    {
+        self.mark(true)?;
+        value.encode_with_tag_and_constraints(self, tag, constraints)
+    }
+
     /// Writes a required component under constraints that stand in place of the type's own.
     ///
     /// In a set this is the only way to write one. Refused by what the value is refused by.
@@ -73,6 +90,26 @@ impl<'buffer> Encoder<'buffer> {
         Ok(())
     }
 
+    /// Writes an optional component of a sequence, its presence bit and the value that is there, under the type's own
+    /// constraints.
+    ///
+    /// It doesn't ask what scope is open: as a set closes, what it wrote is dropped. Refused by what the value is refused by.
+    #[inline]
+    pub fn encode_optional_in_sequence<E: Encode>(
+        &mut self,
+        tag: Tag,
+        value: Option<&E>,
+    ) -> Result<(), EncodeError>
+        ensures done { OnOk result (RowsDone (optional tag (slot_of (λ x. E.tree E.CONSTRAINTS x.now) value.entry)) NoRows self.old self.new) }
+        ensures value { OnOk result (IfSome value.entry (λ x. E.IsValue x.now)) }
+        ensures refused { IfErr result (λ x. RowsRefused (optional tag (slot_of (λ x. E.tree E.CONSTRAINTS x.now) value.entry)) NoRows x self.old self.new) }
+    {
+        match value {
+            Some(value) => self.write_present(tag, E::CONSTRAINTS, value),
+            None => Ok(self.mark(false)?),
+        }
+    }
+
     /// Writes an optional component that is present, under constraints that stand in place of the type's own.
     ///
     /// Refused by what the value is refused by.
@@ -94,9 +131,7 @@ impl<'buffer> Encoder<'buffer> {
                 .push_value(self.alloc, tag, constraints, true, value)?;
             return Ok(());
         }
-        self.mark(true)?;
-        value.encode_with_tag_and_constraints(self, tag, constraints)?;
-        Ok(())
+        self.write_present(tag, constraints, value)
     }
 
     /// Writes an optional component that is present, with the type's own tag and constraints.
