@@ -47,9 +47,11 @@ pub fn put_optional<E: Encode>(
     }
 }
 
-/// Writes a component of a sequence with the DEFAULT `D`: nothing but its presence bit where the value equals it.
+/// Writes a component of a sequence with the DEFAULT `D` (X.696, 16): nothing but its presence bit where the value equals
+/// it.
 ///
-/// It doesn't ask what scope is open: as a set closes, what it wrote is dropped. Refused by what the value is refused by.
+/// It doesn't ask what scope is open: as a set closes, what it wrote is dropped. Refused by what the value is refused by,
+/// or for want of memory; the octets of before and the open scopes stay.
 #[inline]
 pub fn put_default<D: Standard<E>, E: Encode + EqualAsSpelled>(
     encoder: &mut Encoder<'_>,

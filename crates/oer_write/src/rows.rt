@@ -90,10 +90,11 @@ impl<'buffer> Encoder<'buffer> {
         Ok(())
     }
 
-    /// Writes an optional component of a sequence, its presence bit and the value that is there, under the type's own
-    /// constraints.
+    /// Writes an optional component of a sequence (X.696, 16): its presence bit, and the value that is there under the
+    /// type's own constraints.
     ///
-    /// It doesn't ask what scope is open: as a set closes, what it wrote is dropped. Refused by what the value is refused by.
+    /// It doesn't ask what scope is open: as a set closes, what it wrote is dropped. Refused by what the value is refused by,
+    /// or for want of memory; the octets of before and the open scopes stay.
     #[inline]
     pub fn encode_optional_in_sequence<E: Encode>(
         &mut self,
