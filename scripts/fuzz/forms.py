@@ -1,8 +1,8 @@
 """Types of the project by what their octets look like (X.696), to spell a value in another, lenient form and to find bitmaps.
 
-A type is a letter for a leaf or the word of a type below: `b` a boolean, `i` an integer behind a length, `u` one that isn't negative,
-`e` an enumerated value, `s` a bit string behind a length, `t` one of 14 bits without, `o` octets behind a length, `f` one octet, `h`
-three octets, `n` nothing. Types without a lenient form aren't here: integers of fixed width, texts and octets of fixed size.
+A type is a letter for a leaf, a number of octets without another form, or the word of a type below: `b` a boolean, `i` an integer
+behind a length, `u` one that isn't negative, `e` an enumerated value, `s` a bit string behind a length, `t` one of 14 bits without,
+`o` octets behind a length, `n` nothing. Each type of the rows stands here (`unknown`).
 """
 
 
@@ -34,13 +34,14 @@ class Choice:
 
 
 OPT = "opt"
-SIZES = {"b": 1, "f": 1, "h": 3, "n": 0, "t": 2}
+SIZES = {"b": 1, "n": 0, "t": 2}
+LETTERS = {*SIZES, *"iueso"}
 A = ("b", None)
 TYPES = {
     "bool": "b", "int": "i", "bits": "s", "octets": "o", "utf8": "o", "oid": "o", "utctime": "o", "gentime": "o", "date": "o", "any": "o",
     "ints": List("i"), "intset": List("i"), "nest": List("nest"), "bag1": List("seq1"), "bag2": List("seq2"), "SetOfOctets": List("o"),
     "choice": Choice({0x80: "i", 0x81: "i"}, {0x82: "i"}),
-    "toplevel": Seq([("f", None), ("testchoice", None)]),
+    "toplevel": Seq([(1, None), ("testchoice", None)]),
     "testchoice": Choice({0x80: "n", 0x81: "b", 0x82: "toplevel"}),
     "BoolChoice": Choice({0x80: "b", 0x82: "choice"}, {0x81: "b"}),
     "Link": Seq([("i", OPT), ("linkchoice", None)]), "linkchoice": Choice({0x80: "b", 0x81: "Link"}),
@@ -59,12 +60,31 @@ TYPES = {
     "posbig": "u", "0..i128max": "u", "Positive": "u", "ext1..8": "i", "i16inext1..8": "i", "u128": "i", "Negative<Integer>": "i",
     "enum4": "e", "Enum3": "e", "bits14": "t", "bits3..6": "s", "octets3..6": "o", "Boxed": "b", "null": "n", "nulls": List("n"),
     "bmp": "o", "ia5": "o", "numeric": "o", "printable": "o", "visible": "o", "general": "o", "graphic": "o", "teletex": "o",
-    "ConstrainedOptions": Seq([("h", OPT)]),
+    "ConstrainedOptions": Seq([(3, OPT)]),
+    # integers of fixed width, octets and characters of fixed size
+    "small": 1, "-5..5": 1, "5..5": 1, "0..255": 1, "0..65535": 2, "2..65535": 2, "-129..0": 2, "i16range": 2, "Negative<Positive>": 1,
+    "HashedId3": 3, "utf8of3": 3, "bmpof2": 4,
     # the default takes more levels than there are where it is spelled out
     "deepdef": Seq([("nest", OPT)]),
     "tag130": Choice({0xBF: Behind(2, "b")}), "tagmax": Choice({0x80: "i", 0x81: "i", 0xBF: Behind(5, "i")}),
     "Bush": Seq([("i", None), ("bushes", None)]), "bushes": List("Bush"),
+    "Chain": Seq([A], ["Chain"]), "Node": Seq([("i", None), ("Node", OPT), A]),
 }  # fmt: skip
+
+
+def parts(of):
+    """The types that a type is made of."""
+    if isinstance(of, Seq):
+        return [part for part, _ in of.root] + list(of.additions or [])
+    if isinstance(of, Choice):
+        return [*of.root.values(), *of.additions.values()]
+    return [of.of] if isinstance(of, (List, Behind)) else [of]
+
+
+def unknown(words):
+    """The words of types, and the names within types, that stand nowhere here."""
+    names = {*words, *(part for of in TYPES.values() for part in parts(of))}
+    return sorted(name for name in names if isinstance(name, str) and name not in TYPES and name not in LETTERS)
 
 
 def length_at(o, at):
@@ -118,6 +138,8 @@ class Writer:
         return self.leaf(of)
 
     def leaf(self, of):
+        if isinstance(of, int):
+            return self.take(of)
         if of in SIZES:
             octets = self.take(SIZES[of])
             if of == "t" and self.chance():
@@ -213,14 +235,12 @@ class Writer:
 
 
 def lenient(word, octets, rng):
-    """Another form of a value's canonical octets, which is read leniently as that value; None of a type that isn't known here."""
-    return Writer(octets, rng).form(word) if word in TYPES else None
+    """Another form of a value's canonical octets, which is read leniently as that value."""
+    return Writer(octets, rng).form(word)
 
 
 def has_own_bitmaps(word, octets):
-    """Whether each bitmap in octets that were read canonically has the type's own size; where a type isn't known, it has none."""
-    if word not in TYPES:
-        return True
+    """Whether each bitmap in octets that were read canonically has the type's own size."""
     writer = Writer(octets)
     same = writer.form(word)
     assert octets.startswith(same), (word, octets.hex(), same.hex())

@@ -84,10 +84,11 @@ def made(rng, known):
     """An input: half of them another form of a value, of which half is damaged then."""
     word = rng.choice(list(known))
     canonical = rng.choice(known[word])
-    form = forms.lenient(word, canonical, rng) if rng.random() < 0.5 else None
-    if form is not None and rng.random() < 0.5:
-        return Input(word, form, canonical)
-    octets = canonical if form is None else form
+    octets = canonical
+    if rng.random() < 0.5:
+        octets = forms.lenient(word, canonical, rng)
+        if rng.random() < 0.5:
+            return Input(word, octets, canonical)
     for _ in range(rng.randrange(1, 4)):
         octets = damage(rng, octets)
     return Input(word, octets)
@@ -148,6 +149,8 @@ def main():
     program, count = sys.argv[1], int(sys.argv[2]) if len(sys.argv) > 2 else 10000
     seed = int(sys.argv[3]) if len(sys.argv) > 3 else 1
     known = seeds()
+    if unknown := forms.unknown(known):
+        sys.exit(f"fuzzer: forms.py doesn't say what octets of these types look like: {', '.join(unknown)}")
 
     def batch(at):
         """A batch's numbers depend on the seed and its place alone."""

@@ -2,6 +2,7 @@
 """Applies each patch of this folder to a copy of the repository, builds crates there without proof, and sees their tests fail.
 
 usage: try.py [NAME..]
+       try.py --read     says which patches can't be applied any more; nothing is built
 
 Few contracts rule out a body that wants memory where there is plenty, so tests have to. First the copy without a patch has
 to pass. A line a patch says how many rows of crates/oer_vectors are answered otherwise, and the first of them; a second one
@@ -16,6 +17,39 @@ import tempfile
 
 HERE = pathlib.Path(__file__).resolve().parent
 TOP = HERE.parent.parent
+
+
+def pieces(patch):
+    """The (path, old, new) of each piece of a patch, with the lines around it."""
+    path, old, new = None, [], []
+    for line in [*patch.read_text().splitlines(), "@@"]:
+        if line.startswith(("@@", "--- ")):
+            if old or new:
+                yield path, "\n".join(old) + "\n", "\n".join(new) + "\n"
+            old, new = [], []
+        elif line.startswith("+++ "):
+            path = line.removeprefix("+++ b/")
+        else:
+            old += [line[1:]] * line.startswith((" ", "-"))
+            new += [line[1:]] * line.startswith((" ", "+"))
+
+
+def faults(patch):
+    """What hinders a patch: each old text stands once in its file, and in whole lines."""
+    found = list(pieces(patch))
+    if not found:
+        yield "it changes nothing"
+    for path, old, _ in found:
+        file = TOP / path
+        count = ("\n" + file.read_text()).count("\n" + old) if file.is_file() else 0
+        if count != 1:
+            yield f"an old text is in {path} {count} times, and not once"
+
+
+def apply(patch, folder):
+    for path, old, new in pieces(patch):
+        file = folder / path
+        file.write_text(("\n" + file.read_text()).replace("\n" + old, "\n" + new)[1:])
 
 
 def copied(folder):
@@ -53,7 +87,7 @@ def tried(patch):
         folder = pathlib.Path(room)
         copied(folder)
         if patch:
-            subprocess.run(["patch", "-s", "-p1", "-i", str(patch)], cwd=folder, check=True)
+            apply(patch, folder)
         return rows_of(folder), tests_of(folder)
 
 
@@ -65,7 +99,17 @@ def line_of(failed, count, what):
     return f"{len(failed)} of {count} {what}{first}"
 
 
+def read():
+    """Says which patches can't be applied."""
+    found = [(patch.name, fault) for patch in sorted(HERE.glob("*.patch")) for fault in faults(patch)]
+    for name, fault in found:
+        print(f"scripts/patches/{name}: {fault}")
+    return 1 if found else 0
+
+
 def main():
+    if sys.argv[1:] == ["--read"]:
+        return read()
     patches = [HERE / f"{name}.patch" for name in sys.argv[1:]] or sorted(HERE.glob("*.patch"))
     status = 0
     for patch in [None, *patches]:
