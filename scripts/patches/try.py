@@ -10,6 +10,7 @@ which tests of crates/call_tests fail. It takes some minutes; run by hand, with 
 """
 import pathlib
 import re
+import resource
 import shutil
 import subprocess
 import sys
@@ -110,6 +111,9 @@ def read():
 def main():
     if sys.argv[1:] == ["--read"]:
         return read()
+    # rows of a thousand levels take more of the stack in a program that is built with checks
+    most = resource.getrlimit(resource.RLIMIT_STACK)[1]
+    resource.setrlimit(resource.RLIMIT_STACK, (1 << 30 if most == resource.RLIM_INFINITY else most, most))
     patches = [HERE / f"{name}.patch" for name in sys.argv[1:]] or sorted(HERE.glob("*.patch"))
     status = 0
     for patch in [None, *patches]:

@@ -13,6 +13,4 @@ mod scopes;
 #[cfg(test)]
 mod surface;
 #[cfg(test)]
-mod tables;
-#[cfg(test)]
 mod types;

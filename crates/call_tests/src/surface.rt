@@ -1,5 +1,5 @@
 //! Paths, constants and derives of the codec's crate.
-use asn1_core::Tag;
+use asn1_core::{Codec, Tag};
 use rasn_oer::oer::de::DecoderOptions;
 use rasn_oer::oer::enc::{EncoderOptions, ITU_T_X696_OER_EDITION};
 use rasn_oer::oer::{Decoder, Encoder, EncodingRules};
@@ -28,6 +28,7 @@ fn options_rules_and_refusals_have_their_derives(rt: HostRuntime) -> Result<(), 
     let copy = rules;
     assert!(rt; copy == rules && rules.is_coer() && !rules.is_oer());
     assert!(rt; EncodingRules::Oer < rules && EncodingRules::Oer.cmp(&rules).is_lt());
+    assert!(rt; Codec::Oer < Codec::Coer && Codec::Oer.cmp(&Codec::Coer).is_lt());
     assert!(rt; EncodingRules::Oer.is_oer() && ITU_T_X696_OER_EDITION == 3);
     assert!(rt; tag_of::<bool>() == Tag::BOOL);
     let shown = format!(in alloc;

@@ -13,14 +13,18 @@
 //!   by a decoder behind a boolean, which lack as many octets, at most those that are missing, and leave the whole front.
 //! - `tally MODE WORD`: of every input of at most two octets, a checksum of the answers, how many are read, and how many are refused
 //!   by each kind, by its place in `DecodeErrorKind`.
+//! - `type WORD`: the type's own tag, and whether it is a choice. `table WORD`: whether a sequence or set is extensible, and its tables
+//!   of components, of each the index, the name, the need and the tag. `tags WORD`: the same as `type` of a choice, and its tables.
 //!
-//! MODE is `oer` or `coer`; WORD is one of the program's, or one of a type under constraints (not for `run` and `tally`).
+//! MODE is `oer` or `coer`; WORD is one of the program's, or one of a type under constraints (not for `run` and `tally`). A type
+//! without a word is asked for its constants by its name.
 #![tactic(auto)]
 
 mod depth;
 mod front;
 mod program;
 mod reading;
+mod tables;
 mod tally;
 mod values;
 
@@ -34,6 +38,7 @@ use rasn_oer::DecoderOptions;
 use reading::Reading;
 use std::alloc::Global;
 use std::io::{BufRead, BufReader};
+use tables::{kind, table, tags};
 use tally::tallied;
 use values::Shown;
 
@@ -133,6 +138,9 @@ fn answer(alloc: Global, row: &str) -> Result<String> {
         "stopped" => stopped(alloc, first),
         "depth" => at_depth(alloc, row.strip_prefix("depth ").unwrap_or("")),
         "fronts" => fronts(alloc, first, second),
+        "type" => kind(alloc, first),
+        "table" => table(alloc, first),
+        "tags" => tags(alloc, first),
         _ => {
             let codec = codec_of(first)?;
             let octets = hex::decode(alloc, third)?;
