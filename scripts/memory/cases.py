@@ -272,6 +272,8 @@ def methods():
             rest = o if call in ("new", "levels", "unknown_tag", "remaining") else ""
             yield on_decoder(mode, call, "-", o, answer, rest, takes_none)
         yield on_decoder(mode, "codec", "-", "0102", mode.capitalize(), "0102", True)
+        yield Case((mode, "from_tag", "-", "ff0101" + great), f"High({number(GREAT)}); ", f"refused: OutOfMemory; {great}", True)
+        yield Case((mode, "from_tag", "-", "ff01090105"), "refused: InvalidTagVariantOnChoice; 0105", "", True, True)
     yield on_decoder("oer", "refuse_default", "-", "01", "()", "01", True)
     yield on_decoder("coer", "refuse_default", "-", "01", "refused: NotValidCanonicalEncoding", "01", True)
 

@@ -35,7 +35,10 @@ fn asked_by(word: &str) -> Option<Asked> {
         return Some(Asked::Optional(way_of(end)?));
     }
     if let Some(end) = word.strip_prefix("decode_default") {
-        return Some(Asked::Default(way_of(end)?));
+        return match way_of(end)? {
+            Way::ByPrefix => None,
+            way => Some(Asked::Default(way)),
+        };
     }
     match word {
         "decode_extension_addition_with_tag_and_constraints" => Some(Asked::Addition(false)),

@@ -4,10 +4,10 @@ use crate::entry::{Call, one, options_of};
 use crate::marks::begin;
 use crate::one_row::read_set;
 use anyhow::{Error, Result};
-use asn1_core::{Constraints, DecodeError, Tag};
+use asn1_core::{Class, Constraints, DecodeError, Tag};
 use asn1_ints::{Integer, IntegerType};
 use oer_types::{Enum4, GreatPositive, PriorityChoice};
-use rasn_oer::{Decode, Decoder};
+use rasn_oer::{Decode, DecodeChoice, Decoder};
 use std::fmt::Debug;
 
 const NONE: Constraints = Constraints::NONE;
@@ -166,7 +166,7 @@ fn further_without_memory(call: Call<'_>, d: &mut Decoder<'_>) -> Result<Option<
     Ok(Some(line))
 }
 
-/// Those of the decoder itself.
+/// Those of the decoder itself, and of a choice by a tag of context, whose number is read first.
 fn own_calls(call: Call<'_>, d: &mut Decoder<'_>) -> Result<Option<String>> {
     let alloc = call.alloc;
     let line = match call.word {
@@ -186,6 +186,11 @@ fn own_calls(call: Call<'_>, d: &mut Decoder<'_>) -> Result<Option<String>> {
             let it: std::result::Result<(), DecodeError> = Err(d.unknown_tag::<PriorityChoice>(
                 one(),
             ));
+            left(alloc, d, &it)?
+        }
+        "from_tag" => {
+            let number: u32 = d.decode_integer(alloc, Tag::INTEGER, NONE)?;
+            let it = PriorityChoice::from_tag(alloc, d, Tag::new(Class::Context, number));
             left(alloc, d, &it)?
         }
         _ => return times(call, d),

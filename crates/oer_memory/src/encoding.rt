@@ -293,13 +293,26 @@ fn run(alloc: Global, word: &str, d: &mut Decoder<'_>, e: &mut Encoder<'_>) -> R
     components(alloc, word, e)
 }
 
+/// A worker that an encoder is handed in.
+fn worker_of(alloc: Global) -> Result<Vec<u8>> {
+    Ok(Vec::from_slice(alloc, &[7, 8, 9])?)
+}
+
+/// A fault where the worker came back as another.
+fn kept(worker: &Vec<u8>, line: String) -> Result<String> {
+    match worker.as_slice() {
+        [7, 8, 9] => Ok(line),
+        _ => Err(Error::msg("the worker is another")),
+    }
+}
+
 /// What the calls of the encoder itself answer; nothing where the word is none of them.
 fn own_calls(alloc: Global, word: &str) -> Result<Option<String>> {
     if !matches!(word, "from_buffer" | "codec" | "output") {
         return Ok(None);
     }
     let mut output = Vec::from_slice(alloc, &[0xff])?;
-    let mut worker = vec![in alloc; 9]?;
+    let mut worker = worker_of(alloc)?;
     begin(alloc)?;
     let options = EncoderOptions::coer();
     let mut encoder = Encoder::from_buffer(alloc, options, &mut output, &mut worker);
@@ -307,7 +320,7 @@ fn own_calls(alloc: Global, word: &str) -> Result<Option<String>> {
         "output" => shown(alloc, &encoder.output().as_slice())?,
         _ => shown(alloc, &encoder.codec())?,
     };
-    Ok(Some(line))
+    Ok(Some(kept(&worker, line)?))
 }
 
 /// What a method appends behind an octet that fills the buffer, by its word.
@@ -317,12 +330,13 @@ pub fn encoder_method(alloc: Global, word: &str, octets: &[u8]) -> Result<String
     }
     let mut decoder = Decoder::new(octets, DecoderOptions::oer());
     let mut output = Vec::from_slice(alloc, &[0xff])?;
-    let mut worker = vec![in alloc; 9]?;
+    let mut worker = worker_of(alloc)?;
     let options = EncoderOptions::coer();
     let mut encoder = Encoder::from_buffer(alloc, options, &mut output, &mut worker);
     let Some(answer) = run(alloc, word, &mut decoder, &mut encoder)? else {
         return Err(Error::msg("no such method"));
     };
     drop(encoder);
-    appended(alloc, answer, &output)
+    let line = appended(alloc, answer, &output)?;
+    kept(&worker, line)
 }
