@@ -85,7 +85,7 @@ pub record ListAndChoiceRows : Type 0 where
   -- ascending as octets: -1 has the greatest
   pub set_of_integers : canonical_octets (set_of integer (pos 2 ∷ pos 1 ∷ negsuc 0 ∷ [])) ≡ 0x01 ∷ 0x03 ∷ 0x01 ∷ 0x01 ∷ 0x01 ∷ 0x02 ∷ 0x01 ∷ 0xFF ∷ []
   pub equal_elements : canonical_octets (set_of integer (pos 1 ∷ pos 1 ∷ [])) ≡ 0x01 ∷ 0x02 ∷ 0x01 ∷ 0x01 ∷ 0x01 ∷ 0x01 ∷ []
-  -- a front stands before what is longer
+  -- octets of a fixed size: no lengths
   pub set_of_strings : canonical_octets (set_of (text_of AnyOctets 1) ((0x02 ∷ []) ∷ (0x01 ∷ []) ∷ [])) ≡ 0x01 ∷ 0x02 ∷ 0x01 ∷ 0x02 ∷ []
   pub set_of_sequences : canonical_octets (set_of second_version ((true, None, None) ∷ (false, Some true, None) ∷ []))
       ≡ 0x01 ∷ 0x02 ∷ 0x00 ∷ 0xFF ∷ 0x80 ∷ 0x00 ∷ 0x02 ∷ 0x06 ∷ 0x80 ∷ 0x01 ∷ 0xFF ∷ []
