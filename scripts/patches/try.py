@@ -62,9 +62,11 @@ def copied(folder):
 
 
 def rows_of(folder):
-    """The rows that are answered otherwise than they have to be, and how many there are; no rows where nothing was built."""
+    """The rows that are answered otherwise than they have to be, and how many there are; no rows where nothing was built. Those of
+    all short inputs (`tally`) are left out: an unproved program takes minutes for them."""
     crate = folder / "crates/oer_vectors"
-    asked, wanted = (crate / "stdin").read_text(), (crate / "stdout").read_text().splitlines()
+    wanted = [row for row in (crate / "stdout").read_text().splitlines() if not row.startswith("tally ")]
+    asked = "".join(row.split(" => ")[0] + "\n" for row in wanted)
     done = subprocess.run(["rt", "try", "--seconds", "900"], cwd=crate, input=asked, capture_output=True, text=True, check=False)
     if "checked: ended" not in done.stderr:
         return None, done.stderr[-2000:]
