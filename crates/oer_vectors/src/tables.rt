@@ -25,11 +25,11 @@ fn kind_of<T: AsnType>(alloc: Global) -> Result<String> {
 
 /// What is asked of the type of a word.
 #[derive(Clone, Copy)]
-struct Kind {
+struct OfWord {
     alloc: Global,
 }
 
-impl UnderConstraints for Kind {
+impl UnderConstraints for OfWord {
     type Output = Result<String>;
 
     fn under<T: Decode + Encode + Debug + PartialEq>(
@@ -49,7 +49,7 @@ pub fn kind(alloc: Global, word: &str) -> Result<String> {
         "Held<choice>" => kind_of::<Held<PriorityChoice>>(alloc),
         "Bare<bool>" => kind_of::<Bare<bool>>(alloc),
         "Bare<choice>" => kind_of::<Bare<PriorityChoice>>(alloc),
-        _ => match with_word(word, Kind { alloc }) {
+        _ => match with_word(word, OfWord { alloc }) {
             Some(answer) => answer,
             None => Err(Error::msg("no such type")),
         },
