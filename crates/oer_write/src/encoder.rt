@@ -49,9 +49,10 @@ impl<'buffer> Encoder<'buffer> {
         alloc: Global,
         _options: EncoderOptions,
         output: &'buffer mut Vec<u8>,
-        _worker: &'buffer mut Vec<u8>,
+        _worker: &mut Vec<u8>,
     ) -> Encoder<'buffer>
-        ensures { result ≡ record { octets = output.old.items; frame = no_scope; outer = [] } }
+        ensures encoder { result ≡ record { octets = output.old.items; frame = no_scope; outer = [] } }
+        ensures worker { _worker.new ≡ _worker.old }
     {
         Encoder {
             output,
