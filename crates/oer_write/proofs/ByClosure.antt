@@ -16,7 +16,7 @@ use Rattle.oer_write.specs.Written.{Written, append, Encodes}
 -- what was written has the octets of the tree
 tree_octets : {runs : Runs} (t : Tree) (o : Octets) → IsKnownToWriteTree runs t → WroteElement runs o → (o ≡ canonical_octets t) × IsEncodable t
 tree_octets t o known w =
-    let h : Encodes t w.entered w.left = known _ _ _ w.ran in
+    let h : Encodes t w.entered w.left = known _ _ _ w.opened w.ran in
     (append_cancel_left w.entered.octets _ _ (sym w.wrote ∙ ap (λ (e : Written). e.octets) h.written), h.encodable)
 
 appended_row : (t : Tree) (tag : Tag) (old : Written) → IsEncodable t → RowsDone (required tag t) NoRows old (append (canonical_octets t) old)
@@ -53,9 +53,9 @@ pub row_refused : {runs : Runs} {old new : Written} (tag : Tag) (t : Tree) → I
 row_refused {runs} {old} {new} tag t known x broken = record {
   reason = elim broken.reason [
     | inl m ↦ inl m.0
-    | inr s ↦ elim (known _ _ _ s.ran).reason [ inl m ↦ inl m | inr f ↦ inr (inl (inl f)) ]
+    | inr s ↦ elim (known _ _ _ s.opened s.ran).reason [ inl m ↦ inl m | inr f ↦ inr (inl (inl f)) ]
   ];
-  mode = elim broken.reason [ inl m ↦ m.1 | inr s ↦ (known _ _ _ s.ran).mode ];
+  mode = elim broken.reason [ inl m ↦ m.1 | inr s ↦ (known _ _ _ s.opened s.ran).mode ];
   keeps = broken.keeps;
 }
 

@@ -48,7 +48,7 @@ alternative_fails roots additions tag t k f = (f.0, f.1, or_left _ _ f.2, f.3)
 -- a closure that writes the alternative's tree: the choice is written
 pub choice_done : (picks : Picks) (roots additions : List Tag) (tag : Tag) (t : Tree) (old new : Written) → IsKnownToPick picks tag t → ChoiceDone picks (holds roots tag) tag old new → Encodes (Choice roots additions tag t) old new
 choice_done picks roots additions tag t old new known h =
-    let w : Encodes t h.done.entered h.done.left = (known _ _ _ h.done.ran).1 in
+    let w : Encodes t h.done.entered h.done.left = (known _ _ _ h.done.opened h.done.ran).1 in
     let same : h.content ≡ canonical_octets t = append_cancel_left h.done.entered.octets _ _ (sym h.done.wrote ∙ ap (λ (e : Written). e.octets) w.written) in
     record {
       encodable = choice_encodable roots additions tag t w.encodable (rw same at h.short);
@@ -60,9 +60,9 @@ pub choice_refused : (picks : Picks) (roots additions : List Tag) (tag : Tag) (t
 choice_refused picks roots additions tag t old new x known h = record {
   reason = elim h.reason [
     | inl m ↦ inl m.0
-    | inr c ↦ elim (known _ _ _ c.ran).reason [ inl m ↦ inl m | inr f ↦ inr (alternative_fails roots additions tag t x.kind f) ]
+    | inr c ↦ elim (known _ _ _ c.opened c.ran).reason [ inl m ↦ inl m | inr f ↦ inr (alternative_fails roots additions tag t x.kind f) ]
   ];
-  mode = elim h.reason [ inl m ↦ m.1 | inr c ↦ (known _ _ _ c.ran).mode ];
+  mode = elim h.reason [ inl m ↦ m.1 | inr c ↦ (known _ _ _ c.opened c.ran).mode ];
   keeps = h.keeps;
 }
 

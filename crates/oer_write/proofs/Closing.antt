@@ -8,10 +8,11 @@ use Rattle.asn1_core.specs.declared.error.EncodeErrorKind.TheVariants.{OutOfMemo
 use Rattle.oer_spec.specs.Lengths.{counted_bits}
 use Rattle.oer_spec.specs.Places.{extension_bit}
 use Rattle.oer_spec.specs.Writing.{BeginsWith}
-use Rattle.oer_write.specs.Scopes.{any_true, extension_of, sequence_octets}
+use Rattle.oer_write.specs.Scopes.{IsNew, any_true, extension_of, sequence_octets}
 use Rattle.oer_write.specs.declared.region.Region.{Region}
 use Rattle.oer_write.specs.declared.scope.Scope.{Scope}
 use Rattle.oer_write.specs.Seen.{around, within, frame_of, opens_in}
+use Rattle.oer_write.specs.Written.{Written, fresh}
 use Rattle.oer_write.proofs.Filling.{filled}
 use Rattle.oer_write.proofs.Keeping.{begins_then}
 
@@ -86,6 +87,10 @@ refused_as (Ok x) p q new e h = tt
 refused_as (Err k) p q new e (m, b) = (m, (b.0, b.1 ∙ ap (λ (o : Octets). o ++ b.0) e))
 
 -- ---- scopes
+
+-- an encoder that was opened has a new scope
+pub opened_new : (is_set extensible : Bool) (o : Octets) (e : Written) → e ≡ record { octets = o; frame = fresh is_set extensible (length o); outer = [] } → IsNew is_set extensible e
+opened_new is_set extensible o e h = ap (λ (w : Written). w.frame) h ∙ ap (λ (w : Written). fresh is_set extensible (length w.octets)) (sym h)
 
 false_right : (a b : Bool) → b ≡ true → (a && not b) ≡ false
 false_right true b e = ap not e

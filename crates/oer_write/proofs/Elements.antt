@@ -161,9 +161,9 @@ list_fits own BadTime few short = refl
 
 module _ {E : Type 0} (runs : E → Runs) (tree : E → Tree) where
   -- an element that was written has the octets of its tree
-  element_octets : (x : E) (o : Octets) → ((e e' : Written) (r : Result (Unit {0}) EncodeError) → runs x e r e' → WritesTree (tree x) e r e') → WroteElement (runs x) o → (o ≡ canonical_octets (tree x)) × IsEncodable (tree x)
+  element_octets : (x : E) (o : Octets) → ((e e' : Written) (r : Result (Unit {0}) EncodeError) → e.frame.is_open ≡ false → runs x e r e' → WritesTree (tree x) e r e') → WroteElement (runs x) o → (o ≡ canonical_octets (tree x)) × IsEncodable (tree x)
   element_octets x o known w =
-      let h : Encodes (tree x) w.entered w.left = known _ _ _ w.ran in
+      let h : Encodes (tree x) w.entered w.left = known _ _ _ w.opened w.ran in
       (append_cancel_left w.entered.octets _ _ (sym w.wrote ∙ ap (λ (e : Written). e.octets) h.written), h.encodable)
 
   contents_are : (xs : List E) (os : List Octets) → IsKnownToWriteAt runs xs tree → WroteEach runs xs os → os ≡ canonical_elements (trees_of tree xs)
@@ -172,21 +172,21 @@ module _ {E : Type 0} (runs : E → Runs) (tree : E → Tree) where
   contents_are [] (o ∷ os) known w = absurd w
   contents_are (x ∷ xs) [] known w = absurd w
   contents_are (x ∷ xs) (o ∷ os) known w =
-      let here : o ≡ canonical_octets (tree x) = (element_octets x o (λ e e' r p. known x e e' r (contains_first x xs) p) w.0).0 in
-      let rest : os ≡ canonical_elements (trees_of tree xs) = contents_are xs os (λ y e e' r there p. known y e e' r (contains_more x y xs there) p) w.1 in
+      let here : o ≡ canonical_octets (tree x) = (element_octets x o (λ e e' r shut p. known x e e' r (contains_first x xs) shut p) w.0).0 in
+      let rest : os ≡ canonical_elements (trees_of tree xs) = contents_are xs os (λ y e e' r there shut p. known y e e' r (contains_more x y xs there) shut p) w.1 in
       ap₂ (λ (a : Octets) (b : List Octets). a ∷ b) here rest
 
   each_encodable : (xs : List E) (os : List Octets) → IsKnownToWriteAt runs xs tree → WroteEach runs xs os → EachValue (λ v. IsEncodable (tree v)) xs
   each_encodable [] os known w = tt
   each_encodable (x ∷ xs) [] known w = absurd w
   each_encodable (x ∷ xs) (o ∷ os) known w =
-      ((element_octets x o (λ e e' r p. known x e e' r (contains_first x xs) p) w.0).1, each_encodable xs os (λ y e e' r there p. known y e e' r (contains_more x y xs there) p) w.1)
+      ((element_octets x o (λ e e' r shut p. known x e e' r (contains_first x xs) shut p) w.0).1, each_encodable xs os (λ y e e' r there shut p. known y e e' r (contains_more x y xs there) shut p) w.1)
 
   none_fails : (xs : List E) (os : List Octets) → IsKnownToWriteAt runs xs tree → WroteEach runs xs os → (k : Failure) → trees_fail (trees_of tree xs) k ≡ false
   unfolding fails
   none_fails [] os known w k = refl
   none_fails (x ∷ xs) [] known w k = absurd w
-  none_fails (x ∷ xs) (o ∷ os) known w k = or_false _ _ ((element_octets x o (λ e e' r p. known x e e' r (contains_first x xs) p) w.0).1 k) (none_fails xs os (λ y e e' r there p. known y e e' r (contains_more x y xs there) p) w.1 k)
+  none_fails (x ∷ xs) (o ∷ os) known w k = or_false _ _ ((element_octets x o (λ e e' r shut p. known x e e' r (contains_first x xs) shut p) w.0).1 k) (none_fails xs os (λ y e e' r there shut p. known y e e' r (contains_more x y xs there) shut p) w.1 k)
 
   pub list_encodable : (ordered : Bool) (xs : List E) (own : List Octets) → own ≡ canonical_elements (trees_of tree xs) → ((k : Failure) → trees_fail (trees_of tree xs) k ≡ false) → empties own < 65537 → length own < 2 ^ 64 → IsEncodable (ListOf ordered (trees_of tree xs))
   unfolding fails
@@ -243,14 +243,14 @@ module _ {E : Type 0} (runs : E → Runs) (tree : E → Tree) where
 
   -- the law at each element of a front
   known_before : (xs front : List E) (x : E) (more : List E) → xs ≡ front ++ x ∷ more → IsKnownToWriteAt runs xs tree → IsKnownToWriteAt runs front tree
-  known_before xs front x more split known = λ y e e' r there p. known y e e' r (contains_before xs front x more split y there) p
+  known_before xs front x more split known = λ y e e' r there shut p. known y e e' r (contains_before xs front x more split y there) shut p
 
   -- where the closure refused, or one more was too many: the first element that is refused
   pub first_refused : (xs : List E) (x : EncodeError) → IsKnownToWriteAt runs xs tree → ElementsBroken runs xs x → IsByFirst tree xs x
   first_refused xs x known (inl m) = inl m
   first_refused xs x known (inr (inl r)) =
       let before = known_before xs r.front r.element r.more r.split known in
-      let law : Refused (tree r.element) x r.entered r.left = known r.element _ _ _ (contains_there xs r.front r.element r.more r.split) r.ran in
+      let law : Refused (tree r.element) x r.entered r.left = known r.element _ _ _ (contains_there xs r.front r.element r.more r.split) r.opened r.ran in
       elim law.reason [
         | inl m ↦ inl (m, law.mode)
         | inr f ↦ inr (record {
@@ -265,7 +265,7 @@ module _ {E : Type 0} (runs : E → Runs) (tree : E → Tree) where
       ]
   first_refused xs x known (inr (inr r)) =
       let before = known_before xs r.front r.element r.more r.split known in
-      let octets = element_octets r.element [] (λ e e' s p. known r.element e e' s (contains_there xs r.front r.element r.more r.split) p) r.wrote in
+      let octets = element_octets r.element [] (λ e e' s shut p. known r.element e e' s (contains_there xs r.front r.element r.more r.split) shut p) r.wrote in
       let full : empties (canonical_elements (trees_of tree r.front)) ≡ 65536 = rw (← contents_are r.front r.contents before r.each) r.full in
       inr (record {
         front = r.front;
@@ -288,7 +288,7 @@ module _ {E : Type 0} (runs : E → Runs) (tree : E → Tree) where
   broken_mode : (xs : List E) (x : EncodeError) → IsKnownToWriteAt runs xs tree → ElementsBroken runs xs x → x.codec ≡ Coer
   broken_mode xs x known (inl m) = m.1
   broken_mode xs x known (inr (inl r)) =
-      let law : Refused (tree r.element) x r.entered r.left = known r.element _ _ _ (contains_there xs r.front r.element r.more r.split) r.ran in
+      let law : Refused (tree r.element) x r.entered r.left = known r.element _ _ _ (contains_there xs r.front r.element r.more r.split) r.opened r.ran in
       law.mode
   broken_mode xs x known (inr (inr r)) = ap (λ (z : EncodeError). z.codec) r.refusal
 

@@ -39,9 +39,9 @@ unfolding canonical_octets
 sequence_octets_are extensible start roots additions = rw (items_are roots, items_are additions, presence_is roots, bodies_are roots, extended_is additions, bitmap_is additions, opens_are additions) refl
 
 -- a closure that writes the rows of a sequence: the sequence is written
-pub sequence_done : {runs : Runs} {extensible : Bool} {old new : Written} (roots additions : Rows) → IsKnownToWrite runs roots additions → Closed runs extensible old new → Encodes (Struct false extensible roots additions) old new
+pub sequence_done : {runs : Runs} {extensible : Bool} {old new : Written} (roots additions : Rows) → IsKnownToWrite extensible runs roots additions → Closed runs extensible old new → Encodes (Struct false extensible roots additions) old new
 sequence_done {runs} {extensible} {old} {new} roots additions known closed =
-    let h : RowsDone roots additions closed.ran.entered closed.ran.left = known _ _ _ closed.ran.ran (ap (λ (f : WriteFrame). f.is_set) closed.ran.opened) in
+    let h : RowsDone roots additions closed.ran.entered closed.ran.left = known _ _ _ closed.ran.opened closed.ran.ran (ap (λ (f : WriteFrame). f.is_set) closed.ran.opened) in
     let components : closed.components ≡ octets_of roots = append_cancel_left _ _ _ (sym closed.ran.wrote ∙ h.octets) in
     let frame : closed.frame ≡ recorded (presence_of roots) (bitmap_of additions) (opens_of additions) (fresh false extensible (length closed.ran.entered.octets)) = sym closed.ran.closed ∙ rw closed.ran.opened at h.frame in
     let octets : sequence_octets closed.frame closed.components ≡ canonical_octets (Struct false extensible roots additions) = ap₂ sequence_octets frame components ∙ sym (sequence_octets_are extensible (length closed.ran.entered.octets) roots additions) in
@@ -52,12 +52,12 @@ sequence_done {runs} {extensible} {old} {new} roots additions known closed =
     }
 
 -- and where the scope refuses, the sequence does so by the law
-pub sequence_refused : {runs : Runs} {extensible : Bool} {old new : Written} (roots additions : Rows) → IsKnownToWrite runs roots additions → (x : EncodeError) → Broken runs false extensible x old new → Refused (Struct false extensible roots additions) x old new
+pub sequence_refused : {runs : Runs} {extensible : Bool} {old new : Written} (roots additions : Rows) → IsKnownToWrite extensible runs roots additions → (x : EncodeError) → Broken runs false extensible x old new → Refused (Struct false extensible roots additions) x old new
 sequence_refused {runs} {extensible} {old} {new} roots additions known x broken = record {
   reason = elim broken.reason [
     | inl m ↦ inl m.0
-    | inr s ↦ elim (known _ _ _ s.ran (ap (λ (f : WriteFrame). f.is_set) s.opened)).reason [ inl m ↦ inl m | inr f ↦ inr (struct_fails false extensible roots additions x.kind f) ]
+    | inr s ↦ elim (known _ _ _ s.opened s.ran (ap (λ (f : WriteFrame). f.is_set) s.opened)).reason [ inl m ↦ inl m | inr f ↦ inr (struct_fails false extensible roots additions x.kind f) ]
   ];
-  mode = elim broken.reason [ inl m ↦ m.1 | inr s ↦ (known _ _ _ s.ran (ap (λ (f : WriteFrame). f.is_set) s.opened)).mode ];
+  mode = elim broken.reason [ inl m ↦ m.1 | inr s ↦ (known _ _ _ s.opened s.ran (ap (λ (f : WriteFrame). f.is_set) s.opened)).mode ];
   keeps = broken.keeps;
 }

@@ -18,9 +18,9 @@ unfolding canonical_octets
 set_octets_are extensible start roots additions = rw (items_are roots, items_are additions, extended_is additions, bitmap_is additions, opens_are additions) refl
 
 -- a closure that writes the rows of a set: the set is written
-pub set_done : {runs : Runs} {extensible : Bool} {old new : Written} (roots additions : Rows) → IsKnownToWriteSet runs roots additions → SetClosed runs extensible old new → Encodes (Struct true extensible roots additions) old new
+pub set_done : {runs : Runs} {extensible : Bool} {old new : Written} (roots additions : Rows) → IsKnownToWriteSet extensible runs roots additions → SetClosed runs extensible old new → Encodes (Struct true extensible roots additions) old new
 set_done {runs} {extensible} {old} {new} roots additions known closed =
-    let h : SetDone roots additions closed.ran.entered closed.ran.left = known _ _ _ closed.ran.ran (ap (λ (f : WriteFrame). f.is_set) closed.ran.opened) in
+    let h : SetDone roots additions closed.ran.entered closed.ran.left = known _ _ _ closed.ran.opened closed.ran.ran (ap (λ (f : WriteFrame). f.is_set) closed.ran.opened) in
     let frame : closed.frame ≡ set_frame extensible (length closed.ran.entered.octets) roots additions = sym closed.ran.closed ∙ rw closed.ran.opened at h.frame in
     let counted : length (bitmap_of additions) < 2 ^ 64 = rw frame at closed.ran.counted in
     record {
@@ -29,12 +29,12 @@ set_done {runs} {extensible} {old} {new} roots additions known closed =
     }
 
 -- and where the scope refuses, the set does so by the law
-pub set_refused : {runs : Runs} {extensible : Bool} {old new : Written} (roots additions : Rows) → IsKnownToWriteSet runs roots additions → (x : EncodeError) → Broken runs true extensible x old new → Refused (Struct true extensible roots additions) x old new
+pub set_refused : {runs : Runs} {extensible : Bool} {old new : Written} (roots additions : Rows) → IsKnownToWriteSet extensible runs roots additions → (x : EncodeError) → Broken runs true extensible x old new → Refused (Struct true extensible roots additions) x old new
 set_refused {runs} {extensible} {old} {new} roots additions known x broken = record {
   reason = elim broken.reason [
     | inl m ↦ inl m.0
-    | inr s ↦ elim (known _ _ _ s.ran (ap (λ (f : WriteFrame). f.is_set) s.opened)).reason [ inl m ↦ inl m | inr f ↦ inr (struct_fails true extensible roots additions x.kind f) ]
+    | inr s ↦ elim (known _ _ _ s.opened s.ran (ap (λ (f : WriteFrame). f.is_set) s.opened)).reason [ inl m ↦ inl m | inr f ↦ inr (struct_fails true extensible roots additions x.kind f) ]
   ];
-  mode = elim broken.reason [ inl m ↦ m.1 | inr s ↦ (known _ _ _ s.ran (ap (λ (f : WriteFrame). f.is_set) s.opened)).mode ];
+  mode = elim broken.reason [ inl m ↦ m.1 | inr s ↦ (known _ _ _ s.opened s.ran (ap (λ (f : WriteFrame). f.is_set) s.opened)).mode ];
   keeps = broken.keeps;
 }

@@ -39,6 +39,6 @@ pub record ComponentBroken (runs : Runs) (x : EncodeError) (old new : Written) :
   pub keeps : Keeps old new
   pub reason : WantsMemory x ⊎ RefusedInside runs x
 
--- whatever encoder the closure is lent, it writes this tree
+-- whatever encoder with no scope open the closure is lent, it writes this tree
 abbrev pub IsKnownToWriteTree : Runs → Tree → Type 0
-IsKnownToWriteTree runs t = (e e' : Written) (r : Result (Unit {0}) EncodeError) → runs e r e' → WritesTree t e r e'
+IsKnownToWriteTree runs t = (e e' : Written) (r : Result (Unit {0}) EncodeError) → e.frame.is_open ≡ false → runs e r e' → WritesTree t e r e'

@@ -73,5 +73,6 @@ abbrev pub WritesAlternative : Tree → Tag → Written → Result Tag EncodeErr
 WritesAlternative t tag e (Ok u) e' = (u ≡ tag) × Encodes t e e'
 WritesAlternative t tag e (Err x) e' = Refused t x e e'
 
+-- whatever encoder with no scope open the closure is lent, it does so
 abbrev pub IsKnownToPick : Picks → Tag → Tree → Type 0
-IsKnownToPick picks tag t = (e e' : Written) (r : Result Tag EncodeError) → picks e r e' → WritesAlternative t tag e r e'
+IsKnownToPick picks tag t = (e e' : Written) (r : Result Tag EncodeError) → e.frame.is_open ≡ false → picks e r e' → WritesAlternative t tag e r e'

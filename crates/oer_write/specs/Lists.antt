@@ -14,9 +14,9 @@ use Rattle.oer_spec.specs.Tree.{Tree}
 use Rattle.oer_write.specs.Scopes.{Runs}
 use Rattle.oer_write.specs.Written.{Written, append, Keeps, WritesTree, WantsMemory}
 
--- the closure may be called at this element
+-- the closure may be called at this element, on an encoder with no scope open
 abbrev pub TakesElement : {F E : Type 0} → Shared F (MutBor Written × (Bor E × Unit {0})) (Result (Unit {0}) EncodeError × (MutBor Written × Unit {0})) → F → E → Type 0
-TakesElement {F} {E} g f x = (shown : MutBor Written) (element : Bor E) → element.now ≡ x → g.pre f (shown, (element, tt))
+TakesElement {F} {E} g f x = (shown : MutBor Written) (element : Bor E) → shown.now.frame.is_open ≡ false → element.now ≡ x → g.pre f (shown, (element, tt))
 
 -- what the closure may do at an element
 pub record PromiseAt {F E : Type 0} (g : Shared F (MutBor Written × (Bor E × Unit {0})) (Result (Unit {0}) EncodeError × (MutBor Written × Unit {0}))) (f : F) (x : E) (e : Written) (r : Result (Unit {0}) EncodeError) (e' : Written) : Type 0 where
@@ -94,7 +94,7 @@ pub record ListBroken {E : Type 0} (runs : E → Runs) (xs : List E) (x : Encode
 
 -- whatever encoder with no scope open the closure is lent, it writes the element by its tree
 abbrev pub IsKnownToWriteAt : {E : Type 0} → (E → Runs) → List E → (E → Tree) → Type 0
-IsKnownToWriteAt {E} runs xs tree = (x : E) (e e' : Written) (r : Result (Unit {0}) EncodeError) → Contains xs x → runs x e r e' → WritesTree (tree x) e r e'
+IsKnownToWriteAt {E} runs xs tree = (x : E) (e e' : Written) (r : Result (Unit {0}) EncodeError) → Contains xs x → e.frame.is_open ≡ false → runs x e r e' → WritesTree (tree x) e r e'
 
 -- The first element that is refused: those of the front can be written, at most 65,536 of them without octets; the next
 -- breaks the condition that the kind names, or has no octets as 65,536 of the front.

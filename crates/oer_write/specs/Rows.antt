@@ -11,7 +11,7 @@ use Rattle.oer_spec.specs.Lengths.{behind_length}
 use Rattle.oer_spec.specs.Places.{Item, needed, present, absent}
 use Rattle.oer_spec.specs.Tree.{Tree, Rows, NoRows, Required, Optional, Default, Slot, Absent, Present}
 use Rattle.oer_spec.specs.Failures.{Fails}
-use Rattle.oer_write.specs.Scopes.{Runs}
+use Rattle.oer_write.specs.Scopes.{Runs, IsNew}
 use Rattle.oer_write.specs.Written.{Written, WriteFrame, Keeps}
 
 -- ---- what rows give
@@ -135,9 +135,9 @@ WritesRows roots additions e (Err x) e' = RowsRefused roots additions x e e'
 abbrev pub InSequence : Rows → Rows → Written → Result (Unit {0}) EncodeError → Written → Type 0
 InSequence roots additions e r e' = e.frame.is_set ≡ false → WritesRows roots additions e r e'
 
--- whatever encoder in a sequence the closure is lent, it writes these rows
-abbrev pub IsKnownToWrite : Runs → Rows → Rows → Type 0
-IsKnownToWrite runs roots additions = (e e' : Written) (r : Result (Unit {0}) EncodeError) → runs e r e' → InSequence roots additions e r e'
+-- whatever encoder with such a new sequence the closure is lent, it writes these rows
+abbrev pub IsKnownToWrite : Bool → Runs → Rows → Rows → Type 0
+IsKnownToWrite extensible runs roots additions = (e e' : Written) (r : Result (Unit {0}) EncodeError) → IsNew false extensible e → runs e r e' → InSequence roots additions e r e'
 
 -- In a set: the root rows are kept apart, in the order handed in.
 pub record SetDone (roots additions : Rows) (e e' : Written) : Type 0 where
@@ -155,8 +155,8 @@ WritesSet roots additions e (Err x) e' = RowsRefused roots additions x e e'
 abbrev pub InSet : Rows → Rows → Written → Result (Unit {0}) EncodeError → Written → Type 0
 InSet roots additions e r e' = e.frame.is_set ≡ true → WritesSet roots additions e r e'
 
-abbrev pub IsKnownToWriteSet : Runs → Rows → Rows → Type 0
-IsKnownToWriteSet runs roots additions = (e e' : Written) (r : Result (Unit {0}) EncodeError) → runs e r e' → InSet roots additions e r e'
+abbrev pub IsKnownToWriteSet : Bool → Runs → Rows → Rows → Type 0
+IsKnownToWriteSet extensible runs roots additions = (e e' : Written) (r : Result (Unit {0}) EncodeError) → IsNew true extensible e → runs e r e' → InSet roots additions e r e'
 
 -- ---- single rows
 

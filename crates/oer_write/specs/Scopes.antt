@@ -19,9 +19,13 @@ Runs = Written → Result (Unit {0}) EncodeError → Written → Type 0
 abbrev pub Promise : {F : Type 0} → Once F (MutBor Written × Unit {0}) (Result (Unit {0}) EncodeError × (MutBor Written × Unit {0})) → F → Runs
 Promise g f e r e' = FnOnceReturnsAtMut g f e r e'
 
--- whatever encoder with such a scope the closure is lent, the octets before and the open scopes stay
-abbrev pub IsOrderly : Bool → Runs → Type 0
-IsOrderly is_set runs = (e e' : Written) (r : Result (Unit {0}) EncodeError) → e.frame.is_set ≡ is_set → runs e r e' → Keeps e e'
+-- a new scope: what is lent to a closure
+abbrev pub IsNew : Bool → Bool → Written → Type 0
+IsNew is_set extensible e = e.frame ≡ fresh is_set extensible (length e.octets)
+
+-- whatever encoder with such a new scope the closure is lent, the octets before and the open scopes stay
+abbrev pub IsOrderly : Bool → Bool → Runs → Type 0
+IsOrderly is_set extensible runs = (e e' : Written) (r : Result (Unit {0}) EncodeError) → IsNew is_set extensible e → runs e r e' → Keeps e e'
 
 abbrev pub any_true : List Bool → Bool
 any_true [] = false
@@ -50,7 +54,7 @@ IsSameInAnyOrder = (f : WriteFrame) (handed : List Item) → AreDistinct (item_t
 pub record RanInScope (runs : Runs) (is_set extensible : Bool) (frame : WriteFrame) (components : Octets) : Type 0 where
   pub entered : Written
   pub left : Written
-  pub opened : entered.frame ≡ fresh is_set extensible (length entered.octets)
+  pub opened : IsNew is_set extensible entered
   pub ran : runs entered (Ok tt) left
   pub closed : left.frame ≡ frame
   pub wrote : left.octets ≡ entered.octets ++ components
@@ -74,7 +78,7 @@ pub record SetClosed (runs : Runs) (extensible : Bool) (old new : Written) : Typ
 pub record Stopped (runs : Runs) (is_set extensible : Bool) (x : EncodeError) : Type 0 where
   pub entered : Written
   pub left : Written
-  pub opened : entered.frame ≡ fresh is_set extensible (length entered.octets)
+  pub opened : IsNew is_set extensible entered
   pub ran : runs entered (Err x) left
 
 -- the scope refuses what its closure refused, or for want of memory

@@ -1,12 +1,13 @@
 //! Choices: a tag, and the alternative that the closure writes.
 ghost use Rattle.std.specs.Prelude.{◌≡◌, ◌^◌, ◌<◌, ◌++◌, ◌⊎◌, Bool, true, false, length, OnOk, OnErr, IfErr};
+ghost use Rattle.std.specs.Fn.{FnOnceTakesAtMut};
 ghost use Rattle.asn1_core.specs.Octets.{Octets};
 ghost use Rattle.asn1_core.specs.Tags.{holds};
 ghost use Rattle.oer_spec.specs.Lengths.{tag_octets};
 ghost use Rattle.oer_spec.specs.Tree.{Tree, Choice};
 ghost use Rattle.oer_spec.specs.Writing.{BeginsWith};
 ghost use Rattle.oer_write.specs.Choices.{PromisePick, PicksTag, ContentDone, ContentRefused, Appended, AppendedOpen, alternative_octets, ChoiceDone, ChoiceBroken, IsKnownToPick};
-ghost use Rattle.oer_write.specs.Written.{Keeps, Encodes, Refused, WantsMemory};
+ghost use Rattle.oer_write.specs.Written.{Written, Keeps, Encodes, Refused, WantsMemory};
 
 use crate::encoder::Encoder;
 use crate::holes::{close_open, keep_free};
@@ -20,7 +21,7 @@ fn lend_pick<F: FnOnce(&mut Encoder<'_>) -> Result<Tag, EncodeError>>(
     encoder: &mut Encoder<'_>,
     f: F,
 ) -> Result<Tag, EncodeError>
-    requires callable { F.IsAlwaysCallable f }
+    requires callable { FnOnceTakesAtMut F.FnOnce f encoder.old }
     ensures { PromisePick F.FnOnce f encoder.old result encoder.new }
 {
     f(encoder)
@@ -32,7 +33,7 @@ fn pick<F: FnOnce(&mut Encoder<'_>) -> Result<Tag, EncodeError>>(
     tag: Tag,
     f: F,
 ) -> Result<(), EncodeError>
-    requires callable { F.IsAlwaysCallable f }
+    requires callable { FnOnceTakesAtMut F.FnOnce f encoder.old }
     requires picks { PicksTag (PromisePick F.FnOnce f) tag }
     requires shut { encoder.old.frame.is_open ≡ false }
     ensures done { OnOk result (Appended (PromisePick F.FnOnce f) encoder.old.octets encoder.new.octets) }
@@ -50,7 +51,7 @@ fn pick_into<F: FnOnce(&mut Encoder<'_>) -> Result<Tag, EncodeError>>(
     f: F,
     out: &mut Vec<u8>,
 ) -> Result<(), EncodeError>
-    requires callable { F.IsAlwaysCallable f }
+    requires callable { (lent : Written) → lent.frame.is_open ≡ false → FnOnceTakesAtMut F.FnOnce f lent }
     requires picks { PicksTag (PromisePick F.FnOnce f) tag }
     ensures done { OnOk result (Appended (PromisePick F.FnOnce f) out.old.items out.new.items) }
     ensures refused { IfErr result (λ x. ContentRefused (PromisePick F.FnOnce f) x) }
@@ -69,7 +70,7 @@ fn pick_open<F: FnOnce(&mut Encoder<'_>) -> Result<Tag, EncodeError>>(
     f: F,
     out: &mut Vec<u8>,
 ) -> Result<(), EncodeError>
-    requires callable { F.IsAlwaysCallable f }
+    requires callable { (lent : Written) → lent.frame.is_open ≡ false → FnOnceTakesAtMut F.FnOnce f lent }
     requires picks { PicksTag (PromisePick F.FnOnce f) tag }
     ensures done { OnOk result (AppendedOpen (PromisePick F.FnOnce f) out.old.items out.new.items) }
     ensures refused { IfErr result (λ x. WantsMemory x ⊎ ContentRefused (PromisePick F.FnOnce f) x) }
@@ -91,7 +92,7 @@ fn write_choice<F: FnOnce(&mut Encoder<'_>) -> Result<Tag, EncodeError>>(
     f: F,
     out: &mut Vec<u8>,
 ) -> Result<(), EncodeError>
-    requires callable { F.IsAlwaysCallable f }
+    requires callable { (lent : Written) → lent.frame.is_open ≡ false → FnOnceTakesAtMut F.FnOnce f lent }
     requires picks { PicksTag (PromisePick F.FnOnce f) tag }
     ensures done { OnOk result ((o : Octets) × ContentDone (PromisePick F.FnOnce f) o × (is_root ≡ false → length o < 2 ^ 64) × (out.new.items ≡ out.old.items ++ (tag_octets tag ++ alternative_octets is_root o))) }
     ensures refused { IfErr result (λ x. WantsMemory x ⊎ ContentRefused (PromisePick F.FnOnce f) x) }
@@ -113,7 +114,7 @@ fn put_choice<F: FnOnce(&mut Encoder<'_>) -> Result<Tag, EncodeError>>(
     f: F,
     out: &mut Vec<u8>,
 ) -> Result<(), EncodeError>
-    requires callable { F.IsAlwaysCallable f }
+    requires callable { (lent : Written) → lent.frame.is_open ≡ false → FnOnceTakesAtMut F.FnOnce f lent }
     requires picks { PicksTag (PromisePick F.FnOnce f) tag }
     ensures done { OnOk result ((o : Octets) × ContentDone (PromisePick F.FnOnce f) o × (is_root ≡ false → length o < 2 ^ 64) × (out.new.items ≡ out.old.items ++ (tag_octets tag ++ alternative_octets is_root o))) }
     ensures refused { IfErr result (λ x. WantsMemory x ⊎ ContentRefused (PromisePick F.FnOnce f) x) }
@@ -140,7 +141,7 @@ impl<'buffer> Encoder<'buffer> {
         tag: Tag,
         f: F,
     ) -> Result<(), EncodeError>
-        requires callable { F.IsAlwaysCallable f }
+        requires callable { (lent : Written) → lent.frame.is_open ≡ false → FnOnceTakesAtMut F.FnOnce f lent }
         requires picks { PicksTag (PromisePick F.FnOnce f) tag }
         ensures done { OnOk result (ChoiceDone (PromisePick F.FnOnce f) (holds E.root_tags tag) tag self.old self.new) }
         ensures refused { IfErr result (λ x. ChoiceBroken (PromisePick F.FnOnce f) x self.old self.new) }
@@ -157,7 +158,7 @@ impl<'buffer> Encoder<'buffer> {
         is_root: bool,
         f: F,
     ) -> Result<(), EncodeError>
-        requires callable { F.IsAlwaysCallable f }
+        requires callable { (lent : Written) → lent.frame.is_open ≡ false → FnOnceTakesAtMut F.FnOnce f lent }
         requires picks { PicksTag (PromisePick F.FnOnce f) tag }
         ensures done { OnOk result (ChoiceDone (PromisePick F.FnOnce f) is_root tag self.old self.new) }
         ensures refused { IfErr result (λ x. ChoiceBroken (PromisePick F.FnOnce f) x self.old self.new) }

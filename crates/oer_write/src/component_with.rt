@@ -1,5 +1,6 @@
 //! Components of the open scope that a closure writes.
 ghost use Rattle.std.specs.Prelude.{◌≡◌, ◌⊎◌, ◌++◌, [], ◌∷◌, true, false, OnOk, IfErr};
+ghost use Rattle.std.specs.Fn.{FnOnceTakesAtMut};
 ghost use Rattle.asn1_core.specs.Octets.{Octets};
 ghost use Rattle.oer_spec.specs.Places.{needed};
 ghost use Rattle.oer_spec.specs.Tree.{Tree, NoRows};
@@ -8,7 +9,7 @@ ghost use Rattle.oer_write.specs.ByClosure.{AppendedBy, RefusedInside, PutBy, Ke
 ghost use Rattle.oer_write.specs.Lists.{WroteElement, IsOrderlyHere};
 ghost use Rattle.oer_write.specs.Rows.{RowsDone, SetDone, RowsRefused, required};
 ghost use Rattle.oer_write.specs.Scopes.{Promise};
-ghost use Rattle.oer_write.specs.Written.{Keeps, WantsMemory};
+ghost use Rattle.oer_write.specs.Written.{Written, Keeps, WantsMemory};
 
 use crate::component::{Component, Components, push_place};
 use crate::encoder::Encoder;
@@ -20,7 +21,7 @@ fn lend_to<F: FnOnce(&mut Encoder<'_>) -> Result<(), EncodeError>>(
     encoder: &mut Encoder<'_>,
     f: F,
 ) -> Result<(), EncodeError>
-    requires callable { F.IsAlwaysCallable f }
+    requires callable { FnOnceTakesAtMut F.FnOnce f encoder.old }
     ensures { Promise F.FnOnce f encoder.old result encoder.new }
 {
     f(encoder)
@@ -31,7 +32,7 @@ fn put_by<F: FnOnce(&mut Encoder<'_>) -> Result<(), EncodeError>>(
     encoder: &mut Encoder<'_>,
     f: F,
 ) -> Result<(), EncodeError>
-    requires callable { F.IsAlwaysCallable f }
+    requires callable { FnOnceTakesAtMut F.FnOnce f encoder.old }
     requires orderly { IsOrderlyHere (Promise F.FnOnce f) }
     requires shut { encoder.old.frame.is_open ≡ false }
     ensures done { OnOk result (AppendedBy (Promise F.FnOnce f) encoder.old.octets encoder.new.octets) }
@@ -48,7 +49,7 @@ fn put_into<F: FnOnce(&mut Encoder<'_>) -> Result<(), EncodeError>>(
     f: F,
     out: &mut Vec<u8>,
 ) -> Result<(), EncodeError>
-    requires callable { F.IsAlwaysCallable f }
+    requires callable { (lent : Written) → lent.frame.is_open ≡ false → FnOnceTakesAtMut F.FnOnce f lent }
     requires orderly { IsOrderlyHere (Promise F.FnOnce f) }
     ensures done { OnOk result (AppendedBy (Promise F.FnOnce f) out.old.items out.new.items) }
     ensures refused { IfErr result (λ x. RefusedInside (Promise F.FnOnce f) x) }
@@ -68,7 +69,7 @@ impl Components {
         tag: Tag,
         f: F,
     ) -> Result<(), EncodeError>
-        requires callable { F.IsAlwaysCallable f }
+        requires callable { (lent : Written) → lent.frame.is_open ≡ false → FnOnceTakesAtMut F.FnOnce f lent }
         requires orderly { IsOrderlyHere (Promise F.FnOnce f) }
         ensures done { OnOk result ((o : Octets) × WroteElement (Promise F.FnOnce f) o × (self.new ≡ self.old ++ (needed tag o ∷ []))) }
         ensures refused { IfErr result (λ x. WantsMemory x ⊎ RefusedInside (Promise F.FnOnce f) x) }
@@ -97,7 +98,7 @@ impl<'buffer> Encoder<'buffer> {
         tag: Tag,
         f: F,
     ) -> Result<(), EncodeError>
-        requires callable { F.IsAlwaysCallable f }
+        requires callable { (lent : Written) → lent.frame.is_open ≡ false → FnOnceTakesAtMut F.FnOnce f lent }
         requires orderly { IsOrderlyHere (Promise F.FnOnce f) }
         ensures in_sequence { self.old.frame.is_set ≡ false → OnOk result (PutBy (Promise F.FnOnce f) self.old self.new) }
         ensures in_set { self.old.frame.is_set ≡ true → OnOk result (KeptBy (Promise F.FnOnce f) tag self.old self.new) }
@@ -114,7 +115,7 @@ impl<'buffer> Encoder<'buffer> {
         tag: Tag,
         f: F,
     ) -> Result<(), EncodeError>
-        requires callable { F.IsAlwaysCallable f }
+        requires callable { (lent : Written) → lent.frame.is_open ≡ false → FnOnceTakesAtMut F.FnOnce f lent }
         requires orderly { IsOrderlyHere (Promise F.FnOnce f) }
         ensures in_sequence { self.old.frame.is_set ≡ false → OnOk result (PutBy (Promise F.FnOnce f) self.old self.new) }
         ensures in_set { self.old.frame.is_set ≡ true → OnOk result (KeptBy (Promise F.FnOnce f) tag self.old self.new) }
@@ -133,7 +134,7 @@ impl<'buffer> Encoder<'buffer> {
         &mut self,
         f: F,
     ) -> Result<(), EncodeError>
-        requires callable { F.IsAlwaysCallable f }
+        requires callable { (lent : Written) → lent.frame.is_open ≡ false → FnOnceTakesAtMut F.FnOnce f lent }
         requires orderly { IsOrderlyHere (Promise F.FnOnce f) }
         ensures done { OnOk result (AppendedBy (Promise F.FnOnce f) self.old.octets self.new.octets) }
         ensures refused { IfErr result (λ x. RefusedInside (Promise F.FnOnce f) x) }

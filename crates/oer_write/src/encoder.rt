@@ -49,9 +49,10 @@ impl<'buffer> Encoder<'buffer> {
         alloc: Global,
         _options: EncoderOptions,
         output: &'buffer mut Vec<u8>,
-        _worker: &'buffer mut Vec<u8>,
+        _worker: &mut Vec<u8>,
     ) -> Encoder<'buffer>
-        ensures { result ≡ record { octets = output.old.items; frame = no_scope; outer = [] } }
+        ensures encoder { result ≡ record { octets = output.old.items; frame = no_scope; outer = [] } }
+        ensures worker { _worker.new ≡ _worker.old }
     {
         Encoder {
             output,
@@ -98,10 +99,9 @@ impl<'buffer> Encoder<'buffer> {
 
     /// Takes out the octets written, and leaves none.
     ///
-    /// No scope may be open. Takes no memory.
+    /// No scope may be open. An encoder that was lent has the octets of before among its own. Takes no memory.
     pub fn output(&mut self) -> Vec<u8>
         requires shut { self.old.frame.is_open ≡ false }
-        requires outermost { self.old.outer ≡ [] }
         ensures taken { result.items ≡ self.old.octets }
         ensures left { self.new ≡ record self.old { octets = [] } }
     {

@@ -28,6 +28,7 @@ fn lend_at<E, F: Fn(&mut Encoder<'_>, &E) -> Result<(), EncodeError>>(
     x: &E,
 ) -> Result<(), EncodeError>
     requires callable { TakesElement F.Fn f.now x.now }
+    requires shut { encoder.old.frame.is_open ≡ false }
     ensures { PromiseAt F.Fn f.now x.now encoder.old result encoder.new }
 {
     f(encoder, x)

@@ -12,8 +12,8 @@ pub enum EncodingRules {
 
 impl EncodingRules {
     /// Whether these are the basic rules.
-    pub fn is_oer(&self) -> bool
-        ensures { result ≡ is_oer self.now }
+    pub fn is_oer(self) -> bool
+        ensures { result ≡ is_oer self }
     {
         match self {
             EncodingRules::Oer => true,
@@ -22,8 +22,8 @@ impl EncodingRules {
     }
 
     /// Whether these are the canonical rules.
-    pub fn is_coer(&self) -> bool
-        ensures { result ≡ is_coer self.now }
+    pub fn is_coer(self) -> bool
+        ensures { result ≡ is_coer self }
     {
         match self {
             EncodingRules::Oer => false,

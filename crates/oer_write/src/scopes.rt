@@ -1,14 +1,15 @@
 //! Scopes: closures that write the components of a sequence straight behind the octets of before, its preamble into octets
 //! kept free in front of them.
 ghost use Rattle.std.specs.Prelude.{◌≡◌, ◌≤◌, ◌++◌, ◌⊎◌, true, false, length, OnOk, OnErr, IfOk, IfErr};
+ghost use Rattle.std.specs.Fn.{FnOnceTakesAtMut};
 ghost use Rattle.asn1_core.specs.Octets.{Octets};
 ghost use Rattle.asn1_core.specs.declared.error.EncodeErrorKind.TheVariants.{OutOfMemory};
 ghost use Rattle.oer_spec.specs.Tree.{Rows, Struct};
 ghost use Rattle.oer_spec.specs.Writing.{BeginsWith};
 ghost use Rattle.oer_write.specs.Rows.{IsKnownToWrite};
-ghost use Rattle.oer_write.specs.Scopes.{Promise, IsOrderly, RanInScope, Closed, Stopped, Broken, sequence_octets};
+ghost use Rattle.oer_write.specs.Scopes.{Promise, IsNew, IsOrderly, RanInScope, Closed, Stopped, Broken, sequence_octets};
 ghost use Rattle.oer_write.specs.Seen.{around, frame_of, IsSound};
-ghost use Rattle.oer_write.specs.Written.{WriteFrame, Keeps, Encodes, Refused, WantsMemory};
+ghost use Rattle.oer_write.specs.Written.{Written, WriteFrame, Keeps, Encodes, Refused, WantsMemory};
 
 use crate::encoder::Encoder;
 use crate::holes::{keep_free, preamble_size};
@@ -31,8 +32,8 @@ pub(crate) fn lend<F: FnOnce(&mut Encoder<'_>) -> Result<(), EncodeError>>(
     encoder: &mut Encoder<'_>,
     f: F,
 ) -> Result<(), EncodeError>
-    requires callable { F.IsAlwaysCallable f }
-    requires orderly { IsOrderly encoder.old.frame.is_set (Promise F.FnOnce f) }
+    requires callable { FnOnceTakesAtMut F.FnOnce f encoder.old }
+    requires orderly { (answer : _) (left : Written) → Promise F.FnOnce f encoder.old answer left → Keeps encoder.old left }
     ensures ran { Promise F.FnOnce f encoder.old result encoder.new }
     ensures keeps { Keeps encoder.old encoder.new }
 {
@@ -47,8 +48,8 @@ fn write_sequence<F: FnOnce(&mut Encoder<'_>) -> Result<(), EncodeError>>(
     output: &mut Vec<u8>,
     f: F,
 ) -> Result<(), EncodeError>
-    requires callable { F.IsAlwaysCallable f }
-    requires orderly { IsOrderly false (Promise F.FnOnce f) }
+    requires callable { (lent : Written) → IsNew false extensible lent → FnOnceTakesAtMut F.FnOnce f lent }
+    requires orderly { IsOrderly false extensible (Promise F.FnOnce f) }
     ensures done { OnOk result ((frame : WriteFrame) × (o : Octets) × RanInScope (Promise F.FnOnce f) false extensible frame o × (output.new.items ≡ output.old.items ++ sequence_octets frame o)) }
     ensures refused { IfErr result (λ x. WantsMemory x ⊎ Stopped (Promise F.FnOnce f) false extensible x) }
     ensures begins { BeginsWith output.old.items output.new.items }
@@ -76,8 +77,8 @@ fn put_sequence<F: FnOnce(&mut Encoder<'_>) -> Result<(), EncodeError>>(
     output: &mut Vec<u8>,
     f: F,
 ) -> Result<(), EncodeError>
-    requires callable { F.IsAlwaysCallable f }
-    requires orderly { IsOrderly false (Promise F.FnOnce f) }
+    requires callable { (lent : Written) → IsNew false extensible lent → FnOnceTakesAtMut F.FnOnce f lent }
+    requires orderly { IsOrderly false extensible (Promise F.FnOnce f) }
     ensures done { OnOk result ((frame : WriteFrame) × (o : Octets) × RanInScope (Promise F.FnOnce f) false extensible frame o × (output.new.items ≡ output.old.items ++ sequence_octets frame o)) }
     ensures refused { IfErr result (λ x. WantsMemory x ⊎ Stopped (Promise F.FnOnce f) false extensible x) }
     ensures unchanged { OnErr result (output.new.items ≡ output.old.items) }
@@ -105,12 +106,12 @@ impl<'buffer> Encoder<'buffer> {
         C: Constructed<RL, EL>,
         F: FnOnce(&mut Encoder<'_>) -> Result<(), EncodeError>,
     >(&mut self, _tag: Tag, f: F) -> Result<(), EncodeError>
-        requires callable { F.IsAlwaysCallable f }
-        requires orderly { IsOrderly false (Promise F.FnOnce f) }
+        requires callable { (lent : Written) → IsNew false C.IS_EXTENSIBLE lent → FnOnceTakesAtMut F.FnOnce f lent }
+        requires orderly { IsOrderly false C.IS_EXTENSIBLE (Promise F.FnOnce f) }
         ensures done { OnOk result (Closed (Promise F.FnOnce f) C.IS_EXTENSIBLE self.old self.new) }
         ensures refused { IfErr result (λ x. Broken (Promise F.FnOnce f) false C.IS_EXTENSIBLE x self.old self.new) }
-        ensures tree { (roots additions : Rows) → IsKnownToWrite (Promise F.FnOnce f) roots additions → OnOk result (Encodes (Struct false C.IS_EXTENSIBLE roots additions) self.old self.new) }
-        ensures tree_refused { (roots additions : Rows) → IsKnownToWrite (Promise F.FnOnce f) roots additions → IfErr result (λ x. Refused (Struct false C.IS_EXTENSIBLE roots additions) x self.old self.new) }
+        ensures tree { (roots additions : Rows) → IsKnownToWrite C.IS_EXTENSIBLE (Promise F.FnOnce f) roots additions → OnOk result (Encodes (Struct false C.IS_EXTENSIBLE roots additions) self.old self.new) }
+        ensures tree_refused { (roots additions : Rows) → IsKnownToWrite C.IS_EXTENSIBLE (Promise F.FnOnce f) roots additions → IfErr result (λ x. Refused (Struct false C.IS_EXTENSIBLE roots additions) x self.old self.new) }
     {
         let extensible = C::IS_EXTENSIBLE;
         let sizes = Sizes {
@@ -127,8 +128,8 @@ impl<'buffer> Encoder<'buffer> {
         sizes: Sizes,
         f: F,
     ) -> Result<(), EncodeError>
-        requires callable { F.IsAlwaysCallable f }
-        requires orderly { IsOrderly false (Promise F.FnOnce f) }
+        requires callable { (lent : Written) → IsNew false extensible lent → FnOnceTakesAtMut F.FnOnce f lent }
+        requires orderly { IsOrderly false extensible (Promise F.FnOnce f) }
         ensures done { OnOk result (Closed (Promise F.FnOnce f) extensible self.old self.new) }
         ensures refused { IfErr result (λ x. Broken (Promise F.FnOnce f) false extensible x self.old self.new) }
         ensures unchanged { OnErr result (self.new ≡ self.old) }

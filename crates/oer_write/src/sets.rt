@@ -1,5 +1,6 @@
 //! Sets: root components in the order of their tags, whatever the order in which they are handed in.
 ghost use Rattle.std.specs.Prelude.{◌≡◌, ◌++◌, ◌⊎◌, [], true, map, OnOk, OnErr, IfErr};
+ghost use Rattle.std.specs.Fn.{FnOnceTakesAtMut};
 ghost use Rattle.asn1_core.specs.Octets.{Octets};
 ghost use Rattle.asn1_core.specs.declared.error.EncodeErrorKind.TheVariants.{OutOfMemory};
 ghost use Rattle.oer_spec.specs.Places.{bodies, by_tag, presence};
@@ -7,9 +8,9 @@ ghost use Rattle.oer_spec.specs.Tree.{Rows, Struct};
 ghost use Rattle.oer_spec.specs.Writing.{AppendsOrMemory, BeginsWith};
 ghost use Rattle.oer_write.specs.Kept.{item};
 ghost use Rattle.oer_write.specs.Rows.{IsKnownToWriteSet};
-ghost use Rattle.oer_write.specs.Scopes.{Promise, IsOrderly, IsSameInAnyOrder, RanInScope, SetClosed, Stopped, Broken, set_octets};
+ghost use Rattle.oer_write.specs.Scopes.{Promise, IsNew, IsOrderly, IsSameInAnyOrder, RanInScope, SetClosed, Stopped, Broken, set_octets};
 ghost use Rattle.oer_write.specs.Seen.{frame_of};
-ghost use Rattle.oer_write.specs.Written.{WriteFrame, Encodes, Refused, WantsMemory};
+ghost use Rattle.oer_write.specs.Written.{Written, WriteFrame, Encodes, Refused, WantsMemory};
 
 use crate::bits::Bits;
 use crate::component::{Component, Components, body_of};
@@ -87,8 +88,8 @@ fn write_set<F: FnOnce(&mut Encoder<'_>) -> Result<(), EncodeError>>(
     output: &mut Vec<u8>,
     f: F,
 ) -> Result<(), EncodeError>
-    requires callable { F.IsAlwaysCallable f }
-    requires orderly { IsOrderly true (Promise F.FnOnce f) }
+    requires callable { (lent : Written) → IsNew true extensible lent → FnOnceTakesAtMut F.FnOnce f lent }
+    requires orderly { IsOrderly true extensible (Promise F.FnOnce f) }
     ensures done { OnOk result ((frame : WriteFrame) × (o : Octets) × RanInScope (Promise F.FnOnce f) true extensible frame o × (output.new.items ≡ output.old.items ++ set_octets frame)) }
     ensures refused { IfErr result (λ x. WantsMemory x ⊎ Stopped (Promise F.FnOnce f) true extensible x) }
     ensures begins { BeginsWith output.old.items output.new.items }
@@ -114,8 +115,8 @@ fn put_set<F: FnOnce(&mut Encoder<'_>) -> Result<(), EncodeError>>(
     output: &mut Vec<u8>,
     f: F,
 ) -> Result<(), EncodeError>
-    requires callable { F.IsAlwaysCallable f }
-    requires orderly { IsOrderly true (Promise F.FnOnce f) }
+    requires callable { (lent : Written) → IsNew true extensible lent → FnOnceTakesAtMut F.FnOnce f lent }
+    requires orderly { IsOrderly true extensible (Promise F.FnOnce f) }
     ensures done { OnOk result ((frame : WriteFrame) × (o : Octets) × RanInScope (Promise F.FnOnce f) true extensible frame o × (output.new.items ≡ output.old.items ++ set_octets frame)) }
     ensures refused { IfErr result (λ x. WantsMemory x ⊎ Stopped (Promise F.FnOnce f) true extensible x) }
     ensures unchanged { OnErr result (output.new.items ≡ output.old.items) }
@@ -142,12 +143,12 @@ impl<'buffer> Encoder<'buffer> {
         C: Constructed<RL, EL>,
         F: FnOnce(&mut Encoder<'_>) -> Result<(), EncodeError>,
     >(&mut self, _tag: Tag, f: F) -> Result<(), EncodeError>
-        requires callable { F.IsAlwaysCallable f }
-        requires orderly { IsOrderly true (Promise F.FnOnce f) }
+        requires callable { (lent : Written) → IsNew true C.IS_EXTENSIBLE lent → FnOnceTakesAtMut F.FnOnce f lent }
+        requires orderly { IsOrderly true C.IS_EXTENSIBLE (Promise F.FnOnce f) }
         ensures done { OnOk result (SetClosed (Promise F.FnOnce f) C.IS_EXTENSIBLE self.old self.new) }
         ensures refused { IfErr result (λ x. Broken (Promise F.FnOnce f) true C.IS_EXTENSIBLE x self.old self.new) }
-        ensures tree { (roots additions : Rows) → IsKnownToWriteSet (Promise F.FnOnce f) roots additions → OnOk result (Encodes (Struct true C.IS_EXTENSIBLE roots additions) self.old self.new) }
-        ensures tree_refused { (roots additions : Rows) → IsKnownToWriteSet (Promise F.FnOnce f) roots additions → IfErr result (λ x. Refused (Struct true C.IS_EXTENSIBLE roots additions) x self.old self.new) }
+        ensures tree { (roots additions : Rows) → IsKnownToWriteSet C.IS_EXTENSIBLE (Promise F.FnOnce f) roots additions → OnOk result (Encodes (Struct true C.IS_EXTENSIBLE roots additions) self.old self.new) }
+        ensures tree_refused { (roots additions : Rows) → IsKnownToWriteSet C.IS_EXTENSIBLE (Promise F.FnOnce f) roots additions → IfErr result (λ x. Refused (Struct true C.IS_EXTENSIBLE roots additions) x self.old self.new) }
         ensures any_order { IsSameInAnyOrder }
     {
         self.set(C::IS_EXTENSIBLE, f)
@@ -159,8 +160,8 @@ impl<'buffer> Encoder<'buffer> {
         extensible: bool,
         f: F,
     ) -> Result<(), EncodeError>
-        requires callable { F.IsAlwaysCallable f }
-        requires orderly { IsOrderly true (Promise F.FnOnce f) }
+        requires callable { (lent : Written) → IsNew true extensible lent → FnOnceTakesAtMut F.FnOnce f lent }
+        requires orderly { IsOrderly true extensible (Promise F.FnOnce f) }
         ensures done { OnOk result (SetClosed (Promise F.FnOnce f) extensible self.old self.new) }
         ensures refused { IfErr result (λ x. Broken (Promise F.FnOnce f) true extensible x self.old self.new) }
         ensures unchanged { OnErr result (self.new ≡ self.old) }

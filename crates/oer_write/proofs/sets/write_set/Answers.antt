@@ -1,13 +1,14 @@
-use Rattle.std.proofs.Common.{◌≡◌, ◌++◌, true, Ok, refl, ap, sym, ◌∙◌, subst, rules, length, take}
+use Rattle.std.proofs.Common.{◌≡◌, ◌++◌, true, Ok, refl, ap, ◌∙◌, subst, rules, length, take}
 use Rattle.std.proofs.lemmas.List.{take_at}
 use Rattle.asn1_core.specs.Octets.{Octets}
 use Rattle.oer_spec.specs.Writing.{AppendsOrMemory}
 use Rattle.oer_write.specs.Scopes.{Promise, set_octets}
-use Rattle.oer_write.specs.Written.{Written, fresh}
+use Rattle.oer_write.specs.Written.{Written}
+use Rattle.oer_write.proofs.Closing.{opened_new}
 use Rattle.oer_write.proofs.sets.write_set.Goals as goal
 
 pub lend-answer-requires-clause-orderly : goal.lend-answer-requires-clause-orderly
-lend-answer-requires-clause-orderly g c = λ e e' r h p. c.requires.orderly e e' r (h ∙ ap (λ (w : Written). w.frame.is_set) c.open-inner.ensures) p
+lend-answer-requires-clause-orderly g c = λ r left p. c.requires.orderly _ left r (opened_new _ _ _ _ c.open-inner.ensures) p
 
 pub returns-clause-done : goal.returns-clause-done
 returns-clause-done g c =
@@ -22,7 +23,7 @@ returns-clause-done g c =
       record {
         entered = c.open-inner.result;
         left = c.lend-answer.new.encoder;
-        opened = ap (λ (w : Written). w.frame) c.open-inner.ensures ∙ ap (λ (w : Written). fresh true c.args.extensible (length w.octets)) (sym c.open-inner.ensures);
+        opened = opened_new _ _ _ _ c.open-inner.ensures;
         ran = subst (λ r. Promise g.F.FnOnce c.args.f c.open-inner.result r c.lend-answer.new.encoder) answered c.lend-answer.ensures.ran;
         closed = refl;
         wrote = c.lend-answer.ensures.keeps.octets.1;

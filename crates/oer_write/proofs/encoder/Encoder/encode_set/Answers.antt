@@ -7,6 +7,9 @@ use Rattle.oer_write.proofs.AnyOrder.{any_order}
 use Rattle.oer_write.proofs.SetRows.{set_done, set_refused}
 use Rattle.oer_write.proofs.encoder.Encoder.encode_set.Goals as goal
 
+pub set-requires-clause-orderly : goal.set-requires-clause-orderly
+set-requires-clause-orderly g c = rw c.IS_EXTENSIBLE.ensures c.requires.orderly
+
 pub returns-clause-tree : goal.returns-clause-tree
 returns-clause-tree g c = rw (← c.IS_EXTENSIBLE.ensures) (λ roots additions known. on_ok_weaker _ (set_done roots additions known) c.set.ensures.done)
 
