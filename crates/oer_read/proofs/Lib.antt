@@ -25,6 +25,7 @@ pub mod LeafLaws
 pub mod IntegerLaw
 pub mod Alternatives
 pub mod AddedAlso
+pub mod AskedAlso
 pub mod Rears
 pub mod Called
 pub mod Levels

@@ -66,6 +66,9 @@ pub count_is : (n : ℕ) (o q : Octets) → count_empty n (o ++ q) q ≡ cond (i
 count_is n [] q = ap (λ (b : Bool). cond b (suc n) n) (eq-eqb (length q) (length q) refl)
 count_is n (x ∷ o) q = ap (λ (b : Bool). cond b (suc n) n) (ne_eqb (length ((x ∷ o) ++ q)) (length q) (λ e. omega (arith, e, length-append (x ∷ o) q)))
 
+one_more_empty : (n : ℕ) (before after : Octets) → length after ≡ length before → count_empty n before after ≡ suc n
+one_more_empty n before after e = ap (λ (b : Bool). cond b (suc n) n) (eq-eqb (length before) (length after) (sym e))
+
 -- a count and one element more
 count_more : (n : ℕ) (o : Octets) (os : List Octets) → cond (is_nil o) (suc n) n + empties os ≡ n + empties (o ∷ os)
 count_more n [] os = omega arith
@@ -269,14 +272,14 @@ module _ {A : Type 0} (tree : A → Tree) (IsPart : A → Type 0) (Ran : State �
         n w o i.0 (record { rest = joined ps ++ x; split = e ∙ ap (λ (z : List Octets). joined z ++ x) same ∙ append_assoc o (joined ps) x; encoding = g })
 
     stopped : (old : State) (n : ℕ) (rest : Octets) (e : DecodeError) → ElementsStopped Ran old n rest e → (IsForMemory e → ⊥) → (ws : List A) (os : List Octets) (x : Octets) → EachValue IsPart ws → AreElements (mode old) (old.levels - 1) os (trees_of tree ws) → rest ≡ joined os ++ x → n ≡ length ws → empties os ≤ 65536 → ⊥
-    stopped old n rest e (ElementRefused k end before after few ran bad) m ws os x i f h c l =
-        let a = along old rest 0 before end k ran ws os x i f h (omega (arith, few, c)) in
-        next_element old end x a.left a.left_octets (omega (arith, a.count, few, c)) a.split a.encoded a.values ((promise (lent_element old end) (Err e) after bad).refused.none m)
-    stopped old n rest e (TooManyAreEmpty k end before after v few ran good many is) m ws os x i f h c l =
-        let r = RanEach-push Ran old rest 0 before end k v after ran good in
-        let a = along old rest 0 (before ++ v ∷ []) after.input (count_empty k end after.input) r ws os x i f h (omega (arith, few, c, length-append before (v ∷ []))) in
-        omega (arith, many, a.counted, l)
-    stopped old n rest e (NoMemory z) m ws os x i f h c l = m z.0
+    stopped old n rest e (ElementRefused before end k after s bad) m ws os x i f h c l =
+        let a = along old rest 0 before end k s.ran ws os x i f h (omega (arith, s.more, c)) in
+        next_element old end x a.left a.left_octets (omega (arith, a.count, s.more, c)) a.split a.encoded a.values ((promise (lent_element old end) (Err e) after bad).refused.none m)
+    stopped old n rest e (TooManyAreEmpty before end k v after s good full none is) m ws os x i f h c l =
+        let r = RanEach-push Ran old rest 0 before end k v after s.ran good in
+        let a = along old rest 0 (before ++ v ∷ []) after.input (count_empty k end after.input) r ws os x i f h (omega (arith, s.more, c, length-append before (v ∷ []))) in
+        omega (arith, one_more_empty k end after.input none, full, a.counted, l)
+    stopped old n rest e (NoMemory _ _ _ _ _ _ _ _ z) m ws os x i f h c l = m z.0
 
     list_refused : (old : State) (e : DecodeError) → ListRefused Ran old e → (IsForMemory e → ⊥) → NoEncoding (list_of true tree) (EachValue IsPart) old
     list_refused old e (NotOpened x c) m ws o i f =
@@ -288,9 +291,9 @@ module _ {A : Type 0} (tree : A → Tree) (IsPart : A → Type 0) (Ran : State �
         stopped old n rest e s m ws l.own f.rest i l.encoded p.1 (p.0 ∙ elements_count (mode old) (old.levels - 1) l.own ws l.encoded) l.few
 
     stopped_mode : (old : State) (n : ℕ) (rest : Octets) (e : DecodeError) → ElementsStopped Ran old n rest e → e.codec ≡ old.codec
-    stopped_mode old n rest e (ElementRefused _ end _ after _ _ bad) = (promise (lent_element old end) (Err e) after bad).refused.mode
+    stopped_mode old n rest e (ElementRefused _ end _ after _ bad) = (promise (lent_element old end) (Err e) after bad).refused.mode
     stopped_mode old n rest e (TooManyAreEmpty _ _ _ _ _ _ _ _ _ is) = ap (λ (z : DecodeError). z.codec) is
-    stopped_mode old n rest e (NoMemory m) = m.1
+    stopped_mode old n rest e (NoMemory _ _ _ _ _ _ _ _ m) = m.1
 
     list_mode : (old : State) (e : DecodeError) → ListRefused Ran old e → e.codec ≡ old.codec
     list_mode old e (NotOpened _ mode) = mode

@@ -309,7 +309,7 @@ module _ {A : Type 0} (tree : A → Tree) (IsPart : A → Type 0) (Ran : State �
         let k = stands_count old o ws l in
         let a = along old rest before os end so_far.took l.stands.values l.read x l.stands.are_values l.stands.encoded h (omega (arith, few, c, k)) in
         refused_next old e end os l.read x bad m (next old end before l.stands.values os l.read x a (omega (arith, few, c, k))) l.few l.ordered
-    stopped old n rest e (NoMemory z) m o ws x l h c = m z.0
+    stopped old n rest e (NoMemory _ _ _ _ _ _ _ _ _ _ z) m o ws x l h c = m z.0
 
     unordered_refused : (old : State) (e : DecodeError) → UnorderedRefused Ran old e → (IsForMemory e → ⊥) → NoEncoding (list_of false tree) (EachValue IsPart) old
     unordered_refused old e (NotOpened x c) m ws o i f =
@@ -327,7 +327,7 @@ module _ {A : Type 0} (tree : A → Tree) (IsPart : A → Type 0) (Ran : State �
 
     stopped_mode : (old : State) (n : ℕ) (rest : Octets) (e : DecodeError) → ElementsStopped Ran old n rest e → e.codec ≡ old.codec
     stopped_mode old n rest e (AtNext _ elements end _ _ bad) = next_mode old (empties elements) (last_of elements) end e bad
-    stopped_mode old n rest e (NoMemory m) = m.1
+    stopped_mode old n rest e (NoMemory _ _ _ _ _ _ _ _ _ _ m) = m.1
 
     unordered_mode : (old : State) (e : DecodeError) → UnorderedRefused Ran old e → e.codec ≡ old.codec
     unordered_mode old e (NotOpened _ mode) = mode

@@ -1,5 +1,5 @@
 -- Elements of an unordered list that were read in turn.
-use Rattle.std.proofs.Common.{◌≡◌, ℕ, suc, ◌+◌, ◌<◌, ◌≤◌, true, cond, List, [], ◌∷◌, ◌++◌, Result, Ok, refl, sym, ap, ◌∙◌, subst, arith, append_assoc}
+use Rattle.std.proofs.Common.{◌≡◌, ℕ, suc, ◌+◌, true, cond, List, [], ◌∷◌, ◌++◌, length, Result, Ok, refl, sym, ap, ◌∙◌, subst, arith, append_assoc, length-append}
 use Rattle.asn1_core.specs.Octets.{Octets}
 use Rattle.asn1_core.specs.declared.error.DecodeError.{DecodeError}
 use Rattle.oer_spec.proofs.Skips.{is_nil}
@@ -20,10 +20,10 @@ one_more n (x ∷ o) = omega arith
 pub count_more : (n : ℕ) (o p r : Octets) → r ≡ o ++ p → count_empty n r p ≡ n + empties (o ∷ [])
 count_more n o p r e = ap (λ (z : Octets). count_empty n z p) e ∙ count_is n o p ∙ one_more n o
 
--- where one more is too many, it has no octets
-pub full : (n : ℕ) (o p r : Octets) → n ≤ 65536 → r ≡ o ++ p → 65536 < count_empty n r p → (n ≡ 65536) × (r ≡ p)
-full n [] p r few e many = let c = count_more n [] p r e in (omega (arith, c, few, many), e)
-full n (x ∷ o) p r few e many = absurd (let c = count_more n (x ∷ o) p r e in omega (arith, c, few, many))
+-- where as many octets are left, none was taken
+pub none_taken : (o p r : Octets) → r ≡ o ++ p → length p ≡ length r → r ≡ p
+none_taken [] p r e l = e
+none_taken (x ∷ o) p r e l = absurd (omega (arith, l, ap length e, length-append (x ∷ o) p))
 
 pub empties_push : (os : List Octets) (o : Octets) → empties (os ++ o ∷ []) ≡ empties os + empties (o ∷ [])
 empties_push [] o = omega arith

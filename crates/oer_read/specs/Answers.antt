@@ -29,7 +29,7 @@ LeafAnswers show takes old result new read = Answers show old result new read ×
 abbrev pub IntegerAnswers : {V : Type 0} → (V → ℤ) → (ℤ → Bool) → Bool → Constraints → State → Result V DecodeError → State → Type 0
 IntegerAnswers number admits takes c old result new = LeafAnswers number takes old result new (integer_at admits (value_bounds c) old.codec old.input)
 
--- What is promised of a box: what its content's type promises, or memory was refused.
+-- What is promised of a box: what is promised of its content, or the content was read, and memory was refused.
 abbrev pub BoxAnswers : {A B : Type 0} → (State → Result A DecodeError → State → Type 0) → (B → A) → State → Result B DecodeError → State → Type 0
 BoxAnswers Answered content old (Ok b) new = Answered old (Ok (content b)) new
-BoxAnswers Answered content old (Err e) new = WantsMemory old e ⊎ Answered old (Err e) new
+BoxAnswers {A} Answered content old (Err e) new = ((v : A) × (after : State) × Answered old (Ok v) after × WantsMemory old e) ⊎ Answered old (Err e) new

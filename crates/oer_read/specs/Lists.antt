@@ -54,13 +54,30 @@ module _ {A : Type 0} (Ran : State → Result A DecodeError → State → Type 0
     pub left : new ≡ record old { input = end }
     pub octets : AreOctets old.input
 
-  -- After fewer elements than stated the closure refused the next with that very error, or the next was the 65,537th
-  -- without octets; or memory was refused.
+  -- Fewer elements than stated were answered, at most 65,536 of them without octets, and one more is read from `end` on.
+  pub record SoFar (n : ℕ) (rest : Octets) (before : List A) (end : Octets) (empties : ℕ) : Type 0 where
+    pub more : length before < n
+    pub ran : RanEach rest 0 before end empties
+    pub few : empties ≤ 65536
+
+  -- What a list lends for an element: a decoder of what those before it left.
+  pub record ListLends (end : Octets) : Type 0 where
+    pub quantity : ℕ
+    pub rest : Octets
+    pub opened : list_opened_at old ≡ Ok (quantity, rest)
+    pub before : List A
+    pub empties : ℕ
+    pub so_far : SoFar quantity rest before end empties
+    pub level : 0 < old.levels
+
+  -- The first that applies: the closure refused the next element with that very error; the next has no octets, and exactly
+  -- 65,536 before it had none; memory was refused for the next, which was read.
   pub data ElementsStopped (n : ℕ) (rest : Octets) (e : DecodeError) : Type 0 where
-    ElementRefused : (empties : ℕ) (end : Octets) (before : List A) (after : State) → length before < n → RanEach rest 0 before end empties → Ran (lent_element old end) (Err e) after → ElementsStopped n rest e
-    TooManyEmpty : (empties : ℕ) (end : Octets) (before : List A) (after : State) (v : A) → length before < n → RanEach rest 0 before end empties → Ran (lent_element old end) (Ok v) after
-        → 65536 < count_empty empties end after.input → e ≡ record { kind = TooManyEmptyElements; codec = old.codec } → ElementsStopped n rest e
-    NoMemory : WantsMemory old e → ElementsStopped n rest e
+    ElementRefused : (before : List A) (end : Octets) (empties : ℕ) (after : State) → SoFar n rest before end empties → Ran (lent_element old end) (Err e) after → ElementsStopped n rest e
+    TooManyEmpty : (before : List A) (end : Octets) (empties : ℕ) (v : A) (after : State) → SoFar n rest before end empties → Ran (lent_element old end) (Ok v) after
+        → empties ≡ 65536 → length after.input ≡ length end → e ≡ record { kind = TooManyEmptyElements; codec = old.codec } → ElementsStopped n rest e
+    NoMemory : (before : List A) (end : Octets) (empties : ℕ) (v : A) (after : State) → SoFar n rest before end empties → Ran (lent_element old end) (Ok v) after
+        → count_empty empties end after.input ≤ 65536 → WantsMemory old e → ElementsStopped n rest e
 
   -- The first that applies: no level is left or the quantity is refused; an element is.
   pub data ListRefused (e : DecodeError) : Type 0 where

@@ -78,6 +78,10 @@ pub record FieldReturns {F V : Type 0} (g : Shared F (MutBor State × (ℕ × (T
 abbrev pub FieldTakes : {F V : Type 0} → Shared F (MutBor State × (ℕ × (Tag × Unit {0}))) (Result V DecodeError × (MutBor State × Unit {0})) → F → Call → State → Type 0
 FieldTakes g f c s = (p : MutBor State) → p.now ≡ s → g.pre f (p, (c.index, (c.tag, tt)))
 
+-- `field_fn` may be called with these components
+abbrev pub FieldsTaken : {F V A : Type 0} → Once F (Vec V Global × Unit {0}) (Result A DecodeError) → F → List V → Type 0
+FieldsTaken {F} {V} g f fields = (handed : Vec V Global) → handed.items ≡ fields → g.pre f (handed, tt)
+
 -- `field_fn` may answer r of these components
 pub record FieldsMake {F V A : Type 0} (g : Once F (Vec V Global × Unit {0}) (Result A DecodeError)) (f : F) (fields : List V) (r : Result A DecodeError) : Type 0 where
   pub handed : Vec V Global
@@ -107,6 +111,16 @@ pub record SetLends {V : Type 0} (Ran : Call → State → Result V DecodeError 
   pub bits : List Bool
   pub opened : set_opened_at old extensible roots additions ≡ Ok (lent, bits)
   pub called : CalledInTurn Ran lent (set_calls roots additions bits) c s
+
+-- What a set hands to `field_fn`: what the calls answered on the decoder that was lent, where what they left was closed.
+pub record SetHands {V : Type 0} (Ran : Call → State → Result V DecodeError → State → Type 0) (extensible : Bool) (roots additions : List Row) (old : State) (fields : List V) : Type 0 where
+  pub lent : State
+  pub bits : List Bool
+  pub opened : set_opened_at old extensible roots additions ≡ Ok (lent, bits)
+  pub after : State
+  pub ran : RanInTurn Ran lent (set_calls roots additions bits) fields after
+  pub rest : Octets
+  pub closed : closed_at after ≡ Ok rest
 
 -- ---- the set
 module _ {A V : Type 0} (Ran : Call → State → Result V DecodeError → State → Type 0) (Makes : List V → Result A DecodeError → Type 0) (extensible : Bool) (roots additions : List Row) (old : State) where

@@ -40,7 +40,7 @@ module _ {A : Type 0} (Ran : State → Result A DecodeError → State → Type 0
     pub ordered : old.codec ≡ Coer → octets_le last o ≡ true
 
   -- The first that applies: the next is refused with that very error; it is the 65,537th without octets; canonically,
-  -- its octets are less than those of the one before. Or memory was refused.
+  -- its octets are less than those of the one before.
   pub data NextRefused (n : ℕ) (last q : Octets) (e : DecodeError) : Type 0 where
     ElementRefused : (after : State) → Ran (lent_element old q) (Err e) after → NextRefused n last q e
     TooManyEmpty : (v : A) (after : State) → Ran (lent_element old q) (Ok v) after → q ≡ after.input → n ≡ 65536
@@ -58,10 +58,11 @@ module _ {A : Type 0} (Ran : State → Result A DecodeError → State → Type 0
     pub left : new ≡ record old { input = end }
     pub octets : AreOctets old.input
 
-  -- After fewer elements than stated the next was refused; or memory was.
+  -- After fewer elements than stated the next was refused; or memory was for the next, which was read.
   pub data ElementsStopped (n : ℕ) (rest : Octets) (e : DecodeError) : Type 0 where
     AtNext : (before : List A) (elements : List Octets) (end : Octets) → length before < n → SoFar rest before elements end → NextRefused (empties elements) (last_of elements) end e → ElementsStopped n rest e
-    NoMemory : WantsMemory old e → ElementsStopped n rest e
+    NoMemory : (before : List A) (elements : List Octets) (end : Octets) (v : A) (o left : Octets) (m : ℕ) → length before < n → SoFar rest before elements end → NextRead (empties elements) (last_of elements) end v o left m
+        → WantsMemory old e → ElementsStopped n rest e
 
   -- The first that applies: no level is left or the quantity is refused; an element is.
   pub data UnorderedRefused (e : DecodeError) : Type 0 where

@@ -1,6 +1,6 @@
 //! Extension additions: each is asked by its bit of the extension bitmap, in the order of the table.
 
-ghost use Rattle.std.specs.Prelude.{◌≡◌, ◌≢◌, [], OnOk, not, get_or, false, drop, List, Bool, Option, Some, None, map, Ok, Err, IfOk, IfErr, ⊤};
+ghost use Rattle.std.specs.Prelude.{◌≡◌, ◌≢◌, [], OnOk, not, get_or, false, drop, List, Bool, Option, Some, None, map, Ok, Err, IfOk, IfErr};
 ghost use Rattle.std.specs.Fn.{FnOnceTakesAtMut, FnOnceReturnsAtMut};
 ghost use Rattle.std.specs.Option.{option_map};
 ghost use Rattle.asn1_core.specs.Octets.{Octets, AreOctets};
@@ -193,7 +193,7 @@ impl<'input> Decoder<'input> {
         D: Spelled,
         F: FnOnce(&mut Decoder<'_>) -> Result<D, DecodeError>,
         requires callable { FnOnceTakesAtMut F.FnOnce f (inside self.now content.now) }
-        requires law { (s t : State) (r : _) → FnOnceReturnsAtMut F.FnOnce f s r t → Decodes (D.tree _constraints) D.IsValue s r t }
+        requires law { (r : _) (t : State) → FnOnceReturnsAtMut F.FnOnce f (inside self.now content.now) r t → Decodes (D.tree _constraints) D.IsValue (inside self.now content.now) r t }
         ensures ok { IfOk result (OpenRead (D.tree _constraints) D.IsValue (λ s r t. FnOnceReturnsAtMut F.FnOnce f s r t) self.now content.entry.now) }
         ensures err { IfErr result (OpenRefused (D.tree _constraints) D.IsValue (λ s r t. FnOnceReturnsAtMut F.FnOnce f s r t) self.now content.entry.now) }
     {
@@ -219,7 +219,7 @@ impl<'input> Decoder<'input> {
         D: Spelled,
         F: FnOnce(&mut Decoder<'_>) -> Result<D, DecodeError>,
         requires callable { (content : Octets) (next : State) → addition_at self.old asked ≡ Ok (Some content, next) → FnOnceTakesAtMut F.FnOnce f (inside self.old content) }
-        requires law { (s t : State) (r : _) → FnOnceReturnsAtMut F.FnOnce f s r t → Decodes (D.tree constraints) D.IsValue s r t }
+        requires law { (content : Octets) (next : State) (r : _) (t : State) → addition_at self.old asked ≡ Ok (Some content, next) → FnOnceReturnsAtMut F.FnOnce f (inside self.old content) r t → Decodes (D.tree constraints) D.IsValue (inside self.old content) r t }
         ensures { Adds (D.tree constraints) D.IsValue (λ s r t. FnOnceReturnsAtMut F.FnOnce f s r t) self.old asked result self.new }
     {
         let _octets = self.octets();
@@ -301,8 +301,8 @@ impl<'input> Decoder<'input> {
         D: Spelled,
         F: FnOnce(&mut Decoder<'_>) -> Result<D, DecodeError>,
         requires callable { (content : Octets) (next : State) → addition_at self.old (Some tag) ≡ Ok (Some content, next) → FnOnceTakesAtMut F.FnOnce f (inside self.old content) }
-        requires law { (s t : State) (r : _) → FnOnceReturnsAtMut F.FnOnce f s r t → Decodes (D.tree D.CONSTRAINTS) D.IsValue s r t }
-        ensures { Adds (D.tree D.CONSTRAINTS) D.IsValue (λ s r t. ⊤) self.old (Some tag) result self.new }
+        requires law { (content : Octets) (next : State) (r : _) (t : State) → addition_at self.old (Some tag) ≡ Ok (Some content, next) → FnOnceReturnsAtMut F.FnOnce f (inside self.old content) r t → Decodes (D.tree D.CONSTRAINTS) D.IsValue (inside self.old content) r t }
+        ensures { Adds (D.tree D.CONSTRAINTS) D.IsValue (λ s r t. FnOnceReturnsAtMut F.FnOnce f s r t) self.old (Some tag) result self.new }
     {
         self.addition_with::<D, F>(Some(tag), D::CONSTRAINTS, f)
     }

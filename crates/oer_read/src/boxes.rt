@@ -1,5 +1,6 @@
 //! Reading boxes: a box is read as its content.
 ghost use Rattle.std.specs.Fn.{FnOnceTakesAtMut, FnOnceReturnsAtMut};
+ghost use Rattle.oer_read.specs.Answers.{BoxAnswers};
 ghost use Rattle.oer_read.specs.Law.{Decodes};
 ghost use Rattle.oer_read.specs.State.{State};
 
@@ -44,12 +45,13 @@ impl<'input> Decoder<'input> {
         D: Spelled,
         F: FnOnce(&mut Decoder<'_>) -> Result<D, DecodeError>,
         requires callable { FnOnceTakesAtMut F.FnOnce f self.old }
-        requires law { (s t : State) (r : _) → FnOnceReturnsAtMut F.FnOnce f s r t → Decodes (D.tree D.CONSTRAINTS) D.IsValue s r t }
-        ensures { Decodes (λ b. D.tree D.CONSTRAINTS b.value) (λ b. D.IsValue b.value) self.old result self.new }
+        requires law { (r : _) (t : State) → FnOnceReturnsAtMut F.FnOnce f self.old r t → Decodes (D.tree D.CONSTRAINTS) D.IsValue self.old r t }
+        ensures law { Decodes (λ b. D.tree D.CONSTRAINTS b.value) (λ b. D.IsValue b.value) self.old result self.new }
+        ensures answered { BoxAnswers (λ s r t. FnOnceReturnsAtMut F.FnOnce f s r t) (λ b. b.value) self.old result self.new }
     {
         let input = self.remaining();
         match f(self) {
-            Err(e) => Err(e),
+            Err(refused) => Err(refused),
             Ok(value) => match Box::new(alloc, value) {
                 Err(_) => {
                     self.set_remaining(input);

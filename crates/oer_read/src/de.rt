@@ -34,7 +34,7 @@ impl DecoderOptions {
 
     /// Lenient reading (OER) within 128 levels.
     pub const fn oer() -> DecoderOptions
-        ensures { result ≡ record { codec = Codec.Oer; levels = DecoderOptions.DEFAULT_DEPTH } }
+        ensures { result ≡ record { codec = Codec.Oer; levels = 128 } }
     {
         DecoderOptions {
             codec: Codec::Oer,
@@ -44,7 +44,7 @@ impl DecoderOptions {
 
     /// Canonical reading (COER) within 128 levels.
     pub const fn coer() -> DecoderOptions
-        ensures { result ≡ record { codec = Codec.Coer; levels = DecoderOptions.DEFAULT_DEPTH } }
+        ensures { result ≡ record { codec = Codec.Coer; levels = 128 } }
     {
         DecoderOptions {
             codec: Codec::Coer,
@@ -54,7 +54,7 @@ impl DecoderOptions {
 
     /// The same rules within that many levels; `None` above 1,024.
     pub const fn with_depth(self, levels: usize) -> Option<DecoderOptions>
-        ensures { result ≡ cond (nat_lt DecoderOptions.MAX_DEPTH levels) None (Some (record self { levels = levels })) }
+        ensures { result ≡ cond (nat_lt 1024 levels) None (Some (record self { levels = levels })) }
     {
         if DecoderOptions::MAX_DEPTH < levels {
             None
@@ -76,7 +76,7 @@ impl DecoderOptions {
     /// How many levels may be nested.
     pub const fn levels(&self) -> usize
         ensures is { result ≡ self.now.levels }
-        ensures few { result ≤ DecoderOptions.MAX_DEPTH }
+        ensures few { result ≤ 1024 }
     {
         self.levels
     }

@@ -6,7 +6,7 @@ ghost use Rattle.oer_spec.specs.Reading.{Gives};
 ghost use Rattle.oer_spec.specs.Spelled.{EachValue, list_of};
 ghost use Rattle.oer_read.specs.Law.{Decodes, IsRear, Promised, WantsMemory};
 ghost use Rattle.oer_spec.specs.Elements.{TakesOctets};
-ghost use Rattle.oer_read.specs.Lists.{lent_element, list_opened_at, count_empty, FnTakesAtMut, FnReturnsAtMut, RanEach, ListRead, ElementsStopped, ListRefused, ListAnswers};
+ghost use Rattle.oer_read.specs.Lists.{lent_element, list_opened_at, count_empty, FnTakesAtMut, FnReturnsAtMut, RanEach, SoFar, ListLends, ListRead, ElementsStopped, ListRefused, ListAnswers};
 ghost use Rattle.oer_read.specs.State.{State};
 
 use crate::decode::Decode;
@@ -132,7 +132,7 @@ impl<'input> Decoder<'input> {
     ) -> Result<usize, DecodeError>
         requires { empties ≤ 65536 }
         ensures ok { IfOk result (λ n. (n ≡ count_empty empties before.now after.now) × (n ≤ 65536)) }
-        ensures err { IfErr result (λ e. (65536 < count_empty empties before.now after.now) × (e ≡ record { kind = DecodeErrorKind.TooManyEmptyElements; codec = self.now.codec })) }
+        ensures err { IfErr result (λ e. (empties ≡ 65536) × (length after.now ≡ length before.now) × (e ≡ record { kind = DecodeErrorKind.TooManyEmptyElements; codec = self.now.codec })) }
     {
         if before.len() != after.len() {
             return Ok(empties);
@@ -156,7 +156,7 @@ impl<'input> Decoder<'input> {
         D: Drop,
         F: Fn(&mut Decoder<'_>) -> Result<D, DecodeError>,
         requires level { 0 < self.now.levels }
-        requires callable { (rest : Octets) → FnTakesAtMut F.Fn f (lent_element self.now rest) }
+        requires callable { (before : List D) (end : Octets) (empties : ℕ) → SoFar (FnReturnsAtMut F.Fn f) self.now quantity start.now before end empties → FnTakesAtMut F.Fn f (lent_element self.now end) }
         ensures ok { IfOk result (λ p. (length p.0.items ≡ quantity) × ((empties : ℕ) × RanEach (FnReturnsAtMut F.Fn f) self.now start.entry.now 0 p.0.items p.1.now empties × (empties ≤ 65536))) }
         ensures err { IfErr result (λ e. ElementsStopped (FnReturnsAtMut F.Fn f) self.now quantity start.entry.now e) }
     {
@@ -184,7 +184,7 @@ impl<'input> Decoder<'input> {
     ///
     /// Refused, the first that applies: no level is left, as `ExceedsMaxParseDepth`, before anything is read; the quantity
     /// as `read_quantity` refuses it; in turn for each element, what `f` refuses, and the 65,537th element without octets
-    /// as `TooManyEmptyElements`. Memory may be refused, as `OutOfMemory`.
+    /// as `TooManyEmptyElements`. Memory may be refused for an element that was read, as `OutOfMemory`.
     pub fn decode_sequence_of_with<D, F>(
         &mut self,
         alloc: Global,
@@ -195,9 +195,9 @@ impl<'input> Decoder<'input> {
     where
         D: Drop,
         F: Fn(&mut Decoder<'_>) -> Result<D, DecodeError>,
-        requires callable { (rest : Octets) → 0 < self.old.levels → FnTakesAtMut F.Fn f (lent_element self.old rest) }
+        requires callable { (rest : Octets) → ListLends (FnReturnsAtMut F.Fn f) self.old rest → FnTakesAtMut F.Fn f (lent_element self.old rest) }
         // what the closure leaves is a rear part of what it was lent
-        requires keeps { (rest : Octets) (v : _) (after : State) → FnReturnsAtMut F.Fn f (lent_element self.old rest) (Ok v) after → IsRear rest after.input }
+        requires keeps { (rest : Octets) (v : _) (after : State) → ListLends (FnReturnsAtMut F.Fn f) self.old rest → FnReturnsAtMut F.Fn f (lent_element self.old rest) (Ok v) after → IsRear rest after.input }
         ensures read { IfOk result (λ v. ListRead (FnReturnsAtMut F.Fn f) self.old v.items self.new) }
         ensures refused { IfErr result (λ e. ListRefused (FnReturnsAtMut F.Fn f) self.old e) }
         ensures unchanged { OnErr result (self.new ≡ self.old) }

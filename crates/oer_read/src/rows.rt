@@ -1,6 +1,6 @@
 //! Optional and default components: each is asked by the next presence bit, in the order of the table.
 
-ghost use Rattle.std.specs.Prelude.{◌≡◌, ◌∷◌, List, IfOk, IfErr, OnErr, Bool, true, ⊤, map};
+ghost use Rattle.std.specs.Prelude.{◌≡◌, ◌∷◌, List, IfOk, IfErr, OnErr, Bool, true, map};
 ghost use Rattle.std.specs.Fn.{FnOnceTakesAtMut, FnOnceReturnsAtMut};
 ghost use Rattle.asn1_core.specs.Rows.{row};
 ghost use Rattle.oer_leaf_read.specs.Views.{bits_left};
@@ -88,8 +88,8 @@ impl<'input> Decoder<'input> {
         D: Spelled,
         F: FnOnce(&mut Decoder<'_>) -> Result<D, DecodeError>,
         requires callable { (more : List Ask) → self.old.frame.asks ≡ record { tag = tag; bit = true } ∷ more → FnOnceTakesAtMut F.FnOnce f (asking self.old more) }
-        requires law { (s t : State) (r : _) → FnOnceReturnsAtMut F.FnOnce f s r t → Decodes (D.tree D.CONSTRAINTS) D.IsValue s r t }
-        ensures { Asks (D.tree D.CONSTRAINTS) D.IsValue (λ s r t. ⊤) self.old tag result self.new }
+        requires law { (more : List Ask) (r : _) (t : State) → self.old.frame.asks ≡ record { tag = tag; bit = true } ∷ more → FnOnceReturnsAtMut F.FnOnce f (asking self.old more) r t → Decodes (D.tree D.CONSTRAINTS) D.IsValue (asking self.old more) r t }
+        ensures { Asks (D.tree D.CONSTRAINTS) D.IsValue (λ s r t. FnOnceReturnsAtMut F.FnOnce f s r t) self.old tag result self.new }
     {
         let roots = self.scope.roots;
         let presence = self.scope.presence;

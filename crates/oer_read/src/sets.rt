@@ -7,7 +7,7 @@ ghost use Rattle.asn1_core.specs.Tables.{canonised_rest};
 ghost use Rattle.oer_spec.specs.Reading.{Gives};
 ghost use Rattle.oer_leaf_read.specs.Views.{bits_left};
 ghost use Rattle.oer_read.specs.Law.{IsRear, WantsMemoryIn};
-ghost use Rattle.oer_read.specs.Sets.{Call, is_there, bits_behind, root_calls, addition_calls, set_calls, set_opened_at, FieldReturns, FieldTakes, FieldsMake, RanInTurn, RefusedInTurn, CalledInTurn, SetLends, SetRead, SetRefused};
+ghost use Rattle.oer_read.specs.Sets.{Call, is_there, bits_behind, root_calls, addition_calls, set_calls, set_opened_at, FieldReturns, FieldTakes, FieldsTaken, FieldsMake, RanInTurn, RefusedInTurn, CalledInTurn, SetLends, SetHands, SetRead, SetRefused};
 ghost use Rattle.oer_read.specs.State.{State};
 
 use crate::decoder::{Decoder, OpenScope};
@@ -211,7 +211,7 @@ impl<'input> Decoder<'input> {
         D: Fn(&mut Decoder<'_>, usize, Tag) -> Result<FIELDS, DecodeError>,
         F: FnOnce(Vec<FIELDS>) -> Result<SET, DecodeError>,
         requires callable { (c : Call) (s : State) → SetLends (FieldReturns D.Fn decode_fn) SET.IS_EXTENSIBLE SET.root_rows SET.addition_rows self.old c s → FieldTakes D.Fn decode_fn c s }
-        requires makes { F.IsAlwaysCallable field_fn }
+        requires makes { (fields : List FIELDS) → SetHands (FieldReturns D.Fn decode_fn) SET.IS_EXTENSIBLE SET.root_rows SET.addition_rows self.old fields → FieldsTaken F.FnOnce field_fn fields }
         // what the closure leaves is a rear part of what it was lent
         requires keeps { (c : Call) (s after : State) (v : _) → SetLends (FieldReturns D.Fn decode_fn) SET.IS_EXTENSIBLE SET.root_rows SET.addition_rows self.old c s → FieldReturns D.Fn decode_fn c s (Ok v) after → IsRear s.input after.input }
         ensures read { IfOk result (λ v. SetRead (FieldReturns D.Fn decode_fn) (FieldsMake F.FnOnce field_fn) SET.IS_EXTENSIBLE SET.root_rows SET.addition_rows self.old v self.new) }

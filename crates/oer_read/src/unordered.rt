@@ -120,7 +120,7 @@ impl<'input> Decoder<'input> {
     /// Refused, the first that applies: no level is left, as `ExceedsMaxParseDepth`, before anything is read; the quantity
     /// as `read_quantity` refuses it; in turn for each element, what its type refuses, the 65,537th element without octets
     /// as `TooManyEmptyElements`, and in canonical mode octets that are less than those of the element before, as they
-    /// stand, as `NotValidCanonicalEncoding`. Memory may be refused, as `OutOfMemory`.
+    /// stand, as `NotValidCanonicalEncoding`. Memory may be refused for an element that was read, as `OutOfMemory`.
     pub fn decode_set_of<D: Decode>(
         &mut self,
         alloc: Global,

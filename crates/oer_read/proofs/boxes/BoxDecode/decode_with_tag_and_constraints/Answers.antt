@@ -1,4 +1,4 @@
-use Rattle.std.proofs.Common.{◌≡◌, sym, subst}
+use Rattle.std.proofs.Common.{rules, ◌≡◌, sym, subst, inl}
 use Rattle.oer_spec.specs.Encoding.{IsEncoding}
 use Rattle.oer_spec.specs.Mode.{mode_of}
 use Rattle.oer_spec.specs.Tree.{Tree}
@@ -21,6 +21,11 @@ pub returns-in-Err-clause-law : goal.returns-in-Err-clause-law
 returns-in-Err-clause-law g c =
     let k = c.in-Err.ensures.law.refused in
     record { read = tt; refused = record { same = k.same; mode = k.mode; none = λ m w o i f. k.none m w.value o i f } }
+
+pub returns-in-Err-new-clause-answered : goal.returns-in-Err-new-clause-answered
+returns-in-Err-new-clause-answered g c =
+    let rest = c.in-Ok.ensures.law.read.rest in
+    inl (_, _, c.in-Ok.ensures.answered, search rules)
 
 pub returns-clause-law : goal.returns-clause-law
 returns-clause-law g c = record { read = reads_content (g.T.Spelled.tree c.args.constraints) g.T.Spelled.IsValue (λ b. b.value) c.args.decoder.now c.in-Ok-new.boxed c.in-Ok.value _ c.in-Ok-new.ensures.ok c.in-Ok.ensures.law.read; refused = tt }

@@ -5,7 +5,7 @@ use Rattle.oer_read.proofs.Promises.{promise_of_fn, decodes_rear}
 use Rattle.oer_read.proofs.decoder.Decoder.decode_sequence_of.Goals as goal
 
 pub decode_sequence_of_with-requires-clause-keeps : goal.decode_sequence_of_with-requires-clause-keeps
-decode_sequence_of_with-requires-clause-keeps g c rest v after k =
+decode_sequence_of_with-requires-clause-keeps g c rest v after lends k =
     decodes_rear (g.D.Spelled.tree g.D.AsnType.CONSTRAINTS) g.D.Spelled.IsValue _ v after (promise_of_fn _ _ (λ s r t. Decodes (g.D.Spelled.tree g.D.AsnType.CONSTRAINTS) g.D.Spelled.IsValue s r t) (λ p q r k. k.law) _ _ _ k)
 
 pub returns-clause-law : goal.returns-clause-law

@@ -21,6 +21,12 @@ returns-in-Err-close-clause-refused g c =
     let k = rw (c.root_fields-roots.ensures, c.addition_fields-additions.ensures) at c.in-Ok-read_fields.ensures.ok in
     NotClosed _ _ _ _ o k (rw c.refusal-in-Err-close.ensures c.in-Err-close.ensures) (rw c.refusal-in-Err-close.ensures refl)
 
+pub field_fn-requires : goal.field_fn-requires
+field_fn-requires g c =
+    let o = rw (c.root_fields-roots.ensures, c.addition_fields-additions.ensures, c.IS_EXTENSIBLE.ensures) at c.in-Ok.ensures.state in
+    let k = rw (c.root_fields-roots.ensures, c.addition_fields-additions.ensures) at c.in-Ok-read_fields.ensures.ok in
+    c.requires.makes _ (record { lent = _; bits = _; opened = o; after = _; ran = k; rest = _; closed = c.in-Ok-close.ensures }) _ refl
+
 pub returns-in-Err-field_fn-clause-refused : goal.returns-in-Err-field_fn-clause-refused
 returns-in-Err-field_fn-clause-refused g c =
     let o = rw (c.root_fields-roots.ensures, c.addition_fields-additions.ensures, c.IS_EXTENSIBLE.ensures) at c.in-Ok.ensures.state in

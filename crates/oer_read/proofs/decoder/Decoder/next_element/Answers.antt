@@ -2,7 +2,7 @@ use Rattle.std.proofs.Common.{◌+◌, ◌≤◌, ◌++◌, sym, ap, ◌∙◌, 
 use Rattle.asn1_core.specs.Octets.{Octets}
 use Rattle.oer_spec.specs.Encoding.{empties}
 use Rattle.oer_read.specs.Unordered.{ElementRefused, TooManyEmpty, OutOfOrder}
-use Rattle.oer_read.proofs.UnorderedSteps.{count_more, full}
+use Rattle.oer_read.proofs.UnorderedSteps.{count_more, none_taken}
 use Rattle.oer_read.proofs.decoder.Decoder.next_element.Goals as goal
 
 pub returns-in-Err-clause-err : goal.returns-in-Err-clause-err
@@ -11,8 +11,8 @@ returns-in-Err-clause-err g c = ElementRefused c.decode.new.decoder (record { la
 pub returns-in-Err-count_empty-clause-err : goal.returns-in-Err-count_empty-clause-err
 returns-in-Err-count_empty-clause-err g c =
     let k = c.in-Err-count_empty.ensures.err in
-    let h = full c.args.empties c.front_of-octets.result.now c.remaining-left.result.now c.remaining-rest.result.now c.requires.few c.front_of-octets.ensures k.0 in
-    TooManyEmpty c.in-Ok.item c.decode.new.decoder (record { law = rw c.requires.lent at c.in-Ok.ensures.law; answered = rw c.requires.lent at c.in-Ok.ensures.answered }) (sym c.remaining-rest.ensures ∙ h.1 ∙ c.remaining-left.ensures) h.0 k.1
+    let same = none_taken c.front_of-octets.result.now c.remaining-left.result.now c.remaining-rest.result.now c.front_of-octets.ensures k.1 in
+    TooManyEmpty c.in-Ok.item c.decode.new.decoder (record { law = rw c.requires.lent at c.in-Ok.ensures.law; answered = rw c.requires.lent at c.in-Ok.ensures.answered }) (sym c.remaining-rest.ensures ∙ same ∙ c.remaining-left.ensures) k.0 k.2
 
 pub returns-in-Err-require_order-clause-err : goal.returns-in-Err-require_order-clause-err
 returns-in-Err-require_order-clause-err g c =
