@@ -36,6 +36,8 @@ pub const MEMBERS: &str = r#"impl@WRITES@ Rowed for @NAME@Components@K@ {
 }
 
 impl@READS@ Takes for @NAME@Components@K@ {
+    ghost Refuses = { ⟦<@NAME@Row@K@ as Reads>⟧.Refuses };
+
     fn take(alloc: Global, decoder: &mut Decoder<'_>) -> Result<Self, DecodeError> {
         read_row::<Self, @NAME@Row@K@>(alloc, decoder)
     }
@@ -177,6 +179,8 @@ pub const CHOICE_IMPLS: &str = r#"impl@WRITES@ Alternating for @NAME@Alternative
 }
 
 impl@READS@ TakesAlternative for @NAME@Alternatives@K@ {
+    ghost Refuses = { ⟦<@NAME@Row@K@ as ReadsAlternatives>⟧.Refuses };
+
     fn take<D: Choice>(
         alloc: Global,
         decoder: &mut Decoder<'_>,

@@ -62,6 +62,8 @@ impl Rowed for MessageComponents {
 }
 
 impl Takes for MessageComponents {
+    ghost Refuses = { ⟦<MessageRow as Reads>⟧.Refuses };
+
     fn take(alloc: Global, decoder: &mut Decoder<'_>) -> Result<Self, DecodeError> {
         read_row::<Self, MessageRow>(alloc, decoder)
     }

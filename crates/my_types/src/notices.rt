@@ -38,6 +38,8 @@ impl Rowed for ClosingComponents {
 }
 
 impl Takes for ClosingComponents {
+    ghost Refuses = { ⟦<ClosingRow as Reads>⟧.Refuses };
+
     fn take(alloc: Global, decoder: &mut Decoder<'_>) -> Result<Self, DecodeError> {
         read_row::<Self, ClosingRow>(alloc, decoder)
     }
@@ -97,6 +99,8 @@ impl Rowed for NoticeComponents {
 }
 
 impl Takes for NoticeComponents {
+    ghost Refuses = { ⟦<NoticeRow as Reads>⟧.Refuses };
+
     fn take(alloc: Global, decoder: &mut Decoder<'_>) -> Result<Self, DecodeError> {
         read_row::<Self, NoticeRow>(alloc, decoder)
     }

@@ -36,6 +36,8 @@ impl Rowed for ReportComponents {
 }
 
 impl Takes for ReportComponents {
+    ghost Refuses = { ⟦<ReportRow as Reads>⟧.Refuses };
+
     fn take(alloc: Global, decoder: &mut Decoder<'_>) -> Result<Self, DecodeError> {
         read_row::<Self, ReportRow>(alloc, decoder)
     }

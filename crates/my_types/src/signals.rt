@@ -60,6 +60,8 @@ impl Alternating for SignalAlternatives {
 }
 
 impl TakesAlternative for SignalAlternatives {
+    ghost Refuses = { ⟦<SignalRow as ReadsAlternatives>⟧.Refuses };
+
     fn take<D: Choice>(
         alloc: Global,
         decoder: &mut Decoder<'_>,

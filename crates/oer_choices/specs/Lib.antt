@@ -1,3 +1,4 @@
 pub mod Choosing
+pub mod Refusals
 pub mod Numbered
 pub mod Putting

@@ -1,5 +1,5 @@
 //! Alternatives: the trait of rows, and the cell of an alternative.
-ghost use Rattle.std.specs.Prelude.{◌≡◌, ◌++◌, true, false};
+ghost use Rattle.std.specs.Prelude.{◌≡◌, ◌++◌, true, false, IfErr};
 ghost use Rattle.asn1_core.specs.Tags.{AreDistinct};
 ghost use Rattle.oer_read.specs.Law.{Decodes};
 
@@ -38,6 +38,13 @@ pub trait Alternatives {
 
 /// A row whose alternatives are read.
 pub trait ReadsAlternatives: Alternatives {
+    ghost use Rattle.asn1_core.specs.declared.error.DecodeError.{DecodeError};
+    ghost use Rattle.asn1_core.specs.declared.tag.Tag.{Tag};
+    ghost use Rattle.oer_read.specs.State.{State};
+
+    /// Why reading the alternative with that tag is refused: what its type refuses, or that there is none.
+    ghost Refuses: { Tag → State → DecodeError → Type 0 };
+
     /// Reads what the alternative with that tag holds (X.696, 20): the value is an admitted one, and of that alternative.
     ///
     /// Refused: a tag of no alternative, as `InvalidTagVariantOnChoice` of the choice `D`; else what the alternative's type
@@ -48,7 +55,8 @@ pub trait ReadsAlternatives: Alternatives {
         tag: Tag,
     ) -> Result<Self::Values, DecodeError>
         requires distinct { AreDistinct (Self.choices.roots ++ Self.choices.additions) }
-        ensures { Decodes Self.choices.child (λ v. Self.choices.IsValue v × (Self.choices.tag_of v ≡ tag)) decoder.old result decoder.new };
+        ensures law { Decodes Self.choices.child (λ v. Self.choices.IsValue v × (Self.choices.tag_of v ≡ tag)) decoder.old result decoder.new }
+        ensures refused { IfErr result (λ e. Self.Refuses tag decoder.old e) };
 }
 
 /// An alternative of type `B` with the tag `G`, and the row `R` after it.
@@ -73,6 +81,10 @@ impl Alternatives for NoMore {
 }
 
 impl ReadsAlternatives for NoMore {
+    ghost use Rattle.oer_choices.specs.Refusals.{NoAlternative};
+
+    ghost Refuses = { λ g s e. NoAlternative g s e };
+
     fn read<D: Choice>(
         _alloc: Global,
         decoder: &mut Decoder<'_>,
@@ -94,6 +106,10 @@ impl<G: Place, B: Spelled, R: Alternatives> Alternatives for Offers<G, B, R> {
 }
 
 impl<G: Place, B: Decode, R: ReadsAlternatives> ReadsAlternatives for Offers<G, B, R> {
+    ghost use Rattle.oer_choices.specs.Refusals.{AlternativeRefused};
+
+    ghost Refuses = { λ g s e. AlternativeRefused G.tag (B.Answered B.CONSTRAINTS) R.Refuses g s e };
+
     fn read<D: Choice>(
         alloc: Global,
         decoder: &mut Decoder<'_>,
@@ -125,6 +141,8 @@ impl<R: Alternatives> Alternatives for Extensible<R> {
 }
 
 impl<R: ReadsAlternatives> ReadsAlternatives for Extensible<R> {
+    ghost Refuses = { R.Refuses };
+
     fn read<D: Choice>(
         alloc: Global,
         decoder: &mut Decoder<'_>,

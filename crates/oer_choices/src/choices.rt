@@ -1,5 +1,5 @@
 //! Choices of the alternatives of a type: every impl of a codec's traits is the library's.
-ghost use Rattle.std.specs.Prelude.{◌≡◌, ◌++◌, true};
+ghost use Rattle.std.specs.Prelude.{◌≡◌, ◌++◌, true, IfErr};
 ghost use Rattle.oer_choices.specs.Choosing.{are_apart, IsOneOf};
 ghost use Rattle.oer_read.specs.Law.{Decodes};
 
@@ -61,7 +61,13 @@ pub trait Alternating: Drop {
 
 /// A type that is read by its row.
 pub trait TakesAlternative: Alternating {
+    ghost use Rattle.asn1_core.specs.declared.error.DecodeError.{DecodeError};
+    ghost use Rattle.asn1_core.specs.declared.tag.Tag.{Tag};
     ghost use Rattle.oer_choices.specs.Choosing.{IsOneOf};
+    ghost use Rattle.oer_read.specs.State.{State};
+
+    /// Why reading the alternative with that tag is refused (`ReadsAlternatives::Refuses` of the row).
+    ghost Refuses: { Tag → State → DecodeError → Type 0 };
 
     /// Reads what the alternative with that tag holds (X.696, 20): `read_alternative`.
     ///
@@ -71,7 +77,8 @@ pub trait TakesAlternative: Alternating {
         decoder: &mut Decoder<'_>,
         tag: Tag,
     ) -> Result<Self, DecodeError>
-        ensures { Decodes (λ v. Self.row_choices.child (Self.alternative v)) (λ v. IsOneOf Self.row_choices (Self.alternative v) × (Self.row_choices.tag_of (Self.alternative v) ≡ tag)) decoder.old result decoder.new };
+        ensures law { Decodes (λ v. Self.row_choices.child (Self.alternative v)) (λ v. IsOneOf Self.row_choices (Self.alternative v) × (Self.row_choices.tag_of (Self.alternative v) ≡ tag)) decoder.old result decoder.new }
+        ensures refused { IfErr result (λ e. Self.Refuses tag decoder.old e) };
 }
 
 /// Reads what the alternative with that tag holds (X.696, 20), by the row `R` of `T`: what `TakesAlternative::take` calls.
@@ -83,7 +90,8 @@ pub fn read_alternative<T: Alternating, R: ReadsAlternatives<Values = T::Values>
     tag: Tag,
 ) -> Result<T, DecodeError>
     requires apart { are_apart (R.choices.roots ++ R.choices.additions) ≡ true }
-    ensures { Decodes (λ v. R.choices.child (T.alternative v)) (λ v. IsOneOf R.choices (T.alternative v) × (R.choices.tag_of (T.alternative v) ≡ tag)) decoder.old result decoder.new }
+    ensures law { Decodes (λ v. R.choices.child (T.alternative v)) (λ v. IsOneOf R.choices (T.alternative v) × (R.choices.tag_of (T.alternative v) ≡ tag)) decoder.old result decoder.new }
+    ensures refused { IfErr result (λ e. R.Refuses tag decoder.old e) }
 {
     match R::read::<D>(alloc, decoder, tag) {
         Ok(value) => Ok(T::from_alternative(value)),
@@ -169,14 +177,14 @@ impl<T: Alternating> Encode for OneOf<T> {
 }
 
 impl<T: TakesAlternative> DecodeChoice for OneOf<T> {
-    ghost use Rattle.std.specs.Prelude.{⊤, refl};
+    ghost use Rattle.std.specs.Prelude.{refl, IfErr};
     ghost use Rattle.oer_choices.specs.Choosing.{choices_small};
 
     ghost tag_of = { λ v. T.row_choices.tag_of (T.alternative v.0) };
 
     ghost child = { λ v. T.row_choices.child (T.alternative v.0) };
 
-    ghost AnsweredFor = { λ g s r t. ⊤ };
+    ghost AnsweredFor = { λ g s r t. IfErr r (λ e. T.Refuses g s e) };
 
     ghost is_choice = { λ c v. refl };
 
@@ -195,12 +203,12 @@ impl<T: TakesAlternative> DecodeChoice for OneOf<T> {
 }
 
 impl<T: TakesAlternative> Decode for OneOf<T> {
-    ghost use Rattle.std.specs.Prelude.{◌≡◌, ⊤};
+    ghost use Rattle.std.specs.Prelude.{◌≡◌, IfErr};
     ghost use Rattle.oer_choices.specs.Choosing.{IsOneOf};
     ghost use Rattle.oer_read.specs.Choices.{ChoiceAnswers};
     ghost use Rattle.oer_read.specs.Law.{Promised};
 
-    ghost Answered = { λ c s r t. ChoiceAnswers (λ g s r t. Promised (λ v. T.row_choices.child (T.alternative v.0)) (λ v. IsOneOf T.row_choices (T.alternative v.0) × (T.row_choices.tag_of (T.alternative v.0) ≡ g)) (λ s r t. ⊤) s r t) T.row_choices.roots T.row_choices.additions T.row_choices.is_extensible s r t };
+    ghost Answered = { λ c s r t. ChoiceAnswers (λ g s r t. Promised (λ v. T.row_choices.child (T.alternative v.0)) (λ v. IsOneOf T.row_choices (T.alternative v.0) × (T.row_choices.tag_of (T.alternative v.0) ≡ g)) (λ s r t. IfErr r (λ e. T.Refuses g s e)) s r t) T.row_choices.roots T.row_choices.additions T.row_choices.is_extensible s r t };
 
     fn decode_with_tag_and_constraints(
         alloc: Global,

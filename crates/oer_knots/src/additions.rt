@@ -91,6 +91,7 @@ impl<G: Place, B: Spelled, R: Additions> Additions for MayAddKnot<G, B, R> {
 }
 
 impl<G: Place, B: Decode, R: ReadsAdditions> ReadsAdditions for MayAddKnot<G, B, R> {
+    ghost use Rattle.oer_rows.specs.Refusals.{RowRefused};
     ghost use Rattle.oer_rows.specs.Slots.{with_optional, optional_once};
 
     type Slots = Both<Option<B>, R::Slots>;
@@ -98,6 +99,8 @@ impl<G: Place, B: Decode, R: ReadsAdditions> ReadsAdditions for MayAddKnot<G, B,
     ghost filled = { with_optional R.filled };
 
     ghost filled_once = { optional_once R.filled R.filled_once };
+
+    ghost Refuses = { λ s e. RowRefused (λ r t. Adds (B.tree B.CONSTRAINTS) B.IsValue (B.Answered B.CONSTRAINTS) s (Some G.tag) r t) R.Refuses e };
 
     fn empty() -> Self::Slots {
         Both(None, R::empty())

@@ -33,6 +33,8 @@ impl<G: Place, B: Spelled, R: Components> Components for NeedsKnot<G, B, R> {
 }
 
 impl<G: Place, B: Decode, R: Reads> Reads for NeedsKnot<G, B, R> {
+    ghost use Rattle.oer_read.specs.Law.{Promised};
+    ghost use Rattle.oer_rows.specs.Refusals.{RowRefused};
     ghost use Rattle.oer_rows.specs.Slots.{with_needed, needed_once};
 
     type Slots = Both<Option<B>, R::Slots>;
@@ -40,6 +42,8 @@ impl<G: Place, B: Decode, R: Reads> Reads for NeedsKnot<G, B, R> {
     ghost filled = { with_needed R.filled };
 
     ghost filled_once = { needed_once R.filled R.filled_once };
+
+    ghost Refuses = { λ s e. RowRefused (λ r t. Promised (B.tree B.CONSTRAINTS) B.IsValue (B.Answered B.CONSTRAINTS) s r t) R.Refuses e };
 
     fn empty() -> Self::Slots {
         Both(None, R::empty())
@@ -77,6 +81,8 @@ impl<G: Place, B: Spelled, R: Components> Components for MayHaveKnot<G, B, R> {
 }
 
 impl<G: Place, B: Decode, R: Reads> Reads for MayHaveKnot<G, B, R> {
+    ghost use Rattle.oer_read.specs.Components.{Asks};
+    ghost use Rattle.oer_rows.specs.Refusals.{RowRefused};
     ghost use Rattle.oer_rows.specs.Slots.{with_optional, optional_once};
 
     type Slots = Both<Option<B>, R::Slots>;
@@ -84,6 +90,8 @@ impl<G: Place, B: Decode, R: Reads> Reads for MayHaveKnot<G, B, R> {
     ghost filled = { with_optional R.filled };
 
     ghost filled_once = { optional_once R.filled R.filled_once };
+
+    ghost Refuses = { λ s e. RowRefused (λ r t. Asks (B.tree B.CONSTRAINTS) B.IsValue (B.Answered B.CONSTRAINTS) s G.tag r t) R.Refuses e };
 
     fn empty() -> Self::Slots {
         Both(None, R::empty())

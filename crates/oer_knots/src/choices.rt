@@ -107,6 +107,10 @@ impl<G: Place, B: Spelled, R: Alternatives> Alternatives for OffersKnot<G, B, R>
 }
 
 impl<G: Place, B: Decode, R: ReadsAlternatives> ReadsAlternatives for OffersKnot<G, B, R> {
+    ghost use Rattle.oer_choices.specs.Refusals.{AlternativeRefused};
+
+    ghost Refuses = { λ g s e. AlternativeRefused G.tag (B.Answered B.CONSTRAINTS) R.Refuses g s e };
+
     fn read<D: Choice>(
         alloc: Global,
         decoder: &mut Decoder<'_>,

@@ -49,9 +49,9 @@ impl<K: Encode> Encode for Held<K> {
 }
 
 impl<K: Decode> Decode for Held<K> {
-    ghost use Rattle.std.specs.Prelude.{⊤};
+    ghost use Rattle.oer_read.specs.Answers.{BoxAnswers};
 
-    ghost Answered = { λ c s r t. ⊤ };
+    ghost Answered = { λ c s r t. BoxAnswers (K.Answered c) (λ h. h.0.value) s r t };
 
     fn decode_with_tag_and_constraints(
         alloc: Global,
@@ -138,9 +138,9 @@ impl<K: Encode> Encode for Bare<K> {
 }
 
 impl<K: Decode> Decode for Bare<K> {
-    ghost use Rattle.std.specs.Prelude.{⊤};
+    ghost use Rattle.std.specs.Result.{result_map_both};
 
-    ghost Answered = { λ c s r t. ⊤ };
+    ghost Answered = { λ c s r t. K.Answered c s (result_map_both (λ h. h.0) (λ e. e) r) t };
 
     fn decode_with_tag_and_constraints(
         alloc: Global,

@@ -1,5 +1,5 @@
 //! Extension additions: the rows behind the mark `...`.
-ghost use Rattle.std.specs.Prelude.{◌≡◌, Some, OnOk};
+ghost use Rattle.std.specs.Prelude.{◌≡◌, Some, OnOk, IfErr};
 ghost use Rattle.oer_spec.specs.Tree.{NoRows};
 ghost use Rattle.oer_read.specs.Additions.{Adds};
 ghost use Rattle.oer_read.specs.Parts.{NoParts, Takes, Stops};
@@ -27,6 +27,9 @@ pub trait Additions {
 
 /// Additions that are read.
 pub trait ReadsAdditions: Additions {
+    ghost use Rattle.asn1_core.specs.declared.error.DecodeError.{DecodeError};
+    ghost use Rattle.oer_read.specs.State.{State};
+
     /// Where they are put as they are read.
     type Slots;
 
@@ -35,6 +38,9 @@ pub trait ReadsAdditions: Additions {
 
     /// They hold no other values.
     ghost filled_once: { (v w : Self.More) → filled v ≡ filled w → v ≡ w };
+
+    /// Why reading them is refused: which addition is, and by what.
+    ghost Refuses: { State → DecodeError → Type 0 };
 
     /// Places that hold nothing.
     fn empty() -> Self::Slots;
@@ -49,7 +55,8 @@ pub trait ReadsAdditions: Additions {
         slots: &mut Self::Slots,
     ) -> Result<(), DecodeError>
         ensures read { OnOk result ((v : Self.More) × (slots.new ≡ filled v) × Takes decoder.old NoParts Self.table.parts NoRows (Self.table.rows v) decoder.new × Self.table.IsValue v) }
-        ensures stops { Stops decoder.old NoParts Self.table.parts result };
+        ensures stops { Stops decoder.old NoParts Self.table.parts result }
+        ensures refused { IfErr result (λ e. Self.Refuses decoder.old e) };
 
     /// The values that the places hold.
     fn taken(slots: Self::Slots) -> Self::More
@@ -96,6 +103,8 @@ impl ReadsAdditions for NoMore {
 
     ghost filled_once = { λ v w e. refl };
 
+    ghost Refuses = { λ s e. ⊥ };
+
     fn empty() -> () {
         ()
     }
@@ -124,6 +133,9 @@ impl<G: Place, B: Spelled, R: Additions> Additions for MayAdd<G, B, R> {
 }
 
 impl<G: Place, B: Decode, R: ReadsAdditions> ReadsAdditions for MayAdd<G, B, R> {
+    ghost use Rattle.std.specs.Prelude.{Some};
+    ghost use Rattle.oer_read.specs.Additions.{Adds};
+    ghost use Rattle.oer_rows.specs.Refusals.{RowRefused};
     ghost use Rattle.oer_rows.specs.Slots.{with_optional, optional_once};
 
     type Slots = Both<Option<B>, R::Slots>;
@@ -131,6 +143,8 @@ impl<G: Place, B: Decode, R: ReadsAdditions> ReadsAdditions for MayAdd<G, B, R> 
     ghost filled = { with_optional R.filled };
 
     ghost filled_once = { optional_once R.filled R.filled_once };
+
+    ghost Refuses = { λ s e. RowRefused (λ r t. Adds (B.tree B.CONSTRAINTS) B.IsValue (B.Answered B.CONSTRAINTS) s (Some G.tag) r t) R.Refuses e };
 
     fn empty() -> Self::Slots {
         Both(None, R::empty())
@@ -174,6 +188,8 @@ impl<R: ReadsAdditions> Reads for Extensible<R> {
     ghost filled = { R.filled };
 
     ghost filled_once = { R.filled_once };
+
+    ghost Refuses = { R.Refuses };
 
     fn empty() -> R::Slots {
         R::empty()

@@ -1,5 +1,5 @@
 //! Root components: the trait of rows, and a cell for each need of a component.
-ghost use Rattle.std.specs.Prelude.{◌≡◌, OnOk};
+ghost use Rattle.std.specs.Prelude.{◌≡◌, OnOk, IfErr};
 ghost use Rattle.oer_read.specs.Parts.{Takes, Stops};
 
 use crate::both::Both;
@@ -35,6 +35,9 @@ pub trait Components {
 
 /// A row whose components are read.
 pub trait Reads: Components {
+    ghost use Rattle.asn1_core.specs.declared.error.DecodeError.{DecodeError};
+    ghost use Rattle.oer_read.specs.State.{State};
+
     /// Where they are put as they are read: a place for the first one and those for the others, at the end `()`. So
     /// none is moved as those behind it are read.
     type Slots;
@@ -44,6 +47,9 @@ pub trait Reads: Components {
 
     /// They hold no other values.
     ghost filled_once: { (v w : Self.Values) → filled v ≡ filled w → v ≡ w };
+
+    /// Why reading them is refused: which component is, and by what.
+    ghost Refuses: { State → DecodeError → Type 0 };
 
     /// Places that hold nothing.
     fn empty() -> Self::Slots;
@@ -58,7 +64,8 @@ pub trait Reads: Components {
         slots: &mut Self::Slots,
     ) -> Result<(), DecodeError>
         ensures read { OnOk result ((v : Self.Values) × (slots.new ≡ filled v) × Takes decoder.old Self.schema.roots.parts Self.schema.additions.parts (Self.schema.roots.rows v) (Self.schema.additions.rows v) decoder.new × Self.schema.roots.IsValue v × Self.schema.additions.IsValue v) }
-        ensures stops { Stops decoder.old Self.schema.roots.parts Self.schema.additions.parts result };
+        ensures stops { Stops decoder.old Self.schema.roots.parts Self.schema.additions.parts result }
+        ensures refused { IfErr result (λ e. Self.Refuses decoder.old e) };
 
     /// The values that the places hold.
     fn taken(slots: Self::Slots) -> Self::Values
@@ -103,6 +110,8 @@ impl Reads for NoMore {
 
     ghost filled_once = { λ v w e. refl };
 
+    ghost Refuses = { λ s e. ⊥ };
+
     fn empty() -> () {
         ()
     }
@@ -135,6 +144,8 @@ impl<G: Place, B: Spelled, R: Components> Components for Needs<G, B, R> {
 }
 
 impl<G: Place, B: Decode, R: Reads> Reads for Needs<G, B, R> {
+    ghost use Rattle.oer_read.specs.Law.{Promised};
+    ghost use Rattle.oer_rows.specs.Refusals.{RowRefused};
     ghost use Rattle.oer_rows.specs.Slots.{with_needed, needed_once};
 
     type Slots = Both<Option<B>, R::Slots>;
@@ -142,6 +153,8 @@ impl<G: Place, B: Decode, R: Reads> Reads for Needs<G, B, R> {
     ghost filled = { with_needed R.filled };
 
     ghost filled_once = { needed_once R.filled R.filled_once };
+
+    ghost Refuses = { λ s e. RowRefused (λ r t. Promised (B.tree B.CONSTRAINTS) B.IsValue (B.Answered B.CONSTRAINTS) s r t) R.Refuses e };
 
     fn empty() -> Self::Slots {
         Both(None, R::empty())
@@ -179,6 +192,8 @@ impl<G: Place, B: Spelled, R: Components> Components for MayHave<G, B, R> {
 }
 
 impl<G: Place, B: Decode, R: Reads> Reads for MayHave<G, B, R> {
+    ghost use Rattle.oer_read.specs.Components.{Asks};
+    ghost use Rattle.oer_rows.specs.Refusals.{RowRefused};
     ghost use Rattle.oer_rows.specs.Slots.{with_optional, optional_once};
 
     type Slots = Both<Option<B>, R::Slots>;
@@ -186,6 +201,8 @@ impl<G: Place, B: Decode, R: Reads> Reads for MayHave<G, B, R> {
     ghost filled = { with_optional R.filled };
 
     ghost filled_once = { optional_once R.filled R.filled_once };
+
+    ghost Refuses = { λ s e. RowRefused (λ r t. Asks (B.tree B.CONSTRAINTS) B.IsValue (B.Answered B.CONSTRAINTS) s G.tag r t) R.Refuses e };
 
     fn empty() -> Self::Slots {
         Both(None, R::empty())
@@ -225,6 +242,8 @@ impl<G: Place, B: EqualAsSpelled, D: Standard<B>, R: Components> Components
 
 impl<G: Place, B: Decode + EqualAsSpelled, D: Standard<B>, R: Reads> Reads
     for Defaults<G, B, D, R> {
+    ghost use Rattle.oer_rows.specs.Standards.{AsksStandard};
+    ghost use Rattle.oer_rows.specs.Refusals.{RowRefused};
     ghost use Rattle.oer_rows.specs.Slots.{with_needed, needed_once};
 
     type Slots = Both<Option<B>, R::Slots>;
@@ -232,6 +251,8 @@ impl<G: Place, B: Decode + EqualAsSpelled, D: Standard<B>, R: Reads> Reads
     ghost filled = { with_needed R.filled };
 
     ghost filled_once = { needed_once R.filled R.filled_once };
+
+    ghost Refuses = { λ s e. RowRefused (λ r t. AsksStandard (B.tree B.CONSTRAINTS) B.IsValue (B.Answered B.CONSTRAINTS) B.eq D.wants_memory s G.tag D.value r t) R.Refuses e };
 
     fn empty() -> Self::Slots {
         Both(None, R::empty())

@@ -10,7 +10,7 @@ use std::alloc::Global;
 
 /// What a component's value is, of what is spelled: the default `D` where that is nothing.
 ///
-/// Refused: the default, for want of memory; a value that is equal to it in canonical mode, as `NotValidCanonicalEncoding` (X.696, 16.2
+/// Refused: the default, for want of memory where it takes any; a value that is equal to it in canonical mode, as `NotValidCanonicalEncoding` (X.696, 16.2
 /// and 18).
 #[inline(always)]
 fn settled<D: Standard<B>, B: EqualAsSpelled>(
@@ -18,7 +18,7 @@ fn settled<D: Standard<B>, B: EqualAsSpelled>(
     codec: Codec,
     spelled: Option<B>,
 ) -> Result<B, DecodeError>
-    ensures { Settles B.eq D.value codec spelled result }
+    ensures { Settles D.wants_memory B.eq D.value codec spelled result }
 {
     match spelled {
         None => match D::value(alloc) {
@@ -47,7 +47,7 @@ pub fn read_default<D: Standard<B>, B: Decode + EqualAsSpelled>(
     decoder: &mut Decoder<'_>,
     tag: Tag,
 ) -> Result<B, DecodeError>
-    ensures { AsksStandard (B.tree B.CONSTRAINTS) B.IsValue (B.Answered B.CONSTRAINTS) B.eq decoder.old tag D.value result decoder.new }
+    ensures { AsksStandard (B.tree B.CONSTRAINTS) B.IsValue (B.Answered B.CONSTRAINTS) B.eq D.wants_memory decoder.old tag D.value result decoder.new }
 {
     let codec = decoder.codec();
     let spelled = decoder.decode_optional_with_tag::<B>(alloc, tag)?;
@@ -63,7 +63,7 @@ pub(crate) fn read_default_addition<D: Standard<B>, B: Decode + EqualAsSpelled>(
     decoder: &mut Decoder<'_>,
     tag: Tag,
 ) -> Result<B, DecodeError>
-    ensures { AddsStandard (B.tree B.CONSTRAINTS) B.IsValue (B.Answered B.CONSTRAINTS) B.eq decoder.old tag D.value result decoder.new }
+    ensures { AddsStandard (B.tree B.CONSTRAINTS) B.IsValue (B.Answered B.CONSTRAINTS) B.eq D.wants_memory decoder.old tag D.value result decoder.new }
 {
     let codec = decoder.codec();
     let spelled = read_addition::<B>(alloc, decoder, tag)?;

@@ -99,9 +99,10 @@ impl<T: Encode> Encode for ListOf<T> {
 }
 
 impl<T: Decode> Decode for ListOf<T> {
-    ghost use Rattle.std.specs.Prelude.{⊤};
+    ghost use Rattle.oer_read.specs.Law.{Promised};
+    ghost use Rattle.oer_read.specs.Lists.{ListAnswers};
 
-    ghost Answered = { λ c s r t. ⊤ };
+    ghost Answered = { λ c s r t. ListAnswers (Promised (T.tree T.CONSTRAINTS) T.IsValue (T.Answered T.CONSTRAINTS)) s (λ vs. vs) r t };
 
     fn decode_with_tag_and_constraints(
         alloc: Global,
@@ -120,9 +121,11 @@ impl<T: Decode> Decode for ListOf<T> {
 pub struct IsEmptyList;
 
 impl<T: EqualAsSpelled> Standard<ListOf<T>> for IsEmptyList {
-    ghost use Rattle.std.specs.Prelude.{[]};
+    ghost use Rattle.std.specs.Prelude.{[], false};
 
     ghost value = { [] };
+
+    ghost wants_memory = { false };
 
     fn value(alloc: Global) -> Result<ListOf<T>, AllocError> {
         Ok(ListOf(Vec::new(alloc)))
@@ -137,9 +140,11 @@ impl<T: EqualAsSpelled> Standard<ListOf<T>> for IsEmptyList {
 }
 
 impl<T: EqualAsSpelled + Eq> Standard<SetOf<T>> for IsEmptyList {
-    ghost use Rattle.std.specs.Prelude.{[]};
+    ghost use Rattle.std.specs.Prelude.{[], false};
 
     ghost value = { [] };
+
+    ghost wants_memory = { false };
 
     fn value(alloc: Global) -> Result<SetOf<T>, AllocError> {
         Ok(SetOf::from_vec(Vec::new(alloc)))

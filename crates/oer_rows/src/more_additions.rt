@@ -32,6 +32,7 @@ impl<G: Place, B: Spelled, R: Additions> Additions for Adds<G, B, R> {
 }
 
 impl<G: Place, B: Decode, R: ReadsAdditions> ReadsAdditions for Adds<G, B, R> {
+    ghost use Rattle.oer_rows.specs.Refusals.{AddsNeeded, RowRefused};
     ghost use Rattle.oer_rows.specs.Slots.{with_needed, needed_once};
 
     type Slots = Both<Option<B>, R::Slots>;
@@ -39,6 +40,8 @@ impl<G: Place, B: Decode, R: ReadsAdditions> ReadsAdditions for Adds<G, B, R> {
     ghost filled = { with_needed R.filled };
 
     ghost filled_once = { needed_once R.filled R.filled_once };
+
+    ghost Refuses = { λ s e. RowRefused (λ r t. AddsNeeded (B.tree B.CONSTRAINTS) B.IsValue (B.Answered B.CONSTRAINTS) s G.tag r t) R.Refuses e };
 
     fn empty() -> Self::Slots {
         Both(None, R::empty())
@@ -82,6 +85,8 @@ impl<G: Place, B: EqualAsSpelled, D: Standard<B>, R: Additions> Additions
 
 impl<G: Place, B: Decode + EqualAsSpelled, D: Standard<B>, R: ReadsAdditions> ReadsAdditions
     for AddDefaults<G, B, D, R> {
+    ghost use Rattle.oer_rows.specs.Standards.{AddsStandard};
+    ghost use Rattle.oer_rows.specs.Refusals.{RowRefused};
     ghost use Rattle.oer_rows.specs.Slots.{with_needed, needed_once};
 
     type Slots = Both<Option<B>, R::Slots>;
@@ -89,6 +94,8 @@ impl<G: Place, B: Decode + EqualAsSpelled, D: Standard<B>, R: ReadsAdditions> Re
     ghost filled = { with_needed R.filled };
 
     ghost filled_once = { needed_once R.filled R.filled_once };
+
+    ghost Refuses = { λ s e. RowRefused (λ r t. AddsStandard (B.tree B.CONSTRAINTS) B.IsValue (B.Answered B.CONSTRAINTS) B.eq D.wants_memory s G.tag D.value r t) R.Refuses e };
 
     fn empty() -> Self::Slots {
         Both(None, R::empty())
@@ -128,6 +135,9 @@ impl<
     B: Decode + Constructed<RC, EC>,
     R: ReadsAdditions,
 > ReadsAdditions for MayAddGroup<RC, EC, B, R> {
+    ghost use Rattle.std.specs.Prelude.{None};
+    ghost use Rattle.oer_read.specs.Additions.{Adds};
+    ghost use Rattle.oer_rows.specs.Refusals.{RowRefused};
     ghost use Rattle.oer_rows.specs.Slots.{with_optional, optional_once};
 
     type Slots = Both<Option<B>, R::Slots>;
@@ -135,6 +145,8 @@ impl<
     ghost filled = { with_optional R.filled };
 
     ghost filled_once = { optional_once R.filled R.filled_once };
+
+    ghost Refuses = { λ s e. RowRefused (λ r t. Adds (B.tree B.CONSTRAINTS) B.IsValue (B.Answered B.CONSTRAINTS) s None r t) R.Refuses e };
 
     fn empty() -> Self::Slots {
         Both(None, R::empty())

@@ -73,11 +73,17 @@ impl<const N: u32> Place for Private<N> {
 
 /// A component's default, as a type: a value that the component's type admits.
 pub trait Standard<B: EqualAsSpelled> {
+    ghost use Rattle.std.specs.Prelude.{◌≡◌, Bool, true, IfOk, IfErr};
+
     ghost value: { B };
 
-    /// The default. Refused for want of memory alone; a boolean, NULL and a number of 64 bits take none.
+    /// Whether making it may want memory.
+    ghost wants_memory: { Bool } = { true };
+
+    /// The default. Refused for want of memory alone; a boolean, NULL, a number of 64 bits and an empty list take none.
     fn value(alloc: Global) -> Result<B, AllocError>
-        ensures { IfOk result (λ v. v ≡ value) };
+        ensures is { IfOk result (λ v. v ≡ value) }
+        ensures memory { IfErr result (λ e. wants_memory ≡ true) };
 
     /// Whether a value is equal to the default: so that who writes or compares makes none. Takes no memory.
     fn is_value(other: &B) -> bool
@@ -106,6 +112,8 @@ impl Standard<bool> for IsFalse {
 
     ghost value = { false };
 
+    ghost wants_memory = { false };
+
     fn value(_alloc: Global) -> Result<bool, AllocError> {
         Ok(false)
     }
@@ -118,9 +126,11 @@ impl Standard<bool> for IsFalse {
 }
 
 impl Standard<bool> for IsTrue {
-    ghost use Rattle.std.specs.Prelude.{true};
+    ghost use Rattle.std.specs.Prelude.{true, false};
 
     ghost value = { true };
+
+    ghost wants_memory = { false };
 
     fn value(_alloc: Global) -> Result<bool, AllocError> {
         Ok(true)
@@ -134,7 +144,11 @@ impl Standard<bool> for IsTrue {
 }
 
 impl Standard<()> for IsNull {
+    ghost use Rattle.std.specs.Prelude.{false};
+
     ghost value = { tt };
+
+    ghost wants_memory = { false };
 
     fn value(_alloc: Global) -> Result<(), AllocError> {
         Ok(())
@@ -148,9 +162,11 @@ impl Standard<()> for IsNull {
 }
 
 impl<const N: i64> Standard<Integer> for IsNumber<N> {
-    ghost use Rattle.std.specs.Prelude.{refl};
+    ghost use Rattle.std.specs.Prelude.{false, refl};
 
     ghost value = { N };
+
+    ghost wants_memory = { false };
 
     fn value(_alloc: Global) -> Result<Integer, AllocError> {
         Ok(Integer::from_i128(N as i128))
@@ -165,6 +181,8 @@ impl<const N: i64> Standard<Integer> for IsNumber<N> {
 
 impl<T: EqualAsSpelled, L: Limits, D: Standard<T>> Standard<Limited<T, L>> for Within<D> {
     ghost value = { record { 0 = D.value; 1 = record {} } };
+
+    ghost wants_memory = { D.wants_memory };
 
     fn value(alloc: Global) -> Result<Limited<T, L>, AllocError> {
         Ok(Limited(D::value(alloc)?, PhantomData))

@@ -1,7 +1,9 @@
 //! Sequences read by their row.
-ghost use Rattle.std.specs.Prelude.{◌≡◌, IfOk};
+ghost use Rattle.std.specs.Prelude.{◌≡◌, IfOk, IfErr};
 ghost use Rattle.oer_read.specs.Law.{Decodes};
 ghost use Rattle.oer_read.specs.Parts.{ReadsParts};
+ghost use Rattle.oer_read.specs.Scopes.{SequenceRefused};
+ghost use Rattle.oer_rows.specs.Refusals.{RowRan};
 ghost use Rattle.oer_rows.specs.Schema.{IsOf, HasTables, tree_of};
 
 use crate::components::Reads;
@@ -22,6 +24,7 @@ where
     R::Slots: Drop,
     ensures read { ReadsParts R.schema.roots.parts R.schema.additions.parts (λ v. R.schema.roots.rows (T.components v)) (λ v. R.schema.additions.rows (T.components v)) decoder.old result decoder.new }
     ensures value { IfOk result (λ v. IsOf R.schema (T.components v)) }
+    ensures refused { IfErr result (λ e. R.Refuses decoder.old e) }
 {
     let mut slots = R::empty();
     R::read(alloc, decoder, &mut slots)?;
@@ -41,13 +44,15 @@ pub fn decode_row<const RC: usize, const EC: usize, T: Constructed<RC, EC> + Spe
     requires within { (v : _) → T.IsValue v → IsOf T.row_schema (T.components v) }
     requires back { (v : _) → IsOf T.row_schema (T.components v) → T.IsValue v }
     requires tables { HasTables T.row_schema T.EXTENSIBLE T.IS_EXTENSIBLE T.root_rows T.addition_rows }
-    ensures { Decodes (T.tree _constraints) T.IsValue decoder.old result decoder.new }
+    ensures law { Decodes (T.tree _constraints) T.IsValue decoder.old result decoder.new }
+    ensures refused { IfErr result (λ e. SequenceRefused (RowRan T.row_schema T.Refuses) T.IS_EXTENSIBLE T.root_rows T.addition_rows decoder.old e) }
 {
     decoder.decode_sequence::<RC, EC, T, _>(
         tag,
         |decoder: &mut Decoder<'_>| -> Result<T, DecodeError>
             ensures read { ReadsParts T.row_schema.roots.parts T.row_schema.additions.parts (λ v. T.row_schema.roots.rows (T.components v)) (λ v. T.row_schema.additions.rows (T.components v)) decoder.old result decoder.new }
             ensures value { IfOk result (λ v. IsOf T.row_schema (T.components v)) }
+            ensures refused { IfErr result (λ e. T.Refuses decoder.old e) }
         { T::take(alloc, decoder) },
     )
 }

@@ -1,5 +1,5 @@
 //! Types whose components stand in a row.
-ghost use Rattle.std.specs.Prelude.{IfOk};
+ghost use Rattle.std.specs.Prelude.{IfOk, IfErr};
 ghost use Rattle.oer_read.specs.Parts.{ReadsParts};
 ghost use Rattle.oer_rows.specs.Schema.{IsOf};
 
@@ -35,12 +35,19 @@ pub trait Rowed {
 
 /// A type that is read by its row.
 pub trait Takes: Rowed + Drop {
+    ghost use Rattle.asn1_core.specs.declared.error.DecodeError.{DecodeError};
+    ghost use Rattle.oer_read.specs.State.{State};
+
+    /// Why reading the components is refused: which of them is, and by what (`Reads::Refuses` of the row).
+    ghost Refuses: { State → DecodeError → Type 0 };
+
     /// Reads the components in the order of the row, inside the scope of a sequence (X.696, 16): `read_row`.
     ///
     /// Refused, the first that applies, as the calls of `Decoder` refuse that read each component.
     fn take(alloc: Global, decoder: &mut Decoder<'_>) -> Result<Self, DecodeError>
         ensures read { ReadsParts Self.row_schema.roots.parts Self.row_schema.additions.parts (λ v. Self.row_schema.roots.rows (Self.components v)) (λ v. Self.row_schema.additions.rows (Self.components v)) decoder.old result decoder.new }
-        ensures value { IfOk result (λ v. IsOf Self.row_schema (Self.components v)) };
+        ensures value { IfOk result (λ v. IsOf Self.row_schema (Self.components v)) }
+        ensures refused { IfErr result (λ e. Self.Refuses decoder.old e) };
 }
 
 /// The schema of a type, by which a type of one's own says its tree, its admitted values and its tables.

@@ -72,6 +72,8 @@ impl<const RC: usize, const EC: usize, T: Tabled<RC, EC>> Rowed for Sequence<T, 
 }
 
 impl<const RC: usize, const EC: usize, T: Tabled<RC, EC> + Takes> Takes for Sequence<T, RC, EC> {
+    ghost Refuses = { T.Refuses };
+
     fn take(alloc: Global, decoder: &mut Decoder<'_>) -> Result<Sequence<T, RC, EC>, DecodeError> {
         Ok(Sequence(T::take(alloc, decoder)?))
     }
@@ -160,9 +162,9 @@ impl<const RC: usize, const EC: usize, T: Tabled<RC, EC>> Encode for Sequence<T,
 }
 
 impl<const RC: usize, const EC: usize, T: Tabled<RC, EC> + Takes> Decode for Sequence<T, RC, EC> {
-    ghost use Rattle.std.specs.Prelude.{⊤};
+    ghost use Rattle.oer_rows.specs.Refusals.{RowAnswers};
 
-    ghost Answered = { λ c s r t. ⊤ };
+    ghost Answered = { λ c s r t. RowAnswers T.row_schema T.EXTENSIBLE T.Refuses s r };
 
     fn decode_with_tag_and_constraints(
         alloc: Global,

@@ -114,9 +114,9 @@ impl<const RC: usize, const EC: usize, T: InTagOrder<RC, EC>> Encode for Set<T, 
 }
 
 impl<const RC: usize, const EC: usize, T: InTagOrder<RC, EC> + Takes> Decode for Set<T, RC, EC> {
-    ghost use Rattle.std.specs.Prelude.{⊤};
+    ghost use Rattle.oer_rows.specs.Refusals.{RowAnswers};
 
-    ghost Answered = { λ c s r t. ⊤ };
+    ghost Answered = { λ c s r t. RowAnswers T.row_schema T.EXTENSIBLE T.Refuses s r };
 
     fn decode_with_tag_and_constraints(
         alloc: Global,

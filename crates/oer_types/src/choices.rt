@@ -109,6 +109,8 @@ impl Alternating for PriorityAlternatives {
 }
 
 impl TakesAlternative for PriorityAlternatives {
+    ghost Refuses = { ⟦<PriorityRow as ReadsAlternatives>⟧.Refuses };
+
     fn take<D: Choice>(
         alloc: Global,
         decoder: &mut Decoder<'_>,
@@ -154,6 +156,8 @@ impl Alternating for WideAlternatives {
 }
 
 impl TakesAlternative for WideAlternatives {
+    ghost Refuses = { ⟦<WideRow as ReadsAlternatives>⟧.Refuses };
+
     fn take<D: Choice>(
         alloc: Global,
         decoder: &mut Decoder<'_>,
@@ -199,6 +203,8 @@ impl Alternating for OnlyAlternatives {
 }
 
 impl TakesAlternative for OnlyAlternatives {
+    ghost Refuses = { ⟦<OnlyRow as ReadsAlternatives>⟧.Refuses };
+
     fn take<D: Choice>(
         alloc: Global,
         decoder: &mut Decoder<'_>,
@@ -244,6 +250,8 @@ impl Alternating for BoolAlternatives {
 }
 
 impl TakesAlternative for BoolAlternatives {
+    ghost Refuses = { ⟦<BoolRow as ReadsAlternatives>⟧.Refuses };
+
     fn take<D: Choice>(
         alloc: Global,
         decoder: &mut Decoder<'_>,

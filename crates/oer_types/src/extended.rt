@@ -77,6 +77,8 @@ impl Rowed for components::ExtendedOptional {
 }
 
 impl Takes for components::ExtendedOptional {
+    ghost Refuses = { ⟦<ExtendedRow as Reads>⟧.Refuses };
+
     fn take(alloc: Global, decoder: &mut Decoder<'_>) -> Result<Self, DecodeError> {
         read_row::<Self, ExtendedRow>(alloc, decoder)
     }

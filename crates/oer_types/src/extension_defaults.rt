@@ -38,6 +38,8 @@ impl Rowed for components::AddDef {
 }
 
 impl Takes for components::AddDef {
+    ghost Refuses = { ⟦<AddDefRow as Reads>⟧.Refuses };
+
     fn take(alloc: Global, decoder: &mut Decoder<'_>) -> Result<Self, DecodeError> {
         read_row::<Self, AddDefRow>(alloc, decoder)
     }
@@ -109,6 +111,8 @@ impl Rowed for components::Holder1 {
 }
 
 impl Takes for components::Holder1 {
+    ghost Refuses = { ⟦<Holder1Row as Reads>⟧.Refuses };
+
     fn take(alloc: Global, decoder: &mut Decoder<'_>) -> Result<Self, DecodeError> {
         read_row::<Self, Holder1Row>(alloc, decoder)
     }
@@ -180,6 +184,8 @@ impl Rowed for components::Holder2 {
 }
 
 impl Takes for components::Holder2 {
+    ghost Refuses = { ⟦<Holder2Row as Reads>⟧.Refuses };
+
     fn take(alloc: Global, decoder: &mut Decoder<'_>) -> Result<Self, DecodeError> {
         read_row::<Self, Holder2Row>(alloc, decoder)
     }

@@ -37,6 +37,8 @@ impl<T: Decode + Encode> Rowed for HoldingComponents<T> {
 }
 
 impl<T: Decode + Encode> Takes for HoldingComponents<T> {
+    ghost Refuses = { ⟦<HoldingRow<T> as Reads>⟧.Refuses };
+
     fn take(alloc: Global, decoder: &mut Decoder<'_>) -> Result<Self, DecodeError> {
         read_row::<Self, HoldingRow<T>>(alloc, decoder)
     }
@@ -99,6 +101,8 @@ impl<T: Decode + Encode> Rowed for AddingComponents<T> {
 }
 
 impl<T: Decode + Encode> Takes for AddingComponents<T> {
+    ghost Refuses = { ⟦<AddingRow<T> as Reads>⟧.Refuses };
+
     fn take(alloc: Global, decoder: &mut Decoder<'_>) -> Result<Self, DecodeError> {
         read_row::<Self, AddingRow<T>>(alloc, decoder)
     }

@@ -64,6 +64,8 @@ impl<K: Encode> Rowed for LinkComponents<K> {
 }
 
 impl<K: Encode + Decode> Takes for LinkComponents<K> {
+    ghost Refuses = { ⟦<LinkRow<K> as Reads>⟧.Refuses };
+
     fn take(alloc: Global, decoder: &mut Decoder<'_>) -> Result<Self, DecodeError> {
         read_row::<Self, LinkRow<K>>(alloc, decoder)
     }
@@ -170,6 +172,8 @@ impl<K: Encode> Alternating for LinkAlternatives<K> {
 }
 
 impl<K: Encode + Decode> TakesAlternative for LinkAlternatives<K> {
+    ghost Refuses = { ⟦<LinkChoiceRow<K> as ReadsAlternatives>⟧.Refuses };
+
     fn take<D: Choice>(
         alloc: Global,
         decoder: &mut Decoder<'_>,

@@ -77,6 +77,8 @@ impl Rowed for components::ManyOptional {
 }
 
 impl Takes for components::ManyOptional {
+    ghost Refuses = { ⟦<ManyRow as Reads>⟧.Refuses };
+
     fn take(alloc: Global, decoder: &mut Decoder<'_>) -> Result<Self, DecodeError> {
         read_row::<Self, ManyRow>(alloc, decoder)
     }

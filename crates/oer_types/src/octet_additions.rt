@@ -30,6 +30,8 @@ impl Rowed for components::Omitted {
 }
 
 impl Takes for components::Omitted {
+    ghost Refuses = { ⟦<OmittedRow as Reads>⟧.Refuses };
+
     fn take(alloc: Global, decoder: &mut Decoder<'_>) -> Result<Self, DecodeError> {
         read_row::<Self, OmittedRow>(alloc, decoder)
     }
@@ -93,6 +95,8 @@ impl Rowed for components::SequenceDuplicatesExtended {
 }
 
 impl Takes for components::SequenceDuplicatesExtended {
+    ghost Refuses = { ⟦<SequenceDuplicatesExtendedRow as Reads>⟧.Refuses };
+
     fn take(alloc: Global, decoder: &mut Decoder<'_>) -> Result<Self, DecodeError> {
         read_row::<Self, SequenceDuplicatesExtendedRow>(alloc, decoder)
     }

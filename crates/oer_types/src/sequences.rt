@@ -31,6 +31,8 @@ impl Rowed for components::Nested {
 }
 
 impl Takes for components::Nested {
+    ghost Refuses = { ⟦<NestedRow as Reads>⟧.Refuses };
+
     fn take(alloc: Global, decoder: &mut Decoder<'_>) -> Result<Self, DecodeError> {
         read_row::<Self, NestedRow>(alloc, decoder)
     }
@@ -80,6 +82,8 @@ impl Rowed for components::Empty {
 }
 
 impl Takes for components::Empty {
+    ghost Refuses = { ⟦<EmptyRow as Reads>⟧.Refuses };
+
     fn take(alloc: Global, decoder: &mut Decoder<'_>) -> Result<Self, DecodeError> {
         read_row::<Self, EmptyRow>(alloc, decoder)
     }
@@ -129,6 +133,8 @@ impl Rowed for components::DefaultInteger {
 }
 
 impl Takes for components::DefaultInteger {
+    ghost Refuses = { ⟦<DefaultIntegerRow as Reads>⟧.Refuses };
+
     fn take(alloc: Global, decoder: &mut Decoder<'_>) -> Result<Self, DecodeError> {
         read_row::<Self, DefaultIntegerRow>(alloc, decoder)
     }
@@ -183,6 +189,8 @@ impl Rowed for components::DefaultAndOptional {
 }
 
 impl Takes for components::DefaultAndOptional {
+    ghost Refuses = { ⟦<DefaultAndOptionalRow as Reads>⟧.Refuses };
+
     fn take(alloc: Global, decoder: &mut Decoder<'_>) -> Result<Self, DecodeError> {
         read_row::<Self, DefaultAndOptionalRow>(alloc, decoder)
     }
@@ -237,6 +245,8 @@ impl Rowed for components::AllDefault {
 }
 
 impl Takes for components::AllDefault {
+    ghost Refuses = { ⟦<AllDefaultRow as Reads>⟧.Refuses };
+
     fn take(alloc: Global, decoder: &mut Decoder<'_>) -> Result<Self, DecodeError> {
         read_row::<Self, AllDefaultRow>(alloc, decoder)
     }
@@ -286,6 +296,8 @@ impl Rowed for components::AllOptional {
 }
 
 impl Takes for components::AllOptional {
+    ghost Refuses = { ⟦<AllOptionalRow as Reads>⟧.Refuses };
+
     fn take(alloc: Global, decoder: &mut Decoder<'_>) -> Result<Self, DecodeError> {
         read_row::<Self, AllOptionalRow>(alloc, decoder)
     }

@@ -89,6 +89,8 @@ impl<K: Encode> Rowed for TopLevelComponents<K> {
 }
 
 impl<K: Encode + Decode> Takes for TopLevelComponents<K> {
+    ghost Refuses = { ⟦<TopRow<K> as Reads>⟧.Refuses };
+
     fn take(alloc: Global, decoder: &mut Decoder<'_>) -> Result<Self, DecodeError> {
         read_row::<Self, TopRow<K>>(alloc, decoder)
     }
@@ -196,6 +198,8 @@ impl<K: Encode> Alternating for TestAlternatives<K> {
 }
 
 impl<K: Encode + Decode> TakesAlternative for TestAlternatives<K> {
+    ghost Refuses = { ⟦<TestRow<K> as ReadsAlternatives>⟧.Refuses };
+
     fn take<D: Choice>(
         alloc: Global,
         decoder: &mut Decoder<'_>,

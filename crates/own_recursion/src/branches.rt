@@ -73,6 +73,8 @@ impl<K: Spelled> Rowed for BranchComponents<K> {
 }
 
 impl<K: Decode> Takes for BranchComponents<K> {
+    ghost Refuses = { ⟦<BranchRow<K> as Reads>⟧.Refuses };
+
     fn take(alloc: Global, decoder: &mut Decoder<'_>) -> Result<Self, DecodeError> {
         read_row::<Self, BranchRow<K>>(alloc, decoder)
     }

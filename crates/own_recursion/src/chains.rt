@@ -64,6 +64,8 @@ impl<K: Spelled> Rowed for ChainComponents<K> {
 }
 
 impl<K: Decode> Takes for ChainComponents<K> {
+    ghost Refuses = { ⟦<ChainRow<K> as Reads>⟧.Refuses };
+
     fn take(alloc: Global, decoder: &mut Decoder<'_>) -> Result<Self, DecodeError> {
         read_row::<Self, ChainRow<K>>(alloc, decoder)
     }

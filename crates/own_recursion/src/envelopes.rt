@@ -67,6 +67,8 @@ impl<K: Encode> Rowed for EnvelopeComponents<K> {
 }
 
 impl<K: Encode + Decode> Takes for EnvelopeComponents<K> {
+    ghost Refuses = { ⟦<EnvelopeRow<K> as Reads>⟧.Refuses };
+
     fn take(alloc: Global, decoder: &mut Decoder<'_>) -> Result<Self, DecodeError> {
         read_row::<Self, EnvelopeRow<K>>(alloc, decoder)
     }
@@ -184,6 +186,8 @@ impl<K: Encode> Alternating for BodyAlternatives<K> {
 }
 
 impl<K: Encode + Decode> TakesAlternative for BodyAlternatives<K> {
+    ghost Refuses = { ⟦<BodyRow<K> as ReadsAlternatives>⟧.Refuses };
+
     fn take<D: Choice>(
         alloc: Global,
         decoder: &mut Decoder<'_>,

@@ -67,6 +67,8 @@ impl<K: Spelled> Rowed for NodeComponents<K> {
 }
 
 impl<K: Decode> Takes for NodeComponents<K> {
+    ghost Refuses = { ⟦<NodeRow<K> as Reads>⟧.Refuses };
+
     fn take(alloc: Global, decoder: &mut Decoder<'_>) -> Result<Self, DecodeError> {
         read_row::<Self, NodeRow<K>>(alloc, decoder)
     }

@@ -1,5 +1,8 @@
 -- From what reading and writing promise to the calls that do both.
-use Rattle.std.proofs.Common.{◌≡◌, ℕ, ◌≤◌, [], ◌++◌, refl, sym, ap, subst, ◌∙◌, append-nil}
+use Rattle.std.proofs.Common.{◌≡◌, ℕ, ◌≤◌, [], ◌++◌, Result, Ok, Err, refl, sym, ap, subst, ◌∙◌, append-nil}
+use Rattle.std.specs.Borrow.{Bor}
+use Rattle.asn1_core.specs.declared.error.DecodeError.{DecodeError}
+use Rattle.oer_read.specs.State.{State}
 use Rattle.asn1_core.specs.Octets.{Octets}
 use Rattle.asn1_core.specs.declared.codec.Codec.{Codec}
 use Rattle.asn1_core.specs.declared.codec.Codec.TheVariants.{Oer, Coer}
@@ -13,7 +16,7 @@ use Rattle.oer_spec.specs.Same.{Same}
 use Rattle.oer_spec.specs.Tree.{Tree}
 use Rattle.oer_spec.specs.Versions.{Drops, Lacks}
 use Rattle.rasn_oer.specs.Conversions.{Canonicalised, ReadAsOlder, NoneIsOlder, ReadAsNewer, NoneIsNewer}
-use Rattle.rasn_oer.specs.Headline.{is_settled, Begins, Decoded, HasNone, Encoded}
+use Rattle.rasn_oer.specs.Headline.{is_settled, Begins, Decoded, HasNone, Encoded, Says, SaysAlone}
 use Rattle.rasn_oer.proofs.Entries.{written_in}
 
 module _ {A : Type 0} (tree : A → Tree) (IsValue : A → Type 0) (is_tree : (v : A) → IsValue v → IsTree (tree v)) where
@@ -39,6 +42,14 @@ module _ {A : Type 0} (tree : A → Tree) (IsValue : A → Type 0) (is_tree : (v
 lifted_in : (m : Codec) (t n : Tree) (d : ℕ) → IsTree t → IsTree n → Lacks t n → IsEncodable t → IsEncodable n → levels t ≤ d → IsEncoding (mode_of m) d (canonical_octets t) n
 lifted_in Coer t n d i j k f g l = lift t n d i j k f g l
 lifted_in Oer t n d i j k f g l = canonical_within_lenient n d (canonical_octets t) (lift t n d i j k f g l)
+
+-- what the type says of reading octets, where these are the canonical ones of a tree
+module _ {A : Type 0} (tree : A → Tree) (IsValue : A → Type 0) (Answered : State → Result A DecodeError → State → Type 0) (m : Codec) (d : ℕ) (octets : Octets) (t : Tree) (same : octets ≡ canonical_octets t) where
+  pub says_converted : (v : A) (rest : Bor Octets) → Decoded tree IsValue m d octets v rest.now → Says tree IsValue Answered m d octets (Ok (v, rest)) → SaysAlone tree IsValue Answered m d (canonical_octets t) (Ok v)
+  says_converted v rest k a = subst (λ (o : Octets). SaysAlone tree IsValue Answered m d o (Ok v)) same (rest.now, k, a)
+
+  pub says_not_converted : (e : DecodeError) → Says tree IsValue Answered m d octets (Err e) → SaysAlone tree IsValue Answered m d (canonical_octets t) (Err e)
+  says_not_converted e a = subst (λ (o : Octets). SaysAlone tree IsValue Answered m d o (Err e)) same a
 
 module _ {A B : Type 0} (newer : A → Tree) (IsNewer : A → Type 0) (is_newer : (v : A) → IsNewer v → IsTree (newer v)) (older : B → Tree) (IsOlder : B → Type 0) (m : Codec) (d : ℕ) (n : A) where
   pub read_as_older : (octets rest : Octets) (v : B) → Encoded newer IsNewer n octets → Decoded older IsOlder m d octets v rest → ReadAsOlder newer IsNewer older IsOlder m d n v

@@ -1,17 +1,19 @@
 -- What the calls promise that read and write: into canonical octets, from a newer version of a type into an older one, and
 -- from an older one into a newer one.
-use Rattle.std.specs.Prelude.{◌≡◌, ℕ, ◌≤◌, ◌++◌, Result, Ok, Err, Vec}
+use Rattle.std.specs.Prelude.{◌≡◌, ℕ, ◌≤◌, ◌++◌, Result, Ok, Err, Vec, ⊤}
 use Rattle.std.specs.Borrow.{Bor}
 use Rattle.std.specs.declared.alloc.Global.{Global}
 use Rattle.asn1_core.specs.Octets.{Octets}
 use Rattle.asn1_core.specs.declared.codec.Codec.{Codec}
 use Rattle.asn1_core.specs.declared.codec.Codec.TheVariants.{Oer, Coer}
+use Rattle.asn1_core.specs.declared.error.DecodeError.{DecodeError}
 use Rattle.asn1_core.specs.declared.error.DecodeErrorKind.TheVariants as decode
 use Rattle.oer_spec.specs.Encoding.{IsEncodable, canonical_octets, levels}
 use Rattle.oer_spec.specs.Same.{Same}
 use Rattle.oer_spec.specs.Tree.{Tree}
 use Rattle.oer_spec.specs.Versions.{Drops, Lacks}
-use Rattle.rasn_oer.specs.Headline.{is_settled, Begins, Decoded, HasNone, NotRead, NotWritten, Encoded}
+use Rattle.oer_read.specs.State.{State}
+use Rattle.rasn_oer.specs.Headline.{is_settled, Begins, Decoded, HasNone, NotRead, NotWritten, Encoded, Says, SaysAlone}
 use Rattle.rasn_oer.specs.declared.codec_error.CodecError.{CodecError}
 use Rattle.rasn_oer.specs.declared.codec_error.CodecError.TheVariants.{Decode, Encode}
 
@@ -33,6 +35,18 @@ module _ {A : Type 0} (tree : A → Tree) (IsValue : A → Type 0) where
   IsCanonicalised d input (Ok p) = Canonicalised d input p.0.items p.1.now
   IsCanonicalised d input (Err (Decode e)) = NotRead tree IsValue Oer d input e
   IsCanonicalised d input (Err (Encode x)) = (v : A) × (rest : Octets) × Decoded tree IsValue Oer d input v rest × NotWritten tree IsValue v x
+
+  -- What the type says of the reading beside the law (`Answered`): of the value that was read, and of why none was.
+  abbrev pub SaysCanonicalised : (State → Result A DecodeError → State → Type 0) → ℕ → Octets → Result (Vec ℕ Global × Bor Octets) CodecError → Type 0
+  SaysCanonicalised Answered d input (Ok p) = (v : A) × Encoded tree IsValue v p.0.items × Says tree IsValue Answered Oer d input (Ok (v, p.1))
+  SaysCanonicalised Answered d input (Err (Decode e)) = Says tree IsValue Answered Oer d input (Err e)
+  SaysCanonicalised Answered d input (Err (Encode x)) = (v : A) × (rest : Bor Octets) × NotWritten tree IsValue v x × Says tree IsValue Answered Oer d input (Ok (v, rest))
+
+  -- The same of a value that is read of the canonical octets of a tree.
+  abbrev pub SaysConverted : (State → Result A DecodeError → State → Type 0) → Tree → Codec → ℕ → Result A CodecError → Type 0
+  SaysConverted Answered t m d (Ok v) = SaysAlone tree IsValue Answered m d (canonical_octets t) (Ok v)
+  SaysConverted Answered t m d (Err (Decode e)) = SaysAlone tree IsValue Answered m d (canonical_octets t) (Err e)
+  SaysConverted Answered t m d (Err (Encode x)) = ⊤
 
 module _ {A B : Type 0} (newer : A → Tree) (IsNewer : A → Type 0) (older : B → Tree) (IsOlder : B → Type 0) (m : Codec) (d : ℕ) (n : A) where
   -- The newer value can be written, and the older one is what is read of its canonical octets.

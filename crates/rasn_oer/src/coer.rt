@@ -1,7 +1,7 @@
 //! Canonical octet encoding rules (X.696): canonical reading, and canonical writing.
 ghost use Rattle.asn1_core.specs.declared.codec.Codec.TheVariants.{Coer};
 ghost use Rattle.oer_spec.specs.Spelled.{IsConsistent};
-ghost use Rattle.rasn_oer.specs.Conversions.{IsAsNewer, IsAsOlder};
+ghost use Rattle.rasn_oer.specs.Conversions.{IsAsNewer, IsAsOlder, SaysConverted};
 ghost use Rattle.rasn_oer.specs.Headline.{IsAppended, IsRead, IsReadAlone, IsWritten, Says, SaysAlone};
 
 use crate::entry::{append_value, decode_value, encode_value};
@@ -93,7 +93,8 @@ pub fn decode_with_constraints<T: Decode>(
 /// Refused as `encode` refuses the newer value, or as `decode` refuses its octets as the older type: also where a
 /// component's default leaves out what the newer value spells out.
 pub fn as_older<New: Encode, Old: Decode>(alloc: Global, newer: &New) -> Result<Old, CodecError>
-    ensures { IsAsOlder (New.tree New.CONSTRAINTS) New.IsValue (Old.tree Old.CONSTRAINTS) Old.IsValue Coer DecoderOptions.DEFAULT_DEPTH newer.now result }
+    ensures read { IsAsOlder (New.tree New.CONSTRAINTS) New.IsValue (Old.tree Old.CONSTRAINTS) Old.IsValue Coer DecoderOptions.DEFAULT_DEPTH newer.now result }
+    ensures says { SaysConverted (Old.tree Old.CONSTRAINTS) Old.IsValue (Old.Answered Old.CONSTRAINTS) (New.tree New.CONSTRAINTS newer.now) Coer DecoderOptions.DEFAULT_DEPTH result }
 {
     other_version(alloc, DecoderOptions::coer(), newer)
 }
@@ -103,7 +104,8 @@ pub fn as_older<New: Encode, Old: Decode>(alloc: Global, newer: &New) -> Result<
 ///
 /// Refused as `encode` refuses the older value, or as `decode` refuses its octets as the newer type.
 pub fn as_newer<Old: Encode, New: Decode>(alloc: Global, older: &Old) -> Result<New, CodecError>
-    ensures { IsAsNewer (Old.tree Old.CONSTRAINTS) Old.IsValue (New.tree New.CONSTRAINTS) New.IsValue Coer DecoderOptions.DEFAULT_DEPTH older.now result }
+    ensures read { IsAsNewer (Old.tree Old.CONSTRAINTS) Old.IsValue (New.tree New.CONSTRAINTS) New.IsValue Coer DecoderOptions.DEFAULT_DEPTH older.now result }
+    ensures says { SaysConverted (New.tree New.CONSTRAINTS) New.IsValue (New.Answered New.CONSTRAINTS) (Old.tree Old.CONSTRAINTS older.now) Coer DecoderOptions.DEFAULT_DEPTH result }
 {
     other_version(alloc, DecoderOptions::coer(), older)
 }

@@ -1,7 +1,7 @@
 //! Basic octet encoding rules (X.696): lenient reading, and canonical writing.
 ghost use Rattle.asn1_core.specs.declared.codec.Codec.TheVariants.{Oer};
 ghost use Rattle.oer_spec.specs.Spelled.{IsConsistent};
-ghost use Rattle.rasn_oer.specs.Conversions.{IsAsNewer, IsAsOlder, IsCanonicalised};
+ghost use Rattle.rasn_oer.specs.Conversions.{IsAsNewer, IsAsOlder, IsCanonicalised, SaysCanonicalised, SaysConverted};
 ghost use Rattle.rasn_oer.specs.Headline.{IsAppended, IsRead, IsReadAlone, IsWritten, Says, SaysAlone};
 
 pub use crate::codec_error::CodecError;
@@ -113,7 +113,8 @@ pub fn canonicalise<'a, T: Decode + Encode>(
     alloc: Global,
     input: &'a [u8],
 ) -> Result<(Vec<u8>, &'a [u8]), CodecError>
-    ensures { IsCanonicalised (T.tree T.CONSTRAINTS) T.IsValue DecoderOptions.DEFAULT_DEPTH input.entry.now result }
+    ensures octets { IsCanonicalised (T.tree T.CONSTRAINTS) T.IsValue DecoderOptions.DEFAULT_DEPTH input.entry.now result }
+    ensures says { SaysCanonicalised (T.tree T.CONSTRAINTS) T.IsValue (T.Answered T.CONSTRAINTS) DecoderOptions.DEFAULT_DEPTH input.entry.now result }
 {
     canonical_value::<T>(alloc, input)
 }
@@ -122,7 +123,8 @@ pub fn canonicalise<'a, T: Decode + Encode>(
 ///
 /// Refused as `encode` refuses the newer value, or as `decode` refuses its octets as the older type.
 pub fn as_older<New: Encode, Old: Decode>(alloc: Global, newer: &New) -> Result<Old, CodecError>
-    ensures { IsAsOlder (New.tree New.CONSTRAINTS) New.IsValue (Old.tree Old.CONSTRAINTS) Old.IsValue Oer DecoderOptions.DEFAULT_DEPTH newer.now result }
+    ensures read { IsAsOlder (New.tree New.CONSTRAINTS) New.IsValue (Old.tree Old.CONSTRAINTS) Old.IsValue Oer DecoderOptions.DEFAULT_DEPTH newer.now result }
+    ensures says { SaysConverted (Old.tree Old.CONSTRAINTS) Old.IsValue (Old.Answered Old.CONSTRAINTS) (New.tree New.CONSTRAINTS newer.now) Oer DecoderOptions.DEFAULT_DEPTH result }
 {
     other_version(alloc, DecoderOptions::oer(), newer)
 }
@@ -132,7 +134,8 @@ pub fn as_older<New: Encode, Old: Decode>(alloc: Global, newer: &New) -> Result<
 ///
 /// Refused as `encode` refuses the older value, or as `decode` refuses its octets as the newer type.
 pub fn as_newer<Old: Encode, New: Decode>(alloc: Global, older: &Old) -> Result<New, CodecError>
-    ensures { IsAsNewer (Old.tree Old.CONSTRAINTS) Old.IsValue (New.tree New.CONSTRAINTS) New.IsValue Oer DecoderOptions.DEFAULT_DEPTH older.now result }
+    ensures read { IsAsNewer (Old.tree Old.CONSTRAINTS) Old.IsValue (New.tree New.CONSTRAINTS) New.IsValue Oer DecoderOptions.DEFAULT_DEPTH older.now result }
+    ensures says { SaysConverted (New.tree New.CONSTRAINTS) New.IsValue (New.Answered New.CONSTRAINTS) (Old.tree Old.CONSTRAINTS older.now) Oer DecoderOptions.DEFAULT_DEPTH result }
 {
     other_version(alloc, DecoderOptions::oer(), older)
 }

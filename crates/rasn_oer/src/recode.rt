@@ -1,5 +1,5 @@
 //! Calls that read and write.
-ghost use Rattle.rasn_oer.specs.Conversions.{IsAsNewer, IsAsOlder, IsCanonicalised};
+ghost use Rattle.rasn_oer.specs.Conversions.{IsAsNewer, IsAsOlder, IsCanonicalised, SaysCanonicalised, SaysConverted};
 
 use crate::codec_error::CodecError;
 use crate::entry::{decode_value, encode_value};
@@ -13,7 +13,8 @@ pub(crate) fn canonical_value<'a, T: Decode + Encode>(
     alloc: Global,
     input: &'a [u8],
 ) -> Result<(Vec<u8>, &'a [u8]), CodecError>
-    ensures { IsCanonicalised (T.tree T.CONSTRAINTS) T.IsValue DecoderOptions.DEFAULT_DEPTH input.entry.now result }
+    ensures octets { IsCanonicalised (T.tree T.CONSTRAINTS) T.IsValue DecoderOptions.DEFAULT_DEPTH input.entry.now result }
+    ensures says { SaysCanonicalised (T.tree T.CONSTRAINTS) T.IsValue (T.Answered T.CONSTRAINTS) DecoderOptions.DEFAULT_DEPTH input.entry.now result }
 {
     match decode_value::<T>(alloc, DecoderOptions::oer(), T::CONSTRAINTS, input) {
         Err(e) => Err(CodecError::Decode(e)),
@@ -32,6 +33,7 @@ pub(crate) fn other_version<Sent: Encode, Wanted: Decode>(
 ) -> Result<Wanted, CodecError>
     ensures older { IsAsOlder (Sent.tree Sent.CONSTRAINTS) Sent.IsValue (Wanted.tree Wanted.CONSTRAINTS) Wanted.IsValue options.codec options.levels value.now result }
     ensures newer { IsAsNewer (Sent.tree Sent.CONSTRAINTS) Sent.IsValue (Wanted.tree Wanted.CONSTRAINTS) Wanted.IsValue options.codec options.levels value.now result }
+    ensures says { SaysConverted (Wanted.tree Wanted.CONSTRAINTS) Wanted.IsValue (Wanted.Answered Wanted.CONSTRAINTS) (Sent.tree Sent.CONSTRAINTS value.now) options.codec options.levels result }
 {
     match encode_value(alloc, Sent::CONSTRAINTS, value) {
         Err(e) => Err(CodecError::Encode(e)),

@@ -78,6 +78,8 @@ impl<K: Encode> Rowed for NodeComponents<K> {
 }
 
 impl<K: Encode + Decode> Takes for NodeComponents<K> {
+    ghost Refuses = { ⟦<NodeRow<K> as Reads>⟧.Refuses };
+
     fn take(alloc: Global, decoder: &mut Decoder<'_>) -> Result<Self, DecodeError> {
         read_row::<Self, NodeRow<K>>(alloc, decoder)
     }
@@ -329,6 +331,8 @@ impl<K: Encode> Alternating for BodyAlternatives<K> {
 }
 
 impl<K: Encode + Decode> TakesAlternative for BodyAlternatives<K> {
+    ghost Refuses = { ⟦<BodyRow<K> as ReadsAlternatives>⟧.Refuses };
+
     fn take<D: Choice>(
         alloc: Global,
         decoder: &mut Decoder<'_>,
@@ -412,6 +416,8 @@ impl<K: Encode> Rowed for EnvelopeComponents<K> {
 }
 
 impl<K: Encode + Decode> Takes for EnvelopeComponents<K> {
+    ghost Refuses = { ⟦<EnvelopeRow<K> as Reads>⟧.Refuses };
+
     fn take(alloc: Global, decoder: &mut Decoder<'_>) -> Result<Self, DecodeError> {
         read_row::<Self, EnvelopeRow<K>>(alloc, decoder)
     }

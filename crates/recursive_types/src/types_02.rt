@@ -85,6 +85,8 @@ impl<K: Encode> Rowed for TreeComponents<K> {
 }
 
 impl<K: Encode + Decode> Takes for TreeComponents<K> {
+    ghost Refuses = { ⟦<TreeRow<K> as Reads>⟧.Refuses };
+
     fn take(alloc: Global, decoder: &mut Decoder<'_>) -> Result<Self, DecodeError> {
         read_row::<Self, TreeRow<K>>(alloc, decoder)
     }
@@ -356,6 +358,8 @@ impl Rowed for PostComponents {
 }
 
 impl Takes for PostComponents {
+    ghost Refuses = { ⟦<PostRow as Reads>⟧.Refuses };
+
     fn take(alloc: Global, decoder: &mut Decoder<'_>) -> Result<Self, DecodeError> {
         read_row::<Self, PostRow>(alloc, decoder)
     }

@@ -231,6 +231,8 @@ impl Rowed for RowInnerComponents {
 }
 
 impl Takes for RowInnerComponents {
+    ghost Refuses = { ⟦<RowInnerRow as Reads>⟧.Refuses };
+
     fn take(alloc: Global, decoder: &mut Decoder<'_>) -> Result<Self, DecodeError> {
         read_row::<Self, RowInnerRow>(alloc, decoder)
     }
@@ -341,6 +343,8 @@ impl Rowed for RowGroup1Components {
 }
 
 impl Takes for RowGroup1Components {
+    ghost Refuses = { ⟦<RowGroup1Row as Reads>⟧.Refuses };
+
     fn take(alloc: Global, decoder: &mut Decoder<'_>) -> Result<Self, DecodeError> {
         read_row::<Self, RowGroup1Row>(alloc, decoder)
     }
@@ -452,6 +456,8 @@ impl Rowed for RowComponents {
 }
 
 impl Takes for RowComponents {
+    ghost Refuses = { ⟦<RowRow as Reads>⟧.Refuses };
+
     fn take(alloc: Global, decoder: &mut Decoder<'_>) -> Result<Self, DecodeError> {
         read_row::<Self, RowRow>(alloc, decoder)
     }

@@ -51,6 +51,8 @@ impl Rowed for BagComponents {
 }
 
 impl Takes for BagComponents {
+    ghost Refuses = { ⟦<BagRow as Reads>⟧.Refuses };
+
     fn take(alloc: Global, decoder: &mut Decoder<'_>) -> Result<Self, DecodeError> {
         read_row::<Self, BagRow>(alloc, decoder)
     }
@@ -157,6 +159,8 @@ impl Alternating for SignalAlternatives {
 }
 
 impl TakesAlternative for SignalAlternatives {
+    ghost Refuses = { ⟦<SignalRow as ReadsAlternatives>⟧.Refuses };
+
     fn take<D: Choice>(
         alloc: Global,
         decoder: &mut Decoder<'_>,
@@ -270,6 +274,8 @@ impl Rowed for LetterHeadComponents {
 }
 
 impl Takes for LetterHeadComponents {
+    ghost Refuses = { ⟦<LetterHeadRow as Reads>⟧.Refuses };
+
     fn take(alloc: Global, decoder: &mut Decoder<'_>) -> Result<Self, DecodeError> {
         read_row::<Self, LetterHeadRow>(alloc, decoder)
     }
@@ -382,6 +388,8 @@ impl Rowed for LetterGroup1Components {
 }
 
 impl Takes for LetterGroup1Components {
+    ghost Refuses = { ⟦<LetterGroup1Row as Reads>⟧.Refuses };
+
     fn take(alloc: Global, decoder: &mut Decoder<'_>) -> Result<Self, DecodeError> {
         read_row::<Self, LetterGroup1Row>(alloc, decoder)
     }
@@ -465,6 +473,8 @@ impl Rowed for LetterComponents {
 }
 
 impl Takes for LetterComponents {
+    ghost Refuses = { ⟦<LetterRow as Reads>⟧.Refuses };
+
     fn take(alloc: Global, decoder: &mut Decoder<'_>) -> Result<Self, DecodeError> {
         read_row::<Self, LetterRow>(alloc, decoder)
     }

@@ -279,6 +279,8 @@ impl Rowed for PermitComponents {
 }
 
 impl Takes for PermitComponents {
+    ghost Refuses = { ⟦<PermitRow as Reads>⟧.Refuses };
+
     fn take(alloc: Global, decoder: &mut Decoder<'_>) -> Result<Self, DecodeError> {
         read_row::<Self, PermitRow>(alloc, decoder)
     }
@@ -376,6 +378,8 @@ impl Rowed for FolderComponents {
 }
 
 impl Takes for FolderComponents {
+    ghost Refuses = { ⟦<FolderRow as Reads>⟧.Refuses };
+
     fn take(alloc: Global, decoder: &mut Decoder<'_>) -> Result<Self, DecodeError> {
         read_row::<Self, FolderRow>(alloc, decoder)
     }
@@ -684,6 +688,8 @@ impl Rowed for LabelsComponents {
 }
 
 impl Takes for LabelsComponents {
+    ghost Refuses = { ⟦<LabelsRow as Reads>⟧.Refuses };
+
     fn take(alloc: Global, decoder: &mut Decoder<'_>) -> Result<Self, DecodeError> {
         read_row::<Self, LabelsRow>(alloc, decoder)
     }

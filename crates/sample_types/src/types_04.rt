@@ -40,6 +40,8 @@ impl Rowed for SpotComponents {
 }
 
 impl Takes for SpotComponents {
+    ghost Refuses = { ⟦<SpotRow as Reads>⟧.Refuses };
+
     fn take(alloc: Global, decoder: &mut Decoder<'_>) -> Result<Self, DecodeError> {
         read_row::<Self, SpotRow>(alloc, decoder)
     }
@@ -112,6 +114,8 @@ impl Rowed for AreaBoxesComponents {
 }
 
 impl Takes for AreaBoxesComponents {
+    ghost Refuses = { ⟦<AreaBoxesRow as Reads>⟧.Refuses };
+
     fn take(alloc: Global, decoder: &mut Decoder<'_>) -> Result<Self, DecodeError> {
         read_row::<Self, AreaBoxesRow>(alloc, decoder)
     }
@@ -184,6 +188,8 @@ impl Rowed for AreaRoundComponents {
 }
 
 impl Takes for AreaRoundComponents {
+    ghost Refuses = { ⟦<AreaRoundRow as Reads>⟧.Refuses };
+
     fn take(alloc: Global, decoder: &mut Decoder<'_>) -> Result<Self, DecodeError> {
         read_row::<Self, AreaRoundRow>(alloc, decoder)
     }
@@ -285,6 +291,8 @@ impl Alternating for AreaAlternatives {
 }
 
 impl TakesAlternative for AreaAlternatives {
+    ghost Refuses = { ⟦<AreaRow as ReadsAlternatives>⟧.Refuses };
+
     fn take<D: Choice>(
         alloc: Global,
         decoder: &mut Decoder<'_>,
@@ -363,6 +371,8 @@ impl Rowed for ThenComponents {
 }
 
 impl Takes for ThenComponents {
+    ghost Refuses = { ⟦<ThenRow as Reads>⟧.Refuses };
+
     fn take(alloc: Global, decoder: &mut Decoder<'_>) -> Result<Self, DecodeError> {
         read_row::<Self, ThenRow>(alloc, decoder)
     }
@@ -461,6 +471,8 @@ impl Alternating for ColoursAlternatives {
 }
 
 impl TakesAlternative for ColoursAlternatives {
+    ghost Refuses = { ⟦<ColoursRow as ReadsAlternatives>⟧.Refuses };
+
     fn take<D: Choice>(
         alloc: Global,
         decoder: &mut Decoder<'_>,
@@ -512,6 +524,8 @@ impl Rowed for PlainComponents {
 }
 
 impl Takes for PlainComponents {
+    ghost Refuses = { ⟦<PlainRow as Reads>⟧.Refuses };
+
     fn take(alloc: Global, decoder: &mut Decoder<'_>) -> Result<Self, DecodeError> {
         read_row::<Self, PlainRow>(alloc, decoder)
     }

@@ -87,6 +87,8 @@ impl Rowed for TakenComponents {
 }
 
 impl Takes for TakenComponents {
+    ghost Refuses = { ⟦<TakenRow as Reads>⟧.Refuses };
+
     fn take(alloc: Global, decoder: &mut Decoder<'_>) -> Result<Self, DecodeError> {
         read_row::<Self, TakenRow>(alloc, decoder)
     }
@@ -558,6 +560,8 @@ impl Rowed for LeavesComponents {
 }
 
 impl Takes for LeavesComponents {
+    ghost Refuses = { ⟦<LeavesRow as Reads>⟧.Refuses };
+
     fn take(alloc: Global, decoder: &mut Decoder<'_>) -> Result<Self, DecodeError> {
         read_row::<Self, LeavesRow>(alloc, decoder)
     }

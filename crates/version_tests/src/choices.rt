@@ -72,6 +72,8 @@ impl<T: Decode + Encode> Alternating for Choice1Alternatives<T> {
 }
 
 impl<T: Decode + Encode> TakesAlternative for Choice1Alternatives<T> {
+    ghost Refuses = { ⟦<Choice1Row<T> as ReadsAlternatives>⟧.Refuses };
+
     fn take<D: Choice>(
         alloc: Global,
         decoder: &mut Decoder<'_>,
@@ -119,6 +121,8 @@ impl<T: Decode + Encode> Alternating for Choice2Alternatives<T> {
 }
 
 impl<T: Decode + Encode> TakesAlternative for Choice2Alternatives<T> {
+    ghost Refuses = { ⟦<Choice2Row<T> as ReadsAlternatives>⟧.Refuses };
+
     fn take<D: Choice>(
         alloc: Global,
         decoder: &mut Decoder<'_>,

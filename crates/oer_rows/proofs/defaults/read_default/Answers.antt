@@ -5,4 +5,4 @@ pub returns-in_err-spelled : goal.returns-in_err-spelled
 returns-in_err-spelled g c = search asks_standard_not
 
 pub returns : goal.returns
-returns g c = asks_standard _ _ _ _ _ _ _ _ _ _ _ c.in_ok-spelled.ensures.read c.codec-codec.ensures c.settled.ensures
+returns g c = asks_standard _ _ _ _ _ _ _ _ _ _ _ _ c.in_ok-spelled.ensures.read c.codec-codec.ensures c.settled.ensures

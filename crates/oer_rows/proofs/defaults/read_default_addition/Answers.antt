@@ -5,4 +5,4 @@ pub returns-in_err-spelled : goal.returns-in_err-spelled
 returns-in_err-spelled g c = search adds_standard_not
 
 pub returns : goal.returns
-returns g c = adds_standard _ _ _ _ _ _ _ _ _ _ _ c.in_ok-spelled.ensures.read c.read_addition.ensures.octets c.codec-codec.ensures c.settled.ensures
+returns g c = adds_standard _ _ _ _ _ _ _ _ _ _ _ _ c.in_ok-spelled.ensures.read c.read_addition.ensures.octets c.codec-codec.ensures c.settled.ensures

@@ -12,4 +12,4 @@ returns-in_err-read-clause-stops g c = search (chained, default_known _ _ _ _ g.
 pub returns-clause-read : goal.returns-clause-read
 returns-clause-read g c =
     let known = default_known _ _ _ _ g.B.Spelled.is_tree g.B.Spelled.alike g.met.B.EqualAsSpelled.eq_is_same g.B.AsnType.CONSTRAINTS g.B.AsnType.consistent g.met.D.Standard.admitted in
-    let rest = c.in_ok-read.ensures.read in (both c.in_ok-value.value rest.0, ap (λ z. both (Some c.in_ok-value.value) z) rest.1, search (chained, known, rest.2), (known, λ e. standard_value (g.B.Spelled.tree g.B.AsnType.CONSTRAINTS) g.B.Spelled.IsValue _ g.B.PartialEq.eq _ _ _ _ _ g.D.Standard.value _ c.read_default.ensures g.met.D.Standard.admitted c.branch-value.ensures c.in_ok-value.is, rest.3), rest.4)
+    let rest = c.in_ok-read.ensures.read in (both c.in_ok-value.value rest.0, ap (λ z. both (Some c.in_ok-value.value) z) rest.1, search (chained, known, rest.2), (known, λ e. standard_value (g.B.Spelled.tree g.B.AsnType.CONSTRAINTS) g.B.Spelled.IsValue _ g.B.PartialEq.eq _ _ _ _ _ _ g.D.Standard.value _ c.read_default.ensures g.met.D.Standard.admitted c.branch-value.ensures c.in_ok-value.is, rest.3), rest.4)

@@ -1,0 +1,15 @@
+-- Why an alternative was not read.
+use Rattle.std.specs.Prelude.{◌≡◌, Bool, Result, Err}
+use Rattle.asn1_core.specs.declared.error.DecodeError.{DecodeError}
+use Rattle.asn1_core.specs.declared.error.DecodeErrorKind.TheVariants.{InvalidTagVariantOnChoice}
+use Rattle.asn1_core.specs.declared.tag.Tag.{Tag}
+use Rattle.oer_read.specs.State.{State}
+
+-- a tag of no alternative
+abbrev pub NoAlternative : Tag → State → DecodeError → Type 0
+NoAlternative g s e = (extensible : Bool) × (e ≡ record { kind = InvalidTagVariantOnChoice g extensible; codec = s.codec })
+
+-- The tag is that of the first alternative, whose type refused with that very error; or it isn't, and one of the others was refused.
+pub data AlternativeRefused {B : Type 0} (tag : Tag) (Answered : State → Result B DecodeError → State → Type 0) (Others : Tag → State → DecodeError → Type 0) (g : Tag) (s : State) (e : DecodeError) : Type 0 where
+  First : tag ≡ g → (t : State) → Answered s (Err e) t → AlternativeRefused tag Answered Others g s e
+  Other : (tag ≡ g → ⊥) → Others g s e → AlternativeRefused tag Answered Others g s e
