@@ -54,8 +54,8 @@ pub fn encode_buf<T: Encode>(
 /// Refused exactly where no such encoding begins the input (docs/REFUSALS.md has the kinds and their order), or for want
 /// of memory.
 pub fn decode<T: Decode>(alloc: Global, input: &[u8]) -> Result<T, DecodeError>
-    ensures read { IsReadAlone (T.tree T.CONSTRAINTS) T.IsValue Coer DecoderOptions.DEFAULT_DEPTH input.now result }
-    ensures says { SaysAlone (T.tree T.CONSTRAINTS) T.IsValue (T.Answered T.CONSTRAINTS) Coer DecoderOptions.DEFAULT_DEPTH input.now result }
+    ensures read { IsReadAlone (T.tree T.CONSTRAINTS) T.IsValue Coer 128 input.now result }
+    ensures says { SaysAlone (T.tree T.CONSTRAINTS) T.IsValue (T.Answered T.CONSTRAINTS) Coer 128 input.now result }
 {
     let (value, _rest) = decode_value(alloc, DecoderOptions::coer(), T::CONSTRAINTS, input)?;
     Ok(value)
@@ -68,8 +68,8 @@ pub fn decode_with_remainder<'a, T: Decode>(
     alloc: Global,
     input: &'a [u8],
 ) -> Result<(T, &'a [u8]), DecodeError>
-    ensures read { IsRead (T.tree T.CONSTRAINTS) T.IsValue Coer DecoderOptions.DEFAULT_DEPTH input.entry.now result }
-    ensures says { Says (T.tree T.CONSTRAINTS) T.IsValue (T.Answered T.CONSTRAINTS) Coer DecoderOptions.DEFAULT_DEPTH input.entry.now result }
+    ensures read { IsRead (T.tree T.CONSTRAINTS) T.IsValue Coer 128 input.entry.now result }
+    ensures says { Says (T.tree T.CONSTRAINTS) T.IsValue (T.Answered T.CONSTRAINTS) Coer 128 input.entry.now result }
 {
     decode_with_options(alloc, DecoderOptions::coer(), input)
 }
@@ -81,8 +81,8 @@ pub fn decode_with_constraints<T: Decode>(
     input: &[u8],
 ) -> Result<T, DecodeError>
     requires { IsConsistent constraints }
-    ensures read { IsReadAlone (T.tree constraints) T.IsValue Coer DecoderOptions.DEFAULT_DEPTH input.now result }
-    ensures says { SaysAlone (T.tree constraints) T.IsValue (T.Answered constraints) Coer DecoderOptions.DEFAULT_DEPTH input.now result }
+    ensures read { IsReadAlone (T.tree constraints) T.IsValue Coer 128 input.now result }
+    ensures says { SaysAlone (T.tree constraints) T.IsValue (T.Answered constraints) Coer 128 input.now result }
 {
     let (value, _rest) = decode_value(alloc, DecoderOptions::coer(), constraints, input)?;
     Ok(value)
@@ -93,8 +93,8 @@ pub fn decode_with_constraints<T: Decode>(
 /// Refused as `encode` refuses the newer value, or as `decode` refuses its octets as the older type: also where a
 /// component's default leaves out what the newer value spells out.
 pub fn as_older<New: Encode, Old: Decode>(alloc: Global, newer: &New) -> Result<Old, CodecError>
-    ensures read { IsAsOlder (New.tree New.CONSTRAINTS) New.IsValue (Old.tree Old.CONSTRAINTS) Old.IsValue Coer DecoderOptions.DEFAULT_DEPTH newer.now result }
-    ensures says { SaysConverted (Old.tree Old.CONSTRAINTS) Old.IsValue (Old.Answered Old.CONSTRAINTS) (New.tree New.CONSTRAINTS newer.now) Coer DecoderOptions.DEFAULT_DEPTH result }
+    ensures read { IsAsOlder (New.tree New.CONSTRAINTS) New.IsValue (Old.tree Old.CONSTRAINTS) Old.IsValue Coer 128 newer.now result }
+    ensures says { SaysConverted (Old.tree Old.CONSTRAINTS) Old.IsValue (Old.Answered Old.CONSTRAINTS) (New.tree New.CONSTRAINTS newer.now) Coer 128 result }
 {
     other_version(alloc, DecoderOptions::coer(), newer)
 }
@@ -104,8 +104,8 @@ pub fn as_older<New: Encode, Old: Decode>(alloc: Global, newer: &New) -> Result<
 ///
 /// Refused as `encode` refuses the older value, or as `decode` refuses its octets as the newer type.
 pub fn as_newer<Old: Encode, New: Decode>(alloc: Global, older: &Old) -> Result<New, CodecError>
-    ensures read { IsAsNewer (Old.tree Old.CONSTRAINTS) Old.IsValue (New.tree New.CONSTRAINTS) New.IsValue Coer DecoderOptions.DEFAULT_DEPTH older.now result }
-    ensures says { SaysConverted (New.tree New.CONSTRAINTS) New.IsValue (New.Answered New.CONSTRAINTS) (Old.tree Old.CONSTRAINTS older.now) Coer DecoderOptions.DEFAULT_DEPTH result }
+    ensures read { IsAsNewer (Old.tree Old.CONSTRAINTS) Old.IsValue (New.tree New.CONSTRAINTS) New.IsValue Coer 128 older.now result }
+    ensures says { SaysConverted (New.tree New.CONSTRAINTS) New.IsValue (New.Answered New.CONSTRAINTS) (Old.tree Old.CONSTRAINTS older.now) Coer 128 result }
 {
     other_version(alloc, DecoderOptions::coer(), older)
 }

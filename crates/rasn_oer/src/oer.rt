@@ -56,8 +56,8 @@ pub fn encode_buf<T: Encode>(
 /// Refused exactly where no such encoding begins the input (docs/REFUSALS.md has the kinds and their order), or for want
 /// of memory.
 pub fn decode<T: Decode>(alloc: Global, input: &[u8]) -> Result<T, DecodeError>
-    ensures read { IsReadAlone (T.tree T.CONSTRAINTS) T.IsValue Oer DecoderOptions.DEFAULT_DEPTH input.now result }
-    ensures says { SaysAlone (T.tree T.CONSTRAINTS) T.IsValue (T.Answered T.CONSTRAINTS) Oer DecoderOptions.DEFAULT_DEPTH input.now result }
+    ensures read { IsReadAlone (T.tree T.CONSTRAINTS) T.IsValue Oer 128 input.now result }
+    ensures says { SaysAlone (T.tree T.CONSTRAINTS) T.IsValue (T.Answered T.CONSTRAINTS) Oer 128 input.now result }
 {
     let (value, _rest) = decode_value(alloc, DecoderOptions::oer(), T::CONSTRAINTS, input)?;
     Ok(value)
@@ -85,8 +85,8 @@ pub fn decode_with_remainder<'a, T: Decode>(
     alloc: Global,
     input: &'a [u8],
 ) -> Result<(T, &'a [u8]), DecodeError>
-    ensures read { IsRead (T.tree T.CONSTRAINTS) T.IsValue Oer DecoderOptions.DEFAULT_DEPTH input.entry.now result }
-    ensures says { Says (T.tree T.CONSTRAINTS) T.IsValue (T.Answered T.CONSTRAINTS) Oer DecoderOptions.DEFAULT_DEPTH input.entry.now result }
+    ensures read { IsRead (T.tree T.CONSTRAINTS) T.IsValue Oer 128 input.entry.now result }
+    ensures says { Says (T.tree T.CONSTRAINTS) T.IsValue (T.Answered T.CONSTRAINTS) Oer 128 input.entry.now result }
 {
     decode_with_options(alloc, DecoderOptions::oer(), input)
 }
@@ -98,8 +98,8 @@ pub fn decode_with_constraints<T: Decode>(
     input: &[u8],
 ) -> Result<T, DecodeError>
     requires { IsConsistent constraints }
-    ensures read { IsReadAlone (T.tree constraints) T.IsValue Oer DecoderOptions.DEFAULT_DEPTH input.now result }
-    ensures says { SaysAlone (T.tree constraints) T.IsValue (T.Answered constraints) Oer DecoderOptions.DEFAULT_DEPTH input.now result }
+    ensures read { IsReadAlone (T.tree constraints) T.IsValue Oer 128 input.now result }
+    ensures says { SaysAlone (T.tree constraints) T.IsValue (T.Answered constraints) Oer 128 input.now result }
 {
     let (value, _rest) = decode_value(alloc, DecoderOptions::oer(), constraints, input)?;
     Ok(value)
@@ -113,8 +113,8 @@ pub fn canonicalise<'a, T: Decode + Encode>(
     alloc: Global,
     input: &'a [u8],
 ) -> Result<(Vec<u8>, &'a [u8]), CodecError>
-    ensures octets { IsCanonicalised (T.tree T.CONSTRAINTS) T.IsValue DecoderOptions.DEFAULT_DEPTH input.entry.now result }
-    ensures says { SaysCanonicalised (T.tree T.CONSTRAINTS) T.IsValue (T.Answered T.CONSTRAINTS) DecoderOptions.DEFAULT_DEPTH input.entry.now result }
+    ensures octets { IsCanonicalised (T.tree T.CONSTRAINTS) T.IsValue 128 input.entry.now result }
+    ensures says { SaysCanonicalised (T.tree T.CONSTRAINTS) T.IsValue (T.Answered T.CONSTRAINTS) 128 input.entry.now result }
 {
     canonical_value::<T>(alloc, input)
 }
@@ -123,8 +123,8 @@ pub fn canonicalise<'a, T: Decode + Encode>(
 ///
 /// Refused as `encode` refuses the newer value, or as `decode` refuses its octets as the older type.
 pub fn as_older<New: Encode, Old: Decode>(alloc: Global, newer: &New) -> Result<Old, CodecError>
-    ensures read { IsAsOlder (New.tree New.CONSTRAINTS) New.IsValue (Old.tree Old.CONSTRAINTS) Old.IsValue Oer DecoderOptions.DEFAULT_DEPTH newer.now result }
-    ensures says { SaysConverted (Old.tree Old.CONSTRAINTS) Old.IsValue (Old.Answered Old.CONSTRAINTS) (New.tree New.CONSTRAINTS newer.now) Oer DecoderOptions.DEFAULT_DEPTH result }
+    ensures read { IsAsOlder (New.tree New.CONSTRAINTS) New.IsValue (Old.tree Old.CONSTRAINTS) Old.IsValue Oer 128 newer.now result }
+    ensures says { SaysConverted (Old.tree Old.CONSTRAINTS) Old.IsValue (Old.Answered Old.CONSTRAINTS) (New.tree New.CONSTRAINTS newer.now) Oer 128 result }
 {
     other_version(alloc, DecoderOptions::oer(), newer)
 }
@@ -134,8 +134,8 @@ pub fn as_older<New: Encode, Old: Decode>(alloc: Global, newer: &New) -> Result<
 ///
 /// Refused as `encode` refuses the older value, or as `decode` refuses its octets as the newer type.
 pub fn as_newer<Old: Encode, New: Decode>(alloc: Global, older: &Old) -> Result<New, CodecError>
-    ensures read { IsAsNewer (Old.tree Old.CONSTRAINTS) Old.IsValue (New.tree New.CONSTRAINTS) New.IsValue Oer DecoderOptions.DEFAULT_DEPTH older.now result }
-    ensures says { SaysConverted (New.tree New.CONSTRAINTS) New.IsValue (New.Answered New.CONSTRAINTS) (Old.tree Old.CONSTRAINTS older.now) Oer DecoderOptions.DEFAULT_DEPTH result }
+    ensures read { IsAsNewer (Old.tree Old.CONSTRAINTS) Old.IsValue (New.tree New.CONSTRAINTS) New.IsValue Oer 128 older.now result }
+    ensures says { SaysConverted (New.tree New.CONSTRAINTS) New.IsValue (New.Answered New.CONSTRAINTS) (Old.tree Old.CONSTRAINTS older.now) Oer 128 result }
 {
     other_version(alloc, DecoderOptions::oer(), older)
 }

@@ -13,8 +13,8 @@ pub(crate) fn canonical_value<'a, T: Decode + Encode>(
     alloc: Global,
     input: &'a [u8],
 ) -> Result<(Vec<u8>, &'a [u8]), CodecError>
-    ensures octets { IsCanonicalised (T.tree T.CONSTRAINTS) T.IsValue DecoderOptions.DEFAULT_DEPTH input.entry.now result }
-    ensures says { SaysCanonicalised (T.tree T.CONSTRAINTS) T.IsValue (T.Answered T.CONSTRAINTS) DecoderOptions.DEFAULT_DEPTH input.entry.now result }
+    ensures octets { IsCanonicalised (T.tree T.CONSTRAINTS) T.IsValue 128 input.entry.now result }
+    ensures says { SaysCanonicalised (T.tree T.CONSTRAINTS) T.IsValue (T.Answered T.CONSTRAINTS) 128 input.entry.now result }
 {
     match decode_value::<T>(alloc, DecoderOptions::oer(), T::CONSTRAINTS, input) {
         Err(e) => Err(CodecError::Decode(e)),

@@ -1,3 +1,4 @@
+use Rattle.std.proofs.Common.{rules}
 use Rattle.std.proofs.lemmas.Result.{err_from_is_err_and}
 use Rattle.oer_read.proofs.ListLaw.{list_law}
 use Rattle.oer_read.proofs.Promises.{promise_of_fn, decodes_rear}
@@ -5,8 +6,13 @@ use Rattle.oer_read.specs.Law.{Decodes}
 use Rattle.oer_knots.proofs.Layers.{layer_read, layer_stops}
 use Rattle.oer_knots.proofs.own_lists.+decode_element.Goals as goal
 
+pub decode_sequence_of_with-requires-clause-callable : goal.decode_sequence_of_with-requires-clause-callable
+decode_sequence_of_with-requires-clause-callable g t c rest lends p e =
+    let level = lends.level in
+    search (rules, level)
+
 pub decode_sequence_of_with-requires-clause-keeps : goal.decode_sequence_of_with-requires-clause-keeps
-decode_sequence_of_with-requires-clause-keeps g t c rest v after k =
+decode_sequence_of_with-requires-clause-keeps g t c rest v after lends k =
     let tree = g.B.Spelled.tree g.B.AsnType.CONSTRAINTS in
     decodes_rear tree g.B.Spelled.IsValue _ v after (promise_of_fn _ _ (λ s r u. Decodes tree g.B.Spelled.IsValue s r u) (λ p q r k. k) _ _ _ k)
 
