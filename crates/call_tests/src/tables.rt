@@ -1,10 +1,11 @@
 //! The constants of tables, beside the functions that clauses see. One type a function: what the check looks at in one grows with
 //! the types that it names.
-use asn1_core::{AsnType, Choice, Constructed};
+use asn1_core::{AsnType, Choice, Constructed, Field};
 use oer_types::{
-    AddDef, BoolChoice, ExtendedOptional, MixedSet, OnlyChoice, Pair, PriorityChoice, Sequence3,
-    WideChoice,
+    AddDef, BoolChoice, ExtendedOptional, Foo, MixedSet, MixedSet2, OnlyChoice, Pair,
+    PriorityChoice, Sequence3, WideChoice,
 };
+use rasn_oer::fields;
 use std::process::Abort;
 
 /// Whether the constants of a sequence or set are what its functions answer, and how many rows there are.
@@ -44,8 +45,16 @@ fn extended_optional() -> bool {
     is_tabled::<7, 4, ExtendedOptional>(true)
 }
 
+fn foo() -> bool {
+    is_tabled::<3, 0, Foo>(false)
+}
+
 fn mixed_set() -> bool {
     is_tabled::<3, 1, MixedSet>(true)
+}
+
+fn mixed_set2() -> bool {
+    is_tabled::<3, 2, MixedSet2>(true)
 }
 
 fn priority_choice() -> bool {
@@ -67,7 +76,21 @@ fn bool_choice() -> bool {
 #[test]
 fn constants_are_the_tables(rt: HostRuntime) {
     assert!(rt; pair() && add_def() && sequence3());
-    assert!(rt; extended_optional() && mixed_set());
+    assert!(rt; extended_optional() && foo());
+    assert!(rt; mixed_set() && mixed_set2());
+}
+
+#[test]
+fn tables_of_sets_are_in_the_order_of_their_text(rt: HostRuntime) {
+    let foo: &[Field<'_>] = fields![
+        0 Optional Context 444 "a", 1 Optional Context 5 "b", 2 Optional Application 9 "c"
+    ];
+    let mixed: &[Field<'_>] = fields![
+        0 Required Context 2 "x", 1 Optional Context 1 "y", 2 Default Application 1 "z"
+    ];
+    assert!(rt; Foo::FIELDS.fields == foo);
+    assert!(rt; MixedSet::FIELDS.fields == mixed);
+    assert!(rt; MixedSet2::FIELDS.fields == mixed);
 }
 
 #[test]
