@@ -21,6 +21,10 @@ pub struct Chain<'c> {
     pub is_choice: bool,
     /// The knot of its circle, where it is of one.
     pub knot: Option<&'c str>,
+    /// Of a SET, which root cell stands at each place of the text; of another type none.
+    pub in_text: &'c [usize],
+    /// Of a SET, the place in the text of each root cell; of another type none.
+    pub places: &'c [usize],
 }
 
 /// Whether one of some cells holds knots.

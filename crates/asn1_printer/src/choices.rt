@@ -210,6 +210,8 @@ pub fn push_choice<'m>(
         is_extensible: is_extensible(definition.link.of),
         is_choice: true,
         knot: knot_name(all, definition),
+        in_text: &[],
+        places: &[],
     };
     push_alternatives(alloc, out, doc, of)?;
     Ok(())

@@ -8,7 +8,7 @@ use crate::knot_templates::{
 };
 use crate::knots::{push_own, put_parameter};
 use crate::sequences::{kind_of, push_entries, push_fields, push_list, push_pairs, put_counts};
-use crate::templates::IN_TAG_ORDER;
+use crate::set_order::push_set_order;
 use crate::text::{Text, Words};
 use asn1_layouts::names::component_name;
 use std::alloc::{AllocError, Global};
@@ -79,7 +79,9 @@ pub fn push_knot_tables(alloc: Global, out: &mut Text, of: Chain<'_>, is_set: bo
     put_counts(&mut words, of);
     put_parameter(&mut words, of);
     out.fill(KNOT_TABLES, &words);
-    out.fill(if is_set { IN_TAG_ORDER } else { "" }, &words);
+    if is_set {
+        push_set_order(alloc, out, of);
+    }
 }
 
 /// Prints the name of a CHOICE and its enum.

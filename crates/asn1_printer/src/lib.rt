@@ -19,6 +19,7 @@ pub mod notation;
 pub mod outputs;
 pub mod printer;
 pub mod sequences;
+pub mod set_order;
 pub mod shapes;
 pub mod templates;
 pub mod text;

@@ -32,7 +32,7 @@ visiblestring constrainedinteger integer integerrange alternating alternativevie
 numbered offers oneof decode decodechoice decodeinside decodeknot decoder decoderoptions adddefaults additionviews additions adds application \
 compared components context defaults extensible held holdsknot intagorder isfalse isnull isnumber istrue knot knotalternating knotalternatives knotrow knotrowed layered limited limits listof mayadd \
 mayaddgroup mayaddknot mayhave mayhaveknot needs needsknot nomore offersknot place private reads readsadditions readsalternatives \
-readsknot readsknotalternatives rowed schemed sequence set standard tabled takes \
+readsknot readsknotalternatives rowed schemed sequence set standard tabled takes textorder \
 takesalternative takesknot takesknotalternative universal views writes octets openoctets bmptext generaltext graphictext ia5text numerictext printabletext teletextext \
 utf8text visibletext within equalasspelled spelled encode encoder bare isemptylist utf8_from are_bits bits_from bmp_from built fields from_row pairs rows_of table tags to_row";
 

@@ -4,7 +4,8 @@ use crate::cells::{Cell, cell_of, group_cell};
 use crate::chains::{Chain, push_row};
 use crate::knot_rows::{push_knot_rowed, push_knot_struct, push_knot_tables};
 use crate::knots::{knot_name, put_parameter};
-use crate::templates::{IN_TAG_ORDER, MEMBERS, TABLES, TYPE, USES_BOTH};
+use crate::set_order::{push_set_order, text_order};
+use crate::templates::{MEMBERS, TABLES, TYPE, USES_BOTH};
 use crate::text::{Text, Words};
 use asn1_core::Class;
 use asn1_layouts::definitions::{Definition, Part};
@@ -124,7 +125,9 @@ fn push_tables(alloc: Global, out: &mut Text, of: Chain<'_>, is_set: bool) {
     push_additions(words.begin("ADDITIONS"), of);
     put_counts(&mut words, of);
     out.fill(TABLES, &words);
-    out.fill(if is_set { IN_TAG_ORDER } else { "" }, &words);
+    if is_set {
+        push_set_order(alloc, out, of);
+    }
 }
 
 /// Prints a type by its cells.
@@ -230,6 +233,8 @@ fn push_group_type<'c>(
         is_extensible: false,
         is_choice: false,
         knot: None,
+        in_text: &[],
+        places: &[],
     };
     let doc = doc.end()?;
     push_members(alloc, out, doc.as_str(), of, false);
@@ -343,6 +348,8 @@ pub fn push_sequence<'m>(
     let places = root_places(scope.alloc, parts, is_set)?;
     let mut cells = cells_at(scope, all, out, owner, parts, places.as_slice())?;
     let root_count = cells.len();
+    let in_text = text_order(scope.alloc, is_set, places.as_slice())?;
+    let text_places = text_order(scope.alloc, is_set, in_text.as_slice())?;
     push_addition_cells(scope, all, out, definition, &mut cells)?;
     let of = Chain {
         owner,
@@ -351,6 +358,8 @@ pub fn push_sequence<'m>(
         is_extensible: is_extensible(definition.link.of),
         is_choice: false,
         knot: knot_name(all, definition),
+        in_text: in_text.as_slice(),
+        places: text_places.as_slice(),
     };
     push_members(scope.alloc, out, doc, of, is_set);
     Ok(())

@@ -73,11 +73,27 @@ pub const TABLES: &str = r#"impl Tabled<@RC@, @EC@> for @NAME@Components {
 
 "#;
 
-/// That the components of a SET stand in the order of their tags.
-pub const IN_TAG_ORDER: &str = r#"impl@WRITES@ InTagOrder<@RC@, @EC@> for @NAME@Components@K@ {
+/// Where the components of a SET stand in its text, and that its row has them in the order of their tags.
+pub const IN_TAG_ORDER: &str = r#"const @TEXT@: &'static [Field<'static>] = @TEXT_TABLE@;
+
+impl@K@ TextOrder for @NAME@Components@K@ {
+    ghost use Rattle.std.specs.Prelude.{[], ◌∷◌};
+
+    ghost places = { @PLACES@ };
+}
+
+impl@WRITES@ InTagOrder<@RC@, @EC@> for @NAME@Components@K@ {
     ghost use Rattle.std.specs.Prelude.{refl};
 
     ghost in_order = { refl };
+
+    const SET_FIELDS: Fields<@RC@> = Fields {
+        fields: @TEXT@,
+    };
+
+    fn text_fields() -> &'static [Field<'static>] {
+        @SET_FIELDS@
+    }
 }
 
 "#;

@@ -226,9 +226,9 @@ fn components_of_a_set_are_read_in_the_order_of_their_tags(rt: HostRuntime) -> R
 fn additions_of_a_set_are_asked_behind_its_roots(rt: HostRuntime) -> Result<(), Fail> {
     let octets = [0xe0, 1, 3, 1, 5, 0xff, 2, 7, 0x80, 1, 0];
     let expected = [
-        (0, Tag::new(Class::Application, 1)),
+        (2, Tag::new(Class::Application, 1)),
         (1, Tag::new(Class::Context, 1)),
-        (2, Tag::new(Class::Context, 2)),
+        (0, Tag::new(Class::Context, 2)),
         (3, Tag::new(Class::Context, 0)),
     ];
     for options in [DecoderOptions::oer(), DecoderOptions::coer()] {

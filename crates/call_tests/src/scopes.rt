@@ -2,12 +2,16 @@
 //! method that writes a component.
 ghost use Rattle.std.specs.Prelude.{OnOk};
 ghost use Rattle.oer_spec.specs.Spelled.{boolean};
+ghost use Rattle.oer_spec.specs.Tree.{NoRows, Optional, Absent, Present};
+ghost use Rattle.oer_write.specs.Rows.{InSet};
 ghost use Rattle.oer_write.specs.Written.{WritesTree};
+ghost use Rattle.oer_rows.specs.Integers.{plain_integer};
+ghost use Rattle.oer_rows.specs.Schema.{application, context};
 ghost use Rattle.oer_read.specs.Law.{IsRear};
 
-use asn1_core::{Class, Codec, Constraints, DecodeError, EncodeError, SetOf, Tag};
+use asn1_core::{AsnType, Class, Codec, Constraints, DecodeError, EncodeError, SetOf, Tag};
 use asn1_ints::Integer;
-use oer_types::{OneOf, PriorityAlternatives, PriorityChoice, Sequence4};
+use oer_types::{Foo, OneOf, PriorityAlternatives, PriorityChoice, Sequence4};
 use rasn_oer::oer::de::DecoderOptions;
 use rasn_oer::oer::enc::EncoderOptions;
 use rasn_oer::oer::{Decoder, Encoder};
@@ -58,6 +62,38 @@ fn lists_are_written_by_their_methods(rt: HostRuntime) -> Result<(), Fail> {
         b"\x01\x02\xff\x00\x01\x01\xff\x01\x02\x00\xff".as_slice()
     );
     assert!(rt; true.is_present());
+    Ok(())
+}
+
+/// Writes c alone of a set, whose components are handed in in the order of its table.
+fn write_foo(encoder: &mut Encoder<'_>, c: &Integer) -> Result<(), EncodeError> {
+    encoder.encode_set::<3, 0, Foo, _>(
+        Tag::SET,
+        |encoder: &mut Encoder<'_>| -> Result<(), EncodeError>
+            ensures { InSet (Optional (context 444) Absent (Optional (context 5) Absent (Optional (application 9) (Present (plain_integer c.entry.now)) NoRows))) NoRows encoder.old result encoder.new }
+        {
+            encoder.encode_none_with_tag(Tag::new(Class::Context, 444))?;
+            encoder.encode_none_with_tag(Tag::new(Class::Context, 5))?;
+            encoder.encode_some_with_tag_and_constraints(
+                Tag::new(Class::Application, 9),
+                Integer::CONSTRAINTS,
+                c,
+            )?;
+            Ok(())
+        },
+    )
+}
+
+#[test]
+fn presence_bits_of_a_set_stand_in_the_order_of_its_tags(rt: HostRuntime) -> Result<(), Fail> {
+    let alloc = rt.alloc();
+    let mut octets = Vec::new(alloc);
+    let mut worker = Vec::new(alloc);
+    let options = EncoderOptions::coer();
+    let mut encoder = Encoder::from_buffer(alloc, options, &mut octets, &mut worker);
+    write_foo(&mut encoder, &Integer::from_i128(1))?;
+    drop(encoder);
+    assert_eq!(rt; octets.as_slice(), b"\x80\x01\x01".as_slice());
     Ok(())
 }
 

@@ -8,6 +8,7 @@ use Rattle.oer_spec.specs.Tree.{Tree, Rows, Slot, Required, Optional, Default, P
 use Rattle.oer_rows.specs.Schema.{Typed, IsTyped, Schema, IsSchema, IsOf, tree_of, schema_is, schema_like, needed_then, needed_then_is, optional_then, optional_then_is, default_then, default_then_is}
 use Rattle.oer_rows.specs.Sets.{are_in_order, IsInSet, set_of, set_is, set_like}
 use Rattle.oer_rows.specs.Slots.{IfThere}
+use Rattle.oer_rows.specs.TextOrder.{rows_by_place}
 use Rattle.oer_rows.specs.declared.both.Both.{Both}
 use Rattle.oer_knots.specs.Ties.{AgreeTo, agree_less, Ties, option_weight, le_left, le_right}
 
@@ -114,17 +115,17 @@ module _ {K A R : Type 0} (schema : Typed K → Schema R) (extensible : Bool) (w
   }
 
 -- ---- a set of a row, whose root components stand in the order of their tags
-module _ {K A R : Type 0} (schema : Typed K → Schema R) (extensible : Bool) (weight : (K → ℕ) → R → ℕ) (components : A → R) where
+module _ {K A R : Type 0} (places : List ℕ) (schema : Typed K → Schema R) (extensible : Bool) (weight : (K → ℕ) → R → ℕ) (components : A → R) where
   abbrev pub set_tied : Typed K → Typed A
-  set_tied of = record { tree = λ v. set_of (schema of) extensible (components v); IsPart = λ v. IsInSet (schema of) (components v) }
+  set_tied of = record { tree = λ v. set_of places (schema of) extensible (components v); IsPart = λ v. IsInSet (schema of) (components v) }
 
   pub set_ties : TiesRow schema extensible weight → Ties set_tied (sequence_weight schema extensible weight components)
   set_ties t = record {
-    is = λ of k. record { is = λ v i. set_is (schema of) extensible (t.is of k) (components v) i; like = λ v w i j. set_like (schema of) extensible (t.is of k) (components v) (components w) i j };
+    is = λ of k. record { is = λ v i. set_is places (schema of) extensible (t.is of k) (components v) i; like = λ v w i j. set_like places (schema of) extensible (t.is of k) (components v) (components w) i j };
     local = λ size of to v a.
         let h = t.local size of to (components v) a in
         record {
-          tree = ap (λ (r : Rows). Struct true extensible r ((schema of).additions.rows (components v))) h.roots ∙ ap (Struct true extensible ((schema to).roots.rows (components v))) h.additions;
+          tree = ap (λ (r : Rows). Struct true extensible (rows_by_place places r) ((schema of).additions.rows (components v))) h.roots ∙ ap (Struct true extensible (rows_by_place places ((schema to).roots.rows (components v)))) h.additions;
           part = λ i. record { in_order = subst (λ (rs : List Row). are_in_order (tags rs) ≡ true) (t.table of to 0) i.in_order; is_of = (h.root_part i.is_of.0, h.addition_part i.is_of.1) };
         };
   }

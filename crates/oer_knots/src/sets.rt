@@ -4,18 +4,19 @@ use crate::sequences::{KnotRowed, TakesKnot};
 use crate::ties::{DecodeInside, DecodeKnot, HoldsKnot};
 use asn1_core::{DecodeError, Tag};
 use oer_read::Decoder;
-use oer_rows::{InTagOrder, Sequence, Set};
+use oer_rows::{InTagOrder, Sequence, Set, TextOrder};
 use oer_spec::Spelled;
 use std::alloc::Global;
 
-impl<K, const RC: usize, const EC: usize, T: KnotRowed<K>> HoldsKnot<K> for Set<T, RC, EC> {
+impl<K, const RC: usize, const EC: usize, T: KnotRowed<K> + TextOrder> HoldsKnot<K>
+    for Set<T, RC, EC> {
     ghost use Rattle.oer_knots.specs.Rows.{set_tied, sequence_weight, set_ties};
 
-    ghost tied = { set_tied T.knot_schema T.extended T.knot_weight (λ v. T.knot_components v.0) };
+    ghost tied = { set_tied T.places T.knot_schema T.extended T.knot_weight (λ v. T.knot_components v.0) };
 
     ghost weight = { sequence_weight T.knot_schema T.extended T.knot_weight (λ v. T.knot_components v.0) };
 
-    ghost ties = { set_ties T.knot_schema T.extended T.knot_weight (λ v. T.knot_components v.0) T.knot_ties };
+    ghost ties = { set_ties T.places T.knot_schema T.extended T.knot_weight (λ v. T.knot_components v.0) T.knot_ties };
 }
 
 impl<

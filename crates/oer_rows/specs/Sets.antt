@@ -1,6 +1,7 @@
--- Sets whose root components stand in their row in the order of their tags.
-use Rattle.std.specs.Prelude.{◌≡◌, ℕ, Bool, true, false, not, ◌&&◌, ◌||◌, List, [], ◌∷◌, length, refl}
-use Rattle.std.proofs.Common.{ap, ap₂, sym, ◌∙◌}
+-- Sets: their root components stand in their row in the order of their tags, in the tree and the table in that of the text.
+use Rattle.std.specs.Prelude.{◌≡◌, ℕ, Bool, true, false, not, ◌&&◌, List, [], ◌∷◌, length, refl}
+use Rattle.std.proofs.Common.{ap, ap₂, sym, subst, ◌∙◌, arith}
+use Rattle.std.proofs.lemmas.Bool.Decides.{nat_tests}
 use Rattle.asn1_core.specs.Rows.{Row, AreTables, tags}
 use Rattle.asn1_core.specs.Tags.{tag_le, same_tag, holds, AreDistinct}
 use Rattle.asn1_core.specs.declared.tag.Tag.{Tag}
@@ -9,11 +10,12 @@ use Rattle.oer_spec.specs.Same.{Alike}
 use Rattle.oer_spec.specs.Tree.{Tree, Rows, NoRows, Required, Optional, Default, Struct}
 use Rattle.oer_read.specs.Parts.{Parts, NoParts, NeededPart, OptionalPart, DefaultPart, AreOf, IsTableOf}
 use Rattle.oer_rows.specs.Schema.{Schema, IsSchema, IsOf}
+use Rattle.oer_rows.specs.TextOrder.{by_place, table_by_place, rows_by_place, neither, distinct_by_place, counted_counts, table_length, table_tags, tags_by_place, are_by_place, alike_by_place}
 
 -- a tag is less than each of these
 abbrev pub is_below : Tag → List Tag → Bool
 is_below g [] = true
-is_below g (h ∷ hs) = (tag_le g h && not (same_tag h g)) && is_below g hs
+is_below g (h ∷ hs) = not (tag_le h g) && is_below g hs
 
 -- Each tag is less than all behind it (X.680, 8.6).
 abbrev pub are_in_order : List Tag → Bool
@@ -30,15 +32,14 @@ pub is_not : (a : Bool) → not a ≡ true → a ≡ false
 is_not true e = absurd (cc e)
 is_not false e = refl
 
-neither : (a b : Bool) → a ≡ false → b ≡ false → (a || b) ≡ false
-neither true b e f = absurd (cc e)
-neither false b e f = f
+not_same : (g h : Tag) → tag_le h g ≡ false → same_tag h g ≡ false
+not_same g h e = grind (arith, nat_tests)
 
 not_held : (g : Tag) (hs : List Tag) → is_below g hs ≡ true → holds hs g ≡ false
 not_held g [] e = refl
 not_held g (h ∷ hs) e =
-    let (first, rest) = both (tag_le g h && not (same_tag h g)) (is_below g hs) e in
-    neither (same_tag h g) (holds hs g) (is_not (same_tag h g) (both (tag_le g h) (not (same_tag h g)) first).1) (not_held g hs rest)
+    let (first, rest) = both (not (tag_le h g)) (is_below g hs) e in
+    neither (same_tag h g) (holds hs g) (not_same g h (is_not (tag_le h g) first)) (not_held g hs rest)
 
 pub in_order_distinct : (gs : List Tag) → are_in_order gs ≡ true → AreDistinct gs
 in_order_distinct [] e = tt
@@ -73,8 +74,13 @@ tags_are (q ∷ rs) (DefaultPart g u P ps) (Default h v s r) k l = ap₂ ◌∷�
 abbrev pub IsInTagOrder : {A : Type 0} → Schema A → Type 0
 IsInTagOrder s = are_in_order (tags (s.roots.fields 0)) ≡ true
 
-abbrev pub set_of : {A : Type 0} → Schema A → Bool → A → Tree
-set_of s extensible v = Struct true extensible (s.roots.rows v) (s.additions.rows v)
+-- a set's tree: its root components by their places in the text
+abbrev pub set_of : {A : Type 0} → List ℕ → Schema A → Bool → A → Tree
+set_of places s extensible v = Struct true extensible (rows_by_place places (s.roots.rows v)) (s.additions.rows v)
+
+-- the rows of its table, as the tree has them
+abbrev pub set_fields : {A : Type 0} → List ℕ → Schema A → List Row
+set_fields places s = table_by_place places (s.roots.fields 0)
 
 -- a set's admitted values; the order is a part of what is said of them, since a tree's facts can't cite a law of the type
 pub record IsInSet {A : Type 0} (s : Schema A) (v : A) : Type 0 where
@@ -85,22 +91,33 @@ pub record IsInSet {A : Type 0} (s : Schema A) (v : A) : Type 0 where
 pub rows_in_order : {A : Type 0} (s : Schema A) (extensible : Bool) → IsSchema s extensible → (v : A) → IsInSet s v → are_in_order (row_tags (s.roots.rows v)) ≡ true
 rows_in_order s extensible k v i = ap are_in_order (tags_are (s.roots.fields 0) s.roots.parts (s.roots.rows v) (k.roots.is_table 0) (k.roots.made v i.is_of.0)) ∙ i.in_order
 
-pub set_is : {A : Type 0} (s : Schema A) (extensible : Bool) → IsSchema s extensible → (v : A) → IsInSet s v → IsTree (set_of s extensible v)
-unfolding Rattle.oer_spec.specs.Encoding.IsTree
-set_is s extensible k v i = (k.roots.are v i.is_of.0, k.additions.are v i.is_of.1, (λ e. k.no_additions e v), (λ e. in_order_distinct (row_tags (s.roots.rows v)) (rows_in_order s extensible k v i)))
+module _ {A : Type 0} (places : List ℕ) (s : Schema A) (extensible : Bool) (k : IsSchema s extensible) where
+  tree_distinct : (v : A) → IsInSet s v → AreDistinct (row_tags (rows_by_place places (s.roots.rows v)))
+  tree_distinct v i =
+      subst AreDistinct (sym (tags_by_place places (s.roots.rows v)))
+      (distinct_by_place places (row_tags (s.roots.rows v)) (in_order_distinct (row_tags (s.roots.rows v)) (rows_in_order s extensible k v i)))
 
-pub set_like : {A : Type 0} (s : Schema A) (extensible : Bool) → IsSchema s extensible → (v w : A) → IsInSet s v → IsInSet s w → Alike (set_of s extensible v) (set_of s extensible w)
-unfolding Rattle.oer_spec.specs.Same.Alike
-set_like s extensible k v w i j = (refl, refl, k.roots.like v w i.is_of.0 j.is_of.0, k.additions.like v w i.is_of.1 j.is_of.1)
+  table_distinct : IsInTagOrder s → AreDistinct (tags (set_fields places s))
+  table_distinct o =
+      subst AreDistinct (sym (table_tags places (s.roots.fields 0)))
+      (distinct_by_place places (tags (s.roots.fields 0)) (in_order_distinct (tags (s.roots.fields 0)) o))
 
--- its two tables, by how many rows each has
-pub set_tables : {A : Type 0} (s : Schema A) (extensible : Bool) → IsSchema s extensible → IsInTagOrder s → (roots additions : ℕ) → length (s.roots.fields 0) ≡ roots → length (s.additions.fields 0) ≡ additions
-    → AreTables true extensible roots additions (s.roots.fields 0) (s.additions.fields 0)
-set_tables s extensible k o roots additions e f = record {
-  root_count = e;
-  addition_count = f;
-  root_indexes = k.roots.counted 0;
-  addition_indexes = k.additions.counted 0;
-  only = k.no_fields;
-  distinct = λ e. in_order_distinct (tags (s.roots.fields 0)) o;
-}
+  pub set_is : (v : A) → IsInSet s v → IsTree (set_of places s extensible v)
+  unfolding Rattle.oer_spec.specs.Encoding.IsTree
+  set_is v i = (are_by_place places (s.roots.rows v) (k.roots.are v i.is_of.0), k.additions.are v i.is_of.1, (λ e. k.no_additions e v), (λ e. tree_distinct v i))
+
+  pub set_like : (v w : A) → IsInSet s v → IsInSet s w → Alike (set_of places s extensible v) (set_of places s extensible w)
+  unfolding Rattle.oer_spec.specs.Same.Alike
+  set_like v w i j = (refl, refl, alike_by_place places (s.roots.rows v) (s.roots.rows w) (k.roots.like v w i.is_of.0 j.is_of.0), k.additions.like v w i.is_of.1 j.is_of.1)
+
+  -- its two tables, by how many rows each has
+  pub set_tables : IsInTagOrder s → (roots additions : ℕ) → length (s.roots.fields 0) ≡ roots → length (s.additions.fields 0) ≡ additions
+      → AreTables true extensible roots additions (set_fields places s) (s.additions.fields 0)
+  set_tables o roots additions e f = record {
+    root_count = table_length places (s.roots.fields 0) ∙ e;
+    addition_count = f;
+    root_indexes = counted_counts 0 (by_place places (s.roots.fields 0));
+    addition_indexes = k.additions.counted 0;
+    only = k.no_fields;
+    distinct = λ e. table_distinct o;
+  }

@@ -41,7 +41,7 @@ pub use places::{
 pub use reading::{decode_row, read_row};
 pub use rowed::{Rowed, Schemed, Takes};
 pub use sequences::{Sequence, Tabled};
-pub use sets::{InTagOrder, Set};
+pub use sets::{InTagOrder, Set, TextOrder};
 pub use views::{AdditionViews, Views};
 pub use writing::{
     Writes, encode_rows, put_added, put_addition, put_default, put_default_addition, put_group,

@@ -10,12 +10,29 @@ use oer_write::{Encode, Encoder};
 use std::alloc::Global;
 use std::fmt::{self, Debug};
 
-/// A type whose root components stand in its row in the order of their tags (X.680, 8.6), no tag twice.
+/// Where the root components of a type's row stand in its ASN.1.
+pub trait TextOrder {
+    ghost use Rattle.std.specs.Prelude.{ℕ, List};
+
+    ghost places: { List ℕ };
+}
+
+/// A type whose root components stand in its row in the order of their tags (X.680, 8.6), no tag twice, and in the table of
+/// its SET in the order of its ASN.1.
 ///
 /// The order of a SET's components in its ASN.1 says nothing, so any set has such a row. Octets have a set's components in
 /// this order (X.696, 18): as those of the SEQUENCE of the row.
-pub trait InTagOrder<const RC: usize, const EC: usize>: Tabled<RC, EC> {
-    ghost use Rattle.oer_rows.specs.Sets.{IsInTagOrder};
+pub trait InTagOrder<const RC: usize, const EC: usize>: Tabled<RC, EC> + TextOrder {
+    ghost use Rattle.std.specs.Prelude.{◌≡◌, map};
+    ghost use Rattle.asn1_core.specs.Rows.{row};
+    ghost use Rattle.oer_rows.specs.Sets.{IsInTagOrder, set_fields};
+
+    /// The root components, in the order of the type's ASN.1.
+    const SET_FIELDS: Fields<RC>;
+
+    /// The rows of `SET_FIELDS`: the row's own, by their places.
+    fn text_fields() -> &'static [Field<'static>]
+        ensures { map row result.now ≡ set_fields Self.places Self.row_schema };
 
     ghost in_order: { IsInTagOrder Self.row_schema };
 }
@@ -53,11 +70,11 @@ impl<const RC: usize, const EC: usize, T: InTagOrder<RC, EC>> AsnType for Set<T,
 impl<const RC: usize, const EC: usize, T: InTagOrder<RC, EC>> Constructed<RC, EC>
     for Set<T, RC, EC> {
     ghost use Rattle.std.specs.Prelude.{true};
-    ghost use Rattle.oer_rows.specs.Sets.{set_tables};
+    ghost use Rattle.oer_rows.specs.Sets.{set_fields, set_tables};
 
     ghost is_set = { true };
 
-    ghost root_rows = { T.row_schema.roots.fields 0 };
+    ghost root_rows = { set_fields T.places T.row_schema };
 
     ghost addition_rows = { T.row_schema.additions.fields 0 };
 
@@ -65,31 +82,31 @@ impl<const RC: usize, const EC: usize, T: InTagOrder<RC, EC>> Constructed<RC, EC
 
     const IS_EXTENSIBLE: bool = T::EXTENSIBLE;
 
-    const FIELDS: Fields<RC> = T::FIELDS;
+    const FIELDS: Fields<RC> = T::SET_FIELDS;
 
     const EXTENDED_FIELDS: Option<Fields<EC>> = T::EXTENDED_FIELDS;
 
     fn root_fields() -> &'static [Field<'static>] {
-        T::root_fields()
+        T::text_fields()
     }
 
     fn addition_fields() -> &'static [Field<'static>] {
         T::addition_fields()
     }
 
-    ghost tables = { set_tables T.row_schema T.EXTENSIBLE T.row_is_schema T.in_order RC EC T.counts.0 T.counts.1 };
+    ghost tables = { set_tables T.places T.row_schema T.EXTENSIBLE T.row_is_schema T.in_order RC EC T.counts.0 T.counts.1 };
 }
 
 impl<const RC: usize, const EC: usize, T: InTagOrder<RC, EC>> Spelled for Set<T, RC, EC> {
     ghost use Rattle.oer_rows.specs.Sets.{IsInSet, set_of, set_is, set_like};
 
-    ghost tree = { λ c v. set_of T.row_schema T.EXTENSIBLE (T.components v.0) };
+    ghost tree = { λ c v. set_of T.places T.row_schema T.EXTENSIBLE (T.components v.0) };
 
     ghost IsValue = { λ v. IsInSet T.row_schema (T.components v.0) };
 
-    ghost is_tree = { λ c k v i. set_is T.row_schema T.EXTENSIBLE T.row_is_schema (T.components v.0) i };
+    ghost is_tree = { λ c k v i. set_is T.places T.row_schema T.EXTENSIBLE T.row_is_schema (T.components v.0) i };
 
-    ghost alike = { λ c k v w i j. set_like T.row_schema T.EXTENSIBLE T.row_is_schema (T.components v.0) (T.components w.0) i j };
+    ghost alike = { λ c k v w i j. set_like T.places T.row_schema T.EXTENSIBLE T.row_is_schema (T.components v.0) (T.components w.0) i j };
 }
 
 impl<const RC: usize, const EC: usize, T: InTagOrder<RC, EC>> Writes for Set<T, RC, EC> {

@@ -1,5 +1,5 @@
 //! A set with a list of itself.
-ghost use Rattle.std.specs.Prelude.{OnOk, IfErr, refl, ⊤};
+ghost use Rattle.std.specs.Prelude.{OnOk, IfErr, refl, ⊤, []};
 ghost use Rattle.oer_write.specs.Written.{Encodes, Refused};
 ghost use Rattle.asn1_core.specs.declared.constraints.TheConstants.Constraints.{NONE};
 ghost use Rattle.rasn_oer.specs.Values.{both};
@@ -102,8 +102,20 @@ impl<K: Encode> Tabled<2, 0> for BushComponents<K> {
     ghost counts = { (refl, refl) };
 }
 
+impl<K> TextOrder for BushComponents<K> {
+    ghost places = { [] };
+}
+
 impl<K: Encode> InTagOrder<2, 0> for BushComponents<K> {
     ghost in_order = { refl };
+
+    const SET_FIELDS: Fields<2> = Fields {
+        fields: BUSH_FIELDS,
+    };
+
+    fn text_fields() -> &'static [Field<'static>] {
+        BUSH_FIELDS
+    }
 }
 
 impl AsnType for Bush {

@@ -1,12 +1,12 @@
 //! Two versions of a set, each by the row of its components in the order of their tags.
 ghost use Rattle.rasn_oer.specs.Values.{both};
-ghost use Rattle.std.specs.Prelude.{refl};
+ghost use Rattle.std.specs.Prelude.{refl, [], ◌∷◌};
 
 use crate::components;
 use rasn_oer::prelude::*;
 use std::alloc::Global;
 
-/// `SET { z [APPLICATION 1] INTEGER DEFAULT 0, y [1] INTEGER OPTIONAL, x [2] BOOLEAN, ..., n [0] BOOLEAN OPTIONAL }`
+/// `SET { x [2] BOOLEAN, y [1] INTEGER OPTIONAL, z [APPLICATION 1] INTEGER DEFAULT 0, ..., n [0] BOOLEAN OPTIONAL }`
 pub type MixedSet = Set<components::MixedSet, 3, 1>;
 
 type MixedSetRow = Defaults<
@@ -22,6 +22,10 @@ type MixedSetRow = Defaults<
 
 const MIXED_SET_FIELDS: &'static [Field<'static>] = fields![
     0 Default Application 1 "z", 1 Optional Context 1 "y", 2 Required Context 2 "x"
+];
+
+const MIXED_SET_TEXT: &'static [Field<'static>] = fields![
+    0 Required Context 2 "x", 1 Optional Context 1 "y", 2 Default Application 1 "z"
 ];
 
 const MIXED_SET_ADDITIONS: &'static [Field<'static>] = fields![0 Optional Context 0 "n"];
@@ -79,11 +83,23 @@ impl Tabled<3, 1> for components::MixedSet {
     ghost counts = { (refl, refl) };
 }
 
-impl InTagOrder<3, 1> for components::MixedSet {
-    ghost in_order = { refl };
+impl TextOrder for components::MixedSet {
+    ghost places = { 2 ∷ 1 ∷ 0 ∷ [] };
 }
 
-/// `SET { z [APPLICATION 1] INTEGER DEFAULT 0, y [1] INTEGER OPTIONAL, x [2] BOOLEAN, ..., n [0] BOOLEAN OPTIONAL,
+impl InTagOrder<3, 1> for components::MixedSet {
+    ghost in_order = { refl };
+
+    const SET_FIELDS: Fields<3> = Fields {
+        fields: MIXED_SET_TEXT,
+    };
+
+    fn text_fields() -> &'static [Field<'static>] {
+        Self::SET_FIELDS.fields
+    }
+}
+
+/// `SET { x [2] BOOLEAN, y [1] INTEGER OPTIONAL, z [APPLICATION 1] INTEGER DEFAULT 0, ..., n [0] BOOLEAN OPTIONAL,
 /// m [3] OCTET STRING OPTIONAL }`: a newer version of `MixedSet`
 pub type MixedSet2 = Set<components::MixedSet2, 3, 2>;
 
@@ -155,6 +171,18 @@ impl Tabled<3, 2> for components::MixedSet2 {
     ghost counts = { (refl, refl) };
 }
 
+impl TextOrder for components::MixedSet2 {
+    ghost places = { 2 ∷ 1 ∷ 0 ∷ [] };
+}
+
 impl InTagOrder<3, 2> for components::MixedSet2 {
     ghost in_order = { refl };
+
+    const SET_FIELDS: Fields<3> = Fields {
+        fields: MIXED_SET_TEXT,
+    };
+
+    fn text_fields() -> &'static [Field<'static>] {
+        Self::SET_FIELDS.fields
+    }
 }

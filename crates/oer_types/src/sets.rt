@@ -1,6 +1,6 @@
 //! A set by the row of its components in the order of their tags.
 ghost use Rattle.rasn_oer.specs.Values.{both};
-ghost use Rattle.std.specs.Prelude.{refl};
+ghost use Rattle.std.specs.Prelude.{refl, [], ◌∷◌};
 
 use crate::components;
 use rasn_oer::prelude::*;
@@ -17,6 +17,10 @@ type FooRow = MayHave<
 
 const FOO_FIELDS: &'static [Field<'static>] = fields![
     0 Optional Application 9 "c", 1 Optional Context 5 "b", 2 Optional Context 444 "a"
+];
+
+const FOO_TEXT: &'static [Field<'static>] = fields![
+    0 Optional Context 444 "a", 1 Optional Context 5 "b", 2 Optional Application 9 "c"
 ];
 
 impl Rowed for components::Foo {
@@ -65,6 +69,16 @@ impl Tabled<3, 0> for components::Foo {
     ghost counts = { (refl, refl) };
 }
 
+impl TextOrder for components::Foo {
+    ghost places = { 2 ∷ 1 ∷ 0 ∷ [] };
+}
+
 impl InTagOrder<3, 0> for components::Foo {
     ghost in_order = { refl };
+
+    const SET_FIELDS: Fields<3> = Fields { fields: FOO_TEXT };
+
+    fn text_fields() -> &'static [Field<'static>] {
+        Self::SET_FIELDS.fields
+    }
 }

@@ -133,6 +133,7 @@ pub use oer_rows::Standard;
 pub use oer_rows::Tabled;
 pub use oer_rows::Takes;
 pub use oer_rows::TeletexText;
+pub use oer_rows::TextOrder;
 pub use oer_rows::Universal;
 pub use oer_rows::Utf8Text;
 pub use oer_rows::Views;

@@ -96,10 +96,30 @@ impl Tabled<3, 1> for BagComponents {
     ghost counts = { (refl, refl) };
 }
 
+const BAG_IN_TEXT_ORDER: &'static [Field<'static>] = fields![
+    0 Required Context 1 "b",
+    1 Optional Application 2 "a",
+    2 Required Context 0 "c"
+];
+
+impl TextOrder for BagComponents {
+    ghost use Rattle.std.specs.Prelude.{[], ◌∷◌};
+
+    ghost places = { 1 ∷ 2 ∷ 0 ∷ [] };
+}
+
 impl InTagOrder<3, 1> for BagComponents {
     ghost use Rattle.std.specs.Prelude.{refl};
 
     ghost in_order = { refl };
+
+    const SET_FIELDS: Fields<3> = Fields {
+        fields: BAG_IN_TEXT_ORDER,
+    };
+
+    fn text_fields() -> &'static [Field<'static>] {
+        Self::SET_FIELDS.fields
+    }
 }
 
 /// `Signal ::= CHOICE { busy NULL, level Percent, ..., new-key Key }`

@@ -4,8 +4,8 @@ use Rattle.oer_rows.proofs.sets.SetDecode.decode_with_tag_and_constraints.Goals 
 
 pub returns-in-Ok-clause-law : goal.returns-in-Ok-clause-law
 returns-in-Ok-clause-law g c =
-    set_read g.T.Rowed.row_schema g.T.Rowed.EXTENSIBLE g.T.Rowed.row_is_schema (λ v. g.T.Rowed.components v.0) (λ w. record { 0 = w.0 }) _ _ _ _ g.met.T.InTagOrder.in_order refl c.in-Ok.ensures.law
+    set_read g.T.TextOrder.places g.T.Rowed.row_schema g.T.Rowed.EXTENSIBLE g.T.Rowed.row_is_schema (λ v. g.T.Rowed.components v.0) (λ w. record { 0 = w.0 }) _ _ _ _ g.met.T.InTagOrder.in_order refl c.in-Ok.ensures.law
 
 pub returns-in-Err-clause-law : goal.returns-in-Err-clause-law
 returns-in-Err-clause-law g c =
-    set_refused g.T.Rowed.row_schema g.T.Rowed.EXTENSIBLE g.T.Rowed.row_is_schema (λ v. g.T.Rowed.components v.0) (λ w. record { 0 = w.0 }) _ _ _ c.in-Err.ensures.law
+    set_refused g.T.TextOrder.places g.T.Rowed.row_schema g.T.Rowed.EXTENSIBLE g.T.Rowed.row_is_schema (λ v. g.T.Rowed.components v.0) (λ w. record { 0 = w.0 }) _ _ _ c.in-Err.ensures.law
