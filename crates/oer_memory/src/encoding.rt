@@ -318,7 +318,11 @@ fn own_calls(alloc: Global, word: &str) -> Result<Option<String>> {
     let mut encoder = Encoder::from_buffer(alloc, options, &mut output, &mut worker);
     let line = match word {
         "output" => shown(alloc, &encoder.output().as_slice())?,
-        _ => shown(alloc, &encoder.codec())?,
+        _ => {
+            let line = shown(alloc, &encoder.codec())?;
+            drop(encoder);
+            line
+        }
     };
     Ok(Some(kept(&worker, line)?))
 }
