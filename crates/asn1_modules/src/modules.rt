@@ -9,6 +9,9 @@ use crate::types::read_whole_type;
 use crate::values::read_value;
 use std::alloc::Global;
 
+/// What stands where an assignment begins.
+const NAME: &str = "a type's or a value's name, or END";
+
 /// Modules that were read. It is let go by a function of its own: else each crate that holds one proves anew how all types of the
 /// tree are let go.
 pub struct Tree {
@@ -221,16 +224,28 @@ fn unread(reader: &mut Reader<'_>, why: Refusal) -> Result<Unread, Refusal> {
 /// Reads a type or a value, and puts it to the others.
 fn push_assignment(reader: &mut Reader<'_>, all: &mut Assignments) -> Result<(), Refusal> {
     if reader.peek().kind == Kind::Word {
-        all.values.push(read_value_assignment(reader)?)?;
+        let value = read_value_assignment(reader)?;
+        require_next(reader)?;
+        all.values.push(value)?;
     } else {
-        all.types.push(read_type_assignment(reader)?)?;
+        let of = read_type_assignment(reader)?;
+        require_next(reader)?;
+        all.types.push(of)?;
     }
     Ok(())
 }
 
+/// Refuses what can't stand behind an assignment.
+fn require_next(reader: &Reader<'_>) -> Result<(), Refusal> {
+    match reader.peek().kind {
+        Kind::Name | Kind::Word | Kind::End => Ok(()),
+        _ => Err(reader.refused(NAME)),
+    }
+}
+
 /// `Name ::= Type`
 fn read_type_assignment(reader: &mut Reader<'_>) -> Result<TypeAssignment, Refusal> {
-    let name = reader.takes(Kind::Name, "a type's or a value's name, or END")?;
+    let name = reader.takes(Kind::Name, NAME)?;
     if !reader.eats("::=") {
         return Err(reader.refused("'::=', since parameters and value sets aren't read"));
     }
