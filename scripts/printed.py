@@ -1,7 +1,8 @@
 #!/usr/bin/env python3
 """Says where crates/sample_types or crates/recursive_types, or the line of one in crates.txt, isn't what oergen prints of its module
-in crates/oergen/data, where types of made modules are put into other crates than they should be, and where the types of
-scripts/printed.d/circle.asn, which contain each other, aren't printed with the definitions beside it.
+in crates/oergen/data, where types of made modules are put into other crates than they should be, or don't have the names that they
+should, where the types of scripts/printed.d/circle.asn, which contain each other, aren't printed with the definitions beside it, and
+where what is printed of long.asn, which has long names and wide choices, isn't in the layout that `rt fmt` leaves as it is.
 
 usage: printed.py PROGRAM, for example: printed.py crates/oergen/out/oergen
 
@@ -9,6 +10,7 @@ It prints twice: the second time into a folder that has the files of the first.
 """
 import pathlib
 import re
+import shutil
 import subprocess
 import sys
 import tempfile
@@ -85,6 +87,25 @@ def misplaced(program):
     return faults
 
 
+# types with names that the library has, and a line of what is printed of each
+NAMES = {
+    "Bare ::= NULL": "pub type Bare_ = ();",
+    "Sequence ::= BOOLEAN": "pub type Sequence_ = bool;",
+    "Date ::= SEQUENCE { place Place }": "pub type Date_ = Sequence<Date_Components, 1, 0>;",
+    "Place ::= CHOICE { a NULL }": "    pub place: Place_,",
+}
+
+
+def misnamed(program):
+    """Which types with the library's names aren't printed with `_` behind these."""
+    with tempfile.TemporaryDirectory() as folder:
+        module = pathlib.Path(folder) / "made.asn"
+        module.write_text("Made DEFINITIONS AUTOMATIC TAGS ::= BEGIN\n" + "\n".join(NAMES) + "\nEND\n")
+        _, files = printed(program, folder, "made", module)
+    lines = {line for text in files.values() for line in text.split("\n")}
+    return [f"of {of} there is no line {line!r}" for of, line in NAMES.items() if line not in lines]
+
+
 def undefined(program):
     """Where types that contain each other are printed without what defines what they weigh, or as another crate."""
     with tempfile.TemporaryDirectory() as folder:
@@ -95,8 +116,18 @@ def undefined(program):
     return faults
 
 
+def unformatted(program):
+    """Which files of long.asn aren't in the layout."""
+    rattle = pathlib.Path(shutil.which("rt")).resolve().parent / "rattle"
+    with tempfile.TemporaryDirectory() as folder:
+        printed(program, folder, "made", DATA / "long.asn")
+        files = sorted(pathlib.Path(folder).rglob("*.rt"))
+        ran = subprocess.run([rattle, "fmt", "--check", *files], capture_output=True, text=True, timeout=60, check=False)
+    return [f"long.asn: {line}" for line in (ran.stdout + ran.stderr).splitlines()] if ran.returncode else []
+
+
 def main(program):
-    faults = misplaced(program) + undefined(program)
+    faults = misplaced(program) + misnamed(program) + undefined(program) + unformatted(program)
     for fault in faults:
         print(f"printed: {fault}")
     status = 1 if faults else 0

@@ -3,10 +3,12 @@
 
 usage: refused.py PROGRAM, for example: refused.py crates/oergen/out/oergen
 
-scripts/refused.d/refused.txt has modules that aren't listed, unprinted.txt those that are and aren't printed: a row each, what stands
-between BEGIN and END, which is line 2, and its message. Types in one another and components side by side are printed up to a
-bound, and refused one past it. Of left_out.asn all that can't be printed is left out, with the lines of left_out.txt. What is said
-was typed from the place of what is met and from what can be read there, never from the program.
+scripts/refused.d/refused.txt has modules that are neither listed nor printed, for one reason, unprinted.txt those that are listed and
+not printed: a row each, what stands between BEGIN and END, which is line 2, and its message. Types in one another and components side
+by side are printed up to a bound, and refused one past it. Of left_out.asn all that can't be printed is left out, with the lines of
+left_out.txt, and of unread.asn all that can't be read or resolved, with those of unread.txt. Files that aren't there or aren't UTF-8
+are refused by name, and crates are written into no folder but their own. What is said was typed from the place of what is met and from
+what can be read there, never from the program.
 """
 import concurrent.futures
 import os
@@ -35,7 +37,7 @@ DEEP_LISTS = "2:7: met 'SEQUENCE'; can read at most 40 lists directly inside one
 WIDE = "2:7: met 'SEQUENCE'; can read at most 50 components, and in a group as many: others aren't printed yet"
 
 # how many rows the files have: one that was cut short would pass
-ROWS = (44, 20)
+ROWS = (59, 21)
 
 # what stands in front of a type and behind it, how often at most, and what is said of once more
 DEPTHS = (
@@ -50,8 +52,10 @@ class Case(NamedTuple):
     """A module, the words that it is handed in with, and what should come of it."""
 
     words: tuple
-    module: str
+    module: str | bytes
     wanted: tuple  # by PARTS; None where any will do
+    before: tuple = ()  # files that lie in the folder, by path and text
+    names: tuple = ("m.asn",)  # the files that are handed in
 
 
 def module_of(body):
@@ -64,10 +68,21 @@ def refusal(words, body, message):
     return Case(words, module_of(body), ("", f"m.asn:{message}\n", 1, 0))
 
 
-def rows(name, words):
-    """The refusals of a file."""
+def rows(name):
+    """The modules of a file, each with its message."""
     lines = (DATA / name).read_text(encoding="utf-8").split("\n")
-    return [refusal(words, body, message) for body, _, message in (row.partition(" => ") for row in lines if row)]
+    return [(body, message) for body, _, message in (row.partition(" => ") for row in lines if row)]
+
+
+def unlisted():
+    """Modules that are refused for one reason, whether they are to be listed or printed."""
+    return [refusal(words, *row) for row in rows("refused.txt") for words in (LIST, PRINT)]
+
+
+def unprinted():
+    """Modules that are listed, and refused where they are to be printed."""
+    found = rows("unprinted.txt")
+    return [refusal(PRINT, *row) for row in found] + [Case(LIST, module_of(body), (None, "", 0, 0)) for body, _ in found]
 
 
 def bound(body_of, most, message):
@@ -91,17 +106,77 @@ def bounds():
 
 def left_out():
     """A type that contains itself in a form that isn't printed, one that stands on it, one that is printed, and two that contain
-    each other, of which one stands on a type that isn't printed: the one crate has a root and a file of types."""
-    module, lines = ((DATA / name).read_text(encoding="utf-8") for name in ("left_out.asn", "left_out.txt"))
-    return [Case((*PRINT, "--leave-out"), module, (lines, "", 0, 2))]
+    each other, of which one stands on a type that isn't printed; and assignments of each sort that isn't read, names that aren't
+    assigned, clashes, and what is printed between them: the one crate has a root and a file of types."""
+    texts = [[(DATA / f"{name}.{end}").read_text(encoding="utf-8") for end in ("asn", "txt")] for name in ("left_out", "unread")]
+    return [Case((*PRINT, "--leave-out"), module, (lines, "", 0, 2)) for module, lines in texts]
+
+
+NULL_LISTED = ("A of M: NULL, no octets\n", "", 0, 0)
+NOT_UTF8 = "m.asn:2:39: met a string with octets that aren't UTF-8; can read UTF-8: other octets only in comments\n"
+
+
+def odd_files():
+    """A byte order mark, octets that aren't UTF-8 in a comment and in a string, and a file that isn't there."""
+    absent = (None, "absent.asn: can't be read: No such file or directory (os error 2)\n", 1, 0)
+    latin = module_of('A ::= SEQUENCE { a UTF8String DEFAULT "caf@" }').encode().replace(b"@", b"\xe9")
+    cases = [
+        Case(LIST, b"\xef\xbb\xbf" + module_of("A ::= NULL").encode(), NULL_LISTED),
+        Case(LIST, module_of("A ::= NULL -- caf@").encode().replace(b"@", b"\xe9"), NULL_LISTED),
+    ]
+    for words in (LIST, PRINT):
+        cases.append(Case(words, latin, ("", NOT_UTF8, 1, 0)))
+        cases.append(Case(words, module_of("A ::= NULL"), absent, names=("m.asn", "absent.asn")))
+    return cases
+
+
+HEAD = "//! Types of ASN.1 modules, as oergen printed them.\n"
+FOREIGN = "crates/m: met a folder that oergen didn't write; can write a new one, or a crate that it printed before\n"
+LEFT = "met a file that isn't printed now; can write where it is removed\n"
+EARLIER = "met a crate of an earlier print; can write where it is removed\n"
+NAMELESS = (
+    "oergen: give --list, or --out FOLDER and --name NAME, of small letters, digits and _, no library's; see --help\n"
+)
+
+
+def folders():
+    """What lies where a crate is to be written: of another's making, of an earlier print, or nothing that matters."""
+    root, types = ("crates/m/src/lib.rt", HEAD), "crates/m/src/types_02.rt"
+    weights = "crates/m/specs/AWeights.antt"
+    lie = (
+        ((("crates/m/src/lib.rt", "//! Mine.\n"),), FOREIGN),
+        ((("crates/m/notes.txt", ""),), FOREIGN),
+        ((root, (types, HEAD)), f"{types}: {LEFT}"),
+        ((root, (weights, "")), f"{weights}: {LEFT}"),
+        ((("crates/m_1/src/lib.rt", HEAD),), f"crates/m_1: {EARLIER}"),
+    )
+    null = module_of("A ::= NULL")
+    cases = [Case(PRINT, null, ("", message, 1, len(files)), before=files) for files, message in lie]
+    cases.append(Case(PRINT, null, ("m: rasn_oer\n", "", 0, 4), before=(root, ("crates/m/out/x", ""), ("crates/m_1/src/lib.rt", ""))))
+    for name in ("std", "core", "rasn_oer", "oer_write", "asn1_core", "M", "1m", ""):
+        cases.append(Case(("--out", "crates", "--name", name), null, ("", NAMELESS, 2, 0)))
+    cases.append(Case((*LIST, *PRINT), null, ("", NAMELESS, 2, 0)))
+    return cases
+
+
+def unhelpful(program):
+    """What is wrong with the help: each word of the program's with some words on it, on standard output, status 0."""
+    ran = subprocess.run([program, "--help"], capture_output=True, text=True, timeout=60, check=False)
+    lines = [line.split() for line in ran.stdout.splitlines()]
+    told = {line[0] for line in lines if line and len(line) > 4}
+    faults = [f"--help says nothing of {it}" for it in ("--list", "--out", "--name", "--leave-out", "<MODULE.asn>...") if it not in told]
+    return faults + ([] if (ran.returncode, ran.stderr) == (0, "") else [f"--help: status {ran.returncode}, {ran.stderr!r}"])
 
 
 def faults_of(program, case):
     """What comes of a module that shouldn't."""
     with tempfile.TemporaryDirectory() as folder:
         root = pathlib.Path(folder)
-        (root / "m.asn").write_bytes(case.module.encode())
-        ran = subprocess.run([program, *case.words, "m.asn"], cwd=root, capture_output=True, timeout=60, check=False)
+        (root / "m.asn").write_bytes(case.module if isinstance(case.module, bytes) else case.module.encode())
+        for path, text in case.before:
+            (root / path).parent.mkdir(parents=True, exist_ok=True)
+            (root / path).write_text(text)
+        ran = subprocess.run([program, *case.words, *case.names], cwd=root, capture_output=True, timeout=60, check=False)
         files = sum(it.is_file() for it in root.rglob("*")) - 1
     found = (ran.stdout.decode(errors="replace"), ran.stderr.decode(errors="replace"), ran.returncode, files)
     differing = [it for it in zip(PARTS, found, case.wanted) if it[2] not in (None, it[1])]
@@ -110,15 +185,23 @@ def faults_of(program, case):
 
 def main(program):
     program = str(pathlib.Path(program).resolve())
-    unlisted, unprinted, limits, rest = rows("refused.txt", LIST), rows("unprinted.txt", PRINT), bounds(), left_out()
+    sorts = {
+        "not listed and not printed": unlisted(),
+        "listed and not printed": unprinted(),
+        "at bounds": bounds(),
+        "with types left out": left_out(),
+        "in odd files": odd_files(),
+        "beside folders": folders(),
+    }
+    cases = [case for some in sorts.values() for case in some]
     with concurrent.futures.ThreadPoolExecutor(len(os.sched_getaffinity(0))) as pool:
-        found = list(pool.map(lambda case: faults_of(program, case), unlisted + unprinted + limits + rest))
-    faults = [fault for some in found for fault in some]
-    faults += [] if (len(unlisted), len(unprinted)) == ROWS else [f"rows are not {ROWS}"]
+        found = list(pool.map(lambda case: faults_of(program, case), cases))
+    faults = [fault for some in found for fault in some] + unhelpful(program)
+    faults += [] if (len(rows("refused.txt")), len(rows("unprinted.txt"))) == ROWS else [f"rows are not {ROWS}"]
     for fault in faults:
         print(f"refused: {fault}")
-    counts = f"{len(unlisted)} modules not listed, {len(unprinted)} not printed, {len(limits)} at bounds, {len(rest)} with types left out"
-    print(f"refused: {counts}, {'as they should be' if not faults else f'{len(faults)} faults'}")
+    counts = ", ".join(f"{len(some)} {sort}" for sort, some in sorts.items())
+    print(f"refused: runs of modules {counts}, {'as they should be' if not faults else f'{len(faults)} faults'}")
     return 1 if faults else 0
 
 

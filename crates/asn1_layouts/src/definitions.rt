@@ -4,8 +4,9 @@ use crate::names::{component_name, push_type_name, type_name};
 use crate::rows::{Row, rows_of};
 use crate::scope::{Link, Scope};
 use asn1_modules::ast::{Body, Type};
+use asn1_modules::lexer::TokenId;
 use asn1_modules::refusal::Refusal;
-use std::collections::BTreeSet;
+use std::collections::BTreeMap;
 
 /// How many lists may stand inside one another.
 const MAX_LISTS: usize = 64;
@@ -57,12 +58,16 @@ pub struct Definition<'m> {
     pub parts: Vec<Part<'m>>,
     /// The circle that it is of: nothing where it isn't, and until circles are found.
     pub circle: Option<Circle>,
+    /// Why it can't be resolved: then it has no parts. Nothing where it can.
+    pub fault: Option<Refusal>,
 }
 
 /// A type that waits to be defined.
 #[derive(Drop)]
 struct Pending<'m> {
     rust_name: String,
+    /// What it is named for: its assignment, or the component or the list that it stands in.
+    named: TokenId,
     link: Link<'m>,
 }
 
@@ -115,6 +120,7 @@ fn make_part<'m>(
         target = Some(pending.len());
         pending.push(Pending {
             rust_name: own,
+            named: row.map_or(of.first, |row| row.name),
             link: inner,
         })?;
     }
@@ -148,6 +154,7 @@ fn define<'m>(
         link,
         parts,
         circle: None,
+        fault: None,
     })
 }
 
@@ -170,6 +177,7 @@ fn push_assignments<'m>(
     for one in types.iter() {
         all.push(Pending {
             rust_name: type_name(scope.alloc, scope.text(one.name))?,
+            named: one.name,
             link: Link {
                 module,
                 of: &one.of,
@@ -179,21 +187,98 @@ fn push_assignments<'m>(
     Ok(())
 }
 
-/// All definitions: first the assignments, then the types inside them. Refused where two would have one Rust name.
-pub fn definitions<'m>(scope: Scope<'m, '_>) -> Result<Vec<Definition<'m>>, Refusal> {
+/// What names a type in a module: the module, and the name there.
+#[derive(Clone, Copy)]
+struct Naming {
+    module: usize,
+    name: TokenId,
+}
+
+/// The refusal of a type that has the Rust name of another.
+fn same_name(scope: Scope<'_, '_>, link: Link<'_>, rust: &str, pair: (Naming, Naming)) -> Refusal {
+    let (own, other) = pair;
+    let names = (scope.text(own.name), scope.text(other.name));
+    let modules = (
+        scope.module_name(own.module),
+        scope.module_name(other.module),
+    );
+    match format!(in scope.alloc;
+        "a type whose Rust name no other type has: '{}' of {} and '{}' of {} are both {rust}",
+        names.0, modules.0, names.1, modules.1
+    ) {
+        Ok(reads) => scope.refused(link.of.first, reads.as_str()),
+        Err(_) => Refusal::OutOfMemory,
+    }
+}
+
+/// The definition of a type, whose Rust name none of those before may have.
+fn resolve<'m>(
+    scope: Scope<'m, '_>,
+    pending: &mut Vec<Pending<'m>>,
+    names: &mut BTreeMap<String, Naming>,
+    rust_name: String,
+    own: (Naming, Link<'m>),
+) -> Result<Definition<'m>, Refusal> {
+    let (naming, link) = own;
+    match names.get(rust_name.as_str()) {
+        Some(other) => {
+            let pair = (naming, *other);
+            return Err(same_name(scope, link, rust_name.as_str(), pair));
+        }
+        None => {}
+    }
+    names.insert(rust_name.clone()?, naming)?;
+    define(scope, pending, rust_name, link)
+}
+
+/// A type that can't be resolved; the refusal itself where memory was refused, or where none is kept.
+fn faulty<'m>(
+    rust_name: String,
+    link: Link<'m>,
+    why: Refusal,
+    parts: Vec<Part<'m>>,
+    keeps_faults: bool,
+) -> Result<Definition<'m>, Refusal> {
+    if !keeps_faults || matches!(why, Refusal::OutOfMemory) {
+        return Err(why);
+    }
+    Ok(Definition {
+        rust_name,
+        link,
+        parts,
+        circle: None,
+        fault: Some(why),
+    })
+}
+
+/// All definitions: first the assignments, then the types inside them. Refused at the first that can't be resolved, or that has another's
+/// Rust name; with `keeps_faults` that one says why.
+pub fn definitions<'m>(
+    scope: Scope<'m, '_>,
+    keeps_faults: bool,
+) -> Result<Vec<Definition<'m>>, Refusal> {
     let mut pending = assignments(scope)?;
-    let mut names = BTreeSet::new(scope.alloc);
+    let mut names = BTreeMap::new(scope.alloc);
     let mut all = Vec::new(scope.alloc);
     for at in 0..MAX_DEFINITIONS {
         let Some(next) = pending.get(at) else {
             break;
         };
         let link = next.link;
+        let naming = Naming {
+            module: link.module,
+            name: next.named,
+        };
         let name = next.rust_name.clone()?;
-        if !names.insert(next.rust_name.clone()?)? {
-            return Err(scope.refused(link.of.first, "a type whose Rust name no other type has"));
+        let kept = next.rust_name.clone()?;
+        let count = pending.len();
+        match resolve(scope, &mut pending, &mut names, name, (naming, link)) {
+            Ok(one) => all.push(one)?,
+            Err(why) => {
+                pending.truncate(count);
+                all.push(faulty(kept, link, why, Vec::new(scope.alloc), keeps_faults)?)?;
+            }
         }
-        all.push(define(scope, &mut pending, name, link)?)?;
     }
     Ok(all)
 }

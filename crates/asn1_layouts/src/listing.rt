@@ -4,10 +4,9 @@ use crate::definitions::{Definition, Part, definitions};
 use crate::layouts::{is_extensible, layout_of, lists_of, octets_text};
 use crate::numbers::enumerated_numbers;
 use crate::order::{boxes, order_of_use};
-use crate::rows::{Position, Row};
+use crate::rows::{Position, Row, tag_text};
 use crate::scope::{Link, Scope, all_tokens};
 use crate::values::default_of;
-use asn1_core::{Class, Tag};
 use asn1_modules::ast::{Body, Need, Numbered, Type};
 use asn1_modules::lexer::Token;
 use asn1_modules::modules::read_tree;
@@ -22,7 +21,7 @@ pub fn list(alloc: Global, texts: &[&str]) -> Result<String, Refusal> {
 
 /// The table of the modules in the files' tokens.
 fn list_tokens(alloc: Global, tokens: &[Token<'_>]) -> Result<String, Refusal> {
-    let tree = read_tree(alloc, tokens)?;
+    let tree = read_tree(alloc, tokens, false)?;
     list_scope(Scope {
         alloc,
         modules: tree.modules(),
@@ -32,7 +31,7 @@ fn list_tokens(alloc: Global, tokens: &[Token<'_>]) -> Result<String, Refusal> {
 
 /// The table of modules.
 fn list_scope(scope: Scope<'_, '_>) -> Result<String, Refusal> {
-    let all = definitions(scope)?;
+    let all = definitions(scope, false)?;
     let order = order_of_use(scope.alloc, all.as_slice())?;
     let boxed = boxes(scope.alloc, all.as_slice())?;
     let mut out = String::new(scope.alloc);
@@ -51,6 +50,17 @@ fn list_scope(scope: Scope<'_, '_>) -> Result<String, Refusal> {
     Ok(out)
 }
 
+/// Refuses a type that the table refuses: for its layout, that of a part, or a default.
+pub fn require_listed<'m>(
+    scope: Scope<'m, '_>,
+    all: &[Definition<'m>],
+    definition: &Definition<'m>,
+) -> Result<(), Refusal> {
+    let mut out = String::new(scope.alloc);
+    push_definition(scope, all, definition, &mut out)?;
+    push_parts(scope, all, &[], (0, definition), &mut out)
+}
+
 /// A definition's own line, and the values of an ENUMERATED.
 fn push_definition<'m>(
     scope: Scope<'m, '_>,
@@ -59,10 +69,7 @@ fn push_definition<'m>(
     out: &mut String,
 ) -> Result<(), Refusal> {
     let name = definition.rust_name.as_str();
-    let module = match scope.modules.get(definition.link.module) {
-        Some(module) => scope.text(module.name),
-        None => "",
-    };
+    let module = scope.module_name(definition.link.module);
     let mut what = String::new(scope.alloc);
     match definition.parts.first() {
         Some(part) if part.row.is_none() => push_type(
@@ -196,21 +203,6 @@ fn push_need<'m>(scope: Scope<'m, '_>, row: Row<'m>, out: &mut String) -> Result
         }
     }
     Ok(())
-}
-
-/// A tag as ASN.1 writes it.
-fn tag_text(alloc: Global, tag: Option<Tag>) -> Result<String, AllocError> {
-    let Some(tag) = tag else {
-        return String::from_str(alloc, "no tag");
-    };
-    let class = match tag.class {
-        Class::Universal => "UNIVERSAL ",
-        Class::Application => "APPLICATION ",
-        Class::Context => "",
-        Class::Private => "PRIVATE ",
-    };
-    let number = tag.value;
-    format!(in alloc; "[{class}{number}]")
 }
 
 /// Whether a component is an addition.

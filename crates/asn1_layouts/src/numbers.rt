@@ -1,13 +1,16 @@
 //! The values that names and literals stand for.
 
 use crate::scope::{Link, Scope};
-use asn1_modules::ast::{Body, Numbered, Value};
+use asn1_modules::ast::{Body, Numbered, Reference, Value};
 use asn1_modules::lexer::{Kind, TokenId};
 use asn1_modules::refusal::Refusal;
-use std::collections::BTreeSet;
+use std::collections::BTreeMap;
 
 /// How many names may stand for one another in a row.
 const MAX_CHAIN: usize = 64;
+
+/// What can be read where names lead back to themselves.
+const NAMED: &str = "a value that isn't a name of itself, or behind 64 names";
 
 /// The names that a type gives to numbers, and its module.
 #[derive(Clone, Copy)]
@@ -64,16 +67,72 @@ fn next_spot<'m>(scope: Scope<'m, '_>, spot: Spot<'m>) -> Result<Option<Spot<'m>
             names: None,
         }));
     }
-    let (module, assigned) = scope.find_value(spot.module, *reference)?;
+    Ok(Some(assigned_spot(scope, spot.module, *reference)?))
+}
+
+/// The enumerated value that a value is, by the name that its type gives it; nothing where it is none of that type, whose names are
+/// those of `start`.
+pub fn enumerated_of<'m>(
+    scope: Scope<'m, '_>,
+    start: Spot<'m>,
+) -> Result<Option<TokenId>, Refusal> {
+    let mut spot = start;
+    for _ in 0..MAX_CHAIN {
+        let Value::Reference(reference) = spot.value else {
+            return Ok(None);
+        };
+        if let Some(name) = name_among(scope, spot.names, reference.name) {
+            return Ok(if are_same(spot.names, start.names) {
+                Some(name)
+            } else {
+                None
+            });
+        }
+        spot = assigned_spot(scope, spot.module, *reference)?;
+    }
+    Err(scope.refused(first_of(start.value), NAMED))
+}
+
+/// The name among those of a type that has the text of another.
+fn name_among(scope: Scope<'_, '_>, names: Option<Names<'_>>, name: TokenId) -> Option<TokenId> {
+    let text = scope.text(name);
+    for item in names?.items.iter() {
+        if scope.text(item.name) == text {
+            return Some(item.name);
+        }
+    }
+    None
+}
+
+/// Where the names of a type begin.
+fn first_name(names: Option<Names<'_>>) -> Option<usize> {
+    match names?.items.first() {
+        Some(first) => Some(first.name.index),
+        None => None,
+    }
+}
+
+/// Whether names are those of one type.
+fn are_same(names: Option<Names<'_>>, others: Option<Names<'_>>) -> bool {
+    first_name(names) == first_name(others)
+}
+
+/// The value that is assigned to a name, with the names of its type.
+fn assigned_spot<'m>(
+    scope: Scope<'m, '_>,
+    at: usize,
+    reference: Reference,
+) -> Result<Spot<'m>, Refusal> {
+    let (module, assigned) = scope.find_value(at, reference)?;
     let base = scope.base_of(Link {
         module,
         of: &assigned.of,
     })?;
-    Ok(Some(Spot {
+    Ok(Spot {
         module,
         value: &assigned.value,
         names: names_of(base),
-    }))
+    })
 }
 
 /// The value that is no name, at the end of the names.
@@ -85,10 +144,7 @@ pub fn settled<'m>(scope: Scope<'m, '_>, start: Spot<'m>) -> Result<Spot<'m>, Re
             None => return Ok(spot),
         }
     }
-    Err(scope.refused(
-        first_of(start.value),
-        "a value that isn't a name of itself, or behind 64 names",
-    ))
+    Err(scope.refused(first_of(start.value), NAMED))
 }
 
 /// The first token of a value; of names between braces the first of them.
@@ -159,7 +215,7 @@ pub fn enumerated_numbers<'m>(
 ) -> Result<Vec<(TokenId, i128)>, Refusal> {
     let front = items.get(..root).unwrap_or(items);
     let taken = taken_numbers(scope, module, front)?;
-    let mut seen = BTreeSet::new(scope.alloc);
+    let mut seen: BTreeMap<i128, TokenId> = BTreeMap::new(scope.alloc);
     let mut numbers = Vec::new(scope.alloc);
     let mut next = 0i128;
     for (at, item) in items.iter().enumerate() {
@@ -168,12 +224,26 @@ pub fn enumerated_numbers<'m>(
         if written.is_none() || at >= root {
             next = number.saturating_add(1);
         }
-        if !seen.insert(number)? {
-            return Err(scope.refused(item.name, "a name whose number no other name has"));
+        if let Some(other) = seen.get(&number) {
+            return Err(same_number(scope, item.name, *other, number));
         }
+        seen.insert(number, item.name)?;
         numbers.push((item.name, number))?;
     }
     Ok(numbers)
+}
+
+/// The refusal of a name of an ENUMERATED that has another's number.
+fn same_number(scope: Scope<'_, '_>, own: TokenId, other: TokenId, number: i128) -> Refusal {
+    match format!(in scope.alloc; "{number}") {
+        Ok(number) => scope.refused_beside(
+            own,
+            "a name whose number no other name has",
+            (scope.text(own), scope.text(other)),
+            number.as_str(),
+        ),
+        Err(_) => Refusal::OutOfMemory,
+    }
 }
 
 /// The number that is written behind a name of an ENUMERATED.

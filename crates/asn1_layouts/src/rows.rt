@@ -6,6 +6,7 @@ use asn1_core::{Class, Tag};
 use asn1_modules::ast::{Body, Member, Need, Simple, Tagging, Type, WrittenTag};
 use asn1_modules::lexer::TokenId;
 use asn1_modules::refusal::Refusal;
+use std::alloc::{AllocError, Global};
 
 /// How deep COMPONENTS OF may lead.
 const MAX_NESTING: u32 = 64;
@@ -286,27 +287,70 @@ fn tagged_rows<'m>(scope: Scope<'m, '_>, rows: &[Row<'m>]) -> Result<Vec<Row<'m>
     Ok(all)
 }
 
+/// The row that has a tag.
+fn same_tag<'m>(rows: &[Row<'m>], tag: Option<Tag>) -> Option<Row<'m>> {
+    for row in rows.iter() {
+        if row.tag == tag {
+            return Some(*row);
+        }
+    }
+    None
+}
+
+/// The refusal of a component that has another's tag.
+fn same_tag_refused(
+    scope: Scope<'_, '_>,
+    own: TokenId,
+    other: TokenId,
+    tag: Option<Tag>,
+) -> Refusal {
+    match tag_text(scope.alloc, tag) {
+        Ok(tag) => scope.refused_beside(
+            own,
+            "a component with a tag of its own",
+            (scope.text(own), scope.text(other)),
+            tag.as_str(),
+        ),
+        Err(_) => Refusal::OutOfMemory,
+    }
+}
+
+/// A tag as ASN.1 writes it.
+pub fn tag_text(alloc: Global, tag: Option<Tag>) -> Result<String, AllocError> {
+    let Some(tag) = tag else {
+        return String::from_str(alloc, "no tag");
+    };
+    let class = match tag.class {
+        Class::Universal => "UNIVERSAL ",
+        Class::Application => "APPLICATION ",
+        Class::Context => "",
+        Class::Private => "PRIVATE ",
+    };
+    let number = tag.value;
+    format!(in alloc; "[{class}{number}]")
+}
+
 /// Refuses tags that stand twice, or that lack, where octets depend on them: in a CHOICE, and among the root components of a SET.
 fn require_tags<'m>(
     scope: Scope<'m, '_>,
     rows: &[Row<'m>],
     is_choice: bool,
 ) -> Result<(), Refusal> {
-    let mut seen = Vec::new(scope.alloc);
+    let mut seen: Vec<Row<'m>> = Vec::new(scope.alloc);
     for row in rows.iter() {
         if !is_choice && row.position != Position::Root {
             continue;
         }
-        let Some(tag) = row.tag else {
+        if row.tag.is_none() {
             return Err(scope.refused(
                 row.name,
                 "a component with a tag: an untagged choice or open type isn't read here",
             ));
-        };
-        if seen.contains(&tag) {
-            return Err(scope.refused(row.name, "a component with a tag of its own"));
         }
-        seen.push(tag)?;
+        if let Some(other) = same_tag(seen.as_slice(), row.tag) {
+            return Err(same_tag_refused(scope, row.name, other.name, row.tag));
+        }
+        seen.push(*row)?;
     }
     Ok(())
 }

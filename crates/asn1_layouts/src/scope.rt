@@ -74,6 +74,29 @@ impl<'m, 'a> Scope<'m, 'a> {
         Refusal::of(self.alloc, self.token(id), reads)
     }
 
+    /// The refusal of a token for what another has too: both names, and what they share.
+    pub fn refused_beside(
+        &self,
+        id: TokenId,
+        reads: &str,
+        names: (&str, &str),
+        shared: &str,
+    ) -> Refusal {
+        let (own, other) = names;
+        match format!(in self.alloc; "{reads}: '{own}' and '{other}' are both {shared}") {
+            Ok(reads) => self.refused(id, reads.as_str()),
+            Err(_) => Refusal::OutOfMemory,
+        }
+    }
+
+    /// The name of the module at a place.
+    pub fn module_name(&self, module: usize) -> &'a str {
+        match self.modules.get(module) {
+            Some(module) => self.text(module.name),
+            None => "",
+        }
+    }
+
     /// Whether a name stands among others.
     fn has(&self, names: &[TokenId], name: &str) -> bool {
         names.iter().any(|id| self.text(*id) == name)

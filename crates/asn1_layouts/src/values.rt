@@ -1,6 +1,6 @@
 //! The values of defaults.
 
-use crate::numbers::{Names, Spot, first_of, names_of, number_of, settled};
+use crate::numbers::{Names, Spot, enumerated_of, first_of, names_of, number_of, settled};
 use crate::rows::Row;
 use crate::scope::{Link, Scope};
 use asn1_modules::ast::{Body, Simple, Value};
@@ -37,11 +37,19 @@ pub fn default_of<'m>(
             let number = number_of(scope, spot)?;
             Ok(format!(in scope.alloc; "{number}")?)
         }
-        (Body::Enumerated(_, _), Value::Reference(reference))
-            if has_name(scope, names, reference.name) => {
-            Ok(String::from_str(scope.alloc, scope.text(reference.name))?)
+        (Body::Enumerated(_, _), _) => {
+            let name = enumerated_default(scope, spot)?;
+            Ok(String::from_str(scope.alloc, scope.text(name))?)
         }
         _ => literal_of(scope, base, names, settled(scope, spot)?.value),
+    }
+}
+
+/// The name of the enumerated value that a default is. Refused where it is none of the type.
+pub fn enumerated_default<'m>(scope: Scope<'m, '_>, spot: Spot<'m>) -> Result<TokenId, Refusal> {
+    match enumerated_of(scope, spot)? {
+        Some(name) => Ok(name),
+        None => Err(scope.refused(first_of(spot.value), DEFAULT)),
     }
 }
 

@@ -2,6 +2,7 @@
 //! reference to it stays short, however large the tree's types are.
 
 use crate::lexer::TokenId;
+use crate::refusal::Refusal;
 use asn1_core::Class;
 
 /// How a module's types are tagged where they say nothing (X.680, 13.2).
@@ -22,6 +23,15 @@ pub struct Module {
     pub imports: Vec<Import>,
     pub types: Vec<TypeAssignment>,
     pub values: Vec<ValueAssignment>,
+    /// The assignments that can't be read and were left out; none unless that was asked for.
+    pub unread: Vec<Unread>,
+}
+
+/// An assignment that was left out: the name that it begins with, and why it isn't read.
+#[derive(Drop)]
+pub struct Unread {
+    pub name: TokenId,
+    pub why: Refusal,
 }
 
 /// The names that are imported from one module.

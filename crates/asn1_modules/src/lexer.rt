@@ -45,6 +45,12 @@ struct Cursor<'a> {
     place: Place,
 }
 
+/// What stands for octets that aren't UTF-8.
+const NO_CHARACTER: char = '\u{FFFD}';
+
+/// What may stand in front of a text, to say that it is UTF-8: the byte order mark.
+const MARK: char = '\u{FEFF}';
+
 /// Signs of more than one character; the longest first.
 static LONG_SIGNS: [&str; 5] = ["::=", "...", "..", "[[", "]]"];
 
@@ -222,26 +228,32 @@ impl<'a> Cursor<'a> {
     /// The token at the front.
     fn token(&mut self, alloc: Global) -> Result<Token<'a>, Refusal> {
         let place = self.place;
-        match token_length(self.rest) {
-            Some((kind, length)) => Ok(Token {
-                kind,
-                text: self.take(length),
-                place,
-            }),
-            None => Err(Refusal::new(
+        let Some((kind, length)) = token_length(self.rest) else {
+            return Err(Refusal::new(
                 alloc,
                 place,
                 "a character that begins no token",
                 "names, numbers, signs, and strings that end",
-            )),
+            ));
+        };
+        let text = self.take(length);
+        if text.contains(NO_CHARACTER) {
+            return Err(Refusal::new(
+                alloc,
+                place,
+                "a string with octets that aren't UTF-8",
+                "UTF-8: other octets only in comments",
+            ));
         }
+        Ok(Token { kind, text, place })
     }
 }
 
-/// The tokens of a file's text, and `End` behind them. Refused where a comment or a string doesn't end, or a character begins no token.
+/// The tokens of a file's text, past a byte order mark, and `End` behind them. In the text U+FFFD stands for octets that aren't UTF-8.
+/// Refused where a comment or a string doesn't end, where a string has such octets, or a character begins no token.
 pub fn tokens(alloc: Global, file: usize, text: &str) -> Result<Vec<Token<'_>>, Refusal> {
     let mut cursor = Cursor {
-        rest: text,
+        rest: text.strip_prefix(MARK).unwrap_or(text),
         place: Place {
             file,
             line: 1,

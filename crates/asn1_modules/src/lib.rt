@@ -7,5 +7,6 @@ pub mod lexer;
 pub mod modules;
 pub mod reader;
 pub mod refusal;
+pub mod skips;
 pub mod types;
 pub mod values;

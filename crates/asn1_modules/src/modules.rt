@@ -1,12 +1,16 @@
 //! Reads modules (X.680, clauses 13 and 16).
 
-use crate::ast::{Import, Module, Tagging, TypeAssignment, ValueAssignment};
+use crate::ast::{Import, Module, Tagging, TypeAssignment, Unread, ValueAssignment};
 use crate::lexer::{Kind, Token, TokenId};
 use crate::reader::Reader;
 use crate::refusal::Refusal;
+use crate::skips::skip_assignment;
 use crate::types::read_whole_type;
 use crate::values::read_value;
 use std::alloc::Global;
+
+/// What stands where an assignment begins.
+const NAME: &str = "a type's or a value's name, or END";
 
 /// Modules that were read. It is let go by a function of its own: else each crate that holds one proves anew how all types of the
 /// tree are let go.
@@ -28,14 +32,19 @@ impl Drop for Tree {
     }
 }
 
-/// The modules in the tokens of files, one file behind another, each with its end. Refused at the first token that can't be read.
-pub fn read_tree(alloc: Global, tokens: &[Token<'_>]) -> Result<Tree, Refusal> {
-    let modules = read_modules(alloc, tokens)?;
+/// The modules in the tokens of files, one file behind another, each with its end. Refused at the first token that can't be read; with
+/// `leaves_out` an assignment that has such a token is left out, and its module says why.
+pub fn read_tree(alloc: Global, tokens: &[Token<'_>], leaves_out: bool) -> Result<Tree, Refusal> {
+    let modules = read_modules(alloc, tokens, leaves_out)?;
     Ok(Tree { modules })
 }
 
 /// The modules in the tokens of files.
-fn read_modules(alloc: Global, tokens: &[Token<'_>]) -> Result<Vec<Module>, Refusal> {
+fn read_modules(
+    alloc: Global,
+    tokens: &[Token<'_>],
+    leaves_out: bool,
+) -> Result<Vec<Module>, Refusal> {
     let mut all = Vec::new(alloc);
     let Some(end) = tokens.last() else {
         return Ok(all);
@@ -45,18 +54,30 @@ fn read_modules(alloc: Global, tokens: &[Token<'_>]) -> Result<Vec<Module>, Refu
         if reader.peek().kind == Kind::End {
             let _ = reader.next();
         } else if reader.left() != 0 {
-            all.push(read_module(&mut reader)?)?;
+            all.push(read_module(&mut reader, leaves_out)?)?;
         }
     }
     Ok(all)
 }
 
+/// What stands between the imports of a module and its end.
+#[derive(Drop)]
+struct Assignments {
+    types: Vec<TypeAssignment>,
+    values: Vec<ValueAssignment>,
+    unread: Vec<Unread>,
+}
+
 /// A module.
-fn read_module(reader: &mut Reader<'_>) -> Result<Module, Refusal> {
+fn read_module(reader: &mut Reader<'_>, leaves_out: bool) -> Result<Module, Refusal> {
     let (name, tagging) = read_header(reader)?;
     let exports = read_exports(reader)?;
     let imports = read_imports(reader)?;
-    let (types, values) = read_assignments(reader)?;
+    let Assignments {
+        types,
+        values,
+        unread,
+    } = read_assignments(reader, leaves_out)?;
     Ok(Module {
         name,
         tagging,
@@ -64,6 +85,7 @@ fn read_module(reader: &mut Reader<'_>) -> Result<Module, Refusal> {
         imports,
         types,
         values,
+        unread,
     })
 }
 
@@ -166,27 +188,64 @@ fn read_import(reader: &mut Reader<'_>) -> Result<Import, Refusal> {
 }
 
 /// Types and values, up to `END`.
-fn read_assignments(
-    reader: &mut Reader<'_>,
-) -> Result<(Vec<TypeAssignment>, Vec<ValueAssignment>), Refusal> {
-    let mut types = Vec::new(reader.alloc);
-    let mut values = Vec::new(reader.alloc);
+fn read_assignments(reader: &mut Reader<'_>, leaves_out: bool) -> Result<Assignments, Refusal> {
+    let mut all = Assignments {
+        types: Vec::new(reader.alloc),
+        values: Vec::new(reader.alloc),
+        unread: Vec::new(reader.alloc),
+    };
     for _ in 0..reader.left() {
         if reader.eats("END") {
-            return Ok((types, values));
+            return Ok(all);
         }
-        if reader.peek().kind == Kind::Word {
-            values.push(read_value_assignment(reader)?)?;
-        } else {
-            types.push(read_type_assignment(reader)?)?;
+        let start = *reader;
+        match push_assignment(reader, &mut all) {
+            Ok(()) => {}
+            Err(why) if leaves_out && start.peek().kind != Kind::End => {
+                *reader = start;
+                all.unread.push(unread(reader, why)?)?;
+            }
+            Err(why) => return Err(why),
         }
     }
     Err(reader.refused("END"))
 }
 
+/// Passes over an assignment that isn't read, and answers its name and why that is so; not where memory was refused.
+fn unread(reader: &mut Reader<'_>, why: Refusal) -> Result<Unread, Refusal> {
+    if matches!(why, Refusal::OutOfMemory) {
+        return Err(why);
+    }
+    let name = reader.id();
+    skip_assignment(reader);
+    Ok(Unread { name, why })
+}
+
+/// Reads a type or a value, and puts it to the others.
+fn push_assignment(reader: &mut Reader<'_>, all: &mut Assignments) -> Result<(), Refusal> {
+    if reader.peek().kind == Kind::Word {
+        let value = read_value_assignment(reader)?;
+        require_next(reader)?;
+        all.values.push(value)?;
+    } else {
+        let of = read_type_assignment(reader)?;
+        require_next(reader)?;
+        all.types.push(of)?;
+    }
+    Ok(())
+}
+
+/// Refuses what can't stand behind an assignment.
+fn require_next(reader: &Reader<'_>) -> Result<(), Refusal> {
+    match reader.peek().kind {
+        Kind::Name | Kind::Word | Kind::End => Ok(()),
+        _ => Err(reader.refused(NAME)),
+    }
+}
+
 /// `Name ::= Type`
 fn read_type_assignment(reader: &mut Reader<'_>) -> Result<TypeAssignment, Refusal> {
-    let name = reader.takes(Kind::Name, "a type's or a value's name, or END")?;
+    let name = reader.takes(Kind::Name, NAME)?;
     if !reader.eats("::=") {
         return Err(reader.refused("'::=', since parameters and value sets aren't read"));
     }

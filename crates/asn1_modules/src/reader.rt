@@ -29,6 +29,16 @@ impl<'a> Reader<'a> {
         self.tokens.len().saturating_sub(self.taken)
     }
 
+    /// The tokens that are left.
+    pub fn rest(&self) -> &'a [Token<'a>] {
+        self.tokens.get(self.taken..).unwrap_or(&[])
+    }
+
+    /// Takes so many tokens, as far as they are left.
+    pub fn skip(&mut self, count: usize) {
+        self.taken = self.taken.saturating_add(count).min(self.tokens.len());
+    }
+
     /// The number of the next token.
     pub fn id(&self) -> TokenId {
         TokenId { index: self.taken }

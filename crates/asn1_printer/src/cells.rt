@@ -85,13 +85,13 @@ fn class_of(tag: Tag) -> &'static str {
     }
 }
 
-/// The cell's name, the word of its table, and whether the field's type is an Option.
+/// The cell's name, the word of its table, and whether the field's type is an Option: as of an addition that may be left out, since
+/// an older sender leaves it out whatever its need is.
 fn need_of(need: &Need, is_addition: bool) -> (&'static str, &'static str, bool) {
     match (need, is_addition) {
         (Need::Required, false) => ("Needs", "Required", false),
-        (Need::Required, true) => ("Adds", "Required", false),
         (Need::Optional, false) => ("MayHave", "Optional", true),
-        (Need::Optional, true) => ("MayAdd", "Optional", true),
+        (Need::Required | Need::Optional, true) => ("MayAdd", "Optional", true),
         (Need::Default(_), false) => ("Defaults", "Default", false),
         (Need::Default(_), true) => ("AddDefaults", "Default", false),
     }
@@ -229,13 +229,18 @@ pub fn group_cell(
     cell.end()
 }
 
+/// The name of an alternative's variant.
+pub fn alternative_name(alloc: Global, name: &str) -> Text {
+    variant_name(alloc, name, "Self First Rest")
+}
+
 /// An alternative's cell, by its names and its Rust type.
 fn alternative_cell(alloc: Global, names: (&str, &str), tag: Tag, rust: &str) -> Cell {
     let (name, field) = names;
     let mut cell = Cell::new(alloc, "Offers");
     cell.field.push(field);
     cell.field_type.push(rust);
-    cell.camel = variant_name(alloc, name, "Self First Rest");
+    cell.camel = alternative_name(alloc, name);
     push_tag(&mut cell.arguments, tag, "<", ">\n");
     cell.arguments.push(rust);
     push_tag(&mut cell.entry, tag, " ", "");

@@ -1,6 +1,6 @@
 //! A CHOICE: its enum, its row, its tags and its conversions.
 
-use crate::cells::{Cell, alternative_of};
+use crate::cells::{Cell, alternative_name, alternative_of};
 use crate::chains::{Chain, push_row};
 use crate::knot_rows::{push_knot_alternating, push_knot_enum, put_tag_names};
 use crate::knots::{knot_name, put_parameter};
@@ -10,9 +10,10 @@ use asn1_layouts::definitions::Definition;
 use asn1_layouts::layouts::is_extensible;
 use asn1_layouts::rows::Position;
 use asn1_layouts::scope::Scope;
+use asn1_modules::lexer::TokenId;
 use asn1_modules::refusal::Refusal;
 use std::alloc::{AllocError, Global};
-use std::collections::BTreeSet;
+use std::collections::BTreeMap;
 
 /// How many alternatives a printed CHOICE has at most.
 const MAX_ALTERNATIVES: usize = 16;
@@ -165,20 +166,23 @@ fn push_cells<'m>(
 }
 
 /// Refuses two alternatives whose variants have one name.
-fn require_names<'m>(
-    scope: Scope<'m, '_>,
-    definition: &Definition<'m>,
-    cells: &[Cell],
-) -> Result<(), Refusal> {
-    let mut seen = BTreeSet::new(scope.alloc);
-    for cell in cells.iter() {
-        let name = String::from_str(scope.alloc, cell.camel.as_str())?;
-        if !seen.insert(name)? {
-            return Err(scope.refused(
+fn require_names<'m>(scope: Scope<'m, '_>, definition: &Definition<'m>) -> Result<(), Refusal> {
+    let mut seen: BTreeMap<String, TokenId> = BTreeMap::new(scope.alloc);
+    for part in definition.parts.iter() {
+        let Some(row) = part.row else {
+            continue;
+        };
+        let text = scope.text(row.name);
+        let name = alternative_name(scope.alloc, text).end()?;
+        if let Some(other) = seen.get(name.as_str()) {
+            return Err(scope.refused_beside(
                 definition.link.of.first,
                 "alternatives whose Rust names differ",
+                (text, scope.text(*other)),
+                name.as_str(),
             ));
         }
+        seen.insert(name, row.name)?;
     }
     Ok(())
 }
@@ -202,7 +206,7 @@ pub fn push_choice<'m>(
     push_cells(scope, all, out, definition, true, &mut cells)?;
     let root_count = cells.len();
     push_cells(scope, all, out, definition, false, &mut cells)?;
-    require_names(scope, definition, cells.as_slice())?;
+    require_names(scope, definition)?;
     let of = Chain {
         owner: definition.rust_name.as_str(),
         cells: cells.as_slice(),

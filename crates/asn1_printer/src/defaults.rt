@@ -14,6 +14,7 @@ use asn1_layouts::definitions::Definition;
 use asn1_layouts::numbers::{Spot, names_of, number_of, settled};
 use asn1_layouts::rows::Row;
 use asn1_layouts::scope::{Link, Scope};
+use asn1_layouts::values::enumerated_default;
 use asn1_layouts::visible::Limits;
 use asn1_modules::ast::{Body, Simple, Value};
 use asn1_modules::lexer::TokenId;
@@ -450,14 +451,10 @@ fn push_enumerated<'m>(
     all: &[Definition<'m>],
     out: &mut Text,
     base: Link<'m>,
-    value: (TokenId, &Value),
+    spot: Spot<'m>,
     named: (&str, &str),
 ) -> Result<Text, Refusal> {
-    let (first, value) = value;
-    let Value::Reference(reference) = value else {
-        return Err(scope.refused(first, PRINTED));
-    };
-    let text = scope.text(reference.name);
+    let text = scope.text(enumerated_default(scope, spot)?);
     let variant = variant_name(scope.alloc, text, "Self").end()?;
     let owner = definition_of(all, base);
     let words = enumerated_words(scope.alloc, named, text, owner, variant.as_str());
@@ -541,7 +538,7 @@ pub fn push_default<'m>(
     let (name, _) = named;
     match &base.of.body {
         Body::Integer(_) => push_number(scope, out, row, spot, name),
-        Body::Enumerated(_, _) => push_enumerated(scope, all, out, base, (row.name, value), named),
+        Body::Enumerated(_, _) => push_enumerated(scope, all, out, base, spot, named),
         Body::BitString(_) => push_bits(scope, out, row, settled(scope, spot)?, name),
         Body::Simple(simple) => push_simple(scope, out, row, spot, *simple, name),
         Body::SequenceOf(_) | Body::SetOf(_) => list_default(

@@ -205,6 +205,19 @@ fn with_group<'m>(
     })
 }
 
+/// The depth of an addition's field: an Option, but for one with a default.
+fn addition_depth<'m>(
+    scope: Scope<'m, '_>,
+    depths: &[Depth],
+    part: &Part<'m>,
+) -> Result<usize, Refusal> {
+    let own = field_depth(scope, depths, part)?;
+    match part.row {
+        Some(row) if matches!(row.need, Need::Required) => Ok(own.saturating_add(1)),
+        _ => Ok(own),
+    }
+}
+
 /// A row with the cells of the additions behind its own.
 fn with_additions<'m>(
     scope: Scope<'m, '_>,
@@ -216,7 +229,7 @@ fn with_additions<'m>(
     let mut counted = 0usize;
     for part in parts.iter() {
         match part.row.map(|one| one.position) {
-            Some(Position::Addition) => row = row.with(field_depth(scope, depths, part)?),
+            Some(Position::Addition) => row = row.with(addition_depth(scope, depths, part)?),
             Some(Position::Group(number)) if number != counted => {
                 counted = number;
                 row = with_group(scope, depths, parts, number, row)?;

@@ -11,7 +11,7 @@ use asn1_modules::ast::Numbered;
 use asn1_modules::lexer::TokenId;
 use asn1_modules::refusal::Refusal;
 use std::alloc::Global;
-use std::collections::BTreeSet;
+use std::collections::BTreeMap;
 
 /// A value: the name of its variant, and its number.
 #[derive(Drop)]
@@ -20,19 +20,23 @@ struct Variant {
     number: i128,
 }
 
+/// What can be read where a value isn't printed.
+const READS: &str = "a value whose Rust name no other has, and a number of 64 bits";
+
 /// The values. Refused where two have one Rust name, or a number is past 64 bits.
 fn variants_of(scope: Scope<'_, '_>, numbers: &[(TokenId, i128)]) -> Result<Vec<Variant>, Refusal> {
-    let mut seen = BTreeSet::new(scope.alloc);
+    let mut seen: BTreeMap<String, TokenId> = BTreeMap::new(scope.alloc);
     let mut variants = Vec::new(scope.alloc);
     for (id, number) in numbers.iter() {
         let name = variant_name(scope.alloc, scope.text(*id), "Self").end()?;
-        let is_long = i64::try_from(*number).is_err();
-        if is_long || !seen.insert(name.clone()?)? {
-            return Err(scope.refused(
-                *id,
-                "a value whose Rust name no other has, and a number of 64 bits",
-            ));
+        if i64::try_from(*number).is_err() {
+            return Err(scope.refused(*id, READS));
         }
+        if let Some(other) = seen.get(name.as_str()) {
+            let names = (scope.text(*id), scope.text(*other));
+            return Err(scope.refused_beside(*id, READS, names, name.as_str()));
+        }
+        seen.insert(name.clone()?, *id)?;
         variants.push(Variant {
             name,
             number: *number,

@@ -3,12 +3,13 @@
 use crate::knot_files::{has_knots, push_circle_files, push_definition_names};
 use crate::knot_templates::KNOT_USES;
 use crate::outputs::{File, push_placed};
-use crate::printer::{LeftOut, Outcome, Printed, print_types};
+use crate::printer::{LeftOut, Outcome, Printed, free_names, print_types};
 use crate::text::Text;
 use crate::uses::{Homes, Paths, path_lines, push_path, use_lines};
 use asn1_layouts::circles::find_circles;
 use asn1_layouts::definitions::definitions;
 use asn1_layouts::scope::{Scope, all_tokens};
+use asn1_modules::ast::Module;
 use asn1_modules::lexer::Token;
 use asn1_modules::modules::read_tree;
 use asn1_modules::refusal::Refusal;
@@ -33,8 +34,8 @@ const KNOT_LIBRARIES: &str = "rasn_oer oer_write asn1_core";
 /// The module of a crate's first file.
 const FIRST_MODULE: &str = "types_01";
 
-/// The first line of each file.
-const HEAD: &str = "//! Types of ASN.1 modules, as oergen printed them.\n";
+/// The first line of each file: by it a later print knows an earlier one.
+pub const HEAD: &str = "//! Types of ASN.1 modules, as oergen printed them.\n";
 
 /// What is written: files, lines of `crates.txt`, and a line for each type that was left out.
 #[derive(Drop)]
@@ -410,8 +411,8 @@ fn push_crates(alloc: Global, out: &mut Text, types: &[Printed], all: &[Section]
     out.heed(&lower);
 }
 
-/// What is asked for: the name of the crate, the names of the files that were handed in, and whether types that can't be printed
-/// are left out.
+/// What is asked for: the name of the crate, the names of the files that were handed in, and whether what can't be read or printed is
+/// left out.
 #[derive(Clone, Copy)]
 pub struct Wish<'w> {
     pub name: &'w str,
@@ -427,6 +428,20 @@ fn file_of<'w>(why: &Refusal, files: &[&'w str]) -> &'w str {
     }
 }
 
+/// Appends a line that says why a name was left out.
+fn push_why(
+    alloc: Global,
+    out: &mut Text,
+    name: &str,
+    why: &Refusal,
+    files: &[&str],
+) -> Result<(), AllocError> {
+    let file = file_of(why, files);
+    let why = format!(in alloc; "{why}")?;
+    out.push_all(&["# left out: ", name, ", ", file, ":", why.as_str(), "\n"]);
+    Ok(())
+}
+
 /// Appends a line for each type that was left out.
 fn push_left_out(
     alloc: Global,
@@ -435,20 +450,44 @@ fn push_left_out(
     files: &[&str],
 ) -> Result<(), AllocError> {
     for one in left_out.iter() {
-        let why = &one.why;
-        let why = format!(in alloc; "{why}")?;
-        out.push_all(&["# left out: ", one.name.as_str(), ", "]);
-        out.push_all(&[file_of(&one.why, files), ":", why.as_str(), "\n"]);
+        push_why(alloc, out, one.name.as_str(), &one.why, files)?;
+    }
+    Ok(())
+}
+
+/// Appends a line for each assignment that a module has and that isn't read.
+fn push_unread(
+    scope: Scope<'_, '_>,
+    out: &mut Text,
+    module: &Module,
+    files: &[&str],
+) -> Result<(), AllocError> {
+    for one in module.unread.iter() {
+        push_why(scope.alloc, out, scope.text(one.name), &one.why, files)?;
+    }
+    Ok(())
+}
+
+/// Appends a line for each assignment that isn't read.
+fn push_all_unread(scope: Scope<'_, '_>, out: &mut Text, files: &[&str]) -> Result<(), AllocError> {
+    for module in scope.modules.iter() {
+        push_unread(scope, out, module, files)?;
     }
     Ok(())
 }
 
 /// What is written of types that are printed or left out.
-fn output_of(alloc: Global, outcome: &Outcome, wish: Wish<'_>) -> Result<Output, AllocError> {
+fn output_of(
+    scope: Scope<'_, '_>,
+    outcome: &Outcome,
+    wish: Wish<'_>,
+) -> Result<Output, AllocError> {
+    let alloc = scope.alloc;
     let types = outcome.printed.as_slice();
     let all = sections(alloc, wish.name, types)?;
     let mut lines = Text::new(alloc);
     push_crates(alloc, &mut lines, types, all.as_slice());
+    push_all_unread(scope, &mut lines, wish.files)?;
     push_left_out(alloc, &mut lines, outcome.left_out.as_slice(), wish.files)?;
     Ok(Output {
         files: crate_files(alloc, types, all.as_slice())?,
@@ -458,10 +497,11 @@ fn output_of(alloc: Global, outcome: &Outcome, wish: Wish<'_>) -> Result<Output,
 
 /// The crates of modules that were resolved.
 fn crates_of_scope(scope: Scope<'_, '_>, wish: Wish<'_>) -> Result<Output, Refusal> {
-    let mut all = definitions(scope)?;
+    let mut all = definitions(scope, wish.leaves_out)?;
+    free_names(scope.alloc, &mut all)?;
     let order = find_circles(scope.alloc, &mut all)?;
     let outcome = print_types(scope, all.as_slice(), order.as_slice(), wish.leaves_out)?;
-    Ok(output_of(scope.alloc, &outcome, wish)?)
+    Ok(output_of(scope, &outcome, wish)?)
 }
 
 /// The crates of the modules in tokens.
@@ -470,7 +510,7 @@ fn crates_of_tokens(
     tokens: &[Token<'_>],
     wish: Wish<'_>,
 ) -> Result<Output, Refusal> {
-    let tree = read_tree(alloc, tokens)?;
+    let tree = read_tree(alloc, tokens, wish.leaves_out)?;
     let scope = Scope {
         alloc,
         modules: tree.modules(),
@@ -479,8 +519,8 @@ fn crates_of_tokens(
     crates_of_scope(scope, wish)
 }
 
-/// The crates of the modules in the files' texts. Refused at the first place that can't be read, resolved or printed; types that
-/// can't be printed are left out where that is wished, and each has a line that says why.
+/// The crates of the modules in the files' texts. Refused at the first place that can't be read, resolved or printed; where that is
+/// wished, assignments that can't be read, and types that can't be resolved or printed, are left out, and each has a line that says why.
 pub fn crates_of(alloc: Global, texts: &[&str], wish: Wish<'_>) -> Result<Output, Refusal> {
     let tokens = all_tokens(alloc, texts)?;
     crates_of_tokens(alloc, tokens.as_slice(), wish)

@@ -14,6 +14,7 @@ pub mod knot_files;
 pub mod knot_rows;
 pub mod knot_templates;
 pub mod knots;
+pub mod lines;
 pub mod literals;
 pub mod notation;
 pub mod outputs;

@@ -7,6 +7,7 @@ use crate::depths::{Depth, depths_of, require_depth};
 use crate::enumerations::push_enumerated;
 use crate::items::push_limits;
 use crate::knots::{knot_name, push_knot, push_list};
+use crate::lines::laid_out;
 use crate::notation::push_notation;
 use crate::sequences::push_sequence;
 use crate::shapes::shape_of;
@@ -15,12 +16,13 @@ use crate::text::{Text, Words};
 use crate::uses::{KNOWN, declared_names};
 use crate::weights::{Knot, Weights, knot_of, weights_of};
 use asn1_layouts::definitions::{Circle, Definition, Tie};
+use asn1_layouts::listing::require_listed;
 use asn1_layouts::scope::Scope;
 use asn1_modules::ast::Body;
 use asn1_modules::lexer::Token;
 use asn1_modules::refusal::Refusal;
 use std::alloc::{AllocError, Global};
-use std::collections::BTreeSet;
+use std::collections::BTreeMap;
 
 /// Names, in small letters, that printed text has of the language and of the library's prelude.
 const TAKEN: &str =
@@ -71,13 +73,16 @@ enum State {
     LeftOut,
 }
 
-/// What is known so far: what became of each type, how deep each is, the printed names in small letters, and what came of a circle's
-/// other types, which are printed with its first one, the next one last.
+/// The printed names, in small letters, each with the name of the type that it was printed of.
+type Owners = BTreeMap<String, String>;
+
+/// What is known so far: what became of each type, how deep each is, the printed names, and what came of a circle's other types, which
+/// are printed with its first one, the next one last.
 #[derive(Drop)]
 struct Progress {
     states: Vec<State>,
     depths: Vec<Depth>,
-    seen: BTreeSet<String>,
+    seen: Owners,
     waiting: Vec<Result<Printed, Refusal>>,
 }
 
@@ -215,7 +220,7 @@ fn text_of<'m>(
     if knot_name(all, definition) == Some(definition.rust_name.as_str()) {
         push_knot(scope.alloc, &mut out, definition)?;
     }
-    Ok(out.end()?)
+    Ok(laid_out(scope.alloc, &out)?)
 }
 
 /// A name in small letters.
@@ -225,20 +230,60 @@ fn lower(alloc: Global, name: &str) -> Result<String, AllocError> {
     out.end()
 }
 
-/// The names, in small letters, that printed text takes from elsewhere.
-fn taken_names(alloc: Global) -> Result<BTreeSet<String>, AllocError> {
-    let mut names = BTreeSet::new(alloc);
-    for path in KNOWN.split(' ') {
-        let name = match path.rsplit_once("::") {
-            Some((_, name)) => name,
-            None => path,
-        };
-        let _ = names.insert(lower(alloc, name)?)?;
+/// Whether a name, in small letters, is one that printed text has of the language or of a library.
+fn is_taken(name: &str) -> bool {
+    let is_known = KNOWN.split(' ').any(|path| match path.rsplit_once("::") {
+        Some((_, known)) => known.eq_ignore_ascii_case(name),
+        None => false,
+    });
+    is_known || TAKEN.split(' ').any(|taken| taken == name)
+}
+
+/// Puts `_` behind the names of types that printed text has from elsewhere: ASN.1 has no such names.
+pub fn free_names(alloc: Global, all: &mut Vec<Definition<'_>>) -> Result<(), AllocError> {
+    for definition in all.iter_mut() {
+        if is_taken(lower(alloc, definition.rust_name.as_str())?.as_str()) {
+            definition.rust_name.push('_')?;
+        }
     }
-    for name in TAKEN.split(' ') {
-        let _ = names.insert(String::from_str(alloc, name)?)?;
+    Ok(())
+}
+
+/// The refusal of a type for a printed name that another has.
+fn same_name(
+    scope: Scope<'_, '_>,
+    definition: &Definition<'_>,
+    name: &str,
+    other: Option<&str>,
+) -> Refusal {
+    const READS: &str =
+        "a type none of whose printed names, in letters of either size, is another's";
+    let (behind, owner) = match other {
+        Some(owner) => ("is printed of ", owner),
+        None => ("is the library's", ""),
+    };
+    match format!(in scope.alloc; "{READS}: {name} {behind}{owner}") {
+        Ok(reads) => scope.refused(definition.link.of.first, reads.as_str()),
+        Err(_) => Refusal::OutOfMemory,
     }
-    Ok(names)
+}
+
+/// Puts a printed name to those that were seen. Refused where it, in letters of either size, is that of another.
+fn see_name<'m>(
+    scope: Scope<'m, '_>,
+    definition: &Definition<'m>,
+    name: &str,
+    seen: &mut Owners,
+) -> Result<(), Refusal> {
+    let small = lower(scope.alloc, name)?;
+    if is_taken(small.as_str()) {
+        return Err(same_name(scope, definition, name, None));
+    }
+    if let Some(owner) = seen.get(small.as_str()) {
+        return Err(same_name(scope, definition, name, Some(owner.as_str())));
+    }
+    seen.insert(small, definition.rust_name.clone()?)?;
+    Ok(())
 }
 
 /// The names of a text that others may use. Refused where one, in letters of either size, is that of another.
@@ -246,18 +291,12 @@ fn names_of_text<'m>(
     scope: Scope<'m, '_>,
     definition: &Definition<'m>,
     text: &str,
-    seen: &mut BTreeSet<String>,
+    seen: &mut Owners,
 ) -> Result<Vec<String>, Refusal> {
     let alloc = scope.alloc;
     let mut names = Vec::new(alloc);
     for (name, is_shown) in declared_names(alloc, text)? {
-        let small = lower(alloc, name.as_str())?;
-        if !seen.insert(small)? {
-            return Err(scope.refused(
-                definition.link.of.first,
-                "a type none of whose printed names, in letters of either size, is another's",
-            ));
-        }
+        see_name(scope, definition, name.as_str(), seen)?;
         if is_shown {
             names.push(name)?;
         }
@@ -318,6 +357,33 @@ fn refuse_all(
     Ok(made)
 }
 
+/// Refuses types of which one can't be listed.
+fn require_all<'m>(
+    scope: Scope<'m, '_>,
+    all: &[Definition<'m>],
+    run: &[usize],
+) -> Result<(), Refusal> {
+    for at in run.iter() {
+        if let Some(definition) = all.get(*at) {
+            require_listed(scope, all, definition)?;
+        }
+    }
+    Ok(())
+}
+
+/// Prints the types of a circle. Refused where one of them can't be listed, or isn't printed.
+fn print_run<'m>(
+    scope: Scope<'m, '_>,
+    all: &[Definition<'m>],
+    run: &[usize],
+    circle: Circle,
+    progress: &mut Progress,
+) -> Result<Vec<Result<Printed, Refusal>>, Refusal> {
+    require_all(scope, all, run)?;
+    require_circle(scope, all, circle, run)?;
+    print_members(scope, all, run, progress)
+}
+
 /// Prints the types of a circle, or refuses each as the first of them is that can't be printed.
 fn print_circle<'m>(
     scope: Scope<'m, '_>,
@@ -326,15 +392,26 @@ fn print_circle<'m>(
     circle: Circle,
     progress: &mut Progress,
 ) -> Result<(), Refusal> {
-    let made = match require_circle(scope, all, circle, run) {
-        Ok(()) => print_members(scope, all, run, progress),
-        Err(why) => Err(why),
-    };
-    progress.waiting = match made {
+    progress.waiting = match print_run(scope, all, run, circle, progress) {
         Ok(made) => made,
         Err(why) => refuse_all(scope.alloc, &why, run.len())?,
     };
     Ok(())
+}
+
+/// Prints a type that is of no circle. Refused where it can't be resolved, listed or printed.
+fn print_alone<'m>(
+    scope: Scope<'m, '_>,
+    all: &[Definition<'m>],
+    at: usize,
+    definition: &Definition<'m>,
+    progress: &mut Progress,
+) -> Result<Printed, Refusal> {
+    if let Some(why) = &definition.fault {
+        return Err(again(scope.alloc, why));
+    }
+    require_listed(scope, all, definition)?;
+    print_one(scope, all, at, definition, progress)
 }
 
 /// Prints the type whose turn it is. At the turn of the first type of a circle all of them are printed.
@@ -348,7 +425,7 @@ fn print_at<'m>(
 ) -> Result<Printed, Refusal> {
     let Some(circle) = definition.circle else {
         let at = order.get(turn).copied().unwrap_or(turn);
-        return print_one(scope, all, at, definition, progress);
+        return print_alone(scope, all, at, definition, progress);
     };
     if progress.waiting.is_empty() {
         let run = run_of(all, order, turn, circle);
@@ -391,7 +468,7 @@ pub fn print_types<'m>(
     let mut progress = Progress {
         states: vec![in alloc; State::New; all.len()]?,
         depths: depths_of(scope, all, order)?,
-        seen: taken_names(alloc)?,
+        seen: BTreeMap::new(alloc),
         waiting: Vec::new(alloc),
     };
     let mut printed = Vec::new(alloc);

@@ -15,7 +15,7 @@ use asn1_layouts::scope::Scope;
 use asn1_modules::ast::Body;
 use asn1_modules::refusal::Refusal;
 use std::alloc::{AllocError, Global};
-use std::collections::{BTreeMap, BTreeSet};
+use std::collections::BTreeMap;
 
 /// The fields of a struct, a line each.
 pub fn push_fields(out: &mut Text, cells: &[Cell]) {
@@ -294,13 +294,16 @@ fn push_addition_cells<'m>(
     Ok(())
 }
 
-/// The names of the groups among the components, as fields.
-fn group_fields(alloc: Global, parts: &[Part<'_>]) -> Result<BTreeSet<String>, AllocError> {
-    let mut names = BTreeSet::new(alloc);
+/// The names of the groups among the components, as fields, each with what it is called in a refusal.
+fn group_fields<'a>(
+    scope: Scope<'_, 'a>,
+    parts: &[Part<'_>],
+) -> Result<BTreeMap<String, &'a str>, AllocError> {
+    let mut names = BTreeMap::new(scope.alloc);
     for part in parts.iter() {
         if let Some(row) = part.row {
             if let Position::Group(number) = row.position {
-                let _ = names.insert(format!(in alloc; "group_{number}")?)?;
+                names.insert(format!(in scope.alloc; "group_{number}")?, "[[")?;
             }
         }
     }
@@ -309,13 +312,18 @@ fn group_fields(alloc: Global, parts: &[Part<'_>]) -> Result<BTreeSet<String>, A
 
 /// Refuses two components whose Rust names are the same.
 fn require_names<'m>(scope: Scope<'m, '_>, parts: &[Part<'m>]) -> Result<(), Refusal> {
-    let mut seen = group_fields(scope.alloc, parts)?;
+    let mut seen = group_fields(scope, parts)?;
     for part in parts.iter() {
-        if let Some(row) = part.row {
-            if !seen.insert(part.rust_name.clone()?)? {
-                return Err(scope.refused(row.name, "a component whose Rust name no other has"));
-            }
+        let Some(row) = part.row else {
+            continue;
+        };
+        let name = part.rust_name.as_str();
+        if let Some(other) = seen.get(name) {
+            let names = (scope.text(row.name), *other);
+            const READS: &str = "a component whose Rust name no other has";
+            return Err(scope.refused_beside(row.name, READS, names, name));
         }
+        seen.insert(part.rust_name.clone()?, scope.text(row.name))?;
     }
     Ok(())
 }

@@ -141,12 +141,15 @@ fn push_broken(out: &mut Text, names: &[&str]) {
     out.push("   ");
     let mut column = 3usize;
     let last = names.len().saturating_sub(1);
+    let mut is_first_line = true;
     for (at, name) in names.iter().enumerate() {
         column = column.saturating_add(name.len()).saturating_add(2);
-        let room = if at == last { WIDTH } else { WIDTH - 1 };
+        let fills = is_first_line && at == last;
+        let room = if fills { WIDTH } else { WIDTH - 1 };
         let is_new_line = column > room;
         if is_new_line {
             column = name.len().saturating_add(5);
+            is_first_line = false;
         }
         out.push_all(&[if is_new_line { "\n    " } else { " " }, *name, ","]);
     }

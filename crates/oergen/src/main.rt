@@ -2,40 +2,71 @@
 //! `oergen --out FOLDER --name NAME MODULE.asn..` writes crates of these types.
 #![tactic(auto)]
 
+mod earlier;
+mod writing;
+
 use asn1_layouts::listing::list;
 use asn1_modules::refusal::Refusal;
 use asn1_printer::files::{Output, Wish, crates_of};
-use asn1_printer::outputs::File;
 use clap::{Arg, ArgAction, ArgMatches, Command};
+use earlier::fault_of;
 use std::alloc::{AllocError, Global};
 use std::process::ExitCode;
 use std::rt::{Env, Files};
 use std::{env, fs, io};
+use writing::writes_files;
+
+/// How the program is called.
+const USAGE: &str = "oergen --list MODULE.asn..
+       oergen --out FOLDER --name NAME [--leave-out] MODULE.asn..";
+
+/// What the program does, and what it answers.
+const ABOUT: &str =
+    "Reads ASN.1 modules (X.680), and prints their types for the octet encoding rules (X.696)";
+
+/// What is said behind the words' help.
+const STATUS: &str =
+    "Status 0; 1 where a module, or a folder to write into, is refused, with a line that says where and why: then \
+nothing is printed or written; 2 where the words aren't of these forms.";
 
 /// A word that stands by itself, as `--list`.
-fn flag<'a>(alloc: Global, name: &'a str) -> Arg<'a> {
-    Arg::new(alloc, name).long(name).action(ArgAction::SetTrue)
+fn flag<'a>(alloc: Global, name: &'a str, help: &'a str) -> Arg<'a> {
+    Arg::new(alloc, name)
+        .long(name)
+        .help(help)
+        .action(ArgAction::SetTrue)
 }
 
 /// A word with another behind it, as `--out FOLDER`.
-fn option<'a>(alloc: Global, word: &'a str, value: &'a str) -> Arg<'a> {
-    Arg::new(alloc, value).long(word).action(ArgAction::Set)
+fn option<'a>(alloc: Global, word: &'a str, value: &'a str, help: &'a str) -> Arg<'a> {
+    Arg::new(alloc, value)
+        .long(word)
+        .help(help)
+        .action(ArgAction::Set)
 }
 
 /// The files.
 fn files<'a>(alloc: Global) -> Arg<'a> {
     Arg::new(alloc, "MODULE.asn")
+        .help("files of one module or more, each with all that they import")
         .required(true)
         .action(ArgAction::Append)
 }
 
 /// The words' form.
 fn command<'a>(alloc: Global) -> Result<Command<'a>, AllocError> {
+    let list = "prints each type with its layout, in order of use";
+    let out = "writes crates of the types below this folder, and prints their lines for crates.txt";
+    let name = "what the crate is called, or with _1, _2 and so on behind it the crates";
+    let leave_out = "leaves out what can't be read or printed, with a line that says why";
     Command::new(alloc, "oergen")
-        .arg(flag(alloc, "list"))?
-        .arg(option(alloc, "out", "FOLDER"))?
-        .arg(option(alloc, "name", "NAME"))?
-        .arg(flag(alloc, "leave-out"))?
+        .about(ABOUT)
+        .after_help(STATUS)
+        .override_usage(USAGE)
+        .arg(flag(alloc, "list", list))?
+        .arg(option(alloc, "out", "FOLDER", out))?
+        .arg(option(alloc, "name", "NAME", name))?
+        .arg(flag(alloc, "leave-out", leave_out))?
         .arg(files(alloc))
 }
 
@@ -48,13 +79,28 @@ fn words<R: Env + AllocGlobal>(rt: &R) -> io::Result<Vec<String>> {
     Ok(words)
 }
 
-/// The text of each file.
-fn texts_of<R: Files + AllocGlobal>(rt: &R, names: &[&str]) -> io::Result<Vec<String>> {
+/// The text of a file, in which U+FFFD stands for octets that aren't UTF-8.
+fn text_of<R: Files + AllocGlobal>(rt: &R, name: &str) -> io::Result<String> {
+    let octets = fs::read(rt, name)?;
+    Ok(String::from_utf8_lossy(rt.alloc(), octets.as_slice())?)
+}
+
+/// The text of each file; nothing where one can't be read, which is said on standard error.
+fn texts_of<R: Files + Eprint + AllocGlobal>(
+    rt: &R,
+    names: &[&str],
+) -> io::Result<Option<Vec<String>>> {
     let mut texts = Vec::new(rt.alloc());
     for name in names {
-        texts.push(fs::read_to_string(rt, *name)?)?;
+        match text_of(rt, *name) {
+            Ok(text) => texts.push(text)?,
+            Err(fault) => {
+                eprintln!(rt; "{name}: can't be read: {fault}")?;
+                return Ok(None);
+            }
+        }
     }
-    Ok(texts)
+    Ok(Some(texts))
 }
 
 /// The texts, lent.
@@ -90,7 +136,9 @@ fn refuse<R: Eprint + AllocGlobal>(rt: &R, names: &[&str], refusal: &Refusal) ->
 
 /// Reads the files and prints their table: status 0, or 1 with a refusal on standard error.
 fn list_files<R: Files + Print + Eprint + AllocGlobal>(rt: &R, names: &[&str]) -> io::Result<u8> {
-    let texts = texts_of(rt, names)?;
+    let Some(texts) = texts_of(rt, names)? else {
+        return Ok(1);
+    };
     match table_of(rt.alloc(), texts.as_slice()) {
         Ok(table) => {
             print!(rt; "{table}")?;
@@ -106,24 +154,8 @@ fn output_of(alloc: Global, texts: &[String], wish: Wish<'_>) -> Result<Output, 
     crates_of(alloc, all.as_slice(), wish)
 }
 
-/// The folder of a path.
-fn folder_of(path: &str) -> &str {
-    match path.rsplit_once('/') {
-        Some((folder, _)) => folder,
-        None => "",
-    }
-}
-
-/// Writes the files below a folder.
-fn write_files<R: Files + AllocGlobal>(rt: &R, folder: &str, files: &[File]) -> io::Result<()> {
-    for file in files.iter() {
-        let path = file.path.as_str();
-        let path = format!(in rt.alloc(); "{folder}/{path}")?;
-        fs::create_dir_all(rt, folder_of(path.as_str()))?;
-        fs::write(rt, path.as_str(), file.text.as_str())?;
-    }
-    Ok(())
-}
+/// Names that a crate can't have: libraries that each printed crate may use.
+const LIBRARIES: [&str; 5] = ["std", "core", "rasn_oer", "oer_write", "asn1_core"];
 
 /// Whether it can be the name of a crate.
 fn is_name(name: &str) -> bool {
@@ -131,39 +163,57 @@ fn is_name(name: &str) -> bool {
         Some(first) => first.is_ascii_lowercase(),
         None => false,
     };
-    is_begun && name.chars().all(|c| c.is_ascii_lowercase() || c.is_ascii_digit() || c == '_')
+    is_begun
+        && name.chars().all(|c| c.is_ascii_lowercase() || c.is_ascii_digit() || c == '_')
+        && !LIBRARIES.contains(&name)
+}
+
+/// Writes crates below a folder and prints the lines of `crates.txt`: status 0, or 1 with a refusal on standard error, and nothing is
+/// written.
+fn write_output<R: Files + Print + Eprint + AllocGlobal + Clone + Drop>(
+    rt: &R,
+    folder: &str,
+    name: &str,
+    output: &Output,
+) -> io::Result<u8> {
+    if let Some(fault) = fault_of(rt, folder, name, output.files.as_slice())? {
+        eprintln!(rt; "{fault}")?;
+        return Ok(1);
+    }
+    if !writes_files(rt, folder, output.files.as_slice())? {
+        return Ok(1);
+    }
+    let lines = output.lines.as_str();
+    print!(rt; "{lines}")?;
+    Ok(0)
 }
 
 /// Reads the files, writes their crates below a folder and prints the lines of `crates.txt`: status 0, or 1 with a refusal on
 /// standard error, and nothing is written.
-fn write_crates<R: Files + Print + Eprint + AllocGlobal>(
+fn write_crates<R: Files + Print + Eprint + AllocGlobal + Clone + Drop>(
     rt: &R,
     folder: &str,
     wish: Wish<'_>,
 ) -> io::Result<u8> {
-    let texts = texts_of(rt, wish.files)?;
+    let Some(texts) = texts_of(rt, wish.files)? else {
+        return Ok(1);
+    };
     match output_of(rt.alloc(), texts.as_slice(), wish) {
-        Ok(output) => {
-            write_files(rt, folder, output.files.as_slice())?;
-            let lines = output.lines.as_str();
-            print!(rt; "{lines}")?;
-            Ok(0)
-        }
+        Ok(output) => write_output(rt, folder, wish.name, &output),
         Err(refusal) => refuse(rt, wish.files, &refusal),
     }
 }
 
 /// Does what the words ask for: status 2 where they name neither a list nor a folder and a crate.
-fn run<R: Files + Print + Eprint + AllocGlobal>(
+fn run<R: Files + Print + Eprint + AllocGlobal + Clone + Drop>(
     rt: &R,
     matches: &ArgMatches<'_>,
 ) -> io::Result<u8> {
     let files = matches.get_strs("MODULE.asn").unwrap_or(&[]);
-    if matches.get_flag("list") {
-        return list_files(rt, files);
-    }
+    let lists = matches.get_flag("list");
     match (matches.get_str("FOLDER"), matches.get_str("NAME")) {
-        (Some(folder), Some(name)) if is_name(name) => {
+        (None, None) if lists => list_files(rt, files),
+        (Some(folder), Some(name)) if is_name(name) && !lists => {
             let leaves_out = matches.get_flag("leave-out");
             let wish = Wish {
                 name,
@@ -174,21 +224,24 @@ fn run<R: Files + Print + Eprint + AllocGlobal>(
         }
         _ => {
             eprintln!(rt;
-                "oergen: give --list, or --out FOLDER and --name NAME of small letters, digits and _"
+                "oergen: give --list, or --out FOLDER and --name NAME, of small letters, digits and _, no library's; see --help"
             )?;
             Ok(2)
         }
     }
 }
 
-/// Runs on the words: status 2 where they aren't of the form.
-fn run_words<R: Files + Print + Eprint + AllocGlobal>(rt: &R, words: &[String]) -> io::Result<u8> {
+/// Runs on the words: status 2 where they aren't of the form, and 0 where they ask for help.
+fn run_words<R: Files + Print + Eprint + AllocGlobal + Clone + Drop>(
+    rt: &R,
+    words: &[String],
+) -> io::Result<u8> {
     let command = command(rt.alloc())?;
     match command.try_get_matches_from(words) {
         Ok(matches) => run(rt, &matches),
         Err(e) => {
-            eprint!(rt; "{e}")?;
-            Ok(2)
+            e.print(rt)?;
+            Ok(if e.use_stderr() { 2 } else { 0 })
         }
     }
 }

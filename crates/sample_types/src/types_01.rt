@@ -397,7 +397,7 @@ pub struct RowComponents {
     pub r_type: Integer,
     pub next: Option<Below>,
     pub group_1: Option<RowGroup1>,
-    pub sure: bool,
+    pub sure: Option<bool>,
 }
 
 type RowRow = Defaults<
@@ -422,7 +422,7 @@ type RowFromType = Defaults<Context<5>, Integer, RowTypeDefault, Extensible<RowA
 type RowAdditions = MayAdd<
     Context<6>,
     Below,
-    MayAddGroup<2, 0, RowGroup1, Adds<Context<9>, bool, NoMore>>,
+    MayAddGroup<2, 0, RowGroup1, MayAdd<Context<9>, bool, NoMore>>,
 >;
 
 impl Rowed for RowComponents {
@@ -481,7 +481,7 @@ impl Tabled<6, 3> for RowComponents {
         fields: fields![
             0 Optional Context 6 "next",
             1 Optional Universal 16 "group 1",
-            2 Required Context 9 "sure"
+            2 Optional Context 9 "sure"
         ],
     });
 

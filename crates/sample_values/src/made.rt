@@ -32,7 +32,7 @@ fn bag(alloc: Global) -> Result<Bag> {
     }))
 }
 
-/// A row of defaults, with the addition that may be absent.
+/// A row of defaults, with two of its additions.
 fn short_row(alloc: Global) -> Row {
     Sequence(RowComponents {
         ok: true,
@@ -46,7 +46,7 @@ fn short_row(alloc: Global) -> Row {
         r_type: Integer::from_i128(-2),
         next: Some(Limited::new(Integer::from_i128(-5))),
         group_1: None,
-        sure: false,
+        sure: Some(false),
     })
 }
 
