@@ -5,6 +5,8 @@
 #[cfg(test)]
 mod closures;
 #[cfg(test)]
+mod lent;
+#[cfg(test)]
 mod messages;
 #[cfg(test)]
 mod refused;
@@ -14,3 +16,5 @@ mod scopes;
 mod surface;
 #[cfg(test)]
 mod types;
+#[cfg(test)]
+mod within;
