@@ -54,6 +54,8 @@ impl Alternating for PairAlternatives {
 }
 
 impl TakesAlternative for PairAlternatives {
+    ghost Refuses = { ⟦<PairRow as ReadsAlternatives>⟧.Refuses };
+
     fn take<D: Choice>(
         alloc: Global,
         decoder: &mut Decoder<'_>,
@@ -114,6 +116,8 @@ impl Alternating for NestedAlternatives {
 }
 
 impl TakesAlternative for NestedAlternatives {
+    ghost Refuses = { ⟦<NestedRow as ReadsAlternatives>⟧.Refuses };
+
     fn take<D: Choice>(
         alloc: Global,
         decoder: &mut Decoder<'_>,

@@ -40,6 +40,8 @@ impl Rowed for UntaggedComponents {
 }
 
 impl Takes for UntaggedComponents {
+    ghost Refuses = { ⟦<UntaggedRow as Reads>⟧.Refuses };
+
     fn take(alloc: Global, decoder: &mut Decoder<'_>) -> Result<Self, DecodeError> {
         read_row::<Self, UntaggedRow>(alloc, decoder)
     }
@@ -107,6 +109,8 @@ impl Rowed for ExplicitComponents {
 }
 
 impl Takes for ExplicitComponents {
+    ghost Refuses = { ⟦<ExplicitRow as Reads>⟧.Refuses };
+
     fn take(alloc: Global, decoder: &mut Decoder<'_>) -> Result<Self, DecodeError> {
         read_row::<Self, ExplicitRow>(alloc, decoder)
     }

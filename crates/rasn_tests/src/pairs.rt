@@ -40,6 +40,8 @@ impl<A: Decode + Encode, B: Decode + Encode> Rowed for TwoComponents<A, B> {
 }
 
 impl<A: Decode + Encode, B: Decode + Encode> Takes for TwoComponents<A, B> {
+    ghost Refuses = { ⟦<TwoRow<A, B> as Reads>⟧.Refuses };
+
     fn take(alloc: Global, decoder: &mut Decoder<'_>) -> Result<Self, DecodeError> {
         read_row::<Self, TwoRow<A, B>>(alloc, decoder)
     }
@@ -100,6 +102,8 @@ impl<T: Decode + Encode> Rowed for MayPairComponents<T> {
 }
 
 impl<T: Decode + Encode> Takes for MayPairComponents<T> {
+    ghost Refuses = { ⟦<MayPairRow<T> as Reads>⟧.Refuses };
+
     fn take(alloc: Global, decoder: &mut Decoder<'_>) -> Result<Self, DecodeError> {
         read_row::<Self, MayPairRow<T>>(alloc, decoder)
     }
