@@ -6,7 +6,7 @@ usage: try.py [NAME..]
 
 Few contracts rule out a body that wants memory where there is plenty, so tests have to. First the copy without a patch has
 to pass. A line a patch says how many rows of crates/oer_vectors are answered otherwise, and the first of them; a second one
-which tests of crates/call_tests fail. It takes some minutes; run by hand, with its last output in docs/MEMORY.md.
+which tests of crates/call_tests fail. It takes some minutes; run by hand, with its last output in docs/TESTING.md.
 """
 import pathlib
 import re
