@@ -27,12 +27,27 @@ for it in code:
         print("crates/readme_calls has what README.md has not:\n" + it)
 
 differs = said != code
-for page, crate in [("docs/OWN_TYPE.md", "crates/my_types"), ("docs/OWN_CLOSURES.md", "crates/my_closures")]:
-    shown = dict(re.findall(r"`(crates/my_\S+)`\n\n```(?:rust)?\n(.*?)```", (top / page).read_text(), re.S))
-    files = [it for part in ("src", "specs", "proofs") for it in (top / crate / part).rglob("*.*t")]
-    there = {str(it.relative_to(top)): it.read_text() for it in files}
-    for name in sorted(there.keys() | shown.keys()):
-        if there.get(name) != shown.get(name):
-            print(f"{page} has another {name}, or none")
-    differs = differs or there != shown
+for page in ["docs/OWN_TYPE.md", "docs/OWN_CLOSURES.md"]:
+    # A page shows pieces of files: a line with the file's name alone, an empty line, and in a fence whole lines of the file.
+    text = (top / page).read_text().split("\n")
+    fences = [i for i, it in enumerate(text) if it.lstrip().startswith(("```", "~~~"))]
+    wrong = [] if fences else ["1: no code"]
+    for start, end in zip(fences[::2], fences[1::2] + [len(text)]):
+        named = re.fullmatch(r"`(crates/\S+)`", text[start - 2]) if text[start - 1] == "" else None
+        file = top / named[1] if named else None
+        if file is None or not file.is_file():
+            wrong.append(f"{start + 1}: code of no file")
+            continue
+        piece, code = text[start + 1:end], file.read_text().split("\n")
+        alike = 0  # the first lines of the piece that follow one another in the file
+        for i in range(len(code)):
+            k = 0
+            while k < len(piece) and code[i + k:i + k + 1] == [piece[k]]:
+                k += 1
+            alike = max(alike, k)
+        if alike < max(len(piece), 1):
+            line = start + 2 + alike
+            wrong.append(f"{line}: not in {named[1]}: {text[line - 1]}")
+    print("".join(f"{page}:{it}\n" for it in wrong), end="")
+    differs = differs or bool(wrong)
 sys.exit(differs)
