@@ -9,22 +9,47 @@ top = pathlib.Path(__file__).resolve().parent.parent
 
 
 def pieces(text):
-    """The pieces of code between blank lines, without what stands before the first `use`."""
+    """The pieces of code between blank lines, without the head of a file."""
     parts = [it.strip("\n") for it in text.split("\n\n")]
-    first = next(i for i, it in enumerate(parts) if it.startswith("use "))
-    return parts[first:]
+    return [it for it in parts if it and not it.startswith("//!")]
 
 
+def code_of(page):
+    """The code of a page: what is between fences, and what is indented by four."""
+    lines, fenced = [], False
+    for line in page.split("\n"):
+        if line.lstrip().startswith("```"):
+            lines, fenced = [*lines, ""], not fenced
+        else:
+            lines.append(line if fenced else line[4:] if line.startswith("    ") else "")
+    return "\n".join(lines)
+
+
+def with_named(shown, code, page):
+    """What a page shows, and in between, as the crate has them, the functions that the page only names."""
+    names, said = set(re.findall(r"`(\w+)`", page)), []
+    for it in [*shown, None]:
+        for other in code[len(said):]:
+            function = re.search(r"^pub fn (\w+)", other, re.M)
+            if other == it or not function or function[1] not in names:
+                break
+            said.append(other)
+        said += [it] if it else []
+    return said
+
+
+# All code of README from here on is the crate's, to the letter and in its order, and each function is shown or named.
 page = (top / "README.md").read_text().split("\n## The library by example\n")[1]
-shown = [line[4:] if line.startswith("    ") else "" for line in page.split("\n")]
-said = [it for it in pieces("\n".join(shown)) if it]
 code = pieces((top / "crates/readme_calls/src/calls.rt").read_text())
+said = with_named(pieces(code_of(page)), code, page)
 for it in said:
     if it not in code:
         print("README.md has what crates/readme_calls has not:\n" + it)
 for it in code:
     if it not in said:
-        print("crates/readme_calls has what README.md has not:\n" + it)
+        print("crates/readme_calls has what README.md neither shows nor names:\n" + it)
+if said != code and set(said) == set(code):
+    print("README.md shows the code of crates/readme_calls in another order, or twice")
 
 differs = said != code
 for page in ["docs/OWN_TYPE.md", "docs/OWN_CLOSURES.md"]:
