@@ -1,6 +1,6 @@
 #!/usr/bin/env python3
-"""Says where README.md differs from crates/readme_calls, docs/OWN_TYPE.md from crates/my_types, and docs/OWN_CLOSURES.md from
-crates/my_closures, which the gate proves and runs."""
+"""Says which code of README.md isn't that of crates/readme_calls, and which of docs/OWN_TYPE.md and docs/OWN_CLOSURES.md isn't in the
+files that it names. The gate proves these crates and runs their tests."""
 import pathlib
 import re
 import sys
