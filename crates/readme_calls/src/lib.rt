@@ -1,4 +1,4 @@
-//! The functions of README.md, as they stand there: `scripts/readme.py` compares the two texts. Their tests are `docs_tests`.
+//! Functions of README.md and others like them: `scripts/readme.py` compares the two texts. Their tests are `docs_tests`.
 #![tactic(auto)]
 
 mod calls;
