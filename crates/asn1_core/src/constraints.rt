@@ -16,6 +16,7 @@ pub enum Bounded<T> {
 
 impl<T> Bounded<T> {
     /// The least allowed number, where there is a lower bound.
+    #[inline(always)]
     pub fn as_start(&self) -> Option<&T>
         ensures { option_copied result ≡ start_of self.now }
     {
@@ -27,6 +28,7 @@ impl<T> Bounded<T> {
     }
 
     /// The greatest allowed number, where there is an upper bound.
+    #[inline(always)]
     pub fn as_end(&self) -> Option<&T>
         ensures { option_copied result ≡ end_of self.now }
     {
@@ -40,6 +42,7 @@ impl<T> Bounded<T> {
 
 impl<T: PartialOrd> Bounded<T> {
     /// Whether the number is allowed.
+    #[inline(always)]
     pub fn contains(&self, element: &T) -> bool
         ensures { result ≡ allows_by (partial_le T.partial_cmp) self.now element.now }
     {
@@ -121,6 +124,7 @@ impl Limits for usize {
 
 impl<T: Limits> Bounded<T> {
     /// Whether one number of the type is allowed and no other.
+    #[inline(always)]
     pub fn is_fixed(&self) -> bool
         ensures { result ≡ is_fixed_by (partial_le T.partial_cmp) T.MIN T.MAX self.now }
     {
@@ -266,6 +270,7 @@ impl Constraints {
     }
 
     /// The one size that is allowed, where the size constraint isn't extensible and allows one.
+    #[inline(always)]
     pub fn fixed_size(&self) -> Option<usize>
         ensures { result ≡ fixed_size (size_bounds self.now) }
     {
@@ -276,6 +281,7 @@ impl Constraints {
     }
 
     /// Whether the size is allowed; an extensible constraint allows each.
+    #[inline(always)]
     pub fn allows_size(&self, size: usize) -> bool
         ensures { result ≡ size_fits (size_bounds self.now) size }
     {
@@ -286,6 +292,7 @@ impl Constraints {
     }
 
     /// Whether the number is allowed; an extensible constraint allows each.
+    #[inline(always)]
     pub fn allows_value(&self, value: i128) -> bool
         ensures { result ≡ in_range (value_bounds self.now) value }
     {

@@ -9,6 +9,7 @@ use crate::octets::{
     has_sign, i128_of, shortest_signed, shortest_unsigned, unsigned_i128_of, write_i128,
     write_u128, write_with_sign,
 };
+use crate::short::short_signed;
 use asn1_core::{AsnType, Codec, Constraints, DecodeError, DecodeErrorKind, Tag};
 use std::alloc::{AllocError, Global};
 use std::cmp::Ordering;
@@ -37,6 +38,7 @@ impl Model for Integer {
 
 impl Integer {
     /// The number `n`.
+    #[inline(always)]
     pub fn from_i128(n: i128) -> Integer
         ensures { result ≡ n }
     {
@@ -46,6 +48,7 @@ impl Integer {
     }
 
     /// The number, where it is one of i128.
+    #[inline(always)]
     pub fn to_i128(&self) -> Option<i128>
         ensures { result ≡ if_in_i128 self.now }
     {
@@ -58,7 +61,37 @@ impl Integer {
     /// The number of octets in two's complement, highest octet first; `None` for no octets.
     ///
     /// Memory is taken for a number outside i128 alone.
+    #[inline(always)]
     pub fn from_signed_octets(alloc: Global, octets: &[u8]) -> Result<Option<Integer>, AllocError>
+        ensures value { IfOk result (λ n. n ≡ cond (length octets.now == 0) None (Some (signed octets.now))) }
+        ensures small { in_i128 (signed octets.now) ≡ true → IsOk result }
+    {
+        if octets.is_empty() {
+            return Ok(None);
+        }
+        if octets.len() <= 8 {
+            return Ok(Some(Integer::from_i128(short_signed(octets))));
+        }
+        Integer::of_long_octets(alloc, octets)
+    }
+
+    /// The number of octets in two's complement, as `from_signed_octets` answers it, by a call of its own.
+    ///
+    /// What that call answers lies in a place of this function's: so the place of a short number's answer isn't handed to
+    /// a call, and is none in memory.
+    #[inline(always)]
+    fn of_long_octets(alloc: Global, octets: &[u8]) -> Result<Option<Integer>, AllocError>
+        ensures value { IfOk result (λ n. n ≡ cond (length octets.now == 0) None (Some (signed octets.now))) }
+        ensures small { in_i128 (signed octets.now) ≡ true → IsOk result }
+    {
+        match Integer::from_long_octets(alloc, octets) {
+            Ok(n) => Ok(n),
+            Err(e) => Err(e),
+        }
+    }
+
+    #[inline(never)]
+    fn from_long_octets(alloc: Global, octets: &[u8]) -> Result<Option<Integer>, AllocError>
         ensures value { IfOk result (λ n. n ≡ cond (length octets.now == 0) None (Some (signed octets.now))) }
         ensures small { in_i128 (signed octets.now) ≡ true → IsOk result }
     {
@@ -182,6 +215,7 @@ impl IntegerType for Integer {
 
     const TAKES_MEMORY: bool = true;
 
+    #[inline(always)]
     fn try_from_signed_bytes(
         alloc: Global,
         octets: &[u8],
@@ -200,6 +234,7 @@ impl IntegerType for Integer {
         }
     }
 
+    #[inline(never)]
     fn try_from_unsigned_bytes(
         alloc: Global,
         octets: &[u8],
@@ -218,6 +253,7 @@ impl IntegerType for Integer {
         }
     }
 
+    #[inline(always)]
     fn to_i128(&self) -> Option<i128> {
         Integer::to_i128(self)
     }

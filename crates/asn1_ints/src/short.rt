@@ -5,7 +5,7 @@ ghost use Rattle.asn1_core.specs.Octets.{signed, unsigned};
 use crate::octets::has_sign;
 
 /// The unsigned number of at most eight octets.
-#[inline]
+#[inline(always)]
 pub(crate) fn short_unsigned(octets: &[u8]) -> u64
     requires { length octets.now ≤ 8 }
     ensures { result ≡ unsigned octets.now }
@@ -18,8 +18,8 @@ pub(crate) fn short_unsigned(octets: &[u8]) -> u64
 }
 
 /// The number of at most eight octets in two's complement.
+#[inline(always)]
 #[tactic(auto, using(crate::proofs::ShortNumbers::short_negative, crate::proofs::ShortNumbers::short_positive, crate::proofs::ShortNumbers::short_shift, crate::proofs::ShortNumbers::short_most))]
-#[inline]
 pub(crate) fn short_signed(octets: &[u8]) -> i128
     requires { length octets.now ≤ 8 }
     ensures { result ≡ signed octets.now }

@@ -38,6 +38,7 @@ pub const MEMBERS: &str = r#"impl@WRITES@ Rowed for @NAME@Components@K@ {
 impl@READS@ Takes for @NAME@Components@K@ {
     ghost Refuses = { ⟦<@NAME@Row@K@ as Reads>⟧.Refuses };
 
+    #[inline(always)]
     fn take(alloc: Global, decoder: &mut Decoder<'_>) -> Result<Self, DecodeError> {
         read_row::<Self, @NAME@Row@K@>(alloc, decoder)
     }

@@ -1,8 +1,8 @@
 ghost use Rattle.std.specs.Prelude.{◌≡◌, ◌==◌, length, IfOk};
 ghost use Rattle.asn1_core.specs.Octets.{AreOctets};
 
-use asn1_core::{AsnType, Constraints, Tag};
 use bytes::BytesMut;
+use asn1_core::{AsnType, Constraints, Tag};
 use std::alloc::{AllocError, Global};
 use std::marker::{Model, PhantomData};
 
@@ -42,11 +42,12 @@ impl OctetType for AnyType {
 
 /// Octets: a value of OCTET STRING, or the content of an open type.
 ///
-/// The octets have one owner: so they take one request for memory, where `Bytes` takes another to count its owners.
+/// The octets have one owner: so they take one request for memory, where `Bytes` takes another to count its owners. They
+/// stand in a box: `BytesMut` is eight words, all of which are moved wherever a value is.
 #[derive_where(Debug)]
 #[derive(Drop)]
 pub struct OctetContent<K: OctetType> {
-    octets: BytesMut,
+    octets: Box<BytesMut>,
     kind: PhantomData<K>,
 }
 
@@ -61,7 +62,7 @@ impl<K: OctetType> Model for OctetContent<K> {
 
     ghost Value = { List ℕ };
 
-    ghost view = { λ s. s.octets.items };
+    ghost view = { λ s. s.octets.value.items };
 }
 
 impl<K: OctetType> PartialEq for OctetContent<K> {
@@ -101,11 +102,12 @@ impl<K: OctetType> AsnType for OctetContent<K> {
 
 impl<K: OctetType> OctetContent<K> {
     /// A copy of the octets.
+    #[inline(always)]
     pub fn from_slice(alloc: Global, octets: &[u8]) -> Result<OctetContent<K>, AllocError>
         ensures { IfOk result (λ s. s ≡ octets.now) }
     {
         Ok(OctetContent {
-            octets: BytesMut::copy_from_slice(alloc, octets)?,
+            octets: Box::new(alloc, BytesMut::copy_from_slice(alloc, octets)?)?,
             kind: PhantomData,
         })
     }

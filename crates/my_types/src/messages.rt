@@ -64,6 +64,7 @@ impl Rowed for MessageComponents {
 impl Takes for MessageComponents {
     ghost Refuses = { ⟦<MessageRow as Reads>⟧.Refuses };
 
+    #[inline(always)]
     fn take(alloc: Global, decoder: &mut Decoder<'_>) -> Result<Self, DecodeError> {
         read_row::<Self, MessageRow>(alloc, decoder)
     }

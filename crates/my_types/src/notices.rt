@@ -40,6 +40,7 @@ impl Rowed for ClosingComponents {
 impl Takes for ClosingComponents {
     ghost Refuses = { ⟦<ClosingRow as Reads>⟧.Refuses };
 
+    #[inline(always)]
     fn take(alloc: Global, decoder: &mut Decoder<'_>) -> Result<Self, DecodeError> {
         read_row::<Self, ClosingRow>(alloc, decoder)
     }
@@ -101,6 +102,7 @@ impl Rowed for NoticeComponents {
 impl Takes for NoticeComponents {
     ghost Refuses = { ⟦<NoticeRow as Reads>⟧.Refuses };
 
+    #[inline(always)]
     fn take(alloc: Global, decoder: &mut Decoder<'_>) -> Result<Self, DecodeError> {
         read_row::<Self, NoticeRow>(alloc, decoder)
     }

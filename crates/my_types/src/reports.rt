@@ -38,6 +38,7 @@ impl Rowed for ReportComponents {
 impl Takes for ReportComponents {
     ghost Refuses = { ⟦<ReportRow as Reads>⟧.Refuses };
 
+    #[inline(always)]
     fn take(alloc: Global, decoder: &mut Decoder<'_>) -> Result<Self, DecodeError> {
         read_row::<Self, ReportRow>(alloc, decoder)
     }

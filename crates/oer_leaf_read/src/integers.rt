@@ -131,7 +131,7 @@ fn require_in_range<I: IntegerType>(
 /// what `read_number_content` refuses; then a number that the type doesn't hold, as `IntegerOverflow`; under a constraint
 /// that isn't extensible, a number outside it or outside i128, as `ValueConstraintNotSatisfied`. A type that takes memory
 /// may be refused it, as `OutOfMemory`.
-#[inline]
+#[inline(always)]
 #[tactic(auto, unfolding(oer_spec::specs::ReadingIntegers::integer_at))]
 pub fn read_integer<I: IntegerType>(
     alloc: Global,

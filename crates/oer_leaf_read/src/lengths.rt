@@ -7,6 +7,7 @@ use crate::parts::{begins_with_zero, read_octet, read_octets, require_canonical,
 use asn1_core::{Codec, DecodeErrorKind};
 
 /// The long form's number, in `count` octets (X.696, 8.6.5).
+#[inline(never)]
 #[tactic(auto, unfolding(oer_spec::specs::Reading::long_length_at))]
 fn read_long_length(
     codec: Codec,
@@ -21,6 +22,23 @@ fn read_long_length(
     let n = unsigned_of(octets).ok_or(DecodeErrorKind::LengthExceedsPlatformWidth)?;
     require_canonical(codec, n < 128)?;
     Ok((n, rest))
+}
+
+/// The long form's number, by a call whose answer lies in a place of this function's: so that of the short form is none in
+/// memory.
+#[inline(always)]
+fn behind_long_length(
+    codec: Codec,
+    count: usize,
+    input: &[u8],
+) -> Result<(usize, &[u8]), DecodeErrorKind>
+    ensures function { Gives (λ x. (x.0, x.1.now)) result (long_length_at codec count input.now) }
+    ensures memory { IfErr result IsNotForMemory }
+{
+    match read_long_length(codec, count, input) {
+        Ok((n, rest)) => Ok((n, rest)),
+        Err(kind) => Err(kind),
+    }
 }
 
 /// The length at the front, and what is left (X.696, 8.6).
@@ -43,7 +61,7 @@ pub fn read_length(codec: Codec, input: &[u8]) -> Result<(usize, &[u8]), DecodeE
     if first == 128 {
         return Err(DecodeErrorKind::ZeroLengthOfLength);
     }
-    read_long_length(codec, (first - 128) as usize, rest)
+    behind_long_length(codec, (first - 128) as usize, rest)
 }
 
 /// The octets behind a length at the front, and what is left: what stands in an open type, and a skipped addition

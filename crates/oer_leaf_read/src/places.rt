@@ -84,7 +84,7 @@ fn bitmap(codec: Codec, input: &[u8]) -> Result<(BitSlice<'_>, &[u8]), DecodeErr
 /// Refused, the first that applies: as an open type's octets are (`read_content`); no octet, or a count of unused bits
 /// above 7 or above the bits that there are, as `InvalidExtensionHeader`; in canonical reading a nonzero unused bit, and
 /// no bit set, as `NotValidCanonicalEncoding`.
-#[inline]
+#[inline(never)]
 pub fn read_bitmap(codec: Codec, input: &[u8]) -> Result<(BitSlice<'_>, &[u8]), DecodeErrorKind>
     ensures function { Gives (λ x. (bits_left x.0, x.1.now)) result (bitmap_at codec input.now) }
     ensures relation { ReadsFront (IsBitmap (mode_of codec)) input.now (seen (λ x. (bits_left x.0, x.1.now)) result) }
@@ -118,6 +118,7 @@ fn skipped<'a>(
 /// are skipped (X.696, 16.5).
 ///
 /// Refused at the first of them as an open type's octets are (`read_content`).
+#[inline(never)]
 pub fn skip_additions<'a>(
     codec: Codec,
     bits: BitSlice<'_>,

@@ -18,6 +18,7 @@ use asn1_strings::{CharacterSet, RestrictedString};
 use std::str;
 
 /// A length, and that many octets of a string.
+#[inline(always)]
 #[tactic(auto, unfolding(oer_spec::specs::ReadingTexts::string_at))]
 pub(crate) fn read_string(codec: Codec, input: &[u8]) -> Result<(&[u8], &[u8]), DecodeErrorKind>
     ensures function { Gives (λ x. (x.0.now, x.1.now)) result (string_at codec input.now) }
@@ -31,6 +32,7 @@ pub(crate) fn read_string(codec: Codec, input: &[u8]) -> Result<(&[u8], &[u8]), 
     read_octets(count, rest)
 }
 
+#[inline(always)]
 #[tactic(auto, unfolding(oer_spec::specs::ReadingTexts::octet_string_at))]
 fn octet_string(
     codec: Codec,
@@ -57,6 +59,7 @@ fn octet_string(
 /// Under a fixed size as many octets, else a length and that many. Refused, the first that applies: as the length is
 /// (`read_length`); a length above `usize::MAX / 8`, as `LengthExceedsPlatformWidth`; `Incomplete` by as many octets as
 /// are missing; a size that the constraint doesn't allow, as `SizeConstraintNotSatisfied` with the size in octets.
+#[inline(always)]
 pub fn read_octet_string(
     codec: Codec,
     constraints: Constraints,

@@ -1,3 +1,4 @@
+pub mod Skips
 pub mod Comes
 pub mod Openings
 pub mod SequenceLaw

@@ -41,6 +41,10 @@ pub record State : Type 0 where
 abbrev pub closed : Frame
 closed = record { is_set = false; asks = []; extensible = false; extended = false; additions = []; bitmap = None }
 
+-- octets that are read by these rules, within so many levels, with no scope open
+abbrev pub apart : Codec → ℕ → Octets → State
+apart codec levels input = record { input = input; codec = codec; levels = levels; frame = closed }
+
 -- the optional and default rows of a table, each with its presence bit
 abbrev pub asks_of : List Row → List Bool → List Ask
 asks_of [] b = []

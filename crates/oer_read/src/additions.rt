@@ -36,7 +36,7 @@ fn require_row(field: &Field<'_>, bit: bool) -> Result<(), DecodeErrorKind>
 }
 
 /// Each required addition has its bit set, else the first that has not is missing.
-#[inline]
+#[inline(always)]
 fn require_present(rows: &[Field<'_>], bits: BitSlice<'_>) -> Result<(), DecodeErrorKind>
     ensures { Gives (λ x. x) result (all_present (places_of (map row rows.now)) (bits_left bits.entry)) }
 {
@@ -79,7 +79,7 @@ struct Found<'input> {
 
 impl<'input> Decoder<'input> {
     /// The bits of the bitmap that are left, which is read where it was not yet, and what is left behind it.
-    #[inline]
+    #[inline(always)]
     #[tactic(auto, unfolding(crate::specs::Additions::mapped_at))]
     fn mapped(&self) -> Result<(BitSlice<'input>, &'input [u8]), DecodeErrorKind>
         ensures { Gives (λ x. with_bitmap self.now (bits_left x.0) x.1.now) result (mapped_at self.now) }
@@ -129,7 +129,7 @@ impl<'input> Decoder<'input> {
     }
 
     /// The next addition: its row, the bitmap, and its octets, where its bit is set.
-    #[inline]
+    #[inline(always)]
     #[tactic(auto, unfolding(crate::specs::Additions::addition_at))]
     fn next_addition(&self, tag: Option<Tag>) -> Result<Found<'input>, DecodeErrorKind>
         ensures { Gives (λ x. (option_map (λ o. o.now) x.content, past_place self.now (bits_left x.bits) x.rest.now)) result (addition_at self.now tag) }
@@ -182,7 +182,7 @@ impl<'input> Decoder<'input> {
     }
 
     /// The value that `f` reads in an open type's octets, of which canonically none may be left over.
-    #[inline]
+    #[inline(always)]
     fn open_type<D, F>(
         &self,
         content: &'input [u8],
@@ -208,7 +208,7 @@ impl<'input> Decoder<'input> {
     }
 
     /// An addition, asked by its tag or, for a group, by its row alone, whose value `f` reads.
-    #[inline]
+    #[inline(always)]
     fn addition_with<D, F>(
         &mut self,
         asked: Option<Tag>,
@@ -242,7 +242,7 @@ impl<'input> Decoder<'input> {
     }
 
     /// An addition of a type that is read, asked by its tag or, for a group, by its row alone.
-    #[inline]
+    #[inline(always)]
     fn addition<D: Decode>(
         &mut self,
         alloc: Global,
@@ -274,7 +274,7 @@ impl<'input> Decoder<'input> {
     /// such call the bitmap as `read_bitmap` refuses it, and then a required addition without a set bit, as
     /// `RequiredExtensionNotPresent` with its tag; the open type's octets as `read_content` refuses them; what the type
     /// refuses of the value in them; octets left over in canonical mode, as `NotValidCanonicalEncoding`.
-    #[inline]
+    #[inline(always)]
     pub fn decode_extension_addition_with_tag_and_constraints<D: Decode>(
         &mut self,
         alloc: Global,
@@ -291,7 +291,7 @@ impl<'input> Decoder<'input> {
     /// `f` is handed a decoder of the open type's octets.
     ///
     /// Refused as `decode_extension_addition_with_tag_and_constraints` refuses, with what `f` does.
-    #[inline]
+    #[inline(always)]
     pub fn decode_extension_addition_with<D, F>(
         &mut self,
         tag: Tag,

@@ -101,6 +101,19 @@ impl<'input> Decoder<'input> {
         }
     }
 
+    /// A decoder of the octets by these rules, within so many levels, with no scope open.
+    #[inline(always)]
+    pub fn apart(input: &'input [u8], codec: Codec, levels: usize) -> Decoder<'input>
+        ensures { result ≡ record { input = input.entry.now; codec = codec; levels = levels; frame = closed } }
+    {
+        Decoder {
+            input,
+            codec,
+            levels,
+            scope: OpenScope::closed(),
+        }
+    }
+
     /// The octets that are left.
     #[inline(always)]
     pub fn remaining(&self) -> &'input [u8]
@@ -137,7 +150,7 @@ impl<'input> Decoder<'input> {
 
     /// Goes on with these octets.
     #[inline(always)]
-    pub(crate) fn set_remaining(&mut self, rest: &'input [u8])
+    pub fn set_remaining(&mut self, rest: &'input [u8])
         ensures { self.new ≡ record self.old { input = rest.entry.now } }
     {
         self.input = rest;

@@ -221,6 +221,7 @@ impl Decode for Integer {
 
     ghost Answered = { IntegerAnswers ⟦<Integer as IntegerType>⟧.number ⟦<Integer as IntegerType>⟧.admits ⟦<Integer as IntegerType>⟧.TAKES_MEMORY };
 
+    #[inline(always)]
     fn decode_with_tag_and_constraints(
         alloc: Global,
         decoder: &mut Decoder<'_>,

@@ -68,6 +68,7 @@ impl<'input> Decoder<'input> {
     }
 
     /// Reads an OCTET STRING as `decode_octet_string` does, and copies it; then it may refuse by `OutOfMemory`.
+    #[inline(always)]
     fn own_octet_string(
         &mut self,
         alloc: Global,
@@ -108,6 +109,7 @@ impl Decode for OctetString {
 
     ghost Answered = { λ c s r t. LeafAnswers (λ v. v) true s r t (octet_string_at (size_bounds c) s.codec s.input) };
 
+    #[inline(always)]
     fn decode_with_tag_and_constraints(
         alloc: Global,
         decoder: &mut Decoder<'_>,

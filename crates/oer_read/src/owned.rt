@@ -19,6 +19,7 @@ use oer_leaf_read::{read_octet_string, read_text, read_utf8};
 use std::alloc::Global;
 
 /// Octets at the front, copied, and what is left; refused as `read_octet_string` does, then for want of memory.
+#[inline(always)]
 pub(crate) fn read_own_octets<K: OctetType>(
     alloc: Global,
     codec: Codec,

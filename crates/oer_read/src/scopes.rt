@@ -1,6 +1,6 @@
 //! Sequences: a closure reads the components on a decoder of its own, whose frame holds the rows that are to be asked.
 
-ghost use Rattle.std.specs.Prelude.{◌≡◌, ℕ, false, get_or, drop, map, suc, List, Bool, ◌∷◌, [], IfOk, IfErr, OnErr, OnOk, Ok, Err, IfNone, IfSome};
+ghost use Rattle.std.specs.Prelude.{◌≡◌, ℕ, false, true, None, get_or, drop, map, suc, List, Bool, ◌∷◌, [], IfOk, IfErr, OnErr, OnOk, Ok, Err, IfNone, IfSome};
 ghost use Rattle.std.specs.Fn.{FnOnceReturnsAtMut, FnOnceTakesAtMut};
 ghost use Rattle.asn1_core.specs.Octets.{AreOctets};
 ghost use Rattle.asn1_core.specs.Rows.{row};
@@ -8,11 +8,11 @@ ghost use Rattle.oer_spec.specs.Reading.{Gives};
 ghost use Rattle.oer_spec.specs.ReadingBits.{skipped_at};
 ghost use Rattle.oer_leaf_read.specs.Views.{bits_left};
 ghost use Rattle.oer_read.specs.Law.{IsRear};
-ghost use Rattle.oer_read.specs.Scopes.{level_at, bits_for, extension_in, presence_in, opened_at, closed_at, all_asked, unknown_at, missing, SequenceRead, SequenceRefused};
+ghost use Rattle.oer_read.specs.Scopes.{level_at, bits_for, extension_in, presence_in, opened_at, closed_at, all_asked, tail_at, unknown_at, missing, SequenceRead, SequenceRefused};
 ghost use Rattle.oer_read.specs.State.{State, asks_of, places_of};
 
 use crate::decoder::{Decoder, OpenScope};
-use asn1_core::{Constructed, DecodeError, DecodeErrorKind, Field, FieldPresence, Tag};
+use asn1_core::{Codec, Constructed, DecodeError, DecodeErrorKind, Field, FieldPresence, Tag};
 use oer_leaf_read::{BitSlice, read_bitmap, read_preamble, skip_additions};
 
 /// The bit that is next, false past the end, and the bits after it.
@@ -94,6 +94,45 @@ pub(crate) fn missing(tag: Tag) -> DecodeErrorKind
     }
 }
 
+/// What is left behind additions, as `skip_additions` answers it, by a call whose answer lies in a place of this function's.
+#[inline(always)]
+#[tactic(auto, using(crate::proofs::Skips::none_skipped))]
+fn skip_left<'a>(
+    codec: Codec,
+    bits: BitSlice<'_>,
+    input: &'a [u8],
+) -> Result<&'a [u8], DecodeErrorKind>
+    ensures { Gives (λ x. x.now) result (skipped_at codec (bits_left bits.entry) input.now) }
+{
+    if bits.is_empty() {
+        return Ok(input);
+    }
+    match skip_additions(codec, bits, input) {
+        Ok(rest) => Ok(rest),
+        Err(kind) => Err(kind),
+    }
+}
+
+/// What is left behind a bitmap and all of its additions.
+#[inline(never)]
+fn skip_mapped<'a>(codec: Codec, input: &'a [u8]) -> Result<&'a [u8], DecodeErrorKind>
+    ensures { Gives (λ x. x.now) result (tail_at codec true None input.now) }
+{
+    let (bits, rest) = read_bitmap(codec, input)?;
+    skip_additions(codec, bits, rest)
+}
+
+/// The same, by a call whose answer lies in a place of this function's.
+#[inline(always)]
+fn skip_all<'a>(codec: Codec, input: &'a [u8]) -> Result<&'a [u8], DecodeErrorKind>
+    ensures { Gives (λ x. x.now) result (tail_at codec true None input.now) }
+{
+    match skip_mapped(codec, input) {
+        Ok(rest) => Ok(rest),
+        Err(kind) => Err(kind),
+    }
+}
+
 impl<'input> Decoder<'input> {
     /// A decoder behind the preamble, within one level less, whose frame holds the rows.
     #[inline(always)]
@@ -131,7 +170,7 @@ impl<'input> Decoder<'input> {
     }
 
     /// Every row was asked, else the first that was not is missing.
-    #[inline]
+    #[inline(always)]
     fn require_all_asked(&self) -> Result<(), DecodeErrorKind>
         ensures { Gives (λ x. x) result (all_asked self.now.frame.asks self.now.frame.additions) }
     {
@@ -145,21 +184,19 @@ impl<'input> Decoder<'input> {
     }
 
     /// What is left behind the additions that were not asked.
-    #[inline]
+    #[inline(always)]
     fn skip_unknown(&self) -> Result<&'input [u8], DecodeErrorKind>
         ensures { Gives (λ x. x.now) result (unknown_at self.now) }
     {
         match self.scope.bitmap {
-            Some(bits) => skip_additions(self.codec, bits, self.input),
-            None if self.scope.extended => {
-                let (bits, rest) = read_bitmap(self.codec, self.input)?;
-                skip_additions(self.codec, bits, rest)
-            }
+            Some(bits) => skip_left(self.codec, bits, self.input),
+            None if self.scope.extended => skip_all(self.codec, self.input),
             None => Ok(self.input),
         }
     }
 
     /// What is left behind the scope, after its closure.
+    #[inline(always)]
     #[tactic(auto, unfolding(crate::specs::Scopes::closed_at))]
     pub(crate) fn close(&self) -> Result<&'input [u8], DecodeErrorKind>
         ensures { Gives (λ x. x.now) result (closed_at self.now) }
@@ -181,7 +218,7 @@ impl<'input> Decoder<'input> {
     /// `Incomplete` where the preamble's octets are missing; nonzero fill bits, as `InvalidPreamble`; what `f` refuses; a
     /// row that was not asked, as `MissingTagClassOrValueInSequenceOrSet` with its tag, root rows first; the bitmap, where
     /// it was not yet read, and the skipped additions as `read_bitmap` and `skip_additions` refuse them.
-    #[inline]
+    #[inline(always)]
     pub fn decode_sequence<const RC: usize, const EC: usize, D, F>(
         &mut self,
         _tag: Tag,

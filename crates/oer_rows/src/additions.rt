@@ -105,10 +105,12 @@ impl ReadsAdditions for NoMore {
 
     ghost Refuses = { λ s e. ⊥ };
 
+    #[inline(always)]
     fn empty() -> () {
         ()
     }
 
+    #[inline(always)]
     fn read_additions(
         _alloc: Global,
         _decoder: &mut Decoder<'_>,
@@ -117,6 +119,7 @@ impl ReadsAdditions for NoMore {
         Ok(())
     }
 
+    #[inline(always)]
     fn taken(_slots: ()) -> () {
         ()
     }
@@ -146,10 +149,12 @@ impl<G: Place, B: Decode, R: ReadsAdditions> ReadsAdditions for MayAdd<G, B, R> 
 
     ghost Refuses = { λ s e. RowRefused (λ r t. Adds (B.tree B.CONSTRAINTS) B.IsValue (B.Answered B.CONSTRAINTS) s (Some G.tag) r t) R.Refuses e };
 
+    #[inline(always)]
     fn empty() -> Self::Slots {
         Both(None, R::empty())
     }
 
+    #[inline(always)]
     fn read_additions(
         alloc: Global,
         decoder: &mut Decoder<'_>,
@@ -161,6 +166,7 @@ impl<G: Place, B: Decode, R: ReadsAdditions> ReadsAdditions for MayAdd<G, B, R> 
         Ok(())
     }
 
+    #[inline(always)]
     fn taken(slots: Self::Slots) -> Self::More {
         let Both(value, rest) = slots;
         Both(value, R::taken(rest))
@@ -191,10 +197,12 @@ impl<R: ReadsAdditions> Reads for Extensible<R> {
 
     ghost Refuses = { R.Refuses };
 
+    #[inline(always)]
     fn empty() -> R::Slots {
         R::empty()
     }
 
+    #[inline(always)]
     fn read(
         alloc: Global,
         decoder: &mut Decoder<'_>,
@@ -204,6 +212,7 @@ impl<R: ReadsAdditions> Reads for Extensible<R> {
         Ok(())
     }
 
+    #[inline(always)]
     fn taken(slots: R::Slots) -> R::More {
         R::taken(slots)
     }

@@ -112,10 +112,12 @@ impl Reads for NoMore {
 
     ghost Refuses = { λ s e. ⊥ };
 
+    #[inline(always)]
     fn empty() -> () {
         ()
     }
 
+    #[inline(always)]
     fn read(
         _alloc: Global,
         _decoder: &mut Decoder<'_>,
@@ -124,6 +126,7 @@ impl Reads for NoMore {
         Ok(())
     }
 
+    #[inline(always)]
     fn taken(_slots: ()) -> () {
         ()
     }
@@ -156,10 +159,12 @@ impl<G: Place, B: Decode, R: Reads> Reads for Needs<G, B, R> {
 
     ghost Refuses = { λ s e. RowRefused (λ r t. Promised (B.tree B.CONSTRAINTS) B.IsValue (B.Answered B.CONSTRAINTS) s r t) R.Refuses e };
 
+    #[inline(always)]
     fn empty() -> Self::Slots {
         Both(None, R::empty())
     }
 
+    #[inline(always)]
     fn read(
         alloc: Global,
         decoder: &mut Decoder<'_>,
@@ -171,6 +176,7 @@ impl<G: Place, B: Decode, R: Reads> Reads for Needs<G, B, R> {
         Ok(())
     }
 
+    #[inline(always)]
     fn taken(slots: Self::Slots) -> Self::Values {
         let Both(value, rest) = slots;
         Both(value.unwrap(), R::taken(rest))
@@ -204,10 +210,12 @@ impl<G: Place, B: Decode, R: Reads> Reads for MayHave<G, B, R> {
 
     ghost Refuses = { λ s e. RowRefused (λ r t. Asks (B.tree B.CONSTRAINTS) B.IsValue (B.Answered B.CONSTRAINTS) s G.tag r t) R.Refuses e };
 
+    #[inline(always)]
     fn empty() -> Self::Slots {
         Both(None, R::empty())
     }
 
+    #[inline(always)]
     fn read(
         alloc: Global,
         decoder: &mut Decoder<'_>,
@@ -219,6 +227,7 @@ impl<G: Place, B: Decode, R: Reads> Reads for MayHave<G, B, R> {
         Ok(())
     }
 
+    #[inline(always)]
     fn taken(slots: Self::Slots) -> Self::Values {
         let Both(value, rest) = slots;
         Both(value, R::taken(rest))
@@ -254,10 +263,12 @@ impl<G: Place, B: Decode + EqualAsSpelled, D: Standard<B>, R: Reads> Reads
 
     ghost Refuses = { λ s e. RowRefused (λ r t. AsksStandard (B.tree B.CONSTRAINTS) B.IsValue (B.Answered B.CONSTRAINTS) B.eq D.wants_memory s G.tag D.value r t) R.Refuses e };
 
+    #[inline(always)]
     fn empty() -> Self::Slots {
         Both(None, R::empty())
     }
 
+    #[inline(always)]
     fn read(
         alloc: Global,
         decoder: &mut Decoder<'_>,
@@ -269,6 +280,7 @@ impl<G: Place, B: Decode + EqualAsSpelled, D: Standard<B>, R: Reads> Reads
         Ok(())
     }
 
+    #[inline(always)]
     fn taken(slots: Self::Slots) -> Self::Values {
         let Both(value, rest) = slots;
         Both(value.unwrap(), R::taken(rest))

@@ -43,10 +43,12 @@ impl<G: Place, B: Decode, R: ReadsAdditions> ReadsAdditions for Adds<G, B, R> {
 
     ghost Refuses = { λ s e. RowRefused (λ r t. AddsNeeded (B.tree B.CONSTRAINTS) B.IsValue (B.Answered B.CONSTRAINTS) s G.tag r t) R.Refuses e };
 
+    #[inline(always)]
     fn empty() -> Self::Slots {
         Both(None, R::empty())
     }
 
+    #[inline(always)]
     fn read_additions(
         alloc: Global,
         decoder: &mut Decoder<'_>,
@@ -66,6 +68,7 @@ impl<G: Place, B: Decode, R: ReadsAdditions> ReadsAdditions for Adds<G, B, R> {
         }
     }
 
+    #[inline(always)]
     fn taken(slots: Self::Slots) -> Self::More {
         let Both(value, rest) = slots;
         Both(value.unwrap(), R::taken(rest))
@@ -97,10 +100,12 @@ impl<G: Place, B: Decode + EqualAsSpelled, D: Standard<B>, R: ReadsAdditions> Re
 
     ghost Refuses = { λ s e. RowRefused (λ r t. AddsStandard (B.tree B.CONSTRAINTS) B.IsValue (B.Answered B.CONSTRAINTS) B.eq D.wants_memory s G.tag D.value r t) R.Refuses e };
 
+    #[inline(always)]
     fn empty() -> Self::Slots {
         Both(None, R::empty())
     }
 
+    #[inline(always)]
     fn read_additions(
         alloc: Global,
         decoder: &mut Decoder<'_>,
@@ -112,6 +117,7 @@ impl<G: Place, B: Decode + EqualAsSpelled, D: Standard<B>, R: ReadsAdditions> Re
         Ok(())
     }
 
+    #[inline(always)]
     fn taken(slots: Self::Slots) -> Self::More {
         let Both(value, rest) = slots;
         Both(value.unwrap(), R::taken(rest))
@@ -148,10 +154,12 @@ impl<
 
     ghost Refuses = { λ s e. RowRefused (λ r t. Adds (B.tree B.CONSTRAINTS) B.IsValue (B.Answered B.CONSTRAINTS) s None r t) R.Refuses e };
 
+    #[inline(always)]
     fn empty() -> Self::Slots {
         Both(None, R::empty())
     }
 
+    #[inline(always)]
     fn read_additions(
         alloc: Global,
         decoder: &mut Decoder<'_>,
@@ -163,6 +171,7 @@ impl<
         Ok(())
     }
 
+    #[inline(always)]
     fn taken(slots: Self::Slots) -> Self::More {
         let Both(value, rest) = slots;
         Both(value, R::taken(rest))

@@ -74,6 +74,7 @@ impl<const RC: usize, const EC: usize, T: Tabled<RC, EC>> Rowed for Sequence<T, 
 impl<const RC: usize, const EC: usize, T: Tabled<RC, EC> + Takes> Takes for Sequence<T, RC, EC> {
     ghost Refuses = { T.Refuses };
 
+    #[inline(always)]
     fn take(alloc: Global, decoder: &mut Decoder<'_>) -> Result<Sequence<T, RC, EC>, DecodeError> {
         Ok(Sequence(T::take(alloc, decoder)?))
     }
@@ -166,6 +167,7 @@ impl<const RC: usize, const EC: usize, T: Tabled<RC, EC> + Takes> Decode for Seq
 
     ghost Answered = { λ c s r t. RowAnswers T.row_schema T.EXTENSIBLE T.Refuses s r };
 
+    #[inline(always)]
     fn decode_with_tag_and_constraints(
         alloc: Global,
         decoder: &mut Decoder<'_>,

@@ -65,6 +65,7 @@ impl<K: Spelled> Rowed for BushComponents<K> {
 impl<K: Decode> Takes for BushComponents<K> {
     ghost Refuses = { ⟦<BushRow<K> as Reads>⟧.Refuses };
 
+    #[inline(always)]
     fn take(alloc: Global, decoder: &mut Decoder<'_>) -> Result<Self, DecodeError> {
         read_row::<Self, BushRow<K>>(alloc, decoder)
     }

@@ -33,6 +33,7 @@ impl Rowed for components::ConstrainedOptions {
 impl Takes for components::ConstrainedOptions {
     ghost Refuses = { ⟦<ConstrainedOptionsRow as Reads>⟧.Refuses };
 
+    #[inline(always)]
     fn take(alloc: Global, decoder: &mut Decoder<'_>) -> Result<Self, DecodeError> {
         read_row::<Self, ConstrainedOptionsRow>(alloc, decoder)
     }

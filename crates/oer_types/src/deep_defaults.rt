@@ -94,6 +94,7 @@ impl Rowed for components::DeepDefault {
 impl Takes for components::DeepDefault {
     ghost Refuses = { ⟦<DeepDefaultRow as Reads>⟧.Refuses };
 
+    #[inline(always)]
     fn take(alloc: Global, decoder: &mut Decoder<'_>) -> Result<Self, DecodeError> {
         read_row::<Self, DeepDefaultRow>(alloc, decoder)
     }

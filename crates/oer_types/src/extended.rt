@@ -79,6 +79,7 @@ impl Rowed for components::ExtendedOptional {
 impl Takes for components::ExtendedOptional {
     ghost Refuses = { ⟦<ExtendedRow as Reads>⟧.Refuses };
 
+    #[inline(always)]
     fn take(alloc: Global, decoder: &mut Decoder<'_>) -> Result<Self, DecodeError> {
         read_row::<Self, ExtendedRow>(alloc, decoder)
     }

@@ -32,6 +32,7 @@ impl Rowed for components::Sequence1 {
 impl Takes for components::Sequence1 {
     ghost Refuses = { ⟦<Sequence1Row as Reads>⟧.Refuses };
 
+    #[inline(always)]
     fn take(alloc: Global, decoder: &mut Decoder<'_>) -> Result<Self, DecodeError> {
         read_row::<Self, Sequence1Row>(alloc, decoder)
     }
@@ -87,6 +88,7 @@ impl Rowed for components::Sequence2 {
 impl Takes for components::Sequence2 {
     ghost Refuses = { ⟦<Sequence2Row as Reads>⟧.Refuses };
 
+    #[inline(always)]
     fn take(alloc: Global, decoder: &mut Decoder<'_>) -> Result<Self, DecodeError> {
         read_row::<Self, Sequence2Row>(alloc, decoder)
     }
@@ -141,6 +143,7 @@ impl Rowed for components::Sequence5 {
 impl Takes for components::Sequence5 {
     ghost Refuses = { ⟦<Sequence5Row as Reads>⟧.Refuses };
 
+    #[inline(always)]
     fn take(alloc: Global, decoder: &mut Decoder<'_>) -> Result<Self, DecodeError> {
         read_row::<Self, Sequence5Row>(alloc, decoder)
     }
@@ -195,6 +198,7 @@ impl Rowed for components::Outer {
 impl Takes for components::Outer {
     ghost Refuses = { ⟦<OuterRow as Reads>⟧.Refuses };
 
+    #[inline(always)]
     fn take(alloc: Global, decoder: &mut Decoder<'_>) -> Result<Self, DecodeError> {
         read_row::<Self, OuterRow>(alloc, decoder)
     }
@@ -246,6 +250,7 @@ impl Rowed for components::EmptyExtensible {
 impl Takes for components::EmptyExtensible {
     ghost Refuses = { ⟦<EmptyExtensibleRow as Reads>⟧.Refuses };
 
+    #[inline(always)]
     fn take(alloc: Global, decoder: &mut Decoder<'_>) -> Result<Self, DecodeError> {
         read_row::<Self, EmptyExtensibleRow>(alloc, decoder)
     }

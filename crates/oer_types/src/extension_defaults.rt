@@ -40,6 +40,7 @@ impl Rowed for components::AddDef {
 impl Takes for components::AddDef {
     ghost Refuses = { ⟦<AddDefRow as Reads>⟧.Refuses };
 
+    #[inline(always)]
     fn take(alloc: Global, decoder: &mut Decoder<'_>) -> Result<Self, DecodeError> {
         read_row::<Self, AddDefRow>(alloc, decoder)
     }
@@ -113,6 +114,7 @@ impl Rowed for components::Holder1 {
 impl Takes for components::Holder1 {
     ghost Refuses = { ⟦<Holder1Row as Reads>⟧.Refuses };
 
+    #[inline(always)]
     fn take(alloc: Global, decoder: &mut Decoder<'_>) -> Result<Self, DecodeError> {
         read_row::<Self, Holder1Row>(alloc, decoder)
     }
@@ -186,6 +188,7 @@ impl Rowed for components::Holder2 {
 impl Takes for components::Holder2 {
     ghost Refuses = { ⟦<Holder2Row as Reads>⟧.Refuses };
 
+    #[inline(always)]
     fn take(alloc: Global, decoder: &mut Decoder<'_>) -> Result<Self, DecodeError> {
         read_row::<Self, Holder2Row>(alloc, decoder)
     }

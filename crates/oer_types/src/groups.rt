@@ -32,6 +32,7 @@ impl Rowed for components::Sequence4 {
 impl Takes for components::Sequence4 {
     ghost Refuses = { ⟦<Sequence4Row as Reads>⟧.Refuses };
 
+    #[inline(always)]
     fn take(alloc: Global, decoder: &mut Decoder<'_>) -> Result<Self, DecodeError> {
         read_row::<Self, Sequence4Row>(alloc, decoder)
     }
@@ -83,6 +84,7 @@ impl Rowed for components::Sequence3 {
 impl Takes for components::Sequence3 {
     ghost Refuses = { ⟦<Sequence3Row as Reads>⟧.Refuses };
 
+    #[inline(always)]
     fn take(alloc: Global, decoder: &mut Decoder<'_>) -> Result<Self, DecodeError> {
         read_row::<Self, Sequence3Row>(alloc, decoder)
     }
@@ -134,6 +136,7 @@ impl Rowed for components::Group6 {
 impl Takes for components::Group6 {
     ghost Refuses = { ⟦<Group6Row as Reads>⟧.Refuses };
 
+    #[inline(always)]
     fn take(alloc: Global, decoder: &mut Decoder<'_>) -> Result<Self, DecodeError> {
         read_row::<Self, Group6Row>(alloc, decoder)
     }
@@ -185,6 +188,7 @@ impl Rowed for components::Sequence6 {
 impl Takes for components::Sequence6 {
     ghost Refuses = { ⟦<Sequence6Row as Reads>⟧.Refuses };
 
+    #[inline(always)]
     fn take(alloc: Global, decoder: &mut Decoder<'_>) -> Result<Self, DecodeError> {
         read_row::<Self, Sequence6Row>(alloc, decoder)
     }

@@ -39,6 +39,7 @@ impl<T: Decode + Encode> Rowed for HoldingComponents<T> {
 impl<T: Decode + Encode> Takes for HoldingComponents<T> {
     ghost Refuses = { ⟦<HoldingRow<T> as Reads>⟧.Refuses };
 
+    #[inline(always)]
     fn take(alloc: Global, decoder: &mut Decoder<'_>) -> Result<Self, DecodeError> {
         read_row::<Self, HoldingRow<T>>(alloc, decoder)
     }
@@ -103,6 +104,7 @@ impl<T: Decode + Encode> Rowed for AddingComponents<T> {
 impl<T: Decode + Encode> Takes for AddingComponents<T> {
     ghost Refuses = { ⟦<AddingRow<T> as Reads>⟧.Refuses };
 
+    #[inline(always)]
     fn take(alloc: Global, decoder: &mut Decoder<'_>) -> Result<Self, DecodeError> {
         read_row::<Self, AddingRow<T>>(alloc, decoder)
     }

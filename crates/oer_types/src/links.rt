@@ -66,6 +66,7 @@ impl<K: Encode> Rowed for LinkComponents<K> {
 impl<K: Encode + Decode> Takes for LinkComponents<K> {
     ghost Refuses = { ⟦<LinkRow<K> as Reads>⟧.Refuses };
 
+    #[inline(always)]
     fn take(alloc: Global, decoder: &mut Decoder<'_>) -> Result<Self, DecodeError> {
         read_row::<Self, LinkRow<K>>(alloc, decoder)
     }

@@ -79,6 +79,7 @@ impl Rowed for components::ManyOptional {
 impl Takes for components::ManyOptional {
     ghost Refuses = { ⟦<ManyRow as Reads>⟧.Refuses };
 
+    #[inline(always)]
     fn take(alloc: Global, decoder: &mut Decoder<'_>) -> Result<Self, DecodeError> {
         read_row::<Self, ManyRow>(alloc, decoder)
     }

@@ -39,6 +39,7 @@ impl Rowed for MixedComponents {
 impl Takes for MixedComponents {
     ghost Refuses = { ⟦<MixedRow as Reads>⟧.Refuses };
 
+    #[inline(always)]
     fn take(alloc: Global, decoder: &mut Decoder<'_>) -> Result<Self, DecodeError> {
         read_row::<Self, MixedRow>(alloc, decoder)
     }

@@ -51,6 +51,7 @@ impl Rowed for components::MixedSet {
 impl Takes for components::MixedSet {
     ghost Refuses = { ⟦<MixedSetRow as Reads>⟧.Refuses };
 
+    #[inline(always)]
     fn take(alloc: Global, decoder: &mut Decoder<'_>) -> Result<Self, DecodeError> {
         read_row::<Self, MixedSetRow>(alloc, decoder)
     }
@@ -136,6 +137,7 @@ impl Rowed for components::MixedSet2 {
 impl Takes for components::MixedSet2 {
     ghost Refuses = { ⟦<MixedSet2Row as Reads>⟧.Refuses };
 
+    #[inline(always)]
     fn take(alloc: Global, decoder: &mut Decoder<'_>) -> Result<Self, DecodeError> {
         read_row::<Self, MixedSet2Row>(alloc, decoder)
     }

@@ -32,6 +32,7 @@ impl Rowed for components::Omitted {
 impl Takes for components::Omitted {
     ghost Refuses = { ⟦<OmittedRow as Reads>⟧.Refuses };
 
+    #[inline(always)]
     fn take(alloc: Global, decoder: &mut Decoder<'_>) -> Result<Self, DecodeError> {
         read_row::<Self, OmittedRow>(alloc, decoder)
     }
@@ -97,6 +98,7 @@ impl Rowed for components::SequenceDuplicatesExtended {
 impl Takes for components::SequenceDuplicatesExtended {
     ghost Refuses = { ⟦<SequenceDuplicatesExtendedRow as Reads>⟧.Refuses };
 
+    #[inline(always)]
     fn take(alloc: Global, decoder: &mut Decoder<'_>) -> Result<Self, DecodeError> {
         read_row::<Self, SequenceDuplicatesExtendedRow>(alloc, decoder)
     }

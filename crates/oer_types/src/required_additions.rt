@@ -38,6 +38,7 @@ impl Rowed for SureComponents {
 impl Takes for SureComponents {
     ghost Refuses = { ⟦<SureRow as Reads>⟧.Refuses };
 
+    #[inline(always)]
     fn take(alloc: Global, decoder: &mut Decoder<'_>) -> Result<Self, DecodeError> {
         read_row::<Self, SureRow>(alloc, decoder)
     }

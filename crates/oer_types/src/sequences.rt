@@ -33,6 +33,7 @@ impl Rowed for components::Nested {
 impl Takes for components::Nested {
     ghost Refuses = { ⟦<NestedRow as Reads>⟧.Refuses };
 
+    #[inline(always)]
     fn take(alloc: Global, decoder: &mut Decoder<'_>) -> Result<Self, DecodeError> {
         read_row::<Self, NestedRow>(alloc, decoder)
     }
@@ -84,6 +85,7 @@ impl Rowed for components::Empty {
 impl Takes for components::Empty {
     ghost Refuses = { ⟦<EmptyRow as Reads>⟧.Refuses };
 
+    #[inline(always)]
     fn take(alloc: Global, decoder: &mut Decoder<'_>) -> Result<Self, DecodeError> {
         read_row::<Self, EmptyRow>(alloc, decoder)
     }
@@ -135,6 +137,7 @@ impl Rowed for components::DefaultInteger {
 impl Takes for components::DefaultInteger {
     ghost Refuses = { ⟦<DefaultIntegerRow as Reads>⟧.Refuses };
 
+    #[inline(always)]
     fn take(alloc: Global, decoder: &mut Decoder<'_>) -> Result<Self, DecodeError> {
         read_row::<Self, DefaultIntegerRow>(alloc, decoder)
     }
@@ -191,6 +194,7 @@ impl Rowed for components::DefaultAndOptional {
 impl Takes for components::DefaultAndOptional {
     ghost Refuses = { ⟦<DefaultAndOptionalRow as Reads>⟧.Refuses };
 
+    #[inline(always)]
     fn take(alloc: Global, decoder: &mut Decoder<'_>) -> Result<Self, DecodeError> {
         read_row::<Self, DefaultAndOptionalRow>(alloc, decoder)
     }
@@ -247,6 +251,7 @@ impl Rowed for components::AllDefault {
 impl Takes for components::AllDefault {
     ghost Refuses = { ⟦<AllDefaultRow as Reads>⟧.Refuses };
 
+    #[inline(always)]
     fn take(alloc: Global, decoder: &mut Decoder<'_>) -> Result<Self, DecodeError> {
         read_row::<Self, AllDefaultRow>(alloc, decoder)
     }
@@ -298,6 +303,7 @@ impl Rowed for components::AllOptional {
 impl Takes for components::AllOptional {
     ghost Refuses = { ⟦<AllOptionalRow as Reads>⟧.Refuses };
 
+    #[inline(always)]
     fn take(alloc: Global, decoder: &mut Decoder<'_>) -> Result<Self, DecodeError> {
         read_row::<Self, AllOptionalRow>(alloc, decoder)
     }

@@ -44,6 +44,7 @@ impl Rowed for components::Foo {
 impl Takes for components::Foo {
     ghost Refuses = { ⟦<FooRow as Reads>⟧.Refuses };
 
+    #[inline(always)]
     fn take(alloc: Global, decoder: &mut Decoder<'_>) -> Result<Self, DecodeError> {
         read_row::<Self, FooRow>(alloc, decoder)
     }

@@ -91,6 +91,7 @@ impl<K: Encode> Rowed for TopLevelComponents<K> {
 impl<K: Encode + Decode> Takes for TopLevelComponents<K> {
     ghost Refuses = { ⟦<TopRow<K> as Reads>⟧.Refuses };
 
+    #[inline(always)]
     fn take(alloc: Global, decoder: &mut Decoder<'_>) -> Result<Self, DecodeError> {
         read_row::<Self, TopRow<K>>(alloc, decoder)
     }

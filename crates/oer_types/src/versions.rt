@@ -41,6 +41,7 @@ impl Rowed for Addition7Components {
 impl Takes for Addition7Components {
     ghost Refuses = { ⟦<Addition7Row as Reads>⟧.Refuses };
 
+    #[inline(always)]
     fn take(alloc: Global, decoder: &mut Decoder<'_>) -> Result<Self, DecodeError> {
         read_row::<Self, Addition7Row>(alloc, decoder)
     }
@@ -118,6 +119,7 @@ impl Rowed for Sequence7Components {
 impl Takes for Sequence7Components {
     ghost Refuses = { ⟦<Sequence7Row as Reads>⟧.Refuses };
 
+    #[inline(always)]
     fn take(alloc: Global, decoder: &mut Decoder<'_>) -> Result<Self, DecodeError> {
         read_row::<Self, Sequence7Row>(alloc, decoder)
     }

@@ -75,6 +75,7 @@ impl<K: Spelled> Rowed for BranchComponents<K> {
 impl<K: Decode> Takes for BranchComponents<K> {
     ghost Refuses = { ⟦<BranchRow<K> as Reads>⟧.Refuses };
 
+    #[inline(always)]
     fn take(alloc: Global, decoder: &mut Decoder<'_>) -> Result<Self, DecodeError> {
         read_row::<Self, BranchRow<K>>(alloc, decoder)
     }

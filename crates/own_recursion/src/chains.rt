@@ -66,6 +66,7 @@ impl<K: Spelled> Rowed for ChainComponents<K> {
 impl<K: Decode> Takes for ChainComponents<K> {
     ghost Refuses = { ⟦<ChainRow<K> as Reads>⟧.Refuses };
 
+    #[inline(always)]
     fn take(alloc: Global, decoder: &mut Decoder<'_>) -> Result<Self, DecodeError> {
         read_row::<Self, ChainRow<K>>(alloc, decoder)
     }

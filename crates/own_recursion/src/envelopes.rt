@@ -69,6 +69,7 @@ impl<K: Encode> Rowed for EnvelopeComponents<K> {
 impl<K: Encode + Decode> Takes for EnvelopeComponents<K> {
     ghost Refuses = { ⟦<EnvelopeRow<K> as Reads>⟧.Refuses };
 
+    #[inline(always)]
     fn take(alloc: Global, decoder: &mut Decoder<'_>) -> Result<Self, DecodeError> {
         read_row::<Self, EnvelopeRow<K>>(alloc, decoder)
     }

@@ -69,6 +69,7 @@ impl<K: Spelled> Rowed for NodeComponents<K> {
 impl<K: Decode> Takes for NodeComponents<K> {
     ghost Refuses = { ⟦<NodeRow<K> as Reads>⟧.Refuses };
 
+    #[inline(always)]
     fn take(alloc: Global, decoder: &mut Decoder<'_>) -> Result<Self, DecodeError> {
         read_row::<Self, NodeRow<K>>(alloc, decoder)
     }

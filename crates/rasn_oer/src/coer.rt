@@ -53,6 +53,7 @@ pub fn encode_buf<T: Encode>(
 ///
 /// Refused exactly where no such encoding begins the input (docs/REFUSALS.md has the kinds and their order), or for want
 /// of memory.
+#[inline(always)]
 pub fn decode<T: Decode>(alloc: Global, input: &[u8]) -> Result<T, DecodeError>
     ensures read { IsReadAlone (T.tree T.CONSTRAINTS) T.IsValue Coer 128 input.now result }
     ensures says { SaysAlone (T.tree T.CONSTRAINTS) T.IsValue (T.Answered T.CONSTRAINTS) Coer 128 input.now result }
@@ -64,6 +65,7 @@ pub fn decode<T: Decode>(alloc: Global, input: &[u8]) -> Result<T, DecodeError>
 /// The value whose canonical encoding begins the input, within 128 levels, and the octets behind it.
 ///
 /// Refused as `decode` is.
+#[inline(always)]
 pub fn decode_with_remainder<'a, T: Decode>(
     alloc: Global,
     input: &'a [u8],

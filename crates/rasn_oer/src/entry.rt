@@ -30,6 +30,7 @@ pub(crate) fn encode_value<T: Encode>(
 }
 
 /// The value whose encoding begins the input, under constraints in place of its type's own, and the octets behind it.
+#[inline(always)]
 pub(crate) fn decode_value<'a, T: Decode>(
     alloc: Global,
     options: DecoderOptions,

@@ -55,6 +55,7 @@ pub fn encode_buf<T: Encode>(
 ///
 /// Refused exactly where no such encoding begins the input (docs/REFUSALS.md has the kinds and their order), or for want
 /// of memory.
+#[inline(always)]
 pub fn decode<T: Decode>(alloc: Global, input: &[u8]) -> Result<T, DecodeError>
     ensures read { IsReadAlone (T.tree T.CONSTRAINTS) T.IsValue Oer 128 input.now result }
     ensures says { SaysAlone (T.tree T.CONSTRAINTS) T.IsValue (T.Answered T.CONSTRAINTS) Oer 128 input.now result }
@@ -67,6 +68,7 @@ pub fn decode<T: Decode>(alloc: Global, input: &[u8]) -> Result<T, DecodeError>
 ///
 /// Refused exactly where no such encoding begins the input (docs/REFUSALS.md has the kinds and their order), or for want
 /// of memory.
+#[inline(always)]
 pub fn decode_with_options<'a, T: Decode>(
     alloc: Global,
     options: DecoderOptions,
@@ -81,6 +83,7 @@ pub fn decode_with_options<'a, T: Decode>(
 /// The value whose lenient encoding begins the input, within 128 levels, and the octets behind it.
 ///
 /// Refused as `decode` is.
+#[inline(always)]
 pub fn decode_with_remainder<'a, T: Decode>(
     alloc: Global,
     input: &'a [u8],

@@ -87,6 +87,7 @@ impl<K: Encode> Rowed for TreeComponents<K> {
 impl<K: Encode + Decode> Takes for TreeComponents<K> {
     ghost Refuses = { ⟦<TreeRow<K> as Reads>⟧.Refuses };
 
+    #[inline(always)]
     fn take(alloc: Global, decoder: &mut Decoder<'_>) -> Result<Self, DecodeError> {
         read_row::<Self, TreeRow<K>>(alloc, decoder)
     }
@@ -360,6 +361,7 @@ impl Rowed for PostComponents {
 impl Takes for PostComponents {
     ghost Refuses = { ⟦<PostRow as Reads>⟧.Refuses };
 
+    #[inline(always)]
     fn take(alloc: Global, decoder: &mut Decoder<'_>) -> Result<Self, DecodeError> {
         read_row::<Self, PostRow>(alloc, decoder)
     }

@@ -233,6 +233,7 @@ impl Rowed for RowInnerComponents {
 impl Takes for RowInnerComponents {
     ghost Refuses = { ⟦<RowInnerRow as Reads>⟧.Refuses };
 
+    #[inline(always)]
     fn take(alloc: Global, decoder: &mut Decoder<'_>) -> Result<Self, DecodeError> {
         read_row::<Self, RowInnerRow>(alloc, decoder)
     }
@@ -345,6 +346,7 @@ impl Rowed for RowGroup1Components {
 impl Takes for RowGroup1Components {
     ghost Refuses = { ⟦<RowGroup1Row as Reads>⟧.Refuses };
 
+    #[inline(always)]
     fn take(alloc: Global, decoder: &mut Decoder<'_>) -> Result<Self, DecodeError> {
         read_row::<Self, RowGroup1Row>(alloc, decoder)
     }
@@ -458,6 +460,7 @@ impl Rowed for RowComponents {
 impl Takes for RowComponents {
     ghost Refuses = { ⟦<RowRow as Reads>⟧.Refuses };
 
+    #[inline(always)]
     fn take(alloc: Global, decoder: &mut Decoder<'_>) -> Result<Self, DecodeError> {
         read_row::<Self, RowRow>(alloc, decoder)
     }

@@ -53,6 +53,7 @@ impl Rowed for BagComponents {
 impl Takes for BagComponents {
     ghost Refuses = { ⟦<BagRow as Reads>⟧.Refuses };
 
+    #[inline(always)]
     fn take(alloc: Global, decoder: &mut Decoder<'_>) -> Result<Self, DecodeError> {
         read_row::<Self, BagRow>(alloc, decoder)
     }
@@ -296,6 +297,7 @@ impl Rowed for LetterHeadComponents {
 impl Takes for LetterHeadComponents {
     ghost Refuses = { ⟦<LetterHeadRow as Reads>⟧.Refuses };
 
+    #[inline(always)]
     fn take(alloc: Global, decoder: &mut Decoder<'_>) -> Result<Self, DecodeError> {
         read_row::<Self, LetterHeadRow>(alloc, decoder)
     }
@@ -410,6 +412,7 @@ impl Rowed for LetterGroup1Components {
 impl Takes for LetterGroup1Components {
     ghost Refuses = { ⟦<LetterGroup1Row as Reads>⟧.Refuses };
 
+    #[inline(always)]
     fn take(alloc: Global, decoder: &mut Decoder<'_>) -> Result<Self, DecodeError> {
         read_row::<Self, LetterGroup1Row>(alloc, decoder)
     }
@@ -495,6 +498,7 @@ impl Rowed for LetterComponents {
 impl Takes for LetterComponents {
     ghost Refuses = { ⟦<LetterRow as Reads>⟧.Refuses };
 
+    #[inline(always)]
     fn take(alloc: Global, decoder: &mut Decoder<'_>) -> Result<Self, DecodeError> {
         read_row::<Self, LetterRow>(alloc, decoder)
     }

@@ -281,6 +281,7 @@ impl Rowed for PermitComponents {
 impl Takes for PermitComponents {
     ghost Refuses = { ⟦<PermitRow as Reads>⟧.Refuses };
 
+    #[inline(always)]
     fn take(alloc: Global, decoder: &mut Decoder<'_>) -> Result<Self, DecodeError> {
         read_row::<Self, PermitRow>(alloc, decoder)
     }
@@ -380,6 +381,7 @@ impl Rowed for FolderComponents {
 impl Takes for FolderComponents {
     ghost Refuses = { ⟦<FolderRow as Reads>⟧.Refuses };
 
+    #[inline(always)]
     fn take(alloc: Global, decoder: &mut Decoder<'_>) -> Result<Self, DecodeError> {
         read_row::<Self, FolderRow>(alloc, decoder)
     }
@@ -690,6 +692,7 @@ impl Rowed for LabelsComponents {
 impl Takes for LabelsComponents {
     ghost Refuses = { ⟦<LabelsRow as Reads>⟧.Refuses };
 
+    #[inline(always)]
     fn take(alloc: Global, decoder: &mut Decoder<'_>) -> Result<Self, DecodeError> {
         read_row::<Self, LabelsRow>(alloc, decoder)
     }

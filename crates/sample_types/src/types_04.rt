@@ -42,6 +42,7 @@ impl Rowed for SpotComponents {
 impl Takes for SpotComponents {
     ghost Refuses = { ⟦<SpotRow as Reads>⟧.Refuses };
 
+    #[inline(always)]
     fn take(alloc: Global, decoder: &mut Decoder<'_>) -> Result<Self, DecodeError> {
         read_row::<Self, SpotRow>(alloc, decoder)
     }
@@ -116,6 +117,7 @@ impl Rowed for AreaBoxesComponents {
 impl Takes for AreaBoxesComponents {
     ghost Refuses = { ⟦<AreaBoxesRow as Reads>⟧.Refuses };
 
+    #[inline(always)]
     fn take(alloc: Global, decoder: &mut Decoder<'_>) -> Result<Self, DecodeError> {
         read_row::<Self, AreaBoxesRow>(alloc, decoder)
     }
@@ -190,6 +192,7 @@ impl Rowed for AreaRoundComponents {
 impl Takes for AreaRoundComponents {
     ghost Refuses = { ⟦<AreaRoundRow as Reads>⟧.Refuses };
 
+    #[inline(always)]
     fn take(alloc: Global, decoder: &mut Decoder<'_>) -> Result<Self, DecodeError> {
         read_row::<Self, AreaRoundRow>(alloc, decoder)
     }
@@ -373,6 +376,7 @@ impl Rowed for ThenComponents {
 impl Takes for ThenComponents {
     ghost Refuses = { ⟦<ThenRow as Reads>⟧.Refuses };
 
+    #[inline(always)]
     fn take(alloc: Global, decoder: &mut Decoder<'_>) -> Result<Self, DecodeError> {
         read_row::<Self, ThenRow>(alloc, decoder)
     }
@@ -526,6 +530,7 @@ impl Rowed for PlainComponents {
 impl Takes for PlainComponents {
     ghost Refuses = { ⟦<PlainRow as Reads>⟧.Refuses };
 
+    #[inline(always)]
     fn take(alloc: Global, decoder: &mut Decoder<'_>) -> Result<Self, DecodeError> {
         read_row::<Self, PlainRow>(alloc, decoder)
     }

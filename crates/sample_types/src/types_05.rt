@@ -89,6 +89,7 @@ impl Rowed for TakenComponents {
 impl Takes for TakenComponents {
     ghost Refuses = { ⟦<TakenRow as Reads>⟧.Refuses };
 
+    #[inline(always)]
     fn take(alloc: Global, decoder: &mut Decoder<'_>) -> Result<Self, DecodeError> {
         read_row::<Self, TakenRow>(alloc, decoder)
     }
@@ -562,6 +563,7 @@ impl Rowed for LeavesComponents {
 impl Takes for LeavesComponents {
     ghost Refuses = { ⟦<LeavesRow as Reads>⟧.Refuses };
 
+    #[inline(always)]
     fn take(alloc: Global, decoder: &mut Decoder<'_>) -> Result<Self, DecodeError> {
         read_row::<Self, LeavesRow>(alloc, decoder)
     }

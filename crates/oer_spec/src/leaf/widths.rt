@@ -20,6 +20,7 @@ impl IntegerWidth {
     ghost use Rattle.oer_spec.specs.ReadingIntegers.{is_signed};
 
     /// Whether the number is in two's complement.
+    #[inline(always)]
     pub fn is_signed(self) -> bool
         ensures { result ≡ is_signed (width_view self) }
     {
@@ -71,6 +72,7 @@ fn signed_width(low: i128, high: i128) -> IntegerWidth
 }
 
 /// The layout under these constraints: an extensible constraint counts as none (X.696, 10.1).
+#[inline(always)]
 pub fn width_of(constraints: &Constraints) -> IntegerWidth
     ensures { width_view result ≡ width_of (value_bounds constraints.now) }
 {
@@ -86,6 +88,7 @@ pub fn width_of(constraints: &Constraints) -> IntegerWidth
 }
 
 /// Whether the number is allowed; under a constraint that isn't extensible only one of i128 is.
+#[inline(always)]
 pub fn is_in_range<I: IntegerType>(constraints: &Constraints, value: &I) -> bool
     ensures { result ≡ in_range (value_bounds constraints.now) (I.number value.now) }
 {

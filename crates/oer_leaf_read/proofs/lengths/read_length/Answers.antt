@@ -10,4 +10,4 @@ returns-then-first-lt128-clause-relation c = front_ok (length_reads c.args.codec
 
 pub returns-clause-relation : goal.returns-clause-relation
 unfolding length_at
-returns-clause-relation c = front_of (length_reads c.args.codec) _ c.args.input.now c.read_long_length.result c.type_inv.input (search rules)
+returns-clause-relation c = front_of (length_reads c.args.codec) _ c.args.input.now c.behind_long_length.result c.type_inv.input (search rules)
