@@ -1,8 +1,8 @@
 ghost use Rattle.std.specs.Prelude.{◌≡◌, ◌==◌, length, IfOk};
 ghost use Rattle.asn1_core.specs.Octets.{AreOctets};
 
-use bytes::BytesMut;
 use asn1_core::{AsnType, Constraints, Tag};
+use bytes::BytesMut;
 use std::alloc::{AllocError, Global};
 use std::marker::{Model, PhantomData};
 

@@ -30,24 +30,31 @@ module _ {A : Type 0} (tree : A → Tree) (IsValue : A → Type 0) where
       → Reads tree IsValue (apart codec levels input) v (apart codec levels rest) → Decodes tree IsValue s (Ok v) t
   law_read s codec levels input rest v t ec el ei et r =
       subst (λ (z : State). Decodes tree IsValue s (Ok v) z) (sym et)
-        (record { read = reads_within s v rest
+      (record {
+        read = reads_within s v rest
             (subst (λ (c : Codec). Reads tree IsValue (apart c s.levels s.input) v (apart c s.levels rest)) ec
             (subst (λ (n : ℕ). Reads tree IsValue (apart codec n s.input) v (apart codec n rest)) el
-            (subst (λ (o : Octets). Reads tree IsValue (apart codec levels o) v (apart codec levels rest)) ei r))); refused = tt })
+            (subst (λ (o : Octets). Reads tree IsValue (apart codec levels o) v (apart codec levels rest)) ei r)));
+        refused = tt;
+      })
 
   pub law_refused : (s : State) (codec : Codec) (levels : ℕ) (input : Octets) (e : DecodeError)
       → codec ≡ s.codec → levels ≡ s.levels → input ≡ s.input
       → RefusedBy tree IsValue e (apart codec levels input) (apart codec levels input) → Decodes tree IsValue s (Err e) s
   law_refused s codec levels input e ec el ei r =
-      record { read = tt; refused = refused_within s e
-        (subst (λ (c : Codec). RefusedBy tree IsValue e (apart c s.levels s.input) (apart c s.levels s.input)) ec
-        (subst (λ (n : ℕ). RefusedBy tree IsValue e (apart codec n s.input) (apart codec n s.input)) el
-        (subst (λ (o : Octets). RefusedBy tree IsValue e (apart codec levels o) (apart codec levels o)) ei r))) }
+      record {
+        read = tt;
+        refused = refused_within s e
+            (subst (λ (c : Codec). RefusedBy tree IsValue e (apart c s.levels s.input) (apart c s.levels s.input)) ec
+            (subst (λ (n : ℕ). RefusedBy tree IsValue e (apart codec n s.input) (apart codec n s.input)) el
+            (subst (λ (o : Octets). RefusedBy tree IsValue e (apart codec levels o) (apart codec levels o)) ei r)));
+      }
 
 module _ {A : Type 0} (Ran : State → Result A DecodeError → State → Type 0) (extensible : Bool) (roots additions : List Row) where
   -- a scope is opened by the input, the rules and the levels alone
   opened_apart : (s : State) → opened_at s extensible roots additions ≡ opened_at (apart s.codec s.levels s.input) extensible roots additions
-  opened_apart s = unfolding opened_at in refl
+  unfolding opened_at
+  opened_apart s = refl
 
   refused_from : (s : State) (e : DecodeError) → SequenceRefused Ran extensible roots additions (apart s.codec s.levels s.input) e → SequenceRefused Ran extensible roots additions s e
   refused_from s e (NotOpened p c) = NotOpened (trans (opened_apart s) p) c

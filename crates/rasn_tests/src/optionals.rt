@@ -42,6 +42,7 @@ impl Rowed for UntaggedComponents {
 impl Takes for UntaggedComponents {
     ghost Refuses = { ⟦<UntaggedRow as Reads>⟧.Refuses };
 
+    #[inline(always)]
     fn take(alloc: Global, decoder: &mut Decoder<'_>) -> Result<Self, DecodeError> {
         read_row::<Self, UntaggedRow>(alloc, decoder)
     }
@@ -111,6 +112,7 @@ impl Rowed for ExplicitComponents {
 impl Takes for ExplicitComponents {
     ghost Refuses = { ⟦<ExplicitRow as Reads>⟧.Refuses };
 
+    #[inline(always)]
     fn take(alloc: Global, decoder: &mut Decoder<'_>) -> Result<Self, DecodeError> {
         read_row::<Self, ExplicitRow>(alloc, decoder)
     }

@@ -42,6 +42,7 @@ impl<A: Decode + Encode, B: Decode + Encode> Rowed for TwoComponents<A, B> {
 impl<A: Decode + Encode, B: Decode + Encode> Takes for TwoComponents<A, B> {
     ghost Refuses = { ⟦<TwoRow<A, B> as Reads>⟧.Refuses };
 
+    #[inline(always)]
     fn take(alloc: Global, decoder: &mut Decoder<'_>) -> Result<Self, DecodeError> {
         read_row::<Self, TwoRow<A, B>>(alloc, decoder)
     }
@@ -104,6 +105,7 @@ impl<T: Decode + Encode> Rowed for MayPairComponents<T> {
 impl<T: Decode + Encode> Takes for MayPairComponents<T> {
     ghost Refuses = { ⟦<MayPairRow<T> as Reads>⟧.Refuses };
 
+    #[inline(always)]
     fn take(alloc: Global, decoder: &mut Decoder<'_>) -> Result<Self, DecodeError> {
         read_row::<Self, MayPairRow<T>>(alloc, decoder)
     }
