@@ -9,17 +9,20 @@ use asn1_core::{Codec, DecodeErrorKind};
 use asn1_ints::has_superfluous_zero;
 
 /// The number of a quantity's octets.
-#[inline]
+#[inline(always)]
 #[tactic(auto, unfolding(oer_spec::specs::Reading::quantity_in))]
 fn quantity_in(codec: Codec, content: &[u8]) -> Result<usize, DecodeErrorKind>
     ensures function { Gives (λ x. x) result (quantity_in codec content.now) }
     ensures memory { IfErr result IsNotForMemory }
 {
-    if content.is_empty() {
-        return Err(DecodeErrorKind::EmptyInteger);
+    match content {
+        [] => Err(DecodeErrorKind::EmptyInteger),
+        [one] => Ok(*one as usize),
+        [_, _, ..] => {
+            require_canonical(codec, has_superfluous_zero(content))?;
+            unsigned_of(content).ok_or(DecodeErrorKind::LengthExceedsPlatformWidth)
+        }
     }
-    require_canonical(codec, has_superfluous_zero(content))?;
-    unsigned_of(content).ok_or(DecodeErrorKind::LengthExceedsPlatformWidth)
 }
 
 /// How many elements a list has, at the front, and what is left (X.696, 17.2).
@@ -27,7 +30,7 @@ fn quantity_in(codec: Codec, content: &[u8]) -> Result<usize, DecodeErrorKind>
 /// Refused as the octets behind a length are (`read_content`); then, the first that applies: no octets, as
 /// `EmptyInteger`; in canonical reading a leading octet 00 of more than one, as `NotValidCanonicalEncoding`; above
 /// `usize::MAX`, as `LengthExceedsPlatformWidth`.
-#[inline]
+#[inline(always)]
 #[tactic(auto, unfolding(oer_spec::specs::Reading::quantity_at))]
 pub fn read_quantity(codec: Codec, input: &[u8]) -> Result<(usize, &[u8]), DecodeErrorKind>
     ensures function { Gives (λ x. (x.0, x.1.now)) result (quantity_at codec input.now) }

@@ -40,6 +40,13 @@ list_opens s n rest fits e =
     let f = (quantity_reads s.codec).found s.input rest n fits l.2 in
     record { level = (level_ok s.levels l.0 l.1).0; quantity = f.0; split = f.1; spelled = f.2 }
 
+-- a list takes octets for its quantity
+pub list_takes : (s : State) (n : ℕ) (rest : Octets) → ListOpens s n rest → length rest < length s.input
+list_takes s n rest o = takes o.quantity o.spelled o.split
+  where
+    takes : (q : Octets) → IsQuantity (mode_of s.codec) q n → s.input ≡ q ++ rest → length rest < length s.input
+    takes q (c, (l, split, _), some, _) e = omega (arith, some, ap length split, length-append l c, ap length e, length-append q rest)
+
 pub list_again : (s : State) (n : ℕ) (rest : Octets) → ListOpens s n rest → list_opened_at s ≡ Ok (n, rest)
 unfolding list_opened_at
 list_again s n rest o =

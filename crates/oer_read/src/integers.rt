@@ -41,6 +41,7 @@ impl Decode for i8 {
 
     ghost Answered = { IntegerAnswers ⟦<i8 as IntegerType>⟧.number ⟦<i8 as IntegerType>⟧.admits ⟦<i8 as IntegerType>⟧.TAKES_MEMORY };
 
+    #[inline(always)]
     fn decode_with_tag_and_constraints(
         alloc: Global,
         decoder: &mut Decoder<'_>,
@@ -56,6 +57,7 @@ impl Decode for i16 {
 
     ghost Answered = { IntegerAnswers ⟦<i16 as IntegerType>⟧.number ⟦<i16 as IntegerType>⟧.admits ⟦<i16 as IntegerType>⟧.TAKES_MEMORY };
 
+    #[inline(always)]
     fn decode_with_tag_and_constraints(
         alloc: Global,
         decoder: &mut Decoder<'_>,
@@ -71,6 +73,7 @@ impl Decode for i32 {
 
     ghost Answered = { IntegerAnswers ⟦<i32 as IntegerType>⟧.number ⟦<i32 as IntegerType>⟧.admits ⟦<i32 as IntegerType>⟧.TAKES_MEMORY };
 
+    #[inline(always)]
     fn decode_with_tag_and_constraints(
         alloc: Global,
         decoder: &mut Decoder<'_>,
@@ -86,6 +89,7 @@ impl Decode for i64 {
 
     ghost Answered = { IntegerAnswers ⟦<i64 as IntegerType>⟧.number ⟦<i64 as IntegerType>⟧.admits ⟦<i64 as IntegerType>⟧.TAKES_MEMORY };
 
+    #[inline(always)]
     fn decode_with_tag_and_constraints(
         alloc: Global,
         decoder: &mut Decoder<'_>,
@@ -101,6 +105,7 @@ impl Decode for i128 {
 
     ghost Answered = { IntegerAnswers ⟦<i128 as IntegerType>⟧.number ⟦<i128 as IntegerType>⟧.admits ⟦<i128 as IntegerType>⟧.TAKES_MEMORY };
 
+    #[inline(always)]
     fn decode_with_tag_and_constraints(
         alloc: Global,
         decoder: &mut Decoder<'_>,
@@ -116,6 +121,7 @@ impl Decode for isize {
 
     ghost Answered = { IntegerAnswers ⟦<isize as IntegerType>⟧.number ⟦<isize as IntegerType>⟧.admits ⟦<isize as IntegerType>⟧.TAKES_MEMORY };
 
+    #[inline(always)]
     fn decode_with_tag_and_constraints(
         alloc: Global,
         decoder: &mut Decoder<'_>,
@@ -131,6 +137,7 @@ impl Decode for u8 {
 
     ghost Answered = { IntegerAnswers ⟦<u8 as IntegerType>⟧.number ⟦<u8 as IntegerType>⟧.admits ⟦<u8 as IntegerType>⟧.TAKES_MEMORY };
 
+    #[inline(always)]
     fn decode_with_tag_and_constraints(
         alloc: Global,
         decoder: &mut Decoder<'_>,
@@ -146,6 +153,7 @@ impl Decode for u16 {
 
     ghost Answered = { IntegerAnswers ⟦<u16 as IntegerType>⟧.number ⟦<u16 as IntegerType>⟧.admits ⟦<u16 as IntegerType>⟧.TAKES_MEMORY };
 
+    #[inline(always)]
     fn decode_with_tag_and_constraints(
         alloc: Global,
         decoder: &mut Decoder<'_>,
@@ -161,6 +169,7 @@ impl Decode for u32 {
 
     ghost Answered = { IntegerAnswers ⟦<u32 as IntegerType>⟧.number ⟦<u32 as IntegerType>⟧.admits ⟦<u32 as IntegerType>⟧.TAKES_MEMORY };
 
+    #[inline(always)]
     fn decode_with_tag_and_constraints(
         alloc: Global,
         decoder: &mut Decoder<'_>,
@@ -176,6 +185,7 @@ impl Decode for u64 {
 
     ghost Answered = { IntegerAnswers ⟦<u64 as IntegerType>⟧.number ⟦<u64 as IntegerType>⟧.admits ⟦<u64 as IntegerType>⟧.TAKES_MEMORY };
 
+    #[inline(always)]
     fn decode_with_tag_and_constraints(
         alloc: Global,
         decoder: &mut Decoder<'_>,
@@ -191,6 +201,7 @@ impl Decode for u128 {
 
     ghost Answered = { IntegerAnswers ⟦<u128 as IntegerType>⟧.number ⟦<u128 as IntegerType>⟧.admits ⟦<u128 as IntegerType>⟧.TAKES_MEMORY };
 
+    #[inline(always)]
     fn decode_with_tag_and_constraints(
         alloc: Global,
         decoder: &mut Decoder<'_>,
@@ -206,6 +217,7 @@ impl Decode for usize {
 
     ghost Answered = { IntegerAnswers ⟦<usize as IntegerType>⟧.number ⟦<usize as IntegerType>⟧.admits ⟦<usize as IntegerType>⟧.TAKES_MEMORY };
 
+    #[inline(always)]
     fn decode_with_tag_and_constraints(
         alloc: Global,
         decoder: &mut Decoder<'_>,
@@ -237,6 +249,7 @@ impl<R: IntegerRange> Decode for ConstrainedInteger<R> {
 
     ghost Answered = { IntegerAnswers ⟦<ConstrainedInteger<R> as IntegerType>⟧.number ⟦<ConstrainedInteger<R> as IntegerType>⟧.admits ⟦<ConstrainedInteger<R> as IntegerType>⟧.TAKES_MEMORY };
 
+    #[inline(always)]
     fn decode_with_tag_and_constraints(
         alloc: Global,
         decoder: &mut Decoder<'_>,

@@ -25,4 +25,5 @@ pub use choices::DecodeChoice;
 pub use de::DecoderOptions;
 pub use decode::Decode;
 pub use decoder::Decoder;
+pub use lists::keep;
 pub use oer_spec::{Spelled, laws};

@@ -24,7 +24,7 @@ const MOST_AT_ONCE: usize = 1024;
 
 /// How many elements a list makes room for at its first one, which left so many of the octets that were there: as many as
 /// those would hold, were each as long as the first, but no more than are stated, nor than 1,024.
-#[inline]
+#[inline(always)]
 fn room_for(quantity: usize, there: usize, left: usize) -> usize
     ensures stated { result ≤ quantity }
     ensures octets { result ≤ there }
@@ -34,12 +34,17 @@ fn room_for(quantity: usize, there: usize, left: usize) -> usize
     if taken == 0 {
         return 0;
     }
-    (there / taken).min(quantity).min(MOST_AT_ONCE)
+    let most = quantity.min(MOST_AT_ONCE);
+    if most <= 1 {
+        return most;
+    }
+    (there / taken).min(most)
 }
 
-/// Keeps an element, which left so many of the octets that were there. At the first one room is made for others.
-#[inline]
-pub(crate) fn keep<D: Drop>(
+/// Puts an element that was read behind the others of a list of so many, and makes room for others at the first. `there` and
+/// `left` are how many octets there were in front of the element and behind it. Refused where memory is.
+#[inline(always)]
+pub fn keep<D: Drop>(
     items: &mut Vec<D>,
     item: D,
     quantity: usize,
@@ -56,10 +61,12 @@ pub(crate) fn keep<D: Drop>(
 }
 
 impl<'input> Decoder<'input> {
-    /// How many elements a list has, and what is left.
-    #[inline]
+    /// How many elements the list at the front has, and what is left (X.696, 17.2).
+    ///
+    /// Refused, the first that applies: no level is left, as `ExceedsMaxParseDepth`; the quantity as `read_quantity` refuses it.
+    #[inline(always)]
     #[tactic(auto, unfolding(crate::specs::Lists::list_opened_at))]
-    pub(crate) fn open_list(&self) -> Result<(usize, &'input [u8]), DecodeErrorKind>
+    pub fn open_list(&self) -> Result<(usize, &'input [u8]), DecodeErrorKind>
         ensures quantity { Gives (λ x. (x.0, x.1.now)) result (list_opened_at self.now) }
         ensures level { OnOk result (0 < self.now.levels) }
         ensures octets { AreOctets self.now.input }

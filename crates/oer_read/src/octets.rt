@@ -25,6 +25,7 @@ impl<'input> Decoder<'input> {
     /// canonical mode by `NotValidCanonicalEncoding`; `InvalidBitString`; above `usize::MAX / 8` octets by
     /// `LengthExceedsPlatformWidth`; `Incomplete`; a nonzero unused bit, in canonical mode by
     /// `NotValidCanonicalEncoding`; `SizeConstraintNotSatisfied` with the size in bits. `OutOfMemory` comes last.
+    #[inline(always)]
     pub fn decode_bit_string(
         &mut self,
         alloc: Global,
@@ -43,6 +44,7 @@ impl<'input> Decoder<'input> {
     ///
     /// Refused, the first that applies: what the length is refused by; above `usize::MAX / 8` octets by
     /// `LengthExceedsPlatformWidth`; `Incomplete`; `SizeConstraintNotSatisfied` with the size in octets.
+    #[inline(always)]
     pub fn decode_octet_string(
         &mut self,
         _tag: Tag,
@@ -59,6 +61,7 @@ impl<'input> Decoder<'input> {
     /// Reads the octets of an open type (X.696, 30): a length and that many.
     ///
     /// Refused as `decode_octet_string` does without constraints; then `OutOfMemory`.
+    #[inline(always)]
     pub fn decode_any(&mut self, alloc: Global, _tag: Tag) -> Result<Any, DecodeError>
         ensures function { Answers (λ v. v) self.old result self.new (octet_string_at None self.old.codec self.old.input) }
         ensures law { Decodes (unsized_text AnyOctets) (IsTextOf AnyOctets) self.old result self.new }
@@ -90,6 +93,7 @@ impl Decode for BitString {
 
     ghost Answered = { λ c s r t. LeafAnswers (λ v. v) true s r t (bit_string_at (size_bounds c) s.codec s.input) };
 
+    #[inline(always)]
     fn decode_with_tag_and_constraints(
         alloc: Global,
         decoder: &mut Decoder<'_>,
@@ -127,6 +131,7 @@ impl Decode for Any {
 
     ghost Answered = { λ c s r t. LeafAnswers (λ v. v) true s r t (octet_string_at None s.codec s.input) };
 
+    #[inline(always)]
     fn decode_with_tag_and_constraints(
         alloc: Global,
         decoder: &mut Decoder<'_>,

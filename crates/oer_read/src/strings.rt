@@ -28,6 +28,7 @@ impl<'input> Decoder<'input> {
     ///
     /// Refused as `decode_octet_string` does; then `StringConversionFailed` where the octets are no UTF-8; then
     /// `OutOfMemory`.
+    #[inline(always)]
     pub fn decode_utf8_string(
         &mut self,
         alloc: Global,
@@ -45,6 +46,7 @@ impl<'input> Decoder<'input> {
     ///
     /// Refused as `decode_octet_string` does; then `PermittedAlphabetError` where a character is outside the alphabet;
     /// then `OutOfMemory`.
+    #[inline(always)]
     pub fn decode_visible_string(
         &mut self,
         alloc: Global,
@@ -61,6 +63,7 @@ impl<'input> Decoder<'input> {
     /// Reads a GeneralString (X.696, 27), whose size counts characters of one octet; any octet is one.
     ///
     /// Refused as `decode_octet_string` does; then `OutOfMemory`.
+    #[inline(always)]
     pub fn decode_general_string(
         &mut self,
         alloc: Global,
@@ -77,6 +80,7 @@ impl<'input> Decoder<'input> {
     /// Reads a GraphicString (X.696, 27), whose size counts characters of one octet; any octet is one.
     ///
     /// Refused as `decode_octet_string` does; then `OutOfMemory`.
+    #[inline(always)]
     pub fn decode_graphic_string(
         &mut self,
         alloc: Global,
@@ -94,6 +98,7 @@ impl<'input> Decoder<'input> {
     ///
     /// Refused as `decode_octet_string` does; then `PermittedAlphabetError` where a character is outside the alphabet;
     /// then `OutOfMemory`.
+    #[inline(always)]
     pub fn decode_ia5_string(
         &mut self,
         alloc: Global,
@@ -111,6 +116,7 @@ impl<'input> Decoder<'input> {
     ///
     /// Refused as `decode_octet_string` does; then `PermittedAlphabetError` where a character is outside the alphabet;
     /// then `OutOfMemory`.
+    #[inline(always)]
     pub fn decode_printable_string(
         &mut self,
         alloc: Global,
@@ -128,6 +134,7 @@ impl<'input> Decoder<'input> {
     ///
     /// Refused as `decode_octet_string` does; then `PermittedAlphabetError` where a character is outside the alphabet;
     /// then `OutOfMemory`.
+    #[inline(always)]
     pub fn decode_numeric_string(
         &mut self,
         alloc: Global,
@@ -144,6 +151,7 @@ impl<'input> Decoder<'input> {
     /// Reads a TeletexString (X.696, 27), whose size counts characters of one octet; any octet is one.
     ///
     /// Refused as `decode_octet_string` does; then `OutOfMemory`.
+    #[inline(always)]
     pub fn decode_teletex_string(
         &mut self,
         alloc: Global,
@@ -163,6 +171,7 @@ impl<'input> Decoder<'input> {
     /// `LengthExceedsPlatformWidth`, then `Incomplete`; else what the length is refused by, above `usize::MAX / 8` octets
     /// by `LengthExceedsPlatformWidth`, `Incomplete`, an odd count of octets by `PermittedAlphabetError`, and
     /// `SizeConstraintNotSatisfied` with the size in characters. `OutOfMemory` comes last.
+    #[inline(always)]
     pub fn decode_bmp_string(
         &mut self,
         alloc: Global,
@@ -201,6 +210,7 @@ impl Decode for Utf8String {
 
     ghost Answered = { λ c s r t. LeafAnswers (λ v. string_bytes v) true s r t (text_at is_utf8 StringConversionFailed (size_bounds c) s.codec s.input) };
 
+    #[inline(always)]
     fn decode_with_tag_and_constraints(
         alloc: Global,
         decoder: &mut Decoder<'_>,
@@ -221,6 +231,7 @@ impl<C: CharacterSet> Decode for RestrictedString<C> {
 
     ghost Answered = { λ c s r t. LeafAnswers (λ v. v) true s r t (characters_at (unit_of C.rule) (are_characters (unit_of C.rule) C.permitted) (size_bounds c) s.codec s.input) };
 
+    #[inline(always)]
     fn decode_with_tag_and_constraints(
         alloc: Global,
         decoder: &mut Decoder<'_>,

@@ -19,6 +19,7 @@ impl<'input> Decoder<'input> {
     /// Reads a UTCTime (X.696, 29): a length and the octets of `YYMMDDhhmmssZ`. No memory is taken.
     ///
     /// Refused as `decode_octet_string` does without constraints; then `InvalidTime` where the octets are no such text.
+    #[inline(always)]
     pub fn decode_utc_time(&mut self, _tag: Tag) -> Result<UtcTime, DecodeError>
         ensures function { Answers utc_text self.old result self.new (time_at is_utc self.old.codec self.old.input) }
         ensures no_memory { IfErr result (λ e. IsForMemory e → ⊥) }
@@ -32,6 +33,7 @@ impl<'input> Decoder<'input> {
     /// parts of a second before the `Z`. No memory is taken.
     ///
     /// Refused as `decode_octet_string` does without constraints; then `InvalidTime` where the octets are no such text.
+    #[inline(always)]
     pub fn decode_generalized_time(&mut self, _tag: Tag) -> Result<GeneralizedTime, DecodeError>
         ensures function { Answers generalized_text self.old result self.new (time_at is_generalized self.old.codec self.old.input) }
         ensures no_memory { IfErr result (λ e. IsForMemory e → ⊥) }
@@ -44,6 +46,7 @@ impl<'input> Decoder<'input> {
     /// Reads a DATE (X.696, 29): a length and the octets of `YYYYMMDD`. No memory is taken.
     ///
     /// Refused as `decode_octet_string` does without constraints; then `InvalidTime` where the octets are no such text.
+    #[inline(always)]
     pub fn decode_date(&mut self, _tag: Tag) -> Result<Date, DecodeError>
         ensures function { Answers date_text self.old result self.new (time_at is_date self.old.codec self.old.input) }
         ensures no_memory { IfErr result (λ e. IsForMemory e → ⊥) }
@@ -63,6 +66,7 @@ impl Decode for UtcTime {
 
     ghost Answered = { λ c s r t. LeafAnswers utc_text false s r t (time_at is_utc s.codec s.input) };
 
+    #[inline(always)]
     fn decode_with_tag_and_constraints(
         _alloc: Global,
         decoder: &mut Decoder<'_>,
@@ -82,6 +86,7 @@ impl Decode for GeneralizedTime {
 
     ghost Answered = { λ c s r t. LeafAnswers generalized_text false s r t (time_at is_generalized s.codec s.input) };
 
+    #[inline(always)]
     fn decode_with_tag_and_constraints(
         _alloc: Global,
         decoder: &mut Decoder<'_>,
@@ -101,6 +106,7 @@ impl Decode for Date {
 
     ghost Answered = { λ c s r t. LeafAnswers date_text false s r t (time_at is_date s.codec s.input) };
 
+    #[inline(always)]
     fn decode_with_tag_and_constraints(
         _alloc: Global,
         decoder: &mut Decoder<'_>,

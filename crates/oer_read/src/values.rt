@@ -39,6 +39,7 @@ impl<'input> Decoder<'input> {
     /// Refused, the first that applies: `Incomplete`; of a counted number no octets by `EmptyInteger`, a superfluous first
     /// octet in canonical mode by `NotValidCanonicalEncoding`, outside isize by `LengthExceedsPlatformWidth`, one of 0 to
     /// 127 in canonical mode by `NotValidCanonicalEncoding`; `DiscriminantValueNotFound` with the number.
+    #[inline(always)]
     pub fn decode_enumerated<E: Enumerated>(&mut self, _tag: Tag) -> Result<E, DecodeError>
         ensures function { Answers (λ v. v) self.old result self.new (value_at E.of_number self.old.codec self.old.input) }
         ensures no_memory { IfErr result (λ e. IsForMemory e → ⊥) }
@@ -52,6 +53,7 @@ impl<'input> Decoder<'input> {
     ///
     /// Refused as `decode_octet_string` does without constraints; then `InvalidObjectIdentifier` where the octets are none,
     /// or an arc is past `u32::MAX`. `OutOfMemory` may come before that.
+    #[inline(always)]
     pub fn decode_object_identifier(
         &mut self,
         alloc: Global,
@@ -74,6 +76,7 @@ impl Decode for ObjectIdentifier {
 
     ghost Answered = { λ c s r t. LeafAnswers arcs_octets true s r t (text_at are_contents InvalidObjectIdentifier None s.codec s.input) };
 
+    #[inline(always)]
     fn decode_with_tag_and_constraints(
         alloc: Global,
         decoder: &mut Decoder<'_>,
