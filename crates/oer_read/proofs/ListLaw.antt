@@ -45,7 +45,7 @@ pub list_takes : (s : State) (n : ℕ) (rest : Octets) → ListOpens s n rest �
 list_takes s n rest o = takes o.quantity o.spelled o.split
   where
     takes : (q : Octets) → IsQuantity (mode_of s.codec) q n → s.input ≡ q ++ rest → length rest < length s.input
-    takes q (c, (l, split, _), some, _) e = omega (arith, some, ap length split, length-append l c, ap length e, length-append q rest)
+    takes q (c, (l, split, _, _), some, _, _, _) e = omega (arith, some, ap length split, length-append l c, ap length e, length-append q rest)
 
 pub list_again : (s : State) (n : ℕ) (rest : Octets) → ListOpens s n rest → list_opened_at s ≡ Ok (n, rest)
 unfolding list_opened_at
