@@ -131,6 +131,7 @@ impl<'input> Decoder<'input> {
     }
 
     /// One more element without octets, where as many octets are left as before; at most 65,536.
+    #[inline(always)]
     pub(crate) fn count_empty(
         &self,
         empties: usize,
@@ -151,7 +152,7 @@ impl<'input> Decoder<'input> {
     }
 
     /// Reads that many elements in turn.
-    #[inline]
+    #[inline(always)]
     fn read_elements<D, F>(
         &self,
         alloc: Global,
