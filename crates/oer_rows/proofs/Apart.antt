@@ -1,5 +1,5 @@
 -- A value that was read of octets by values alone was read of a decoder that has them.
-use Rattle.std.proofs.Common.{◌≡◌, ℕ, Bool, List, Result, Ok, Err, refl, sym, subst, trans}
+use Rattle.std.proofs.Common.{◌≡◌, ℕ, Bool, List, Result, Ok, Err, refl, sym, subst, ◌∙◌}
 use Rattle.asn1_core.specs.Octets.{Octets}
 use Rattle.asn1_core.specs.Rows.{Row}
 use Rattle.asn1_core.specs.declared.codec.Codec.{Codec}
@@ -57,9 +57,9 @@ module _ {A : Type 0} (Ran : State → Result A DecodeError → State → Type 0
   opened_apart s = refl
 
   refused_from : (s : State) (e : DecodeError) → SequenceRefused Ran extensible roots additions (apart s.codec s.levels s.input) e → SequenceRefused Ran extensible roots additions s e
-  refused_from s e (NotOpened p c) = NotOpened (trans (opened_apart s) p) c
-  refused_from s e (Stopped lent after p ran) = Stopped lent after (trans (opened_apart s) p) ran
-  refused_from s e (NotClosed lent after v p ran q c) = NotClosed lent after v (trans (opened_apart s) p) ran q c
+  refused_from s e (NotOpened p c) = NotOpened (opened_apart s ∙ p) c
+  refused_from s e (Stopped lent after p ran) = Stopped lent after (opened_apart s ∙ p) ran
+  refused_from s e (NotClosed lent after v p ran q c) = NotClosed lent after v (opened_apart s ∙ p) ran q c
 
   -- so is why it was refused
   pub row_refused_apart : (s : State) (codec : Codec) (levels : ℕ) (input : Octets) (e : DecodeError)
