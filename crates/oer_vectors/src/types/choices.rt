@@ -19,7 +19,7 @@ pub enum PairAlternatives {
 type PairRow = Offers<Context<0>, bool, Offers<Context<1>, Pair, NoMore>>;
 
 impl Alternating for PairAlternatives {
-    ghost use Rattle.rasn_tests.specs.declared.choices.PairAlternatives.TheVariants.{A, B};
+    ghost use Rattle.oer_vectors.specs.declared.types.choices.PairAlternatives.TheVariants.{A, B};
 
     type Values = <PairRow as Alternatives>::Values;
 
@@ -81,7 +81,7 @@ type NestedRow = Offers<Context<0>, bool, Offers<Context<1>, BoolChoice, Extensi
 const ROOTS: &'static [Tag] = tags![Context 0, Context 1];
 
 impl Alternating for NestedAlternatives {
-    ghost use Rattle.rasn_tests.specs.declared.choices.NestedAlternatives.TheVariants.{A, B};
+    ghost use Rattle.oer_vectors.specs.declared.types.choices.NestedAlternatives.TheVariants.{A, B};
 
     type Values = <NestedRow as Alternatives>::Values;
 

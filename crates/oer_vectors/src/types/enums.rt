@@ -28,7 +28,7 @@ pub enum MoreColorValues {
 }
 
 impl Numbered for ColorValues {
-    ghost use Rattle.rasn_tests.specs.declared.enums.ColorValues.TheVariants.{Green, Red, Blue};
+    ghost use Rattle.oer_vectors.specs.declared.types.enums.ColorValues.TheVariants.{Green, Red, Blue};
 
     ghost number = { elim [ Green ↦ pos 0 | Red ↦ pos 1 | Blue ↦ pos 2 ] };
 
@@ -46,7 +46,7 @@ impl Numbered for ColorValues {
 }
 
 impl Numbered for MoreColorValues {
-    ghost use Rattle.rasn_tests.specs.declared.enums.MoreColorValues.TheVariants.{Red, Blue, Green, Yellow, Purple};
+    ghost use Rattle.oer_vectors.specs.declared.types.enums.MoreColorValues.TheVariants.{Red, Blue, Green, Yellow, Purple};
 
     ghost number = { elim [ Red ↦ pos 0 | Blue ↦ pos 1 | Green ↦ pos 2 | Yellow ↦ pos 3 | Purple ↦ pos 4 ] };
 
