@@ -1,4 +1,7 @@
-//! Two versions of a type by one word, the newer first.
+//! Two versions of a type by their words.
+//!
+//! A function names one type: what the check looks at in one grows with the square of how many it names. So the newer version is
+//! chosen first, and the older one by functions over any newer type.
 
 use asn1_core::SetOf;
 use asn1_ints::Integer;
@@ -17,152 +20,295 @@ pub trait OnPair {
     fn on<New: Decode + Encode + Eq, Old: Decode + Encode + Eq>(self) -> Self::Output;
 }
 
-/// Versions of a sequence; the work again where the word names none.
-fn with_sequence5<W: OnPair>(pair: &str, work: W) -> Result<W::Output, W> {
-    match pair {
-        "seq1/seq1" => Ok(work.on::<Sequence1, Sequence1>()),
-        "seq5/seq1" => Ok(work.on::<Sequence5, Sequence1>()),
-        "seq5/seq5" => Ok(work.on::<Sequence5, Sequence5>()),
-        _ => with_sequence2(pair, work),
+/// The words of two versions.
+#[derive(Clone, Copy)]
+struct Versions<'a> {
+    newer: &'a str,
+    older: &'a str,
+}
+
+/// Does it with the newer type and the first version of the sequence.
+fn to_sequence1<New: Decode + Encode + Eq, W: OnPair + Drop>(
+    older: &str,
+    work: W,
+) -> Option<W::Output> {
+    match older {
+        "seq1" => Some(work.on::<New, Sequence1>()),
+        _ => None,
     }
 }
 
-fn with_sequence2<W: OnPair>(pair: &str, work: W) -> Result<W::Output, W> {
-    match pair {
-        "seq2/seq1" => Ok(work.on::<Sequence2, Sequence1>()),
-        "seq2/seq5" => Ok(work.on::<Sequence2, Sequence5>()),
-        "seq2/seq2" => Ok(work.on::<Sequence2, Sequence2>()),
-        _ => with_sequence7(pair, work),
+fn to_sequence5<New: Decode + Encode + Eq, W: OnPair + Drop>(
+    older: &str,
+    work: W,
+) -> Option<W::Output> {
+    match older {
+        "seq5" => Some(work.on::<New, Sequence5>()),
+        _ => to_sequence1::<New, W>(older, work),
     }
 }
 
-fn with_sequence7<W: OnPair>(pair: &str, work: W) -> Result<W::Output, W> {
-    match pair {
-        "seq7/seq1" => Ok(work.on::<Sequence7, Sequence1>()),
-        "seq7/seq5" => Ok(work.on::<Sequence7, Sequence5>()),
-        _ => with_further_sequence7(pair, work),
+fn to_sequence2<New: Decode + Encode + Eq, W: OnPair + Drop>(
+    older: &str,
+    work: W,
+) -> Option<W::Output> {
+    match older {
+        "seq2" => Some(work.on::<New, Sequence2>()),
+        _ => to_sequence5::<New, W>(older, work),
     }
 }
 
-fn with_further_sequence7<W: OnPair>(pair: &str, work: W) -> Result<W::Output, W> {
-    match pair {
-        "seq7/seq2" => Ok(work.on::<Sequence7, Sequence2>()),
-        "seq7/seq7" => Ok(work.on::<Sequence7, Sequence7>()),
-        _ => with_group(pair, work),
+/// Does it with the newer type and any version of the sequence.
+fn to_sequence7<New: Decode + Encode + Eq, W: OnPair + Drop>(
+    older: &str,
+    work: W,
+) -> Option<W::Output> {
+    match older {
+        "seq7" => Some(work.on::<New, Sequence7>()),
+        _ => to_sequence2::<New, W>(older, work),
     }
 }
 
-fn with_group<W: OnPair>(pair: &str, work: W) -> Result<W::Output, W> {
-    match pair {
-        "seq3/seq1" => Ok(work.on::<Sequence3, Sequence1>()),
-        _ => with_outer(pair, work),
+fn to_outer<New: Decode + Encode + Eq, W: OnPair + Drop>(
+    older: &str,
+    work: W,
+) -> Option<W::Output> {
+    match older {
+        "outer" => Some(work.on::<New, Outer>()),
+        _ => to_sequence1::<New, W>(older, work),
     }
 }
 
-fn with_outer<W: OnPair>(pair: &str, work: W) -> Result<W::Output, W> {
-    match pair {
-        "outer/seq1" => Ok(work.on::<Outer, Sequence1>()),
-        "outer/outer" => Ok(work.on::<Outer, Outer>()),
-        _ => Err(work),
+/// The same of a list of such sequences.
+fn to_bag1<New: Decode + Encode + Eq, W: OnPair + Drop>(older: &str, work: W) -> Option<W::Output> {
+    match older {
+        "bag1" => Some(work.on::<New, SetOf<Sequence1>>()),
+        _ => None,
     }
 }
 
-/// Versions of a list, of a sequence with a default, of a set; the work again where the word names none.
-fn with_bag2<W: OnPair>(pair: &str, work: W) -> Result<W::Output, W> {
-    match pair {
-        "bag1/bag1" => Ok(work.on::<SetOf<Sequence1>, SetOf<Sequence1>>()),
-        "bag2/bag1" => Ok(work.on::<SetOf<Sequence2>, SetOf<Sequence1>>()),
-        "bag2/bag2" => Ok(work.on::<SetOf<Sequence2>, SetOf<Sequence2>>()),
-        _ => with_bag3(pair, work),
+fn to_bag2<New: Decode + Encode + Eq, W: OnPair + Drop>(older: &str, work: W) -> Option<W::Output> {
+    match older {
+        "bag2" => Some(work.on::<New, SetOf<Sequence2>>()),
+        _ => to_bag1::<New, W>(older, work),
     }
 }
 
-fn with_bag3<W: OnPair>(pair: &str, work: W) -> Result<W::Output, W> {
-    match pair {
-        "bag3/bag1" => Ok(work.on::<SetOf<Sequence7>, SetOf<Sequence1>>()),
-        "bag3/bag2" => Ok(work.on::<SetOf<Sequence7>, SetOf<Sequence2>>()),
-        "bag3/bag3" => Ok(work.on::<SetOf<Sequence7>, SetOf<Sequence7>>()),
-        _ => with_holder(pair, work),
+fn to_bag3<New: Decode + Encode + Eq, W: OnPair + Drop>(older: &str, work: W) -> Option<W::Output> {
+    match older {
+        "bag3" => Some(work.on::<New, SetOf<Sequence7>>()),
+        _ => to_bag2::<New, W>(older, work),
     }
 }
 
-fn with_holder<W: OnPair>(pair: &str, work: W) -> Result<W::Output, W> {
-    match pair {
-        "holder1/holder1" => Ok(work.on::<Holder1, Holder1>()),
-        "holder2/holder1" => Ok(work.on::<Holder2, Holder1>()),
-        "holder2/holder2" => Ok(work.on::<Holder2, Holder2>()),
-        _ => with_mixed_set(pair, work),
+/// Of a sequence with such a default.
+fn to_holder1<New: Decode + Encode + Eq, W: OnPair + Drop>(
+    older: &str,
+    work: W,
+) -> Option<W::Output> {
+    match older {
+        "holder1" => Some(work.on::<New, Holder1>()),
+        _ => None,
     }
 }
 
-fn with_mixed_set<W: OnPair>(pair: &str, work: W) -> Result<W::Output, W> {
-    match pair {
-        "mixset/mixset" => Ok(work.on::<MixedSet, MixedSet>()),
-        "mixset2/mixset" => Ok(work.on::<MixedSet2, MixedSet>()),
-        "mixset2/mixset2" => Ok(work.on::<MixedSet2, MixedSet2>()),
-        _ => Err(work),
+fn to_holder2<New: Decode + Encode + Eq, W: OnPair + Drop>(
+    older: &str,
+    work: W,
+) -> Option<W::Output> {
+    match older {
+        "holder2" => Some(work.on::<New, Holder2>()),
+        _ => to_holder1::<New, W>(older, work),
     }
 }
 
-/// A type of one version as both; the work again where the word names none.
-fn with_one_version<W: OnPair>(pair: &str, work: W) -> Result<W::Output, W> {
-    match pair {
-        "int/int" => Ok(work.on::<Integer, Integer>()),
-        "ints/ints" => Ok(work.on::<Vec<Integer>, Vec<Integer>>()),
-        _ => with_choice_or_set(pair, work),
+/// Of a set.
+fn to_mixed_set<New: Decode + Encode + Eq, W: OnPair + Drop>(
+    older: &str,
+    work: W,
+) -> Option<W::Output> {
+    match older {
+        "mixset" => Some(work.on::<New, MixedSet>()),
+        _ => None,
     }
 }
 
-fn with_choice_or_set<W: OnPair>(pair: &str, work: W) -> Result<W::Output, W> {
-    match pair {
-        "choice/choice" => Ok(work.on::<PriorityChoice, PriorityChoice>()),
-        "foo/foo" => Ok(work.on::<Foo, Foo>()),
-        _ => with_long_sequence(pair, work),
+fn to_mixed_set2<New: Decode + Encode + Eq, W: OnPair + Drop>(
+    older: &str,
+    work: W,
+) -> Option<W::Output> {
+    match older {
+        "mixset2" => Some(work.on::<New, MixedSet2>()),
+        _ => to_mixed_set::<New, W>(older, work),
     }
 }
 
-fn with_long_sequence<W: OnPair>(pair: &str, work: W) -> Result<W::Output, W> {
-    match pair {
-        "dup/dup" => Ok(work.on::<SequenceDuplicatesExtended, SequenceDuplicatesExtended>()),
-        _ => with_many_components(pair, work),
+/// Of a type of one version as both.
+fn to_itself<T: Decode + Encode + Eq, W: OnPair + Drop>(
+    words: Versions<'_>,
+    work: W,
+) -> Option<W::Output> {
+    if words.older == words.newer {
+        Some(work.on::<T, T>())
+    } else {
+        None
     }
 }
 
-fn with_many_components<W: OnPair>(pair: &str, work: W) -> Result<W::Output, W> {
-    match pair {
-        "extopt/extopt" => Ok(work.on::<ExtendedOptional, ExtendedOptional>()),
-        _ => with_deep_default(pair, work),
+/// By the words of two versions of a sequence; none where they name none.
+fn from_sequence1<W: OnPair + Drop>(words: Versions<'_>, work: W) -> Option<W::Output> {
+    match words.newer {
+        "seq1" => to_sequence1::<Sequence1, W>(words.older, work),
+        _ => from_sequence5(words, work),
     }
 }
 
-fn with_deep_default<W: OnPair>(pair: &str, work: W) -> Result<W::Output, W> {
-    match pair {
-        "deepdef/deepdef" => Ok(work.on::<DeepDefault, DeepDefault>()),
-        _ => with_top_level(pair, work),
+fn from_sequence5<W: OnPair + Drop>(words: Versions<'_>, work: W) -> Option<W::Output> {
+    match words.newer {
+        "seq5" => to_sequence5::<Sequence5, W>(words.older, work),
+        _ => from_sequence2(words, work),
     }
 }
 
-fn with_top_level<W: OnPair>(pair: &str, work: W) -> Result<W::Output, W> {
-    match pair {
-        "toplevel/toplevel" => Ok(work.on::<TopLevel, TopLevel>()),
-        _ => Err(work),
+fn from_sequence2<W: OnPair + Drop>(words: Versions<'_>, work: W) -> Option<W::Output> {
+    match words.newer {
+        "seq2" => to_sequence2::<Sequence2, W>(words.older, work),
+        _ => from_sequence7(words, work),
     }
 }
 
-/// Does it with the versions that the word names, or with a type of one version as both; none where it names none.
-///
-/// A few types a function: what the check looks at in one grows with the square of how many it names.
-pub fn with_pair<W: OnPair + Drop>(pair: &str, work: W) -> Option<W::Output> {
-    let work = match with_sequence5(pair, work) {
-        Ok(output) => return Some(output),
-        Err(work) => work,
-    };
-    let work = match with_bag2(pair, work) {
-        Ok(output) => return Some(output),
-        Err(work) => work,
-    };
-    match with_one_version(pair, work) {
-        Ok(output) => Some(output),
-        Err(_) => None,
+fn from_sequence7<W: OnPair + Drop>(words: Versions<'_>, work: W) -> Option<W::Output> {
+    match words.newer {
+        "seq7" => to_sequence7::<Sequence7, W>(words.older, work),
+        _ => from_sequence3(words, work),
     }
+}
+
+fn from_sequence3<W: OnPair + Drop>(words: Versions<'_>, work: W) -> Option<W::Output> {
+    match words.newer {
+        "seq3" => to_sequence1::<Sequence3, W>(words.older, work),
+        _ => from_outer(words, work),
+    }
+}
+
+fn from_outer<W: OnPair + Drop>(words: Versions<'_>, work: W) -> Option<W::Output> {
+    match words.newer {
+        "outer" => to_outer::<Outer, W>(words.older, work),
+        _ => from_bag1(words, work),
+    }
+}
+
+/// Of an unordered list.
+fn from_bag1<W: OnPair + Drop>(words: Versions<'_>, work: W) -> Option<W::Output> {
+    match words.newer {
+        "bag1" => to_bag1::<SetOf<Sequence1>, W>(words.older, work),
+        _ => from_bag2(words, work),
+    }
+}
+
+fn from_bag2<W: OnPair + Drop>(words: Versions<'_>, work: W) -> Option<W::Output> {
+    match words.newer {
+        "bag2" => to_bag2::<SetOf<Sequence2>, W>(words.older, work),
+        _ => from_bag3(words, work),
+    }
+}
+
+fn from_bag3<W: OnPair + Drop>(words: Versions<'_>, work: W) -> Option<W::Output> {
+    match words.newer {
+        "bag3" => to_bag3::<SetOf<Sequence7>, W>(words.older, work),
+        _ => from_holder1(words, work),
+    }
+}
+
+/// Of a sequence with a default.
+fn from_holder1<W: OnPair + Drop>(words: Versions<'_>, work: W) -> Option<W::Output> {
+    match words.newer {
+        "holder1" => to_holder1::<Holder1, W>(words.older, work),
+        _ => from_holder2(words, work),
+    }
+}
+
+fn from_holder2<W: OnPair + Drop>(words: Versions<'_>, work: W) -> Option<W::Output> {
+    match words.newer {
+        "holder2" => to_holder2::<Holder2, W>(words.older, work),
+        _ => from_mixed_set(words, work),
+    }
+}
+
+/// Of a set.
+fn from_mixed_set<W: OnPair + Drop>(words: Versions<'_>, work: W) -> Option<W::Output> {
+    match words.newer {
+        "mixset" => to_mixed_set::<MixedSet, W>(words.older, work),
+        _ => from_mixed_set2(words, work),
+    }
+}
+
+fn from_mixed_set2<W: OnPair + Drop>(words: Versions<'_>, work: W) -> Option<W::Output> {
+    match words.newer {
+        "mixset2" => to_mixed_set2::<MixedSet2, W>(words.older, work),
+        _ => from_integer(words, work),
+    }
+}
+
+/// Of a type of one version.
+fn from_integer<W: OnPair + Drop>(words: Versions<'_>, work: W) -> Option<W::Output> {
+    match words.newer {
+        "int" => to_itself::<Integer, W>(words, work),
+        _ => from_integers(words, work),
+    }
+}
+
+fn from_integers<W: OnPair + Drop>(words: Versions<'_>, work: W) -> Option<W::Output> {
+    match words.newer {
+        "ints" => to_itself::<Vec<Integer>, W>(words, work),
+        _ => from_choice(words, work),
+    }
+}
+
+fn from_choice<W: OnPair + Drop>(words: Versions<'_>, work: W) -> Option<W::Output> {
+    match words.newer {
+        "choice" => to_itself::<PriorityChoice, W>(words, work),
+        _ => from_set(words, work),
+    }
+}
+
+fn from_set<W: OnPair + Drop>(words: Versions<'_>, work: W) -> Option<W::Output> {
+    match words.newer {
+        "foo" => to_itself::<Foo, W>(words, work),
+        _ => from_duplicates(words, work),
+    }
+}
+
+fn from_duplicates<W: OnPair + Drop>(words: Versions<'_>, work: W) -> Option<W::Output> {
+    match words.newer {
+        "dup" => to_itself::<SequenceDuplicatesExtended, W>(words, work),
+        _ => from_extended(words, work),
+    }
+}
+
+fn from_extended<W: OnPair + Drop>(words: Versions<'_>, work: W) -> Option<W::Output> {
+    match words.newer {
+        "extopt" => to_itself::<ExtendedOptional, W>(words, work),
+        _ => from_deep_default(words, work),
+    }
+}
+
+fn from_deep_default<W: OnPair + Drop>(words: Versions<'_>, work: W) -> Option<W::Output> {
+    match words.newer {
+        "deepdef" => to_itself::<DeepDefault, W>(words, work),
+        _ => from_top_level(words, work),
+    }
+}
+
+fn from_top_level<W: OnPair + Drop>(words: Versions<'_>, work: W) -> Option<W::Output> {
+    match words.newer {
+        "toplevel" => to_itself::<TopLevel, W>(words, work),
+        _ => None,
+    }
+}
+
+/// Does it with the versions that words like `seq2/seq1` name, or with a type of one version as both; none where they name none.
+pub fn with_pair<W: OnPair + Drop>(words: &str, work: W) -> Option<W::Output> {
+    let (newer, older) = words.split_once('/')?;
+    from_sequence1(Versions { newer, older }, work)
 }
