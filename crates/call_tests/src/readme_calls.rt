@@ -1,11 +1,11 @@
 //! What README.md says of its functions.
 
-use oer_types::{Sequence1, Sequence2, components};
-use rasn_oer::prelude::*;
-use readme_calls::{
+use crate::readme::{
     appended, as_first_version, as_second_version, canonical, few_levels, first_pair, name_of,
     pair_or_more, received, written,
 };
+use oer_types::{Sequence1, Sequence2, components};
+use rasn_oer::prelude::*;
 use std::test::Fail;
 
 #[test]

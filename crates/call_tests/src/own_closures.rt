@@ -1,6 +1,6 @@
-//! Octets by hand from X.696, of each type by closures.
+//! Octets by hand from X.696, of each type of docs/OWN_CLOSURES.md.
 
-use crate::types::agrees;
+use crate::own_types::agrees;
 use my_closures::{Command, Report, Status};
 use rasn_oer::prelude::*;
 use std::test::Fail;

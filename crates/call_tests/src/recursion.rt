@@ -1,24 +1,12 @@
-//! Values within values, written and read.
+//! Octets by hand from X.696, of types that contain themselves.
 
+use crate::own_types::agrees;
 use own_recursion::{
     BodyAlternatives, Branch, BranchComponents, Chain, ChainComponents, Envelope,
     EnvelopeComponents, Node, NodeComponents,
 };
-use rasn_oer::coer;
 use rasn_oer::prelude::*;
-use std::alloc::Global;
 use std::test::Fail;
-
-/// Whether the value is written as these octets, and they are read as the value.
-fn agrees<T: Encode + Decode + PartialEq>(
-    alloc: Global,
-    value: &T,
-    octets: &[u8],
-) -> Result<bool, Fail> {
-    let written = coer::encode(alloc, value)?;
-    let read: T = coer::decode(alloc, octets)?;
-    Ok(written.as_slice() == octets && read == *value)
-}
 
 fn node(value: i128, next: Option<Held<Node>>, last: bool) -> Node {
     Node(Sequence(NodeComponents {

@@ -1,4 +1,4 @@
-//! Octets by hand from X.696, of each type by its row.
+//! Octets by hand from X.696, of each type of docs/OWN_TYPE.md.
 
 use my_types::{
     ClosingComponents, Message, MessageComponents, Notice, NoticeComponents, Report,
