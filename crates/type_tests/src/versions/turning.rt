@@ -1,7 +1,7 @@
 //! Values of one version as ones of another, and back again.
 
-use crate::nests::Nest;
-use crate::pairs::OnPair;
+use crate::versions::nests::Nest;
+use crate::versions::pairs::OnPair;
 use anyhow::{Error, Result};
 use asn1_core::{Codec, SetOf};
 use oer_types::{Adding, Holding};

@@ -1,6 +1,6 @@
 //! Choices that hold a value of another type, in two versions, of which the newer has a further alternative.
 
-use crate::pairs::{OnPair, with_pair};
+use crate::versions::pairs::{OnPair, with_pair};
 use rasn_oer::Decode;
 use rasn_oer::prelude::*;
 use std::alloc::Global;
@@ -37,7 +37,7 @@ const ADDED: &'static [Tag] = tags![Context 1];
 impl<T: Decode + Encode> Alternating for Choice1Alternatives<T> {
     ghost use Rattle.std.specs.Prelude.{refl};
     ghost use Rattle.oer_choices.specs.declared.alternatives.Either.TheVariants.{First};
-    ghost use Rattle.version_tests.specs.declared.choices.Choice1Alternatives.TheVariants.{Inner};
+    ghost use Rattle.type_tests.specs.declared.versions.choices.Choice1Alternatives.TheVariants.{Inner};
 
     type Values = <Choice1Row<T> as Alternatives>::Values;
 
@@ -86,7 +86,7 @@ impl<T: Decode + Encode> TakesAlternative for Choice1Alternatives<T> {
 impl<T: Decode + Encode> Alternating for Choice2Alternatives<T> {
     ghost use Rattle.std.specs.Prelude.{refl};
     ghost use Rattle.oer_choices.specs.declared.alternatives.Either.TheVariants.{First, Rest};
-    ghost use Rattle.version_tests.specs.declared.choices.Choice2Alternatives.TheVariants.{Inner, Added};
+    ghost use Rattle.type_tests.specs.declared.versions.choices.Choice2Alternatives.TheVariants.{Inner, Added};
 
     type Values = <Choice2Row<T> as Alternatives>::Values;
 

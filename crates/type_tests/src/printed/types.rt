@@ -1,6 +1,6 @@
 //! Types by their names in the module: each is named in one call, since the check writes it out for every call.
 
-use crate::reading::answer_of;
+use crate::printed::reading::answer_of;
 use anyhow::{Error, Result};
 use sample_types::{
     Again, Area, Bag, Below, Bits, Colour, Colours, Folder, Key, Labels, Leaves, Letter, Level,
