@@ -1,7 +1,7 @@
 //! Octets by hand from X.696, of types that contain themselves.
 
 use crate::own_types::agrees;
-use own_recursion::{
+use oer_types::{
     BodyAlternatives, Branch, BranchComponents, Chain, ChainComponents, Envelope,
     EnvelopeComponents, Node, NodeComponents,
 };

@@ -3,16 +3,16 @@
 use anyhow::{Error, Result};
 use asn1_core::{AsnType, Choice, Constraints, Constructed, Field, Tag};
 use oer_types::{
-    AddDef, Adding, Addition7, AllDefault, AllOptional, Bare, BoolChoice, BushContent,
-    ConstrainedOptions, DeepDefault, DefaultAndOptional, DefaultInteger, Empty, EmptyExtensible,
-    ExtendedOptional, Foo, Group6, Held, Holder1, Holder2, Holding, LinkChoice, LinkContent,
-    ListOf, ManyOptional, Mixed, MixedSet, MixedSet2, Nested, Omitted, OneToEight, OnlyChoice,
-    Outer, Pair, PriorityChoice, Sequence1, Sequence2, Sequence3, Sequence4, Sequence5, Sequence6,
-    Sequence7, SequenceDuplicatesExtended, Sure, TestChoice, TopLevelContent, WideChoice,
+    AddDef, Adding, Addition7, AllDefault, AllOptional, Bare, Body, BoolChoice, BranchContent,
+    BushContent, ChainContent, ConstrainedOptions, DeepDefault, DefaultAndOptional, DefaultInteger,
+    Empty, EmptyExtensible, EnvelopeContent, ExtendedOptional, Foo, Group6, Held, Holder1, Holder2,
+    Holding, LinkChoice, LinkContent, ListOf, ManyOptional, Mixed, MixedSet, MixedSet2, Nested,
+    NodeContent, Omitted, OneToEight, OnlyChoice, Outer, Pair, PriorityChoice, Sequence1,
+    Sequence2, Sequence3, Sequence4, Sequence5, Sequence6, Sequence7, SequenceDuplicatesExtended,
+    Sure, TestChoice, TopLevelContent, WideChoice,
 };
 use oer_words::constrained::{UnderConstraints, with_word};
 use oer_write::Encode;
-use own_recursion::{Body, BranchContent, ChainContent, EnvelopeContent, NodeContent};
 use rasn_oer::Decode;
 use std::alloc::Global;
 use std::fmt::Debug;

@@ -7,11 +7,10 @@ use asn1_strings::{
     PrintableString, TeletexString, VisibleString,
 };
 use oer_types::{
-    AddDef, AllDefault, AllOptional, BoolChoice, Bush, ConstrainedOptions, Enum3, HashedId3, Link,
-    MixedSet, Negative, Nested, Pair, Positive,
+    AddDef, AllDefault, AllOptional, BoolChoice, Bush, Chain, ConstrainedOptions, Enum3, HashedId3,
+    Link, MixedSet, Negative, Nested, Node, Pair, Positive,
 };
 use oer_write::Encode;
-use own_recursion::{Chain, Node};
 use rasn_oer::Decode;
 use std::fmt::Debug;
 

@@ -2,8 +2,8 @@
 use Rattle.std.specs.Prelude.{◌<◌, ℕ, max}
 use Rattle.std.proofs.Common.{arith}
 use denote.Param.Weighed.{most}
-use Rattle.own_recursion.specs.declared.branches.Branch.{Branch, out-Branch, size-Branch, size_is-Branch}
-use Rattle.own_recursion.specs.declared.branches.BranchComponents.{BranchComponents}
+use Rattle.oer_types.specs.declared.branches.Branch.{Branch, out-Branch, size-Branch, size_is-Branch}
+use Rattle.oer_types.specs.declared.branches.BranchComponents.{BranchComponents}
 
 abbrev pub branch_weight : {K : Type 0} → (K → ℕ) → BranchComponents K → ℕ
 branch_weight size v = max (most (λ h. size h.0.value) v.children) 0

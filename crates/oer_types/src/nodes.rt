@@ -127,8 +127,8 @@ impl AsnType for Node {
 
 impl Spelled for Node {
     ghost use Rattle.rasn_oer.specs.Knots.{knot_tree, IsKnot, knot_typed};
-    ghost use Rattle.own_recursion.specs.Nodes.{node_smaller};
-    ghost use Rattle.own_recursion.specs.declared.nodes.Node.{out-Node, size-Node};
+    ghost use Rattle.oer_types.specs.Nodes.{node_smaller};
+    ghost use Rattle.oer_types.specs.declared.nodes.Node.{out-Node, size-Node};
 
     ghost tree = { λ c v. knot_tree size-Node (λ v. (out-Node v).0) ⟦<NodeContent<Node> as HoldsKnot<Node>>⟧.tied v };
 
@@ -141,8 +141,8 @@ impl Spelled for Node {
 
 impl Layered for Node {
     ghost use Rattle.rasn_oer.specs.Knots.{knot, knot_layers, layer};
-    ghost use Rattle.own_recursion.specs.Nodes.{node_smaller};
-    ghost use Rattle.own_recursion.specs.declared.nodes.Node.{out-Node, size-Node};
+    ghost use Rattle.oer_types.specs.Nodes.{node_smaller};
+    ghost use Rattle.oer_types.specs.declared.nodes.Node.{out-Node, size-Node};
 
     ghost inner = { layer size-Node (λ v. (out-Node v).0) ⟦<NodeContent<Node> as HoldsKnot<Node>>⟧.tied (knot size-Node (λ v. (out-Node v).0) ⟦<NodeContent<Node> as HoldsKnot<Node>>⟧.tied) };
 
@@ -176,8 +176,8 @@ impl Encode for Node {
 
 impl Knot<NodeContent<Node>> for Node {
     ghost use Rattle.rasn_oer.specs.Knots.{knot_layered};
-    ghost use Rattle.own_recursion.specs.Nodes.{node_smaller};
-    ghost use Rattle.own_recursion.specs.declared.nodes.Node.{out-Node, size-Node};
+    ghost use Rattle.oer_types.specs.Nodes.{node_smaller};
+    ghost use Rattle.oer_types.specs.declared.nodes.Node.{out-Node, size-Node};
 
     ghost content = { λ v. (out-Node v).0 };
 

@@ -126,8 +126,8 @@ impl AsnType for Chain {
 
 impl Spelled for Chain {
     ghost use Rattle.rasn_oer.specs.Knots.{knot_tree, IsKnot, knot_typed};
-    ghost use Rattle.own_recursion.specs.Chains.{chain_smaller};
-    ghost use Rattle.own_recursion.specs.declared.chains.Chain.{out-Chain, size-Chain};
+    ghost use Rattle.oer_types.specs.Chains.{chain_smaller};
+    ghost use Rattle.oer_types.specs.declared.chains.Chain.{out-Chain, size-Chain};
 
     ghost tree = { λ c v. knot_tree size-Chain (λ v. (out-Chain v).0) ⟦<ChainContent<Chain> as HoldsKnot<Chain>>⟧.tied v };
 
@@ -140,8 +140,8 @@ impl Spelled for Chain {
 
 impl Layered for Chain {
     ghost use Rattle.rasn_oer.specs.Knots.{knot, knot_layers, layer};
-    ghost use Rattle.own_recursion.specs.Chains.{chain_smaller};
-    ghost use Rattle.own_recursion.specs.declared.chains.Chain.{out-Chain, size-Chain};
+    ghost use Rattle.oer_types.specs.Chains.{chain_smaller};
+    ghost use Rattle.oer_types.specs.declared.chains.Chain.{out-Chain, size-Chain};
 
     ghost inner = { layer size-Chain (λ v. (out-Chain v).0) ⟦<ChainContent<Chain> as HoldsKnot<Chain>>⟧.tied (knot size-Chain (λ v. (out-Chain v).0) ⟦<ChainContent<Chain> as HoldsKnot<Chain>>⟧.tied) };
 
@@ -175,8 +175,8 @@ impl Encode for Chain {
 
 impl Knot<ChainContent<Chain>> for Chain {
     ghost use Rattle.rasn_oer.specs.Knots.{knot_layered};
-    ghost use Rattle.own_recursion.specs.Chains.{chain_smaller};
-    ghost use Rattle.own_recursion.specs.declared.chains.Chain.{out-Chain, size-Chain};
+    ghost use Rattle.oer_types.specs.Chains.{chain_smaller};
+    ghost use Rattle.oer_types.specs.declared.chains.Chain.{out-Chain, size-Chain};
 
     ghost content = { λ v. (out-Chain v).0 };
 

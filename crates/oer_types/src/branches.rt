@@ -135,8 +135,8 @@ impl AsnType for Branch {
 
 impl Spelled for Branch {
     ghost use Rattle.rasn_oer.specs.Knots.{knot_tree, IsKnot, knot_typed};
-    ghost use Rattle.own_recursion.specs.Branches.{branch_smaller};
-    ghost use Rattle.own_recursion.specs.declared.branches.Branch.{out-Branch, size-Branch};
+    ghost use Rattle.oer_types.specs.Branches.{branch_smaller};
+    ghost use Rattle.oer_types.specs.declared.branches.Branch.{out-Branch, size-Branch};
 
     ghost tree = { λ c v. knot_tree size-Branch (λ v. (out-Branch v).0) ⟦<BranchContent<Branch> as HoldsKnot<Branch>>⟧.tied v };
 
@@ -149,8 +149,8 @@ impl Spelled for Branch {
 
 impl Layered for Branch {
     ghost use Rattle.rasn_oer.specs.Knots.{knot, knot_layers, layer};
-    ghost use Rattle.own_recursion.specs.Branches.{branch_smaller};
-    ghost use Rattle.own_recursion.specs.declared.branches.Branch.{out-Branch, size-Branch};
+    ghost use Rattle.oer_types.specs.Branches.{branch_smaller};
+    ghost use Rattle.oer_types.specs.declared.branches.Branch.{out-Branch, size-Branch};
 
     ghost inner = { layer size-Branch (λ v. (out-Branch v).0) ⟦<BranchContent<Branch> as HoldsKnot<Branch>>⟧.tied (knot size-Branch (λ v. (out-Branch v).0) ⟦<BranchContent<Branch> as HoldsKnot<Branch>>⟧.tied) };
 
@@ -184,8 +184,8 @@ impl Encode for Branch {
 
 impl Knot<BranchContent<Branch>> for Branch {
     ghost use Rattle.rasn_oer.specs.Knots.{knot_layered};
-    ghost use Rattle.own_recursion.specs.Branches.{branch_smaller};
-    ghost use Rattle.own_recursion.specs.declared.branches.Branch.{out-Branch, size-Branch};
+    ghost use Rattle.oer_types.specs.Branches.{branch_smaller};
+    ghost use Rattle.oer_types.specs.declared.branches.Branch.{out-Branch, size-Branch};
 
     ghost content = { λ v. (out-Branch v).0 };
 

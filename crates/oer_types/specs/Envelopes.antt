@@ -1,10 +1,10 @@
 -- What an envelope holds weighs less than the envelope.
 use Rattle.std.specs.Prelude.{◌<◌, ℕ, max}
 use Rattle.std.proofs.Common.{arith}
-use Rattle.own_recursion.specs.declared.envelopes.BodyAlternatives.{BodyAlternatives}
-use Rattle.own_recursion.specs.declared.envelopes.BodyAlternatives.TheVariants.{Inner}
-use Rattle.own_recursion.specs.declared.envelopes.Envelope.{Envelope, out-Envelope, size-Envelope, size_is-Envelope}
-use Rattle.own_recursion.specs.declared.envelopes.EnvelopeComponents.{EnvelopeComponents}
+use Rattle.oer_types.specs.declared.envelopes.BodyAlternatives.{BodyAlternatives}
+use Rattle.oer_types.specs.declared.envelopes.BodyAlternatives.TheVariants.{Inner}
+use Rattle.oer_types.specs.declared.envelopes.Envelope.{Envelope, out-Envelope, size-Envelope, size_is-Envelope}
+use Rattle.oer_types.specs.declared.envelopes.EnvelopeComponents.{EnvelopeComponents}
 
 abbrev pub body_weight : {K : Type 0} → (K → ℕ) → BodyAlternatives K → ℕ
 body_weight size (Inner h) = size h.0.value

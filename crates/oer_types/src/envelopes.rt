@@ -131,8 +131,8 @@ const BODY_ADDITIONS: &'static [Tag] = tags![Context 2];
 impl<K> KnotAlternating<K> for BodyAlternatives<K> {
     ghost use Rattle.std.specs.Prelude.{refl};
     ghost use Rattle.rasn_oer.specs.Alternative.{First, Rest};
-    ghost use Rattle.own_recursion.specs.Envelopes.{body_weight};
-    ghost use Rattle.own_recursion.specs.declared.envelopes.BodyAlternatives.TheVariants.{Text, Inner, Count};
+    ghost use Rattle.oer_types.specs.Envelopes.{body_weight};
+    ghost use Rattle.oer_types.specs.declared.envelopes.BodyAlternatives.TheVariants.{Text, Inner, Count};
 
     type KnotValues = <BodyRow<K> as KnotAlternatives<K>>::Values;
 
@@ -152,7 +152,7 @@ impl<K> KnotAlternating<K> for BodyAlternatives<K> {
 impl<K: Encode> Alternating for BodyAlternatives<K> {
     ghost use Rattle.std.specs.Prelude.{refl};
     ghost use Rattle.rasn_oer.specs.Alternative.{First, Rest};
-    ghost use Rattle.own_recursion.specs.declared.envelopes.BodyAlternatives.TheVariants.{Text, Inner, Count};
+    ghost use Rattle.oer_types.specs.declared.envelopes.BodyAlternatives.TheVariants.{Text, Inner, Count};
 
     type Values = <BodyRow<K> as Alternatives>::Values;
 
@@ -227,8 +227,8 @@ impl AsnType for Envelope {
 
 impl Spelled for Envelope {
     ghost use Rattle.rasn_oer.specs.Knots.{knot_tree, IsKnot, knot_typed};
-    ghost use Rattle.own_recursion.specs.Envelopes.{envelope_smaller};
-    ghost use Rattle.own_recursion.specs.declared.envelopes.Envelope.{out-Envelope, size-Envelope};
+    ghost use Rattle.oer_types.specs.Envelopes.{envelope_smaller};
+    ghost use Rattle.oer_types.specs.declared.envelopes.Envelope.{out-Envelope, size-Envelope};
 
     ghost tree = { λ c v. knot_tree size-Envelope (λ v. (out-Envelope v).0) ⟦<EnvelopeContent<Envelope> as HoldsKnot<Envelope>>⟧.tied v };
 
@@ -241,8 +241,8 @@ impl Spelled for Envelope {
 
 impl Layered for Envelope {
     ghost use Rattle.rasn_oer.specs.Knots.{knot, knot_layers, layer};
-    ghost use Rattle.own_recursion.specs.Envelopes.{envelope_smaller};
-    ghost use Rattle.own_recursion.specs.declared.envelopes.Envelope.{out-Envelope, size-Envelope};
+    ghost use Rattle.oer_types.specs.Envelopes.{envelope_smaller};
+    ghost use Rattle.oer_types.specs.declared.envelopes.Envelope.{out-Envelope, size-Envelope};
 
     ghost inner = { layer size-Envelope (λ v. (out-Envelope v).0) ⟦<EnvelopeContent<Envelope> as HoldsKnot<Envelope>>⟧.tied (knot size-Envelope (λ v. (out-Envelope v).0) ⟦<EnvelopeContent<Envelope> as HoldsKnot<Envelope>>⟧.tied) };
 
@@ -276,8 +276,8 @@ impl Encode for Envelope {
 
 impl Knot<EnvelopeContent<Envelope>> for Envelope {
     ghost use Rattle.rasn_oer.specs.Knots.{knot_layered};
-    ghost use Rattle.own_recursion.specs.Envelopes.{envelope_smaller};
-    ghost use Rattle.own_recursion.specs.declared.envelopes.Envelope.{out-Envelope, size-Envelope};
+    ghost use Rattle.oer_types.specs.Envelopes.{envelope_smaller};
+    ghost use Rattle.oer_types.specs.declared.envelopes.Envelope.{out-Envelope, size-Envelope};
 
     ghost content = { λ v. (out-Envelope v).0 };
 

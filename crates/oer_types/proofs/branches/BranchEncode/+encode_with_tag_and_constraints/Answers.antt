@@ -1,4 +1,4 @@
-use Rattle.own_recursion.proofs.chains.ChainEncode.+encode_with_tag_and_constraints.Goals as goal
+use Rattle.oer_types.proofs.branches.BranchEncode.+encode_with_tag_and_constraints.Goals as goal
 
 pub returns-clause-done : goal.returns-clause-done
 returns-clause-done t c = c.layer_of.ensures.done _ _ _ c.encode_content.ensures.done
