@@ -1,10 +1,10 @@
 #!/usr/bin/env python3
-"""Counts the vectors of rasn's OER and COER tests that stand in crates/rasn_tests, each under its test's name.
+"""Counts the vectors of rasn's OER and COER tests that are rows of crates/oer_vectors, each under its test's name.
 
 usage: rasn_rows.py [FILE..]
 
 rasn_rows.txt, beside this script, has a line for each test: its name, and the octets that it reads or writes. The exit status is 1
-where one of them stands in no row `read` of the crate's stdin, or a row without an answer in its stdout. FILEs are the sources of
+where one of them stands in no row `vector` of the crate's stdin, or a row without an answer in its stdout. FILEs are the sources of
 these tests: each literal of two octets and more has to stand in the list too, one that isn't read here behind a '#', or be a part
 of what the test's rows have.
 """
@@ -13,7 +13,7 @@ import re
 import sys
 
 top = pathlib.Path(__file__).resolve().parent.parent
-crate = top / "crates/rasn_tests"
+crate = top / "crates/oer_vectors"
 
 
 def lines(path):
@@ -35,9 +35,9 @@ def literals(text):
 text = lines(pathlib.Path(__file__).with_suffix(".txt"))
 listed = {(name, it) for name, *octets in map(str.split, text) if name != "#" for it in octets}
 left_out = {(name, it) for mark, name, *octets in map(str.split, text) if mark == "#" for it in octets}
-rows = [line.split(" ") for line in lines(crate / "stdin")]
+rows = [line.split(" ") for line in lines(crate / "stdin") if line.startswith(("vector ", "outside "))]
 answered = {line.split(" => ")[0].rstrip() for line in lines(crate / "stdout") if " => fault" not in line}
-read = {(row[1], row[3]) for row in rows if row[0] == "read" and " ".join(row).rstrip() in answered}
+read = {(row[1], row[3]) for row in rows if row[0] == "vector" and " ".join(row).rstrip() in answered}
 missing = listed - read
 faults = [f"in no row: {name} {octets}" for name, octets in sorted(missing)]
 for file in sys.argv[1:]:

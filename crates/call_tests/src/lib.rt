@@ -1,5 +1,8 @@
-//! Tests of the calls that read and write, by their public paths and by closures of their own. Calls of one value each are rows of
-//! oer_memory, octets that are refused rows of oer_vectors, and versions rows of version_tests.
+//! The functions of README.md with their tests; tests of the types of docs/OWN_TYPE.md and docs/OWN_CLOSURES.md; and of the calls that
+//! read and write, by their public paths and by closures of their own. Calls of one value each are rows of oer_memory, octets that
+//! are refused rows of oer_vectors, and versions rows of type_tests.
+//!
+//! All of it is read with the tests alone: a crate that has more is proved twice.
 #![tactic(auto)]
 
 #[cfg(test)]
@@ -8,6 +11,16 @@ mod closures;
 mod lent;
 #[cfg(test)]
 mod messages;
+#[cfg(test)]
+mod own_closures;
+#[cfg(test)]
+mod own_types;
+#[cfg(test)]
+mod readme;
+#[cfg(test)]
+mod readme_calls;
+#[cfg(test)]
+mod recursion;
 #[cfg(test)]
 mod refused;
 #[cfg(test)]

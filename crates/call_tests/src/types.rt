@@ -1,25 +1,13 @@
 //! Octets by hand from X.696, of types by their rows that have no word of the program. One type a function: what the check looks at
 //! in one grows with the types that it names.
+use crate::own_types::agrees;
 use asn1_ints::Integer;
 use asn1_strings::OctetString;
 use oer_types::{
     ListOf, Mixed, MixedComponents, OneOf, PriorityAlternatives, Sequence, Sure, SureComponents,
 };
-use oer_write::Encode;
-use rasn_oer::{Decode, coer};
 use std::alloc::Global;
 use std::test::Fail;
-
-/// Whether the value is written as these octets, and they are read as the value.
-fn agrees<T: Encode + Decode + PartialEq>(
-    alloc: Global,
-    value: &T,
-    octets: &[u8],
-) -> Result<bool, Fail> {
-    let written = coer::encode(alloc, value)?;
-    let read: T = coer::decode(alloc, octets)?;
-    Ok(written.as_slice() == octets && read == *value)
-}
 
 fn sure_agrees(alloc: Global, octets: &[u8]) -> Result<bool, Fail> {
     let sure: Sure = Sequence(SureComponents {

@@ -47,11 +47,16 @@ pub fn filled(alloc: Global, answer: Result<(), AllocError>, buffer: &Vec<u8>) -
 
 /// A value that was read.
 pub fn read<T: Debug>(alloc: Global, answer: &Result<T, DecodeError>) -> Result<String> {
-    end(alloc)?;
     match answer {
-        Ok(value) => Ok(format!(in alloc; "{:?}", value)?),
-        Err(e) => refused(alloc, e.kind.name()),
+        Ok(value) => plain(alloc, value),
+        Err(e) => not_read(alloc, e),
     }
+}
+
+/// A refusal to read.
+fn not_read(alloc: Global, e: &DecodeError) -> Result<String> {
+    end(alloc)?;
+    refused(alloc, e.kind.name())
 }
 
 /// A value that was read, and what is left.
@@ -59,14 +64,16 @@ pub fn read_first<T: Debug>(
     alloc: Global,
     answer: &Result<(T, &[u8]), DecodeError>,
 ) -> Result<String> {
-    end(alloc)?;
     match answer {
-        Ok((value, rest)) => {
-            let rest = hex::encode(alloc, rest)?;
-            Ok(format!(in alloc; "{:?}; {}", value, rest)?)
-        }
-        Err(e) => refused(alloc, e.kind.name()),
+        Ok((value, rest)) => with_rest(alloc, plain(alloc, value)?, rest),
+        Err(e) => not_read(alloc, e),
     }
+}
+
+/// A value as it is shown, and what is left.
+fn with_rest(alloc: Global, value: String, rest: &[u8]) -> Result<String> {
+    let rest = hex::encode(alloc, rest)?;
+    Ok(format!(in alloc; "{}; {}", value, rest)?)
 }
 
 /// A value that was read by a decoder, and what this has to read then.
@@ -75,52 +82,59 @@ pub fn left<T: Debug>(
     decoder: &Decoder<'_>,
     answer: &Result<T, DecodeError>,
 ) -> Result<String> {
+    match answer {
+        Ok(value) => with_rest(alloc, plain(alloc, value)?, decoder.remaining()),
+        Err(e) => left_by(alloc, decoder, e),
+    }
+}
+
+/// A refusal by a decoder, and what this has to read then.
+fn left_by(alloc: Global, decoder: &Decoder<'_>, e: &DecodeError) -> Result<String> {
     end(alloc)?;
     let rest = hex::encode(alloc, decoder.remaining())?;
-    match answer {
-        Ok(value) => Ok(format!(in alloc; "{:?}; {}", value, rest)?),
-        Err(e) if e.codec == decoder.codec() => {
-            Ok(format!(in alloc; "refused: {}; {}", e.kind.name(), rest)?)
-        }
-        Err(e) => Ok(format!(in alloc; "refused in another mode: {}", e.kind.name())?),
+    if e.codec == decoder.codec() {
+        Ok(format!(in alloc; "refused: {}; {}", e.kind.name(), rest)?)
+    } else {
+        Ok(format!(in alloc; "refused in another mode: {}", e.kind.name())?)
     }
 }
 
 /// Canonical octets, and what is left.
 pub fn canonical(alloc: Global, answer: &Result<(Vec<u8>, &[u8]), CodecError>) -> Result<String> {
-    end(alloc)?;
     match answer {
         Ok((octets, rest)) => {
-            let octets = hex::encode(alloc, octets.as_slice())?;
-            let rest = hex::encode(alloc, rest)?;
-            Ok(format!(in alloc; "{}; {}", octets, rest)?)
+            end(alloc)?;
+            with_rest(alloc, hex::encode(alloc, octets.as_slice())?, rest)
         }
-        Err(e) => refused(alloc, name_of(e)),
+        Err(e) => not_made(alloc, e),
     }
 }
 
 /// A value of another version.
 pub fn version<T: Debug>(alloc: Global, answer: &Result<T, CodecError>) -> Result<String> {
-    end(alloc)?;
     match answer {
-        Ok(value) => Ok(format!(in alloc; "{:?}", value)?),
-        Err(e) => refused(alloc, name_of(e)),
+        Ok(value) => plain(alloc, value),
+        Err(e) => not_made(alloc, e),
     }
 }
 
-fn name_of(e: &CodecError) -> &'static str {
+/// A refusal to read or to write.
+fn not_made(alloc: Global, e: &CodecError) -> Result<String> {
+    end(alloc)?;
     match e {
-        CodecError::Decode(e) => e.kind.name(),
-        CodecError::Encode(e) => e.kind.name(),
+        CodecError::Decode(e) => refused(alloc, e.kind.name()),
+        CodecError::Encode(e) => refused(alloc, e.kind.name()),
     }
 }
 
 /// What a call answers that memory alone refuses.
 pub fn made<T: Debug>(alloc: Global, answer: &Result<T, AllocError>) -> Result<String> {
-    end(alloc)?;
     match answer {
-        Ok(value) => Ok(format!(in alloc; "{:?}", value)?),
-        Err(_) => refused(alloc, "OutOfMemory"),
+        Ok(value) => plain(alloc, value),
+        Err(_) => {
+            end(alloc)?;
+            refused(alloc, "OutOfMemory")
+        }
     }
 }
 

@@ -251,6 +251,37 @@ fn unsigned(call: Call<'_>, d: &mut Decoder<'_>) -> Result<Option<String>> {
     }
 }
 
+/// A list of values of a type.
+fn list<T: Decode + Debug>(call: Call<'_>, d: &mut Decoder<'_>) -> Result<Option<String>> {
+    let alloc = call.alloc;
+    match call.word {
+        "decode_sequence_of" => {
+            let it = d.decode_sequence_of::<T>(alloc, Tag::SEQUENCE, NONE);
+            Ok(Some(left(alloc, d, &it)?))
+        }
+        "decode_set_of" => {
+            let it = d.decode_set_of::<T>(alloc, Tag::SET, NONE);
+            Ok(Some(left(alloc, d, &it)?))
+        }
+        _ => Ok(None),
+    }
+}
+
+/// What a method of lists answers, by its word and that of the elements' type; nothing where it is no list's.
+pub fn list_of(call: Call<'_>, type_word: &str) -> Result<Option<String>> {
+    if !matches!(call.word, "decode_sequence_of" | "decode_set_of") {
+        return Ok(None);
+    }
+    let mut decoder = Decoder::new(call.octets, options_of(call.codec));
+    let _boolean = bool::decode(call.alloc, &mut decoder)?;
+    begin(call.alloc)?;
+    match type_word {
+        "bool" => list::<bool>(call, &mut decoder),
+        "int" => list::<Integer>(call, &mut decoder),
+        _ => Ok(None),
+    }
+}
+
 /// What a method answers, by its word; nothing where it is no leaf's.
 pub fn leaf_method(call: Call<'_>) -> Result<Option<String>> {
     let mut decoder = Decoder::new(call.octets, options_of(call.codec));

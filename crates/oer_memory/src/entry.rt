@@ -3,6 +3,7 @@ ghost use Rattle.oer_spec.specs.Spelled.{IsConsistent};
 
 use crate::answers::{appended, canonical, left, plain, read, read_first, written};
 use crate::marks::begin;
+use crate::one_row::Way;
 use anyhow::{Error, Result};
 use asn1_core::{Class, Codec, Constraints, Tag};
 use oer_words::constrained::UnderConstraints;
@@ -20,8 +21,40 @@ pub struct Call<'a> {
     pub octets: &'a [u8],
 }
 
-fn no_call() -> Error {
-    Error::msg("no such call")
+/// A call of a type's values.
+#[derive(Clone, Copy, PartialEq, Eq)]
+pub enum Ask {
+    Encode,
+    EncodeUnder,
+    Append,
+    Compare,
+    Canonicalise,
+    Decode,
+    DecodeUnder,
+    DecodeFirst,
+    DecodeByOptions,
+    OnDecoder(Way),
+}
+
+/// The call that a word names.
+pub fn ask_of(word: &str) -> Result<Ask> {
+    match word {
+        "encode" => Ok(Ask::Encode),
+        "encode_with_constraints" => Ok(Ask::EncodeUnder),
+        "encode_buf" => Ok(Ask::Append),
+        "==" => Ok(Ask::Compare),
+        "canonicalise" => Ok(Ask::Canonicalise),
+        "decode" => Ok(Ask::Decode),
+        "decode_with_constraints" => Ok(Ask::DecodeUnder),
+        "decode_with_remainder" => Ok(Ask::DecodeFirst),
+        "decode_with_options" => Ok(Ask::DecodeByOptions),
+        "Decode::decode" => Ok(Ask::OnDecoder(Way::Plain)),
+        "Decode::decode_with_tag" => Ok(Ask::OnDecoder(Way::ByTag)),
+        "Decode::decode_with_constraints" => Ok(Ask::OnDecoder(Way::ByConstraints)),
+        "Decode::decode_with_tag_and_constraints" => Ok(Ask::OnDecoder(Way::ByBoth)),
+        "decode_explicit_prefix" => Ok(Ask::OnDecoder(Way::ByPrefix)),
+        _ => Err(Error::msg("no such call")),
+    }
 }
 
 /// The options of a mode.
@@ -37,30 +70,29 @@ pub fn one() -> Tag {
     Tag::new(Class::Context, 1)
 }
 
-impl<'a> Call<'a> {
+/// A call of a type's values, of octets in a mode.
+#[derive(Clone, Copy)]
+pub struct Entry<'a> {
+    pub alloc: Global,
+    pub codec: Codec,
+    pub ask: Ask,
+    pub octets: &'a [u8],
+}
+
+impl<'a> Entry<'a> {
     /// The calls that write.
     fn writing<T: Encode>(self, constraints: Constraints, value: &T) -> Result<String>
         requires { IsConsistent constraints }
     {
         let alloc = self.alloc;
         begin(alloc)?;
-        match (self.codec, self.word) {
-            (Codec::Oer, "encode") => written(alloc, &oer::encode(alloc, value)),
-            (Codec::Coer, "encode") => written(alloc, &coer::encode(alloc, value)),
-            (Codec::Oer, "encode_with_constraints") => {
-                written(
-                    alloc,
-                    &oer::encode_with_constraints(alloc, constraints, value),
-                )
-            }
-            (Codec::Coer, "encode_with_constraints") => {
-                written(
-                    alloc,
-                    &coer::encode_with_constraints(alloc, constraints, value),
-                )
-            }
-            _ => Err(no_call()),
-        }
+        let answer = match (self.codec, self.ask) {
+            (Codec::Oer, Ask::Encode) => oer::encode(alloc, value),
+            (Codec::Coer, Ask::Encode) => coer::encode(alloc, value),
+            (Codec::Oer, _) => oer::encode_with_constraints(alloc, constraints, value),
+            (Codec::Coer, _) => coer::encode_with_constraints(alloc, constraints, value),
+        };
+        written(alloc, &answer)
     }
 
     /// The calls that append to a buffer, which begins as AA BB.
@@ -75,92 +107,65 @@ impl<'a> Call<'a> {
         appended(alloc, answer, &buffer)
     }
 
+    /// A comparison with the value of the same octets.
+    fn comparing<T: Decode + PartialEq>(self, constraints: Constraints, value: T) -> Result<String>
+        requires { IsConsistent constraints }
+    {
+        let other: T = oer::decode_with_constraints(self.alloc, constraints, self.octets)?;
+        begin(self.alloc)?;
+        plain(self.alloc, &(value == other))
+    }
+
     /// The calls that answer a value alone.
     fn reading<T: Decode + Debug>(self, constraints: Constraints) -> Result<String>
         requires { IsConsistent constraints }
     {
-        let alloc = self.alloc;
+        let (alloc, octets) = (self.alloc, self.octets);
         begin(alloc)?;
-        let answer = match (self.codec, self.word) {
-            (Codec::Oer, "decode") => oer::decode::<T>(alloc, self.octets),
-            (Codec::Coer, "decode") => coer::decode::<T>(alloc, self.octets),
-            (Codec::Oer, "decode_with_constraints") => {
-                oer::decode_with_constraints::<T>(alloc, constraints, self.octets)
-            }
-            (Codec::Coer, "decode_with_constraints") => {
-                coer::decode_with_constraints::<T>(alloc, constraints, self.octets)
-            }
-            _ => return Err(no_call()),
+        let answer = match (self.codec, self.ask) {
+            (Codec::Oer, Ask::Decode) => oer::decode::<T>(alloc, octets),
+            (Codec::Coer, Ask::Decode) => coer::decode::<T>(alloc, octets),
+            (Codec::Oer, _) => oer::decode_with_constraints::<T>(alloc, constraints, octets),
+            (Codec::Coer, _) => coer::decode_with_constraints::<T>(alloc, constraints, octets),
         };
         read(alloc, &answer)
     }
 
     /// The calls that answer what is left too.
     fn reading_first<T: Decode + Debug>(self) -> Result<String> {
-        let (alloc, options) = (self.alloc, options_of(self.codec));
+        let (alloc, octets, options) = (self.alloc, self.octets, options_of(self.codec));
         begin(alloc)?;
-        let answer = match (self.codec, self.word) {
-            (Codec::Oer, "decode_with_remainder") => {
-                oer::decode_with_remainder::<T>(alloc, self.octets)
-            }
-            (Codec::Coer, "decode_with_remainder") => {
-                coer::decode_with_remainder::<T>(alloc, self.octets)
-            }
-            (Codec::Oer, "decode_with_options") => {
-                oer::decode_with_options::<T>(alloc, options, self.octets)
-            }
-            (Codec::Coer, "decode_with_options") => {
-                coer::decode_with_options::<T>(alloc, options, self.octets)
-            }
-            _ => return Err(no_call()),
+        let answer = match (self.codec, self.ask) {
+            (Codec::Oer, Ask::DecodeFirst) => oer::decode_with_remainder::<T>(alloc, octets),
+            (Codec::Coer, Ask::DecodeFirst) => coer::decode_with_remainder::<T>(alloc, octets),
+            (Codec::Oer, _) => oer::decode_with_options::<T>(alloc, options, octets),
+            (Codec::Coer, _) => coer::decode_with_options::<T>(alloc, options, octets),
         };
         read_first(alloc, &answer)
     }
 
     /// The calls of `Decode`, on a decoder behind a boolean.
-    fn by_decoder<T: Decode + Debug>(self, constraints: Constraints) -> Result<String>
+    fn on_decoder<T: Decode + Debug>(self, constraints: Constraints, way: Way) -> Result<String>
         requires { IsConsistent constraints }
     {
         let alloc = self.alloc;
         let mut decoder = Decoder::new(self.octets, options_of(self.codec));
         let _boolean = bool::decode(alloc, &mut decoder)?;
         begin(alloc)?;
-        let answer = match self.word {
-            "Decode::decode" => T::decode(alloc, &mut decoder),
-            "Decode::decode_with_tag" => T::decode_with_tag(alloc, &mut decoder, one()),
-            "Decode::decode_with_constraints" => {
-                T::decode_with_constraints(alloc, &mut decoder, constraints)
-            }
-            "Decode::decode_with_tag_and_constraints" => {
+        let answer = match way {
+            Way::Plain => T::decode(alloc, &mut decoder),
+            Way::ByTag => T::decode_with_tag(alloc, &mut decoder, one()),
+            Way::ByConstraints => T::decode_with_constraints(alloc, &mut decoder, constraints),
+            Way::ByBoth => {
                 T::decode_with_tag_and_constraints(alloc, &mut decoder, one(), constraints)
             }
-            "decode_explicit_prefix" => decoder.decode_explicit_prefix::<T>(alloc, one()),
-            _ => return Err(no_call()),
+            Way::ByPrefix => decoder.decode_explicit_prefix::<T>(alloc, one()),
         };
         left(alloc, &decoder, &answer)
     }
-
-    /// The calls that read lists of the type, on a decoder behind a boolean.
-    fn lists<T: Decode + Debug>(self) -> Result<String> {
-        let alloc = self.alloc;
-        let mut decoder = Decoder::new(self.octets, options_of(self.codec));
-        let _boolean = bool::decode(alloc, &mut decoder)?;
-        begin(alloc)?;
-        match self.word {
-            "decode_sequence_of" => {
-                let list = decoder.decode_sequence_of::<T>(alloc, Tag::SEQUENCE, Constraints::NONE);
-                left(alloc, &decoder, &list)
-            }
-            "decode_set_of" => {
-                let list = decoder.decode_set_of::<T>(alloc, Tag::SET, Constraints::NONE);
-                left(alloc, &decoder, &list)
-            }
-            _ => Err(no_call()),
-        }
-    }
 }
 
-impl<'a> UnderConstraints for Call<'a> {
+impl<'a> UnderConstraints for Entry<'a> {
     type Output = Result<String>;
 
     fn under<T: Decode + Encode + Debug + PartialEq>(
@@ -171,27 +176,22 @@ impl<'a> UnderConstraints for Call<'a> {
             return Err(Error::msg("constraints without a value"));
         }
         let alloc = self.alloc;
-        match self.word {
-            "decode" | "decode_with_constraints" => self.reading::<T>(constraints),
-            "decode_with_remainder" | "decode_with_options" => self.reading_first::<T>(),
-            "decode_sequence_of" | "decode_set_of" => self.lists::<T>(),
-            "canonicalise" => {
+        match self.ask {
+            Ask::OnDecoder(way) => self.on_decoder::<T>(constraints, way),
+            Ask::Decode | Ask::DecodeUnder => self.reading::<T>(constraints),
+            Ask::DecodeFirst | Ask::DecodeByOptions => self.reading_first::<T>(),
+            Ask::Canonicalise => {
                 begin(alloc)?;
                 canonical(alloc, &oer::canonicalise::<T>(alloc, self.octets))
             }
-            "encode" | "encode_with_constraints" | "encode_buf" | "==" => {
+            Ask::Encode | Ask::EncodeUnder | Ask::Append | Ask::Compare => {
                 let value: T = oer::decode_with_constraints(alloc, constraints, self.octets)?;
-                if self.word == "encode_buf" {
-                    return self.appending(&value);
+                match self.ask {
+                    Ask::Append => self.appending(&value),
+                    Ask::Compare => self.comparing(constraints, value),
+                    _ => self.writing(constraints, &value),
                 }
-                if self.word == "==" {
-                    let other: T = oer::decode_with_constraints(alloc, constraints, self.octets)?;
-                    begin(alloc)?;
-                    return plain(alloc, &(value == other));
-                }
-                self.writing(constraints, &value)
             }
-            _ => self.by_decoder::<T>(constraints),
         }
     }
 }

@@ -22,9 +22,9 @@ mod writers;
 use anyhow::{Error, Result};
 use asking::component_method;
 use asn1_core::Codec;
-use decoding::leaf_method;
+use decoding::{leaf_method, list_of};
 use encoding::encoder_method;
-use entry::Call;
+use entry::{Call, Entry, ask_of};
 use oer_words::constrained::with_word;
 use std::alloc::Global;
 use std::env;
@@ -38,8 +38,17 @@ fn by_codec(call: Call<'_>, type_word: &str) -> Result<String> {
     if matches!(call.word, "as_older" | "as_newer") {
         return other_version(call, type_word);
     }
+    if let Some(answer) = list_of(call, type_word)? {
+        return Ok(answer);
+    }
     if type_word != "-" {
-        return match with_word(type_word, call) {
+        let entry = Entry {
+            alloc: call.alloc,
+            codec: call.codec,
+            ask: ask_of(call.word)?,
+            octets: call.octets,
+        };
+        return match with_word(type_word, entry) {
             Some(answer) => answer,
             None => Err(Error::msg("no such type")),
         };

@@ -131,8 +131,8 @@ impl Constructed<0, 1> for OneAddition {
     ghost tables = { record { root_count = refl; addition_count = refl; root_indexes = tt; addition_indexes = (refl, tt); only = λ e. absurd (cc e); distinct = λ e. absurd (cc e) } };
 }
 
-/// What a method that asks hands in, besides a default.
-#[derive(Clone, Copy)]
+/// What a method that reads or asks hands in, besides a default.
+#[derive(Clone, Copy, PartialEq, Eq)]
 pub enum Way {
     /// Nothing.
     Plain,

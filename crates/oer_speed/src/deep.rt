@@ -3,9 +3,9 @@
 use crate::measuring::{Figures, Plan, measure};
 use anyhow::Result;
 use oer_types::{
-    Bare, Held, Link, LinkAlternatives, LinkComponents, ListOf, Nest, OneOf, Sequence,
+    Bare, Chain, ChainComponents, Held, Link, LinkAlternatives, LinkComponents, ListOf, Nest,
+    OneOf, Sequence,
 };
-use own_recursion::{Chain, ChainComponents};
 use std::alloc::Global;
 use std::rt::Clock;
 

@@ -2,9 +2,8 @@
 
 use asn1_strings::OctetString;
 use asn1_times::UtcTime;
-use oer_types::{Adding, Enum3, Link, Sequence2};
+use oer_types::{Adding, Chain, Enum3, Link, Sequence2};
 use oer_words::known::{OnType, with_type};
-use own_recursion::Chain;
 
 /// Does it with the type of that word; none where no type has it.
 ///

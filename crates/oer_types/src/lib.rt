@@ -2,12 +2,15 @@
 //! reading.
 #![tactic(auto)]
 
+mod branches;
 mod bushes;
+mod chains;
 mod choices;
 pub mod components;
 mod constrained;
 mod deep_defaults;
 mod enums;
+mod envelopes;
 mod extended;
 mod extensible;
 mod extension_defaults;
@@ -18,6 +21,7 @@ mod many;
 mod mixed;
 mod mixed_sets;
 mod nests;
+mod nodes;
 mod octet_additions;
 mod pairs;
 mod ranges;
@@ -28,7 +32,9 @@ mod top_levels;
 mod versions;
 mod wrappers;
 
+pub use branches::{Branch, BranchComponents, BranchContent};
 pub use bushes::{Bush, BushComponents, BushContent};
+pub use chains::{Chain, ChainComponents, ChainContent};
 pub use choices::{
     BoolAlternatives, BoolChoice, OnlyAlternatives, OnlyChoice, PriorityAlternatives,
     PriorityChoice, WideAlternatives, WideChoice,
@@ -36,6 +42,7 @@ pub use choices::{
 pub use constrained::ConstrainedOptions;
 pub use deep_defaults::DeepDefault;
 pub use enums::{Answer, Color, Enum3, Enum4};
+pub use envelopes::{Body, BodyAlternatives, Envelope, EnvelopeComponents, EnvelopeContent};
 pub use extended::ExtendedOptional;
 pub use extensible::{EmptyExtensible, Outer, Sequence1, Sequence2, Sequence5};
 pub use extension_defaults::{AddDef, Holder1, Holder2};
@@ -46,6 +53,7 @@ pub use many::ManyOptional;
 pub use mixed::{Mixed, MixedComponents};
 pub use mixed_sets::{MixedSet, MixedSet2};
 pub use nests::{Nest, NestContent};
+pub use nodes::{Node, NodeComponents, NodeContent};
 pub use octet_additions::{Omitted, SequenceDuplicatesExtended};
 pub use pairs::Pair;
 pub use ranges::{FiveAroundZero, FromZeroTo64Bits, GreatPositive, Small};

@@ -13,6 +13,11 @@
 //!   by a decoder behind a boolean, which lack as many octets, at most those that are missing, and leave the whole front.
 //! - `tally MODE WORD`: of every input of at most two octets, a checksum of the answers, how many are read, and how many are refused
 //!   by each kind, by its place in `DecodeErrorKind`.
+//! - `vector TEST TYPE HEX`: what rasn's test of that name reads of the octets, as the value, the octets that both modules write of
+//!   it, and what is left; or the kind of the refusal. Where the modes answer otherwise: `oer` and its answer, then `coer` and its
+//!   own. `outside TEST TYPE HEX`: why both modules refuse to write, under the constraints of TYPE, the value whose octets without
+//!   them these are. TYPE is a word, and behind it may stand constraints, as in `int(0..255)`, `int(5)` and `octets(SIZE(3..6))`.
+//!   Values and octets are those of rasn's tests, compared with X.696 by hand; scripts/rasn_rows.py counts them.
 //! - `type WORD`: the type's own tag, and whether it is a choice. `table WORD`: whether a sequence or set is extensible, and its tables
 //!   of components, of each the index, the name, the need and the tag. `tags WORD`: the same as `type` of a choice, and its tables.
 //!
@@ -26,7 +31,10 @@ mod program;
 mod reading;
 mod tables;
 mod tally;
+mod typed;
+mod types;
 mod values;
+mod vector;
 
 use anyhow::{Error, Result};
 use asn1_core::Codec;
@@ -40,7 +48,8 @@ use std::alloc::Global;
 use std::io::{BufRead, BufReader};
 use tables::{kind, table, tags};
 use tally::tallied;
-use values::Shown;
+use values::{InPlace, Shown};
+use vector::{in_both_modes, outside};
 
 fn codec_of(word: &str) -> Result<Codec> {
     match word {
@@ -76,10 +85,24 @@ fn shown(alloc: Global, codec: Codec, word: &str, octets: &[u8]) -> Result<Strin
         alloc,
         codec,
         octets,
+        in_place: InPlace::Nothing,
     };
     match with_word(word, shown) {
-        Some(answer) => answer,
+        Some(answer) => match answer? {
+            Ok(seen) => Ok(format!(in alloc; "{};{}", seen.rest, seen.value)?),
+            Err(kind) => Err(Error::msg(kind.name())),
+        },
         None => Err(Error::msg("no such type")),
+    }
+}
+
+/// A row of rasn's tests: its test's name, a type and octets.
+fn of_rasn(alloc: Global, verb: &str, typed: &str, text: &str) -> Result<String> {
+    let octets = hex::decode(alloc, text)?;
+    if verb == "vector" {
+        in_both_modes(alloc, typed, octets.as_slice())
+    } else {
+        outside(alloc, typed, octets.as_slice())
     }
 }
 
@@ -138,6 +161,7 @@ fn answer(alloc: Global, row: &str) -> Result<String> {
         "stopped" => stopped(alloc, first),
         "depth" => at_depth(alloc, row.strip_prefix("depth ").unwrap_or("")),
         "fronts" => fronts(alloc, first, second),
+        "vector" | "outside" => of_rasn(alloc, verb, second, third),
         "type" => kind(alloc, first),
         "table" => table(alloc, first),
         "tags" => tags(alloc, first),

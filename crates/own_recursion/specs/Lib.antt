@@ -1,4 +1,0 @@
-pub mod Branches
-pub mod Chains
-pub mod Envelopes
-pub mod Nodes
