@@ -61,6 +61,7 @@ impl<A: Decode + Encode, B: Decode + Encode> Tabled<2, 0> for TwoComponents<A, B
         &[]
     }
 
+    #[inline(always)]
     fn put(&self, encoder: &mut Encoder<'_>) -> Result<(), EncodeError> {
         <TwoRow<A, B>>::write(&Both(&self.a, Both(&self.b, ())), encoder)
     }
@@ -126,6 +127,7 @@ impl<T: Decode + Encode> Tabled<2, 0> for MayPairComponents<T> {
         &[]
     }
 
+    #[inline(always)]
     fn put(&self, encoder: &mut Encoder<'_>) -> Result<(), EncodeError> {
         <MayPairRow<T>>::write(&Both(&self.a, Both(&self.b, ())), encoder)
     }
