@@ -77,6 +77,7 @@ pub const KNOT_TABLES: &str = r#"const @ROOTS@: &'static [Field<'static>] = @ROO
         @ADDITION_FIELDS@
     }
 
+    #[inline(always)]
     fn put(&self, encoder: &mut Encoder<'_>) -> Result<(), EncodeError> {
         let view = views![self:
 @LIST@

@@ -62,6 +62,7 @@ pub const TABLES: &str = r#"impl Tabled<@RC@, @EC@> for @NAME@Components {
         rows_of!(Self::EXTENDED_FIELDS)
     }
 
+    #[inline(always)]
     fn put(&self, encoder: &mut Encoder<'_>) -> Result<(), EncodeError> {
         let view = views![self:
 @LIST@
@@ -187,6 +188,7 @@ pub const CHOICE_IMPLS: &str = r#"impl@WRITES@ Alternating for @NAME@Alternative
         from_row!(value => @NAME@Alternatives: @LIST@)
     }
 
+    #[inline(always)]
     fn put<E: Choice>(&self, encoder: &mut Encoder<'_>) -> Result<(), EncodeError> {
         let view = to_row!(self => @NAME@Alternatives: @LIST@);
         @NAME@Row@TURBO@::write_alternative::<E>(&view, encoder)

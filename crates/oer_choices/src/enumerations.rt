@@ -102,6 +102,7 @@ impl<T: Numbered> Enumerated for Enumeration<T> {
 
     ghost of_number = { value_among_as (λ v. record { 0 = v }) T.number T.values };
 
+    #[inline(always)]
     fn discriminant(&self) -> isize {
         self.0.number()
     }
@@ -139,6 +140,7 @@ impl<T: Numbered> EqualAsSpelled for Enumeration<T> {
 }
 
 impl<T: Numbered> Encode for Enumeration<T> {
+    #[inline(always)]
     fn encode_with_tag_and_constraints(
         &self,
         encoder: &mut Encoder<'_>,

@@ -6,6 +6,7 @@ use asn1_core::EncodeErrorKind;
 /// Appends a boolean: FF for true and 00 for false (X.696, 9).
 ///
 /// Refused only for want of memory.
+#[inline(always)]
 pub fn write_bool(value: bool, out: &mut Vec<u8>) -> Result<(), EncodeErrorKind>
     ensures { AppendsLeaf result (Boolean value) out.old.items out.new.items }
 {

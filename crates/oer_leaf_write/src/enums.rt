@@ -7,6 +7,7 @@ use asn1_core::EncodeErrorKind;
 use asn1_ints::shortest_signed;
 
 /// Appends an octet 128 + k and the k shortest octets of the number in two's complement (X.696, 11.4).
+#[inline(never)]
 fn write_long_enumerated(number: i128, out: &mut Vec<u8>) -> Result<(), EncodeErrorKind>
     requires { in_isize number ≡ true }
     ensures { AppendsOrMemory result ((128 + length (signed_octets number)) ∷ signed_octets number) out.old.items out.new.items }
@@ -22,6 +23,7 @@ fn write_long_enumerated(number: i128, out: &mut Vec<u8>) -> Result<(), EncodeEr
 /// two's complement (X.696, 11).
 ///
 /// Refused only for want of memory.
+#[inline(always)]
 pub fn write_enumerated(number: isize, out: &mut Vec<u8>) -> Result<(), EncodeErrorKind>
     ensures { AppendsLeaf result (Enum number) out.old.items out.new.items }
 {
@@ -29,5 +31,8 @@ pub fn write_enumerated(number: isize, out: &mut Vec<u8>) -> Result<(), EncodeEr
         out.push(number as u8)?;
         return Ok(());
     }
-    write_long_enumerated(number as i128, out)
+    match write_long_enumerated(number as i128, out) {
+        Ok(()) => Ok(()),
+        Err(kind) => Err(kind),
+    }
 }

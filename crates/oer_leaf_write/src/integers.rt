@@ -1,6 +1,6 @@
-ghost use Rattle.std.specs.Prelude.{◌≡◌, ◌<◌, ◌≤◌, ◌-◌, ◌*◌, ◌^◌, pos, negsuc, true, false, None, int_le, int_lt};
+ghost use Rattle.std.specs.Prelude.{◌≡◌, ◌<◌, ◌≤◌, pos, true, false, length, int_lt};
 ghost use Rattle.asn1_core.specs.Bounds.{value_bounds};
-ghost use Rattle.asn1_core.specs.Numbers.{in_isize, signed_octets};
+ghost use Rattle.asn1_core.specs.Numbers.{signed_octets};
 ghost use Rattle.oer_spec.specs.Leaves.{counted_octets, fixed_octets};
 ghost use Rattle.oer_spec.specs.Lengths.{behind_length};
 ghost use Rattle.oer_spec.specs.Tree.{Int};
@@ -12,6 +12,7 @@ use asn1_ints::{IntegerType, shortest_signed};
 use oer_spec::leaf::{IntegerWidth, is_in_range, width_of};
 
 /// Appends the lowest octets of a number in two's complement.
+#[inline(always)]
 fn write_fixed(n: i128, octets: usize, out: &mut Vec<u8>) -> Result<(), EncodeErrorKind>
     requires { octets ≤ 16 }
     ensures { AppendsOrMemory result (fixed_octets octets n) out.old.items out.new.items }
@@ -42,6 +43,7 @@ fn write_shortest<I: IntegerType>(
 /// Appends a length and the shortest octets of a number.
 ///
 /// The number is written behind one octet, which becomes its length where that is below 128; else it is written anew.
+#[inline(never)]
 fn write_counted<I: IntegerType>(
     signed: bool,
     value: &I,
@@ -63,52 +65,78 @@ fn write_counted<I: IntegerType>(
     write_shortest(signed, value, out)
 }
 
-/// Appends a length and the shortest octets in two's complement of a number that so many octets hold.
-#[inline]
-fn write_held(n: i128, octets: usize, out: &mut Vec<u8>) -> Result<(), EncodeErrorKind>
-    requires some { 0 < octets }
-    requires few { octets ≤ 8 }
-    requires small { in_isize n ≡ true }
-    requires least { int_le (negsuc (128 * 256 ^ (octets - 1) - 1)) n ≡ true }
-    requires greatest { int_lt n (pos (128 * 256 ^ (octets - 1))) ≡ true }
-    ensures { AppendsOrMemory result (behind_length (signed_octets n)) out.old.items out.new.items }
+/// Appends a length below 128 and that many octets. An array is appended with one look at the room that is left.
+#[inline(always)]
+fn write_few(octets: &[u8], out: &mut Vec<u8>) -> Result<(), EncodeErrorKind>
+    requires { length octets.now < 128 }
+    ensures { AppendsOrMemory result (behind_length octets.now) out.old.items out.new.items }
 {
-    let all = n.to_be_bytes();
-    let (_, held) = all.split_at(16 - octets);
-    let shortest = shortest_signed(held);
-    out.push(shortest.len() as u8)?;
-    out.extend_from_slice(shortest)?;
+    match octets {
+        [a, b, c] => out.extend_from_slice(&[3, *a, *b, *c])?,
+        [a, b, c, d] => out.extend_from_slice(&[4, *a, *b, *c, *d])?,
+        [a, b, c, d, e, f, g, h] => { out.extend_from_slice(&[8, *a, *b, *c, *d, *e, *f, *g, *h])? }
+        _ => {
+            out.push(octets.len() as u8)?;
+            out.extend_from_slice(octets)?;
+        }
+    }
     Ok(())
 }
 
-/// Appends a length and the shortest octets of a number in two's complement, which are sought among 1, 2, 4 or 8.
-fn write_signed(n: i128, out: &mut Vec<u8>) -> Result<(), EncodeErrorKind>
-    requires { in_isize n ≡ true }
+/// Appends a length and the shortest octets of a number in two's complement: one or two.
+#[inline(always)]
+fn write_short(n: i16, out: &mut Vec<u8>) -> Result<(), EncodeErrorKind>
     ensures { AppendsOrMemory result (behind_length (signed_octets n)) out.old.items out.new.items }
 {
+    let [high, low] = n.to_be_bytes();
     if n >= -(1 << 7) && n < 1 << 7 {
-        return write_held(n, 1, out);
+        out.extend_from_slice(&[1, low])?;
+        return Ok(());
     }
-    if n >= -(1 << 15) && n < 1 << 15 {
-        return write_held(n, 2, out);
-    }
-    if n >= -(1 << 31) && n < 1 << 31 {
-        return write_held(n, 4, out);
-    }
-    write_held(n, 8, out)
+    out.extend_from_slice(&[2, high, low])?;
+    Ok(())
 }
 
-/// Appends an integer without a constraint: a length, and the shortest octets in two's complement.
-fn write_free<I: IntegerType>(value: &I, out: &mut Vec<u8>) -> Result<(), EncodeErrorKind>
+/// Appends a length and the shortest octets of a number in two's complement, which are sought among 4 or 8.
+#[inline(always)]
+fn write_signed(n: i64, out: &mut Vec<u8>) -> Result<(), EncodeErrorKind>
+    ensures { AppendsOrMemory result (behind_length (signed_octets n)) out.old.items out.new.items }
+{
+    if n >= -(1 << 31) && n < 1 << 31 {
+        let octets = (n as i32).to_be_bytes();
+        return write_few(shortest_signed(&octets), out);
+    }
+    let octets = n.to_be_bytes();
+    write_few(shortest_signed(&octets), out)
+}
+
+/// Appends an integer without a constraint that isn't one of i16.
+#[inline(never)]
+fn write_long<I: IntegerType>(value: &I, out: &mut Vec<u8>) -> Result<(), EncodeErrorKind>
     ensures { AppendsOrMemory result (behind_length (signed_octets (I.number value.now))) out.old.items out.new.items }
 {
     match value.to_i128() {
-        Some(n) if n >= -(1 << 63) && n < 1 << 63 => write_signed(n, out),
+        Some(n) if n >= -(1 << 63) && n < 1 << 63 => write_signed(n as i64, out),
         _ => write_counted(true, value, out),
     }
 }
 
+/// Appends an integer without a constraint: a length, and the shortest octets in two's complement.
+#[inline(always)]
+fn write_free<I: IntegerType>(value: &I, out: &mut Vec<u8>) -> Result<(), EncodeErrorKind>
+    ensures { AppendsOrMemory result (behind_length (signed_octets (I.number value.now))) out.old.items out.new.items }
+{
+    match value.to_i128() {
+        Some(n) if n >= -(1 << 15) && n < 1 << 15 => write_short(n as i16, out),
+        _ => match write_long(value, out) {
+            Ok(()) => Ok(()),
+            Err(kind) => Err(kind),
+        },
+    }
+}
+
 /// Appends an integer by its constraint.
+#[inline(always)]
 fn write_bounded<I: IntegerType>(
     constraints: &Constraints,
     value: &I,
@@ -133,7 +161,7 @@ fn write_bounded<I: IntegerType>(
 ///
 /// Refused, beside want of memory: under a constraint that isn't extensible, a number outside it or outside i128, as
 /// `ValueConstraintNotSatisfied`.
-#[inline]
+#[inline(always)]
 pub fn write_integer<I: IntegerType>(
     constraints: Constraints,
     value: &I,

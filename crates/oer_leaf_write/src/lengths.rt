@@ -25,6 +25,7 @@ pub(crate) fn without_leading_zeros(octets: &[u8]) -> &[u8]
 /// Appends a length: one octet below 128; else an octet 128 + k and the number's k octets (X.696, 8.6).
 ///
 /// Refused only for want of memory.
+#[inline(always)]
 pub fn write_length(length: usize, out: &mut Vec<u8>) -> Result<(), EncodeErrorKind>
     ensures { AppendsOrMemory result (length_octets length) out.old.items out.new.items }
 {
@@ -32,6 +33,18 @@ pub fn write_length(length: usize, out: &mut Vec<u8>) -> Result<(), EncodeErrorK
         out.push(length as u8)?;
         return Ok(());
     }
+    match write_long_length(length, out) {
+        Ok(()) => Ok(()),
+        Err(kind) => Err(kind),
+    }
+}
+
+/// Appends a length that one octet doesn't hold.
+#[inline(never)]
+fn write_long_length(length: usize, out: &mut Vec<u8>) -> Result<(), EncodeErrorKind>
+    requires { 128 ≤ length }
+    ensures { AppendsOrMemory result (length_octets length) out.old.items out.new.items }
+{
     let octets = (length as u64).to_be_bytes();
     let digits = without_leading_zeros(&octets);
     out.push(128 + digits.len() as u8)?;
@@ -42,9 +55,28 @@ pub fn write_length(length: usize, out: &mut Vec<u8>) -> Result<(), EncodeErrorK
 /// Appends a length and that many octets (X.696, 8.6 and 30).
 ///
 /// Refused only for want of memory.
+#[inline(always)]
 pub fn write_content(content: &[u8], out: &mut Vec<u8>) -> Result<(), EncodeErrorKind>
     ensures { AppendsOrMemory result (behind_length content.now) out.old.items out.new.items }
 {
+    if content.len() < 128 {
+        out.reserve(content.len() + 1)?;
+        out.push(content.len() as u8)?;
+        out.extend_from_slice(content)?;
+        return Ok(());
+    }
+    match write_long_content(content, out) {
+        Ok(()) => Ok(()),
+        Err(kind) => Err(kind),
+    }
+}
+
+/// Appends a length that one octet doesn't hold, and that many octets. Memory is asked for once.
+#[inline(never)]
+fn write_long_content(content: &[u8], out: &mut Vec<u8>) -> Result<(), EncodeErrorKind>
+    ensures { AppendsOrMemory result (behind_length content.now) out.old.items out.new.items }
+{
+    out.reserve(content.len().saturating_add(9))?;
     write_length(content.len(), out)?;
     out.extend_from_slice(content)?;
     Ok(())

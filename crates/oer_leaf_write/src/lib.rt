@@ -1,5 +1,8 @@
 //! Writers of leaves: each appends the canonical octets to those of before, or refuses; after a refusal the octets of before are
 //! still there, perhaps with more behind them.
+//!
+//! What is short is written in line. A long form is a call out of line, whose answer is matched, so that the short form's
+//! answer isn't a place in memory too.
 #![tactic(auto)]
 
 mod bit_strings;

@@ -1,4 +1,4 @@
-ghost use Rattle.std.specs.Prelude.{◌≡◌, ◌+◌, ◌/◌, ◌%◌, ◌++◌, ◌∷◌, [], map};
+ghost use Rattle.std.specs.Prelude.{◌≡◌, ◌≤◌, ◌+◌, ◌/◌, ◌%◌, ◌++◌, ◌∷◌, [], map};
 ghost use Rattle.std.specs.Int.Digits.{digits_of};
 ghost use Rattle.asn1_core.specs.Tags.{class_number};
 ghost use Rattle.oer_spec.specs.Lengths.{tag_octets};
@@ -7,6 +7,7 @@ ghost use Rattle.oer_spec.specs.Writing.{AppendsOrMemory, group_octets};
 use asn1_core::{Class, EncodeErrorKind, Tag};
 
 /// The class as it stands in the top two bits of an octet (X.696, 8.7.2.1).
+#[inline(always)]
 fn class_bits(class: Class) -> u8
     ensures { result ≡ class_number class }
 {
@@ -44,6 +45,7 @@ fn write_groups(number: u64, out: &mut Vec<u8>) -> Result<(), EncodeErrorKind>
 /// groups of seven bits, highest first (X.696, 8.7).
 ///
 /// Refused only for want of memory.
+#[inline(always)]
 pub fn write_tag(tag: Tag, out: &mut Vec<u8>) -> Result<(), EncodeErrorKind>
     ensures { AppendsOrMemory result (tag_octets tag) out.old.items out.new.items }
 {
@@ -52,6 +54,18 @@ pub fn write_tag(tag: Tag, out: &mut Vec<u8>) -> Result<(), EncodeErrorKind>
         out.push(class + tag.value as u8)?;
         return Ok(());
     }
-    out.push(class + 63)?;
+    match write_long_tag(tag, out) {
+        Ok(()) => Ok(()),
+        Err(kind) => Err(kind),
+    }
+}
+
+/// Appends a tag whose number one octet doesn't hold.
+#[inline(never)]
+fn write_long_tag(tag: Tag, out: &mut Vec<u8>) -> Result<(), EncodeErrorKind>
+    requires { 63 ≤ tag.value }
+    ensures { AppendsOrMemory result (tag_octets tag) out.old.items out.new.items }
+{
+    out.push(class_bits(tag.class) * 64 + 63)?;
     write_groups(tag.value as u64, out)
 }

@@ -11,6 +11,7 @@ use asn1_core::{Constraints, EncodeErrorKind};
 use asn1_strings::{CharacterSet, RestrictedString};
 
 /// Whether a string of that size can be written in `count` octets.
+#[inline(always)]
 pub(crate) fn check_string(
     constraints: Constraints,
     size: usize,
@@ -30,6 +31,7 @@ pub(crate) fn check_string(
 }
 
 /// Appends the octets of a string of that size: under a fixed size themselves, else behind their length.
+#[inline(always)]
 pub(crate) fn write_string(
     octets: &[u8],
     size: usize,
@@ -51,6 +53,7 @@ pub(crate) fn write_string(
 ///
 /// Refused, the first that applies: a size that the constraint doesn't allow, as `SizeConstraintNotSatisfied` with the
 /// size in octets; above `usize::MAX / 8` octets behind a length, as `LengthExceedsPlatformSize`.
+#[inline(always)]
 pub fn write_octet_string(
     constraints: Constraints,
     octets: &[u8],
@@ -64,6 +67,7 @@ pub fn write_octet_string(
 /// Appends the octets of an open type's content, behind their length (X.696, 30).
 ///
 /// Refused above `usize::MAX / 8` octets, as `LengthExceedsPlatformSize`.
+#[inline(always)]
 pub fn write_any(octets: &[u8], out: &mut Vec<u8>) -> Result<(), EncodeErrorKind>
     ensures { AppendsLeaf result (Text AnyOctets None (InOctets octets.now)) out.old.items out.new.items }
 {
@@ -73,6 +77,7 @@ pub fn write_any(octets: &[u8], out: &mut Vec<u8>) -> Result<(), EncodeErrorKind
 /// Appends a UTF8String, whose size counts octets (X.696, 27).
 ///
 /// Refused as an octet string is (`write_octet_string`).
+#[inline(always)]
 pub fn write_utf8(
     constraints: Constraints,
     text: &str,
@@ -86,6 +91,7 @@ pub fn write_utf8(
 /// Appends a restricted character string, whose size counts characters (X.696, 27).
 ///
 /// Refused as an octet string is (`write_octet_string`), with the size in characters.
+#[inline(always)]
 pub fn write_text<C: CharacterSet>(
     constraints: Constraints,
     text: &RestrictedString<C>,

@@ -71,6 +71,7 @@ impl<T: EqualAsSpelled, L: Limits> EqualAsSpelled for Limited<T, L> {
 }
 
 impl<T: Encode, L: Limits> Encode for Limited<T, L> {
+    #[inline(always)]
     fn encode_with_tag_and_constraints(
         &self,
         encoder: &mut Encoder<'_>,

@@ -87,6 +87,7 @@ impl<T: EqualAsSpelled> EqualAsSpelled for ListOf<T> {
 }
 
 impl<T: Encode> Encode for ListOf<T> {
+    #[inline(always)]
     fn encode_with_tag_and_constraints(
         &self,
         encoder: &mut Encoder<'_>,

@@ -110,6 +110,7 @@ impl<K: Encode> Tabled<2, 1> for BranchComponents<K> {
         BRANCH_ADDITIONS
     }
 
+    #[inline(always)]
     fn put(&self, encoder: &mut Encoder<'_>) -> Result<(), EncodeError> {
         BranchRow::<K>::write(&views![self: label, children, last], encoder)
     }

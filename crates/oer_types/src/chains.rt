@@ -101,6 +101,7 @@ impl<K: Encode> Tabled<1, 1> for ChainComponents<K> {
         CHAIN_ADDITIONS
     }
 
+    #[inline(always)]
     fn put(&self, encoder: &mut Encoder<'_>) -> Result<(), EncodeError> {
         ChainRow::<K>::write(&views![self: ok, next], encoder)
     }

@@ -102,6 +102,7 @@ impl<K: Encode> Tabled<3, 0> for EnvelopeComponents<K> {
         &[]
     }
 
+    #[inline(always)]
     fn put(&self, encoder: &mut Encoder<'_>) -> Result<(), EncodeError> {
         EnvelopeRow::<K>::write(&views![self: id, body, urgent], encoder)
     }
@@ -178,6 +179,7 @@ impl<K: Encode> Alternating for BodyAlternatives<K> {
         from_row!(value => BodyAlternatives: Text, Inner, Count)
     }
 
+    #[inline(always)]
     fn put<E: Choice>(&self, encoder: &mut Encoder<'_>) -> Result<(), EncodeError> {
         let view = to_row!(self => BodyAlternatives: Text, Inner, Count);
         BodyRow::<K>::write_alternative::<E>(&view, encoder)

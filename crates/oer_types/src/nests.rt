@@ -55,6 +55,7 @@ impl Layered for Nest {
 }
 
 /// Writes what a `Nest` holds.
+#[inline(always)]
 fn encode_content<K: Encode>(
     inner: &NestContent<K>,
     encoder: &mut Encoder<'_>,
@@ -68,6 +69,7 @@ fn encode_content<K: Encode>(
 }
 
 impl Encode for Nest {
+    #[inline(always)]
     fn encode_with_tag_and_constraints(
         &self,
         encoder: &mut Encoder<'_>,

@@ -102,6 +102,7 @@ impl<K: Encode> Tabled<3, 0> for NodeComponents<K> {
         &[]
     }
 
+    #[inline(always)]
     fn put(&self, encoder: &mut Encoder<'_>) -> Result<(), EncodeError> {
         NodeRow::<K>::write(&views![self: value, next, last], encoder)
     }

@@ -45,6 +45,7 @@ impl<'buffer> Encoder<'buffer> {
     ///
     /// `worker` may hold anything, and is left as it is. Takes no memory.
     #[tactic(auto, using(crate::proofs::Regions::none_around))]
+    #[inline(always)]
     pub fn from_buffer(
         alloc: Global,
         _options: EncoderOptions,
@@ -64,6 +65,7 @@ impl<'buffer> Encoder<'buffer> {
 
     /// An encoder that appends to `output`, lent for an element, an alternative or a component.
     #[tactic(auto, using(crate::proofs::Regions::none_around))]
+    #[inline(always)]
     pub(crate) fn lent(alloc: Global, output: &'buffer mut Vec<u8>) -> Encoder<'buffer>
         ensures { result ≡ record { octets = output.old.items; frame = no_scope; outer = no_scope ∷ [] } }
     {
@@ -118,6 +120,7 @@ impl<'buffer> Encoder<'buffer> {
 
     /// How many octets are written.
     #[tactic(auto, using(crate::proofs::Regions::around_long))]
+    #[inline(always)]
     pub(crate) fn written(&self) -> usize
         ensures { result ≡ length self.now.octets }
     {
@@ -167,6 +170,7 @@ impl<'buffer> Encoder<'buffer> {
     }
 
     /// The octets written, where no scope is open.
+    #[inline(always)]
     pub(crate) fn into_octets(self) -> Vec<u8>
         requires { self.frame.is_open ≡ false }
         ensures { result.items ≡ self.entry.octets }

@@ -22,6 +22,7 @@ pub(crate) const MAX_EMPTY_ELEMENTS: u32 = 65536;
 const MOST_ROOM: usize = 65536;
 
 /// Lends an encoder and an element to a closure.
+#[inline(always)]
 fn lend_at<E, F: Fn(&mut Encoder<'_>, &E) -> Result<(), EncodeError>>(
     encoder: &mut Encoder<'_>,
     f: &F,
@@ -35,6 +36,7 @@ fn lend_at<E, F: Fn(&mut Encoder<'_>, &E) -> Result<(), EncodeError>>(
 }
 
 /// Writes one element, and says whether it took no octets.
+#[inline(always)]
 fn put_alone<E, F: Fn(&mut Encoder<'_>, &E) -> Result<(), EncodeError>>(
     encoder: &mut Encoder<'_>,
     f: &F,
@@ -53,6 +55,7 @@ fn put_alone<E, F: Fn(&mut Encoder<'_>, &E) -> Result<(), EncodeError>>(
 }
 
 /// Writes one element, and counts those that take no octets.
+#[inline(always)]
 fn put_element<E, F: Fn(&mut Encoder<'_>, &E) -> Result<(), EncodeError>>(
     encoder: &mut Encoder<'_>,
     f: &F,
@@ -77,6 +80,7 @@ fn put_element<E, F: Fn(&mut Encoder<'_>, &E) -> Result<(), EncodeError>>(
 }
 
 /// Writes the elements in turn.
+#[inline(always)]
 fn put_elements<E, F: Fn(&mut Encoder<'_>, &E) -> Result<(), EncodeError>>(
     encoder: &mut Encoder<'_>,
     elements: &[E],
@@ -97,6 +101,7 @@ fn put_elements<E, F: Fn(&mut Encoder<'_>, &E) -> Result<(), EncodeError>>(
 }
 
 /// Lends an encoder with no scope open, for each element, over an output.
+#[inline(never)]
 fn put_elements_into<E, F: Fn(&mut Encoder<'_>, &E) -> Result<(), EncodeError>>(
     alloc: Global,
     value: &[E],
@@ -121,6 +126,7 @@ impl<'buffer> Encoder<'buffer> {
     /// What the closure appends at each element, in an encoder with no scope open, is what is appended. Refused, at the first
     /// element where it applies, by what the closure refused, at the 65,537th without octets by `TooManyEmptyElements`; or
     /// for want of memory.
+    #[inline(always)]
     pub fn encode_sequence_of_with<E, F: Fn(&mut Encoder<'_>, &E) -> Result<(), EncodeError>>(
         &mut self,
         _tag: Tag,
@@ -139,6 +145,7 @@ impl<'buffer> Encoder<'buffer> {
         self.list(value, &f)
     }
 
+    #[inline(always)]
     fn list<E, F: Fn(&mut Encoder<'_>, &E) -> Result<(), EncodeError>>(
         &mut self,
         value: &[E],
@@ -155,6 +162,7 @@ impl<'buffer> Encoder<'buffer> {
 
     /// Writes a quantity, and makes room for an octet of each element.
     #[tactic(auto, using(crate::proofs::Regions::more_around, crate::proofs::Regions::more_within))]
+    #[inline(always)]
     fn put_quantity(&mut self, count: usize) -> Result<(), EncodeErrorKind>
         ensures done { OnOk result (self.new ≡ append (quantity_octets count) self.old) }
         ensures refused { IfErr result (λ k. (k ≡ OutOfMemory) × Keeps self.old self.new) }
@@ -166,6 +174,7 @@ impl<'buffer> Encoder<'buffer> {
 
     /// Writes each element behind the quantity.
     #[tactic(auto, using(crate::proofs::Regions::elements_more, crate::proofs::Regions::more_around, crate::proofs::Regions::more_within))]
+    #[inline(always)]
     fn put_all<E, F: Fn(&mut Encoder<'_>, &E) -> Result<(), EncodeError>>(
         &mut self,
         value: &[E],
@@ -178,7 +187,10 @@ impl<'buffer> Encoder<'buffer> {
         ensures begins { BeginsWith self.old.octets self.new.octets }
         ensures left { self.new ≡ record self.old { octets = self.new.octets } }
     {
-        put_elements_into(self.alloc, value, f, &mut *self.output)
+        match put_elements_into(self.alloc, value, f, &mut *self.output) {
+            Ok(()) => Ok(()),
+            Err(x) => Err(x),
+        }
     }
 }
 
@@ -187,6 +199,7 @@ impl<'buffer> Encoder<'buffer> {
     ///
     /// Refused by what the first element is refused by that is refused, at the 65,537th element without octets by
     /// `TooManyEmptyElements`, whichever comes first; or for want of memory.
+    #[inline(always)]
     pub fn encode_sequence_of<E: Encode>(
         &mut self,
         tag: Tag,

@@ -14,6 +14,7 @@ use oer_write::{Encode, Encoder};
 use std::alloc::Global;
 
 /// The canonical octets of a value, under constraints in place of its type's own.
+#[inline(always)]
 pub(crate) fn encode_value<T: Encode>(
     alloc: Global,
     constraints: Constraints,
@@ -49,6 +50,7 @@ pub(crate) fn decode_value<'a, T: Decode>(
 }
 
 /// Writes the canonical octets of a value behind what the buffer holds.
+#[inline(always)]
 fn write_behind<T: Encode>(
     alloc: Global,
     constraints: Constraints,
@@ -76,6 +78,7 @@ fn write_behind<T: Encode>(
 }
 
 /// The canonical octets of a value behind what the buffer holds; after a refusal the buffer is as before.
+#[inline(always)]
 pub(crate) fn append_value<T: Encode>(
     alloc: Global,
     constraints: Constraints,

@@ -19,6 +19,7 @@ use std::alloc::Global;
 ///
 /// Refused exactly where the tree can't be written, by a kind whose condition it breaks (docs/REFUSALS.md), or for want
 /// of memory.
+#[inline(always)]
 pub fn encode<T: Encode>(alloc: Global, value: &T) -> Result<Vec<u8>, EncodeError>
     ensures { IsWritten (T.tree T.CONSTRAINTS) T.IsValue value.now result }
 {
@@ -26,6 +27,7 @@ pub fn encode<T: Encode>(alloc: Global, value: &T) -> Result<Vec<u8>, EncodeErro
 }
 
 /// The same under these constraints, which are consistent and stand in place of the type's own.
+#[inline(always)]
 pub fn encode_with_constraints<T: Encode>(
     alloc: Global,
     constraints: Constraints,
@@ -40,6 +42,7 @@ pub fn encode_with_constraints<T: Encode>(
 /// The canonical octets of a value's tree, behind what the buffer holds.
 ///
 /// Refused as `encode` is; the buffer is then as before.
+#[inline(always)]
 pub fn encode_buf<T: Encode>(
     alloc: Global,
     value: &T,

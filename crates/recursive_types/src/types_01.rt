@@ -109,6 +109,7 @@ impl<K: Encode> Tabled<3, 0> for NodeComponents<K> {
         &[]
     }
 
+    #[inline(always)]
     fn put(&self, encoder: &mut Encoder<'_>) -> Result<(), EncodeError> {
         let view = views![self:
             value,
@@ -323,6 +324,7 @@ impl<K: Encode> Alternating for BodyAlternatives<K> {
         from_row!(value => BodyAlternatives: Text, Inner, Count)
     }
 
+    #[inline(always)]
     fn put<E: Choice>(&self, encoder: &mut Encoder<'_>) -> Result<(), EncodeError> {
         let view = to_row!(self => BodyAlternatives: Text, Inner, Count);
         BodyRow::<K>::write_alternative::<E>(&view, encoder)
@@ -453,6 +455,7 @@ impl<K: Encode> Tabled<2, 1> for EnvelopeComponents<K> {
         ENVELOPE_ADDITIONS
     }
 
+    #[inline(always)]
     fn put(&self, encoder: &mut Encoder<'_>) -> Result<(), EncodeError> {
         let view = views![self:
             id,

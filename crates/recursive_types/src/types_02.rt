@@ -116,6 +116,7 @@ impl<K: Encode> Tabled<3, 0> for TreeComponents<K> {
         &[]
     }
 
+    #[inline(always)]
     fn put(&self, encoder: &mut Encoder<'_>) -> Result<(), EncodeError> {
         let view = views![self:
             label,
@@ -387,6 +388,7 @@ impl Tabled<2, 0> for PostComponents {
         rows_of!(Self::EXTENDED_FIELDS)
     }
 
+    #[inline(always)]
     fn put(&self, encoder: &mut Encoder<'_>) -> Result<(), EncodeError> {
         let view = views![self:
             letter,

@@ -84,6 +84,7 @@ impl Tabled<3, 1> for BagComponents {
         rows_of!(Self::EXTENDED_FIELDS)
     }
 
+    #[inline(always)]
     fn put(&self, encoder: &mut Encoder<'_>) -> Result<(), EncodeError> {
         let view = views![self:
             a,
@@ -171,6 +172,7 @@ impl Alternating for SignalAlternatives {
         from_row!(value => SignalAlternatives: Busy, Level, NewKey)
     }
 
+    #[inline(always)]
     fn put<E: Choice>(&self, encoder: &mut Encoder<'_>) -> Result<(), EncodeError> {
         let view = to_row!(self => SignalAlternatives: Busy, Level, NewKey);
         SignalRow::write_alternative::<E>(&view, encoder)
@@ -332,6 +334,7 @@ impl Tabled<11, 0> for LetterHeadComponents {
         rows_of!(Self::EXTENDED_FIELDS)
     }
 
+    #[inline(always)]
     fn put(&self, encoder: &mut Encoder<'_>) -> Result<(), EncodeError> {
         let view = views![self:
             from,
@@ -438,6 +441,7 @@ impl Tabled<2, 0> for LetterGroup1Components {
         rows_of!(Self::EXTENDED_FIELDS)
     }
 
+    #[inline(always)]
     fn put(&self, encoder: &mut Encoder<'_>) -> Result<(), EncodeError> {
         let view = views![self:
             stamp,
@@ -528,6 +532,7 @@ impl Tabled<2, 1> for LetterComponents {
         rows_of!(Self::EXTENDED_FIELDS)
     }
 
+    #[inline(always)]
     fn put(&self, encoder: &mut Encoder<'_>) -> Result<(), EncodeError> {
         let view = views![self:
             head,

@@ -68,6 +68,7 @@ impl Tabled<2, 0> for SpotComponents {
         rows_of!(Self::EXTENDED_FIELDS)
     }
 
+    #[inline(always)]
     fn put(&self, encoder: &mut Encoder<'_>) -> Result<(), EncodeError> {
         let view = views![self:
             x,
@@ -143,6 +144,7 @@ impl Tabled<2, 0> for AreaBoxesComponents {
         rows_of!(Self::EXTENDED_FIELDS)
     }
 
+    #[inline(always)]
     fn put(&self, encoder: &mut Encoder<'_>) -> Result<(), EncodeError> {
         let view = views![self:
             from,
@@ -218,6 +220,7 @@ impl Tabled<2, 0> for AreaRoundComponents {
         rows_of!(Self::EXTENDED_FIELDS)
     }
 
+    #[inline(always)]
     fn put(&self, encoder: &mut Encoder<'_>) -> Result<(), EncodeError> {
         let view = views![self:
             middle,
@@ -285,6 +288,7 @@ impl Alternating for AreaAlternatives {
         from_row!(value => AreaAlternatives: Boxes, Corners, Names, Round)
     }
 
+    #[inline(always)]
     fn put<E: Choice>(&self, encoder: &mut Encoder<'_>) -> Result<(), EncodeError> {
         let view = to_row!(self => AreaAlternatives: Boxes, Corners, Names, Round);
         AreaRow::write_alternative::<E>(&view, encoder)
@@ -403,6 +407,7 @@ impl Tabled<3, 0> for ThenComponents {
         rows_of!(Self::EXTENDED_FIELDS)
     }
 
+    #[inline(always)]
     fn put(&self, encoder: &mut Encoder<'_>) -> Result<(), EncodeError> {
         let view = views![self:
             at,
@@ -466,6 +471,7 @@ impl Alternating for ColoursAlternatives {
         from_row!(value => ColoursAlternatives: One, Two, Three)
     }
 
+    #[inline(always)]
     fn put<E: Choice>(&self, encoder: &mut Encoder<'_>) -> Result<(), EncodeError> {
         let view = to_row!(self => ColoursAlternatives: One, Two, Three);
         ColoursRow::write_alternative::<E>(&view, encoder)
@@ -557,6 +563,7 @@ impl Tabled<3, 0> for PlainComponents {
         rows_of!(Self::EXTENDED_FIELDS)
     }
 
+    #[inline(always)]
     fn put(&self, encoder: &mut Encoder<'_>) -> Result<(), EncodeError> {
         let view = views![self:
             a,

@@ -45,6 +45,7 @@ impl Alternating for PairAlternatives {
         from_row!(value => PairAlternatives: A, B)
     }
 
+    #[inline(always)]
     fn put<E: Choice>(&self, encoder: &mut Encoder<'_>) -> Result<(), EncodeError> {
         let view = to_row!(self => PairAlternatives: A, B);
         PairRow::write_alternative::<E>(&view, encoder)
@@ -107,6 +108,7 @@ impl Alternating for NestedAlternatives {
         from_row!(value => NestedAlternatives: A, B)
     }
 
+    #[inline(always)]
     fn put<E: Choice>(&self, encoder: &mut Encoder<'_>) -> Result<(), EncodeError> {
         let view = to_row!(self => NestedAlternatives: A, B);
         NestedRow::write_alternative::<E>(&view, encoder)

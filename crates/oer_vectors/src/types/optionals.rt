@@ -65,6 +65,7 @@ impl Tabled<3, 0> for UntaggedComponents {
         rows_of!(Self::EXTENDED_FIELDS)
     }
 
+    #[inline(always)]
     fn put(&self, encoder: &mut Encoder<'_>) -> Result<(), EncodeError> {
         UntaggedRow::write(
             &Both(&self.it, Both(&self.is, Both(&self.late, ()))),
@@ -135,6 +136,7 @@ impl Tabled<3, 0> for ExplicitComponents {
         rows_of!(Self::EXTENDED_FIELDS)
     }
 
+    #[inline(always)]
     fn put(&self, encoder: &mut Encoder<'_>) -> Result<(), EncodeError> {
         ExplicitRow::write(
             &Both(&self.it, Both(&self.is, Both(&self.late, ()))),

@@ -63,6 +63,7 @@ impl<T: Decode + Encode> Alternating for Choice1Alternatives<T> {
         from_row!(value => Choice1Alternatives: Inner)
     }
 
+    #[inline(always)]
     fn put<E: Choice>(&self, encoder: &mut Encoder<'_>) -> Result<(), EncodeError> {
         let view = to_row!(self => Choice1Alternatives: Inner);
         <Choice1Row<T>>::write_alternative::<E>(&view, encoder)
@@ -112,6 +113,7 @@ impl<T: Decode + Encode> Alternating for Choice2Alternatives<T> {
         from_row!(value => Choice2Alternatives: Inner, Added)
     }
 
+    #[inline(always)]
     fn put<E: Choice>(&self, encoder: &mut Encoder<'_>) -> Result<(), EncodeError> {
         let view = to_row!(self => Choice2Alternatives: Inner, Added);
         <Choice2Row<T>>::write_alternative::<E>(&view, encoder)
