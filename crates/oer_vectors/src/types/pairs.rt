@@ -61,6 +61,7 @@ impl Tabled<2, 0> for Optional1Components {
         rows_of!(Self::EXTENDED_FIELDS)
     }
 
+    #[inline(always)]
     fn put(&self, encoder: &mut Encoder<'_>) -> Result<(), EncodeError> {
         Optional1Row::write(&Both(&self.a, Both(&self.b, ())), encoder)
     }
@@ -123,6 +124,7 @@ impl Tabled<2, 0> for Optional2Components {
         rows_of!(Self::EXTENDED_FIELDS)
     }
 
+    #[inline(always)]
     fn put(&self, encoder: &mut Encoder<'_>) -> Result<(), EncodeError> {
         Optional2Row::write(&Both(&self.a, Both(&self.b, ())), encoder)
     }
@@ -185,6 +187,7 @@ impl Tabled<2, 0> for Optional3Components {
         rows_of!(Self::EXTENDED_FIELDS)
     }
 
+    #[inline(always)]
     fn put(&self, encoder: &mut Encoder<'_>) -> Result<(), EncodeError> {
         Optional3Row::write(&Both(&self.a, Both(&self.b, ())), encoder)
     }
@@ -250,6 +253,7 @@ impl<T: Decode + Encode> Tabled<2, 0> for BoxedPairComponents<T> {
         &[]
     }
 
+    #[inline(always)]
     fn put(&self, encoder: &mut Encoder<'_>) -> Result<(), EncodeError> {
         <BoxedPairRow<T>>::write(&Both(&self.a, Both(&self.b, ())), encoder)
     }
@@ -312,6 +316,7 @@ impl Tabled<2, 0> for ChoosingComponents {
         rows_of!(Self::EXTENDED_FIELDS)
     }
 
+    #[inline(always)]
     fn put(&self, encoder: &mut Encoder<'_>) -> Result<(), EncodeError> {
         ChoosingRow::write(&Both(&self.a, Both(&self.b, ())), encoder)
     }
@@ -374,6 +379,7 @@ impl Tabled<2, 0> for ChosenComponents {
         rows_of!(Self::EXTENDED_FIELDS)
     }
 
+    #[inline(always)]
     fn put(&self, encoder: &mut Encoder<'_>) -> Result<(), EncodeError> {
         ChosenRow::write(&Both(&self.a, Both(&self.b, ())), encoder)
     }
