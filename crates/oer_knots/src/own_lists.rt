@@ -105,13 +105,23 @@ fn push_element<'a, B: Element<K>, K: Knot<ListOf<B>>>(
         Err(kind) => Err(kind.with_codec(codec)),
         Ok((count, start)) => {
             let mut own: Vec<B> = Vec::new(alloc);
-            let mut rest = start;
+            let mut lent: Decoder<'a> = Decoder::apart(start, codec, levels - 1);
             for i in 0..count {
-                rest = push_element::<B, K>(alloc, codec, levels - 1, rest, &mut own, count)?;
+                let rest = lent.remaining();
+                match push_element::<B, K>(alloc, codec, levels - 1, rest, &mut own, count) {
+                    Err(e) => return Err(e),
+                    Ok(left) => lent.set_remaining(left),
+                }
             }
             let element = B::from_content(K::from_content(ListOf(own)));
-            match keep(items, element, quantity, input.len(), rest.len()) {
-                Ok(()) => Ok(rest),
+            match keep(
+                items,
+                element,
+                quantity,
+                input.len(),
+                lent.remaining().len(),
+            ) {
+                Ok(()) => Ok(lent.remaining()),
                 Err(_) => Err(DecodeErrorKind::OutOfMemory.with_codec(codec)),
             }
         }
