@@ -9,7 +9,7 @@ use std::alloc::Global;
 pub type Choice1<T> = OneOf<Choice1Alternatives<T>>;
 
 /// The alternative of a `Choice1`.
-#[derive(Debug, PartialEq, Eq, Drop)]
+#[derive(Drop)]
 pub enum Choice1Alternatives<T> {
     Inner(T),
 }
@@ -18,7 +18,7 @@ pub enum Choice1Alternatives<T> {
 pub type Choice2<T> = OneOf<Choice2Alternatives<T>>;
 
 /// The alternatives of a `Choice2`.
-#[derive(Debug, PartialEq, Eq, Drop)]
+#[derive(Drop)]
 pub enum Choice2Alternatives<T> {
     Inner(T),
     Added(T),
@@ -139,7 +139,7 @@ struct InOne<W>(W);
 impl<W: OnPair> OnPair for InOne<W> {
     type Output = W::Output;
 
-    fn on<New: Decode + Encode + Eq, Old: Decode + Encode + Eq>(self) -> W::Output {
+    fn on<New: Decode + Encode, Old: Decode + Encode>(self) -> W::Output {
         // by a box, whose size is known
         self.0.on::<Choice2<Box<New>>, Choice2<Box<Old>>>()
     }
@@ -152,7 +152,7 @@ struct InTwo<W>(W);
 impl<W: OnPair> OnPair for InTwo<W> {
     type Output = W::Output;
 
-    fn on<New: Decode + Encode + Eq, Old: Decode + Encode + Eq>(self) -> W::Output {
+    fn on<New: Decode + Encode, Old: Decode + Encode>(self) -> W::Output {
         self.0.on::<Choice2<Box<New>>, Choice1<Box<Old>>>()
     }
 }

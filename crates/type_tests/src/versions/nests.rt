@@ -3,24 +3,39 @@
 use anyhow::{Error, Result};
 use std::alloc::Global;
 
-/// How a value lies in octets that hold it.
+/// What a value lies in.
 #[derive(Clone, Copy)]
 pub enum Nest {
-    /// As it stands: in a box, or as the only component of a sequence.
-    Alone,
-    /// Twice, in a list.
-    Twice,
-    /// As an addition, behind a boolean.
+    /// Nothing.
+    Plain,
+    /// A box.
+    Boxed,
+    /// A sequence, as its only component.
+    Held,
+    /// A list, twice.
+    Listed,
+    /// An unordered list, twice.
+    Unordered,
+    /// A sequence, as its addition, behind a boolean.
     Added,
 }
+
+/// All in which there is something around the value.
+pub const AROUND: [Nest; 5] = [
+    Nest::Boxed,
+    Nest::Held,
+    Nest::Listed,
+    Nest::Unordered,
+    Nest::Added,
+];
 
 impl Nest {
     /// The octets that hold a value of these octets, of which an addition takes at most 127.
     pub fn around(self, alloc: Global, inner: &[u8]) -> Result<Vec<u8>> {
         let mut octets = Vec::new(alloc);
         match self {
-            Nest::Alone => {}
-            Nest::Twice => {
+            Nest::Plain | Nest::Boxed | Nest::Held => {}
+            Nest::Listed | Nest::Unordered => {
                 octets.extend_from_slice(&[1, 2])?;
                 octets.extend_from_slice(inner)?;
             }

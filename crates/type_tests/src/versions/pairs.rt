@@ -17,7 +17,7 @@ use rasn_oer::Decode;
 pub trait OnPair {
     type Output;
 
-    fn on<New: Decode + Encode + Eq, Old: Decode + Encode + Eq>(self) -> Self::Output;
+    fn on<New: Decode + Encode, Old: Decode + Encode>(self) -> Self::Output;
 }
 
 /// The words of two versions.
@@ -28,30 +28,21 @@ struct Versions<'a> {
 }
 
 /// Does it with the newer type and the first version of the sequence.
-fn to_sequence1<New: Decode + Encode + Eq, W: OnPair + Drop>(
-    older: &str,
-    work: W,
-) -> Option<W::Output> {
+fn to_sequence1<New: Decode + Encode, W: OnPair + Drop>(older: &str, work: W) -> Option<W::Output> {
     match older {
         "seq1" => Some(work.on::<New, Sequence1>()),
         _ => None,
     }
 }
 
-fn to_sequence5<New: Decode + Encode + Eq, W: OnPair + Drop>(
-    older: &str,
-    work: W,
-) -> Option<W::Output> {
+fn to_sequence5<New: Decode + Encode, W: OnPair + Drop>(older: &str, work: W) -> Option<W::Output> {
     match older {
         "seq5" => Some(work.on::<New, Sequence5>()),
         _ => to_sequence1::<New, W>(older, work),
     }
 }
 
-fn to_sequence2<New: Decode + Encode + Eq, W: OnPair + Drop>(
-    older: &str,
-    work: W,
-) -> Option<W::Output> {
+fn to_sequence2<New: Decode + Encode, W: OnPair + Drop>(older: &str, work: W) -> Option<W::Output> {
     match older {
         "seq2" => Some(work.on::<New, Sequence2>()),
         _ => to_sequence5::<New, W>(older, work),
@@ -59,20 +50,14 @@ fn to_sequence2<New: Decode + Encode + Eq, W: OnPair + Drop>(
 }
 
 /// Does it with the newer type and any version of the sequence.
-fn to_sequence7<New: Decode + Encode + Eq, W: OnPair + Drop>(
-    older: &str,
-    work: W,
-) -> Option<W::Output> {
+fn to_sequence7<New: Decode + Encode, W: OnPair + Drop>(older: &str, work: W) -> Option<W::Output> {
     match older {
         "seq7" => Some(work.on::<New, Sequence7>()),
         _ => to_sequence2::<New, W>(older, work),
     }
 }
 
-fn to_outer<New: Decode + Encode + Eq, W: OnPair + Drop>(
-    older: &str,
-    work: W,
-) -> Option<W::Output> {
+fn to_outer<New: Decode + Encode, W: OnPair + Drop>(older: &str, work: W) -> Option<W::Output> {
     match older {
         "outer" => Some(work.on::<New, Outer>()),
         _ => to_sequence1::<New, W>(older, work),
@@ -80,21 +65,21 @@ fn to_outer<New: Decode + Encode + Eq, W: OnPair + Drop>(
 }
 
 /// The same of a list of such sequences.
-fn to_bag1<New: Decode + Encode + Eq, W: OnPair + Drop>(older: &str, work: W) -> Option<W::Output> {
+fn to_bag1<New: Decode + Encode, W: OnPair + Drop>(older: &str, work: W) -> Option<W::Output> {
     match older {
         "bag1" => Some(work.on::<New, SetOf<Sequence1>>()),
         _ => None,
     }
 }
 
-fn to_bag2<New: Decode + Encode + Eq, W: OnPair + Drop>(older: &str, work: W) -> Option<W::Output> {
+fn to_bag2<New: Decode + Encode, W: OnPair + Drop>(older: &str, work: W) -> Option<W::Output> {
     match older {
         "bag2" => Some(work.on::<New, SetOf<Sequence2>>()),
         _ => to_bag1::<New, W>(older, work),
     }
 }
 
-fn to_bag3<New: Decode + Encode + Eq, W: OnPair + Drop>(older: &str, work: W) -> Option<W::Output> {
+fn to_bag3<New: Decode + Encode, W: OnPair + Drop>(older: &str, work: W) -> Option<W::Output> {
     match older {
         "bag3" => Some(work.on::<New, SetOf<Sequence7>>()),
         _ => to_bag2::<New, W>(older, work),
@@ -102,20 +87,14 @@ fn to_bag3<New: Decode + Encode + Eq, W: OnPair + Drop>(older: &str, work: W) ->
 }
 
 /// Of a sequence with such a default.
-fn to_holder1<New: Decode + Encode + Eq, W: OnPair + Drop>(
-    older: &str,
-    work: W,
-) -> Option<W::Output> {
+fn to_holder1<New: Decode + Encode, W: OnPair + Drop>(older: &str, work: W) -> Option<W::Output> {
     match older {
         "holder1" => Some(work.on::<New, Holder1>()),
         _ => None,
     }
 }
 
-fn to_holder2<New: Decode + Encode + Eq, W: OnPair + Drop>(
-    older: &str,
-    work: W,
-) -> Option<W::Output> {
+fn to_holder2<New: Decode + Encode, W: OnPair + Drop>(older: &str, work: W) -> Option<W::Output> {
     match older {
         "holder2" => Some(work.on::<New, Holder2>()),
         _ => to_holder1::<New, W>(older, work),
@@ -123,17 +102,14 @@ fn to_holder2<New: Decode + Encode + Eq, W: OnPair + Drop>(
 }
 
 /// Of a set.
-fn to_mixed_set<New: Decode + Encode + Eq, W: OnPair + Drop>(
-    older: &str,
-    work: W,
-) -> Option<W::Output> {
+fn to_mixed_set<New: Decode + Encode, W: OnPair + Drop>(older: &str, work: W) -> Option<W::Output> {
     match older {
         "mixset" => Some(work.on::<New, MixedSet>()),
         _ => None,
     }
 }
 
-fn to_mixed_set2<New: Decode + Encode + Eq, W: OnPair + Drop>(
+fn to_mixed_set2<New: Decode + Encode, W: OnPair + Drop>(
     older: &str,
     work: W,
 ) -> Option<W::Output> {
@@ -144,7 +120,7 @@ fn to_mixed_set2<New: Decode + Encode + Eq, W: OnPair + Drop>(
 }
 
 /// Of a type of one version as both.
-fn to_itself<T: Decode + Encode + Eq, W: OnPair + Drop>(
+fn to_itself<T: Decode + Encode, W: OnPair + Drop>(
     words: Versions<'_>,
     work: W,
 ) -> Option<W::Output> {
@@ -309,6 +285,8 @@ fn from_top_level<W: OnPair + Drop>(words: Versions<'_>, work: W) -> Option<W::O
 
 /// Does it with the versions that words like `seq2/seq1` name, or with a type of one version as both; none where they name none.
 pub fn with_pair<W: OnPair + Drop>(words: &str, work: W) -> Option<W::Output> {
-    let (newer, older) = words.split_once('/')?;
-    from_sequence1(Versions { newer, older }, work)
+    match words.split_once('/') {
+        Some((newer, older)) => from_sequence1(Versions { newer, older }, work),
+        None => None,
+    }
 }
