@@ -8,7 +8,7 @@ mod turning;
 use anyhow::{Error, Result};
 use asn1_core::Codec;
 use choices::with_versions;
-use nests::{NESTS, Nest};
+use nests::{AROUND, Nest};
 use std::alloc::Global;
 use turning::{To, Turned, Turning};
 
@@ -16,7 +16,7 @@ use turning::{To, Turned, Turning};
 type ThereAndBack = std::result::Result<(Vec<u8>, Vec<u8>), String>;
 
 /// One value of the other version.
-fn turned(versions: &str, turning: Turning<'_>) -> Result<Turned> {
+fn other_of(versions: &str, turning: Turning<'_>) -> Result<Turned> {
     match with_versions(versions, turning) {
         Some(answer) => answer,
         None => Err(Error::msg("no such versions")),
@@ -25,7 +25,7 @@ fn turned(versions: &str, turning: Turning<'_>) -> Result<Turned> {
 
 /// The canonical octets of a value of the other version, which there is.
 fn must_turn(versions: &str, turning: Turning<'_>) -> Result<Vec<u8>> {
-    match turned(versions, turning)? {
+    match other_of(versions, turning)? {
         Ok(octets) => Ok(octets),
         Err(kind) => Err(Error::msg(kind)),
     }
@@ -34,7 +34,7 @@ fn must_turn(versions: &str, turning: Turning<'_>) -> Result<Vec<u8>> {
 /// There and back: a newer value's older one is read of the newer one that it becomes again, and an older value comes back as it was.
 fn there_and_back(versions: &str, turning: Turning<'_>) -> Result<ThereAndBack> {
     let to = turning.to;
-    let other = match turned(versions, turning)? {
+    let other = match other_of(versions, turning)? {
         Ok(other) => other,
         Err(kind) => return Ok(Err(kind)),
     };
@@ -89,7 +89,7 @@ fn is_same_within(
 fn told(versions: &str, turning: Turning<'_>) -> Result<String> {
     let alloc = turning.alloc;
     let plain = there_and_back(versions, turning)?;
-    for nest in NESTS {
+    for nest in AROUND {
         if !is_same_within(versions, turning, nest, &plain)? {
             return Err(Error::msg("answered otherwise within another type"));
         }

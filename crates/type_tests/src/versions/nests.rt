@@ -21,7 +21,7 @@ pub enum Nest {
 }
 
 /// All in which there is something around the value.
-pub const NESTS: [Nest; 5] = [
+pub const AROUND: [Nest; 5] = [
     Nest::Boxed,
     Nest::Held,
     Nest::Listed,

@@ -42,7 +42,10 @@ pub struct Turning<'a> {
 pub type Turned = std::result::Result<Vec<u8>, String>;
 
 /// What is answered of the other version.
-fn turned<T: Encode>(alloc: Global, answer: std::result::Result<T, CodecError>) -> Result<Turned> {
+fn other_of<T: Encode>(
+    alloc: Global,
+    answer: std::result::Result<T, CodecError>,
+) -> Result<Turned> {
     match answer {
         Ok(value) => Ok(Ok(coer::encode(alloc, &value)?)),
         Err(e) => refused(alloc, e),
@@ -76,7 +79,7 @@ impl<'a> Turning<'a> {
             Codec::Oer => oer::as_older::<New, Old>(alloc, &newer),
             Codec::Coer => coer::as_older::<New, Old>(alloc, &newer),
         };
-        turned(alloc, answer)
+        other_of(alloc, answer)
     }
 
     fn newer<New: Decode + Encode, Old: Decode + Encode>(self) -> Result<Turned> {
@@ -89,7 +92,7 @@ impl<'a> Turning<'a> {
             Codec::Oer => oer::as_newer::<Old, New>(alloc, &older),
             Codec::Coer => coer::as_newer::<Old, New>(alloc, &older),
         };
-        turned(alloc, answer)
+        other_of(alloc, answer)
     }
 
     fn other<New: Decode + Encode, Old: Decode + Encode>(self) -> Result<Turned> {
