@@ -440,7 +440,7 @@ module _ {A V : Type 0} (tree : V → Tree) (Is : ℕ → V → Type 0) (eq : V 
       let o = set_lends old extensible table more lent bits x in
       let r = ran_all lent bits fields after o.1 ran in
       absurd (not_memory (makes bits r.vs r.ws r.a (Err e) r.came r.added (subst (λ (z : List V). Makes z (Err e)) r.same made)).1.0)
-  to_refused old e not_memory (NoMemory m) = absurd (not_memory m.0)
+  to_refused old e not_memory (NoMemory _ _ _ _ m) = absurd (not_memory m.0)
 
   refused_mode : (old : State) (e : DecodeError) → old.codec ≡ codec → SetRefused Ran Makes extensible table more old e → e.codec ≡ old.codec
   refused_mode old e same (NotOpened _ mode) = mode
@@ -450,7 +450,7 @@ module _ {A V : Type 0} (tree : V → Tree) (Is : ℕ → V → Type 0) (eq : V 
       let o = set_lends old extensible table more lent bits x in
       let r = ran_all lent bits fields after o.1 ran in
       (makes bits r.vs r.ws r.a (Err e) r.came r.added (subst (λ (z : List V). Makes z (Err e)) r.same made)).1.1 ∙ sym same
-  refused_mode old e same (NoMemory m) = m.1
+  refused_mode old e same (NoMemory _ _ _ _ m) = m.1
 
   -- ---- a set, and the sequence that has its rows in tag order
 

@@ -12,7 +12,7 @@ use Rattle.asn1_core.specs.declared.error.DecodeError.{DecodeError}
 use Rattle.asn1_core.specs.declared.error.DecodeErrorKind.{DecodeErrorKind}
 use Rattle.oer_read.specs.Law.{IsRear, WantsMemory}
 use Rattle.oer_read.specs.Scopes.{level_at, bits_for, presence_in}
-use Rattle.oer_read.specs.Sets.{Call, is_there, bits_behind, root_calls, addition_calls, set_calls, set_frame, set_opened_at, RanInTurn, RefusedInTurn, CalledInTurn, SetRefused, NoMemory, Stopped}
+use Rattle.oer_read.specs.Sets.{Call, is_there, bits_behind, root_calls, addition_calls, set_calls, set_frame, set_opened_at, RanInTurn, RefusedInTurn, CalledInTurn, AnsweredOne, SetRefused, NoMemory, Stopped}
 use Rattle.oer_read.specs.State.{State}
 use Rattle.oer_read.proofs.Openings.{rear_trans, level_ok}
 
@@ -76,8 +76,9 @@ module _ {V : Type 0} (Ran : Call → State → Result V DecodeError → State �
     called = λ d t r. s.called d t (inr (v, after, k, r));
   }
 
-  pub so_far_refused : {M : Type 0} → (here : State) (c : Call) (left : List Call) (now : List V) (e : DecodeError) → SoFar Ran start all before here (c ∷ left) now → M ⊎ ((after : State) × Ran c here (Err e) after) → M ⊎ RefusedInTurn Ran start all e
-  so_far_refused here c left now e s (inl m) = inl m
+  pub so_far_refused : {M : Type 0} → (here : State) (c : Call) (left : List Call) (now : List V) (e : DecodeError) → SoFar Ran start all before here (c ∷ left) now
+      → (M × ((v : V) × (after : State) × Ran c here (Ok v) after)) ⊎ ((after : State) × Ran c here (Err e) after) → (M × AnsweredOne Ran start all) ⊎ RefusedInTurn Ran start all e
+  so_far_refused here c left now e s (inl (m, (v, after, k))) = inl (m, record { call = c; here = here; called = s.called c here (inl (refl, refl)); value = v; after = after; ran = k })
   so_far_refused here c left now e s (inr (after, k)) = inr (s.refused e (inl (after, k)))
 
   so_far_called : (here : State) (c : Call) (left : List Call) (now : List V) → SoFar Ran start all before here (c ∷ left) now → CalledInTurn Ran start all c here
@@ -114,6 +115,14 @@ module _ {V : Type 0} (Ran : Call → State → Result V DecodeError → State �
       let calls : root_calls (map row rows) b ≡ c ∷ left = ap (λ (z : List Field). root_calls (map row z) b) e ∙ calls_there (row f) (map row more) b there in
       so_far_called Ran start all before here c left now (subst (λ (z : List Call). SoFar Ran start all before here z now) calls s)
 
+  pub roots_refused : {M : Type 0} → (here : State) (rows : List Field) (f : Field) (more : List Field) (b : List Bool) (now : List V) (e : DecodeError) → SoFar Ran start all before here (root_calls (map row rows) b) now → rows ≡ f ∷ more → is_there f.presence b ≡ true
+      → (M × ((v : V) × (after : State) × Ran (record { index = f.index; tag = f.tag }) here (Ok v) after)) ⊎ ((after : State) × Ran (record { index = f.index; tag = f.tag }) here (Err e) after) → (M × AnsweredOne Ran start all) ⊎ RefusedInTurn Ran start all e
+  roots_refused here rows f more b now e s cons there k =
+      let c : Call = record { index = f.index; tag = f.tag } in
+      let left : List Call = root_calls (map row more) (bits_behind f.presence b) in
+      let calls : root_calls (map row rows) b ≡ c ∷ left = ap (λ (z : List Field). root_calls (map row z) b) cons ∙ calls_there (row f) (map row more) b there in
+      so_far_refused Ran start all before here c left now e (subst (λ (z : List Call). SoFar Ran start all before here z now) calls s) k
+
   pub roots_done : (here : State) (rows : List Field) (b : List Bool) (now : List V) → SoFar Ran start all before here (root_calls (map row rows) b) now → rows ≡ [] → (vs : List V) × RanInTurn Ran start all vs here × (now ≡ before ++ vs)
   roots_done here rows b now s e = so_far_done Ran start all before here now (subst (λ (z : List Field). SoFar Ran start all before here (root_calls (map row z) b) now) e s)
 
@@ -127,7 +136,7 @@ module _ {V : Type 0} (Ran : Call → State → Result V DecodeError → State �
       so_far_next Ran start all before here c (addition_calls m (map row more)) now v after (subst (λ (z : List Call). SoFar Ran start all before here z now) calls s) k
 
   pub additions_refused : {M : Type 0} → (here : State) (rows : List Field) (f : Field) (more : List Field) (n : ℕ) (now : List V) (e : DecodeError) → SoFar Ran start all before here (addition_calls n (map row rows)) now → rows ≡ f ∷ more
-      → M ⊎ ((after : State) × Ran (record { index = n; tag = f.tag }) here (Err e) after) → M ⊎ RefusedInTurn Ran start all e
+      → (M × ((v : V) × (after : State) × Ran (record { index = n; tag = f.tag }) here (Ok v) after)) ⊎ ((after : State) × Ran (record { index = n; tag = f.tag }) here (Err e) after) → (M × AnsweredOne Ran start all) ⊎ RefusedInTurn Ran start all e
   additions_refused here rows f more n now e s cons k =
       so_far_refused Ran start all before here (record { index = n; tag = f.tag }) (addition_calls (suc n) (map row more)) now e (subst (λ (z : List Field). SoFar Ran start all before here (addition_calls n (map row z)) now) cons s) k
 
@@ -139,12 +148,12 @@ module _ {V : Type 0} (Ran : Call → State → Result V DecodeError → State �
   additions_done here rows n now s e = so_far_done Ran start all before here now (subst (λ (z : List Field). SoFar Ran start all before here (addition_calls n (map row z)) now) e s)
 
 module _ {V : Type 0} (Ran : Call → State → Result V DecodeError → State → Type 0) where
-  pub either_front : {M : Type 0} → (s : State) (cs ds : List Call) (e : DecodeError) → M ⊎ RefusedInTurn Ran s cs e → M ⊎ RefusedInTurn Ran s (cs ++ ds) e
-  either_front s cs ds e (inl m) = inl m
+  pub either_front : {M : Type 0} → (s : State) (cs ds : List Call) (e : DecodeError) → (M × AnsweredOne Ran s cs) ⊎ RefusedInTurn Ran s cs e → (M × AnsweredOne Ran s (cs ++ ds)) ⊎ RefusedInTurn Ran s (cs ++ ds) e
+  either_front s cs ds e (inl (m, k)) = inl (m, record { call = k.call; here = k.here; called = called_front Ran s cs ds k.call k.here k.called; value = k.value; after = k.after; ran = k.ran })
   either_front s cs ds e (inr r) = inr (refused_front Ran s cs ds e r)
 
-  pub either_append : {M : Type 0} → (s : State) (cs : List Call) (vs : List V) (t : State) (ds : List Call) (e : DecodeError) → RanInTurn Ran s cs vs t → M ⊎ RefusedInTurn Ran t ds e → M ⊎ RefusedInTurn Ran s (cs ++ ds) e
-  either_append s cs vs t ds e r (inl m) = inl m
+  pub either_append : {M : Type 0} → (s : State) (cs : List Call) (vs : List V) (t : State) (ds : List Call) (e : DecodeError) → RanInTurn Ran s cs vs t → (M × AnsweredOne Ran t ds) ⊎ RefusedInTurn Ran t ds e → (M × AnsweredOne Ran s (cs ++ ds)) ⊎ RefusedInTurn Ran s (cs ++ ds) e
+  either_append s cs vs t ds e r (inl (m, k)) = inl (m, record { call = k.call; here = k.here; called = called_append Ran s cs vs t ds k.call k.here r k.called; value = k.value; after = k.after; ran = k.ran })
   either_append s cs vs t ds e r (inr k) = inr (refused_append Ran s cs vs t ds e r k)
 
 -- ---- what is lent
@@ -192,6 +201,6 @@ set_opened_rear s extensible roots additions lent presence fits e =
     record { front = o.preamble; split = o.split ∙ ap (λ (t : State). o.preamble ++ t.input) (sym o.is) }
 
 pub refused_or_memory : {A V : Type 0} (Ran : Call → State → Result V DecodeError → State → Type 0) (Makes : List V → Result A DecodeError → Type 0) (extensible : Bool) (roots additions : List Row) (old lent : State) (bits : List Bool) (e : DecodeError) → set_opened_at old extensible roots additions ≡ Ok (lent, bits)
-    → WantsMemory old e ⊎ RefusedInTurn Ran lent (set_calls roots additions bits) e → SetRefused Ran Makes extensible roots additions old e
-refused_or_memory Ran Makes extensible roots additions old lent bits e o (inl m) = NoMemory m
+    → (WantsMemory old e × AnsweredOne Ran lent (set_calls roots additions bits)) ⊎ RefusedInTurn Ran lent (set_calls roots additions bits) e → SetRefused Ran Makes extensible roots additions old e
+refused_or_memory Ran Makes extensible roots additions old lent bits e o (inl (m, k)) = NoMemory lent bits o k m
 refused_or_memory Ran Makes extensible roots additions old lent bits e o (inr r) = Stopped lent bits o r

@@ -105,6 +105,15 @@ module _ {V : Type 0} (Ran : Call → State → Result V DecodeError → State �
   CalledInTurn s [] d t = ⊥
   CalledInTurn s (c ∷ cs) d t = ((c ≡ d) × (s ≡ t)) ⊎ ((v : V) × (after : State) × Ran c s (Ok v) after × CalledInTurn after cs d t)
 
+-- One of the calls answered a component, and those before it did.
+pub record AnsweredOne {V : Type 0} (Ran : Call → State → Result V DecodeError → State → Type 0) (start : State) (calls : List Call) : Type 0 where
+  pub call : Call
+  pub here : State
+  pub called : CalledInTurn Ran start calls call here
+  pub value : V
+  pub after : State
+  pub ran : Ran call here (Ok value) after
+
 -- What a set lends to a call of its closure: the decoder that the calls before it left.
 pub record SetLends {V : Type 0} (Ran : Call → State → Result V DecodeError → State → Type 0) (extensible : Bool) (roots additions : List Row) (old : State) (c : Call) (s : State) : Type 0 where
   pub lent : State
@@ -139,7 +148,7 @@ module _ {A V : Type 0} (Ran : Call → State → Result V DecodeError → State
     pub octets : AreOctets old.input
 
   -- The first that applies: the scope could not be opened, a call refused with that very error, what they left could not
-  -- be closed, or `field_fn` refused with that very error. Or memory was refused.
+  -- be closed, or `field_fn` refused with that very error. Or memory was refused for a component that was read.
   pub data SetRefused (e : DecodeError) : Type 0 where
     NotOpened : set_opened_at old extensible roots additions ≡ Err e.kind → e.codec ≡ old.codec → SetRefused e
     Stopped : (lent : State) (bits : List Bool) → set_opened_at old extensible roots additions ≡ Ok (lent, bits) → RefusedInTurn Ran lent (set_calls roots additions bits) e → SetRefused e
@@ -147,4 +156,4 @@ module _ {A V : Type 0} (Ran : Call → State → Result V DecodeError → State
         → closed_at after ≡ Err e.kind → e.codec ≡ old.codec → SetRefused e
     NotMade : (lent : State) (bits : List Bool) (fields : List V) (after : State) (rest : Octets) → set_opened_at old extensible roots additions ≡ Ok (lent, bits) → RanInTurn Ran lent (set_calls roots additions bits) fields after
         → closed_at after ≡ Ok rest → Makes fields (Err e) → SetRefused e
-    NoMemory : WantsMemory old e → SetRefused e
+    NoMemory : (lent : State) (bits : List Bool) → set_opened_at old extensible roots additions ≡ Ok (lent, bits) → AnsweredOne Ran lent (set_calls roots additions bits) → WantsMemory old e → SetRefused e

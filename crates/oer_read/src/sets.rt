@@ -7,7 +7,7 @@ ghost use Rattle.asn1_core.specs.Tables.{canonised_rest};
 ghost use Rattle.oer_spec.specs.Reading.{Gives};
 ghost use Rattle.oer_leaf_read.specs.Views.{bits_left};
 ghost use Rattle.oer_read.specs.Law.{IsRear, WantsMemoryIn};
-ghost use Rattle.oer_read.specs.Sets.{Call, is_there, bits_behind, root_calls, addition_calls, set_calls, set_opened_at, FieldReturns, FieldTakes, FieldsTaken, FieldsMake, RanInTurn, RefusedInTurn, CalledInTurn, SetLends, SetHands, SetRead, SetRefused};
+ghost use Rattle.oer_read.specs.Sets.{Call, is_there, bits_behind, root_calls, addition_calls, set_calls, set_opened_at, FieldReturns, FieldTakes, FieldsTaken, FieldsMake, RanInTurn, RefusedInTurn, CalledInTurn, AnsweredOne, SetLends, SetHands, SetRead, SetRefused};
 ghost use Rattle.oer_read.specs.State.{State};
 
 use crate::decoder::{Decoder, OpenScope};
@@ -43,7 +43,7 @@ where
     D: Fn(&mut Decoder<'_>, usize, Tag) -> Result<V, DecodeError>,
     requires callable { FieldTakes D.Fn decode_fn.now (record { index = index; tag = tag }) inner.old }
     ensures ok { OnOk result ((v : V) × FieldReturns D.Fn decode_fn.now (record { index = index; tag = tag }) inner.old (Ok v) inner.new × (fields.new.items ≡ fields.old.items ++ v ∷ [])) }
-    ensures err { IfErr result (λ e. WantsMemoryIn codec e ⊎ ((after : State) × FieldReturns D.Fn decode_fn.now (record { index = index; tag = tag }) inner.old (Err e) after)) }
+    ensures err { IfErr result (λ e. (WantsMemoryIn codec e × ((v : V) × (after : State) × FieldReturns D.Fn decode_fn.now (record { index = index; tag = tag }) inner.old (Ok v) after)) ⊎ ((after : State) × FieldReturns D.Fn decode_fn.now (record { index = index; tag = tag }) inner.old (Err e) after)) }
 {
     match decode_fn(inner, index, tag) {
         Err(e) => Err(e),
@@ -68,7 +68,7 @@ where
     D: Fn(&mut Decoder<'_>, usize, Tag) -> Result<V, DecodeError>,
     requires callable { (c : Call) (s : State) → CalledInTurn (FieldReturns D.Fn decode_fn.now) inner.old (root_calls (map row (canonised_rest rows)) (bits_left presence)) c s → FieldTakes D.Fn decode_fn.now c s }
     ensures ok { OnOk result ((vs : List V) × RanInTurn (FieldReturns D.Fn decode_fn.now) inner.old (root_calls (map row (canonised_rest rows)) (bits_left presence.entry)) vs inner.new × (fields.new.items ≡ fields.old.items ++ vs)) }
-    ensures err { IfErr result (λ e. WantsMemoryIn codec e ⊎ RefusedInTurn (FieldReturns D.Fn decode_fn.now) inner.old (root_calls (map row (canonised_rest rows)) (bits_left presence.entry)) e) }
+    ensures err { IfErr result (λ e. (WantsMemoryIn codec e × AnsweredOne (FieldReturns D.Fn decode_fn.now) inner.old (root_calls (map row (canonised_rest rows)) (bits_left presence.entry))) ⊎ RefusedInTurn (FieldReturns D.Fn decode_fn.now) inner.old (root_calls (map row (canonised_rest rows)) (bits_left presence.entry)) e) }
 {
     let mut rows = rows;
     let mut bits = presence;
@@ -104,7 +104,7 @@ where
     requires callable { (c : Call) (s : State) → CalledInTurn (FieldReturns D.Fn decode_fn.now) inner.old (addition_calls first (map row additions.now)) c s → FieldTakes D.Fn decode_fn.now c s }
     requires fits { first + length additions.now < 2 ^ 64 }
     ensures ok { OnOk result ((vs : List V) × RanInTurn (FieldReturns D.Fn decode_fn.now) inner.old (addition_calls first (map row additions.now)) vs inner.new × (fields.new.items ≡ fields.old.items ++ vs)) }
-    ensures err { IfErr result (λ e. WantsMemoryIn codec e ⊎ RefusedInTurn (FieldReturns D.Fn decode_fn.now) inner.old (addition_calls first (map row additions.now)) e) }
+    ensures err { IfErr result (λ e. (WantsMemoryIn codec e × AnsweredOne (FieldReturns D.Fn decode_fn.now) inner.old (addition_calls first (map row additions.now))) ⊎ RefusedInTurn (FieldReturns D.Fn decode_fn.now) inner.old (addition_calls first (map row additions.now)) e) }
 {
     let mut index = first;
     for field in additions {
@@ -136,7 +136,7 @@ where
     D: Fn(&mut Decoder<'_>, usize, Tag) -> Result<V, DecodeError>,
     requires callable { (c : Call) (s : State) → CalledInTurn (FieldReturns D.Fn decode_fn.now) inner.old (set_calls (map row roots.now) (map row additions.now) (bits_left presence)) c s → FieldTakes D.Fn decode_fn.now c s }
     ensures ok { IfOk result (λ vs. RanInTurn (FieldReturns D.Fn decode_fn.now) inner.old (set_calls (map row roots.now) (map row additions.now) (bits_left presence.entry)) vs.items inner.new) }
-    ensures err { IfErr result (λ e. WantsMemoryIn codec e ⊎ RefusedInTurn (FieldReturns D.Fn decode_fn.now) inner.old (set_calls (map row roots.now) (map row additions.now) (bits_left presence.entry)) e) }
+    ensures err { IfErr result (λ e. (WantsMemoryIn codec e × AnsweredOne (FieldReturns D.Fn decode_fn.now) inner.old (set_calls (map row roots.now) (map row additions.now) (bits_left presence.entry))) ⊎ RefusedInTurn (FieldReturns D.Fn decode_fn.now) inner.old (set_calls (map row roots.now) (map row additions.now) (bits_left presence.entry)) e) }
 {
     let rows: Canonised = Fields::<RC> { fields: roots }.canonised();
     let first = roots.len();
@@ -197,7 +197,7 @@ impl<'input> Decoder<'input> {
     /// `Incomplete` where the preamble's octets are missing; nonzero fill bits, as `InvalidPreamble`; what `decode_fn`
     /// refuses, in the order of its calls; an addition that was not asked, as `MissingTagClassOrValueInSequenceOrSet` with
     /// its tag; the bitmap, where it was not yet read, and the skipped additions as `read_bitmap` and `skip_additions`
-    /// refuse them; what `field_fn` refuses. Memory may be refused, as `OutOfMemory`.
+    /// refuse them; what `field_fn` refuses. Memory may be refused for a component that was read, as `OutOfMemory`.
     pub fn decode_set<const RC: usize, const EC: usize, FIELDS, SET, D, F>(
         &mut self,
         alloc: Global,
