@@ -407,6 +407,8 @@ THROUGH = {
 }
 # calls of tables, rules and options, which have no allocator
 WITHOUT = {"is_oer", "is_coer", "oer", "coer", "with_depth"}
+# steps of reading by values alone, which each case of a sequence by its row or of a list of itself takes
+WITHOUT |= {"apart", "set_remaining", "open_list", "keep"}
 # helpers of asn1_ints in a module of its own, which the writers of its integers call
 INNER = {"write_i128", "write_u128", "write_with_sign", "write_signed_u128"}
 

@@ -3,9 +3,13 @@
 use anyhow::{Error, Result};
 use asn1_core::{AsnType, Choice, Constraints, Constructed, Field, Tag};
 use oer_types::{
-    Adding, Addition7, Bare, Body, BranchContent, BushContent, ChainContent, EnvelopeContent,
-    Group6, Held, Holding, LinkChoice, LinkContent, ListOf, Mixed, NodeContent, OneToEight,
-    PriorityChoice, Sequence4, Sure, TestChoice, TopLevelContent,
+    AddDef, Adding, Addition7, AllDefault, AllOptional, Bare, Body, BoolChoice, BranchContent,
+    BushContent, ChainContent, ConstrainedOptions, DeepDefault, DefaultAndOptional, DefaultInteger,
+    Empty, EmptyExtensible, EnvelopeContent, ExtendedOptional, Foo, Group6, Held, Holder1, Holder2,
+    Holding, LinkChoice, LinkContent, ListOf, ManyOptional, Mixed, MixedSet, MixedSet2, Nested,
+    NodeContent, Omitted, OneToEight, OnlyChoice, Outer, Pair, PriorityChoice, Sequence1,
+    Sequence2, Sequence3, Sequence4, Sequence5, Sequence6, Sequence7, SequenceDuplicatesExtended,
+    Sure, TestChoice, TopLevelContent, WideChoice,
 };
 use oer_words::constrained::{UnderConstraints, with_word};
 use oer_write::Encode;
@@ -94,48 +98,91 @@ fn table_of<const RC: usize, const EC: usize, T: Constructed<RC, EC>>(
     )?)
 }
 
-/// What is asked of a sequence or set.
-#[derive(Clone, Copy)]
-struct TableOf {
-    alloc: Global,
-}
-
-impl UnderConstraints for TableOf {
-    type Output = Result<String>;
-
-    fn under<T: Decode + Encode + Debug + PartialEq>(
-        self,
-        _constraints: Constraints,
-    ) -> Result<String> {
-        Err(Error::msg("no such table"))
-    }
-
-    fn under_fields<const RC: usize, const EC: usize, T>(
-        self,
-        _constraints: Constraints,
-    ) -> Result<String>
-    where
-        T: Decode + Encode + Debug + PartialEq + Constructed<RC, EC>,
-    {
-        table_of::<RC, EC, T>(self.alloc)
-    }
-}
-
-/// The tables of the sequence or set of that word, or of one without a word.
+/// The tables of the sequence or set of that word. The words' own table can't hand these on: a method of a trait with a const
+/// parameter can't be stated. A few types a function: what the check looks at in one grows with the square of
+/// how many it names.
 pub fn table(alloc: Global, word: &str) -> Result<String> {
     match word {
-        "Sequence4" => table_of::<1, 0, Sequence4>(alloc),
-        "Group6" => table_of::<1, 0, Group6>(alloc),
-        "Addition7" => table_of::<2, 0, Addition7>(alloc),
-        "Sure" => table_of::<1, 1, Sure>(alloc),
-        "Mixed" => table_of::<2, 0, Mixed>(alloc),
-        _ => table_around(alloc, word),
+        "empty" => table_of::<0, 0, Empty>(alloc),
+        "emptyext" => table_of::<0, 0, EmptyExtensible>(alloc),
+        "seq1" => table_of::<1, 0, Sequence1>(alloc),
+        "seq2" => table_of::<1, 2, Sequence2>(alloc),
+        "seq5" => table_of::<1, 1, Sequence5>(alloc),
+        _ => group_table(alloc, word),
     }
 }
 
-/// Of one that holds any type.
-fn table_around(alloc: Global, word: &str) -> Result<String> {
+fn group_table(alloc: Global, word: &str) -> Result<String> {
     match word {
+        "seq3" => table_of::<1, 1, Sequence3>(alloc),
+        "Sequence4" => table_of::<1, 0, Sequence4>(alloc),
+        "seq6" => table_of::<1, 1, Sequence6>(alloc),
+        "Group6" => table_of::<1, 0, Group6>(alloc),
+        _ => later_table(alloc, word),
+    }
+}
+
+fn later_table(alloc: Global, word: &str) -> Result<String> {
+    match word {
+        "seq7" => table_of::<1, 4, Sequence7>(alloc),
+        "Addition7" => table_of::<2, 0, Addition7>(alloc),
+        "outer" => table_of::<1, 1, Outer>(alloc),
+        "omitted" => table_of::<1, 1, Omitted>(alloc),
+        _ => long_table(alloc, word),
+    }
+}
+
+fn long_table(alloc: Global, word: &str) -> Result<String> {
+    match word {
+        "dup" => table_of::<3, 1, SequenceDuplicatesExtended>(alloc),
+        "extopt" => table_of::<7, 4, ExtendedOptional>(alloc),
+        "manyopt" => table_of::<13, 0, ManyOptional>(alloc),
+        _ => default_table(alloc, word),
+    }
+}
+
+fn default_table(alloc: Global, word: &str) -> Result<String> {
+    match word {
+        "defint" => table_of::<1, 0, DefaultInteger>(alloc),
+        "defopt" => table_of::<2, 0, DefaultAndOptional>(alloc),
+        "deepdef" => table_of::<1, 0, DeepDefault>(alloc),
+        "AllDefault" => table_of::<2, 0, AllDefault>(alloc),
+        _ => added_default_table(alloc, word),
+    }
+}
+
+fn added_default_table(alloc: Global, word: &str) -> Result<String> {
+    match word {
+        "AddDef" => table_of::<1, 1, AddDef>(alloc),
+        "holder1" => table_of::<1, 0, Holder1>(alloc),
+        "holder2" => table_of::<1, 0, Holder2>(alloc),
+        "AllOptional" => table_of::<2, 0, AllOptional>(alloc),
+        _ => other_table(alloc, word),
+    }
+}
+
+fn other_table(alloc: Global, word: &str) -> Result<String> {
+    match word {
+        "Pair" => table_of::<2, 0, Pair>(alloc),
+        "Nested" => table_of::<2, 0, Nested>(alloc),
+        "ConstrainedOptions" => table_of::<1, 0, ConstrainedOptions>(alloc),
+        "Sure" => table_of::<1, 1, Sure>(alloc),
+        _ => set_table(alloc, word),
+    }
+}
+
+fn set_table(alloc: Global, word: &str) -> Result<String> {
+    match word {
+        "foo" => table_of::<3, 0, Foo>(alloc),
+        "mixset" => table_of::<3, 1, MixedSet>(alloc),
+        "mixset2" => table_of::<3, 2, MixedSet2>(alloc),
+        _ => holding_table(alloc, word),
+    }
+}
+
+fn holding_table(alloc: Global, word: &str) -> Result<String> {
+    match word {
+        "Mixed" => table_of::<2, 0, Mixed>(alloc),
         "Holding<bool>" => table_of::<1, 0, Holding<bool>>(alloc),
         "Adding<bool>" => table_of::<1, 1, Adding<bool>>(alloc),
         _ => recursive_table(alloc, word),
@@ -148,20 +195,17 @@ fn recursive_table(alloc: Global, word: &str) -> Result<String> {
         "Link" => table_of::<2, 0, LinkContent<bool>>(alloc),
         "toplevel" => table_of::<2, 0, TopLevelContent<bool>>(alloc),
         "Bush" => table_of::<2, 0, BushContent<bool>>(alloc),
-        _ => further_table(alloc, word),
+        _ => own_table(alloc, word),
     }
 }
 
-fn further_table(alloc: Global, word: &str) -> Result<String> {
+fn own_table(alloc: Global, word: &str) -> Result<String> {
     match word {
         "Branch" => table_of::<2, 1, BranchContent<bool>>(alloc),
         "Chain" => table_of::<1, 1, ChainContent<bool>>(alloc),
         "Envelope" => table_of::<3, 0, EnvelopeContent<bool>>(alloc),
         "Node" => table_of::<3, 0, NodeContent<bool>>(alloc),
-        _ => match with_word(word, TableOf { alloc }) {
-            Some(answer) => answer,
-            None => Err(Error::msg("no such table")),
-        },
+        _ => Err(Error::msg("no such table")),
     }
 }
 
@@ -189,39 +233,22 @@ fn tags_of<T: Choice>(alloc: Global) -> Result<String> {
     Ok(format!(in alloc; "{} roots{} additions{}", kind, roots, additions)?)
 }
 
-/// What is asked of a choice.
-#[derive(Clone, Copy)]
-struct TagsOf {
-    alloc: Global,
-}
-
-impl UnderConstraints for TagsOf {
-    type Output = Result<String>;
-
-    fn under<T: Decode + Encode + Debug + PartialEq>(
-        self,
-        _constraints: Constraints,
-    ) -> Result<String> {
-        Err(Error::msg("no such choice"))
-    }
-
-    fn under_choice<T: Decode + Encode + Debug + PartialEq + Choice>(
-        self,
-        _constraints: Constraints,
-    ) -> Result<String> {
-        tags_of::<T>(self.alloc)
-    }
-}
-
-/// The tables of the choice of that word, or of one without a word.
+/// The tables of the choice of that word.
 pub fn tags(alloc: Global, word: &str) -> Result<String> {
+    match word {
+        "choice" => tags_of::<PriorityChoice>(alloc),
+        "tagmax" => tags_of::<WideChoice>(alloc),
+        "tag130" => tags_of::<OnlyChoice>(alloc),
+        "BoolChoice" => tags_of::<BoolChoice>(alloc),
+        _ => recursive_tags(alloc, word),
+    }
+}
+
+fn recursive_tags(alloc: Global, word: &str) -> Result<String> {
     match word {
         "LinkChoice" => tags_of::<LinkChoice<bool>>(alloc),
         "TestChoice" => tags_of::<TestChoice<bool>>(alloc),
         "Body" => tags_of::<Body<bool>>(alloc),
-        _ => match with_word(word, TagsOf { alloc }) {
-            Some(answer) => answer,
-            None => Err(Error::msg("no such choice")),
-        },
+        _ => Err(Error::msg("no such choice")),
     }
 }

@@ -1,6 +1,6 @@
 //! Types by a word, under constraints: those without a word of the program, and behind them those with one.
 use crate::known::{OnType, with_type};
-use asn1_core::{AsnType, Bounded, Choice, Constraints, Constructed, SetOf};
+use asn1_core::{AsnType, Bounded, Constraints, SetOf};
 use asn1_ints::Integer;
 use asn1_strings::{
     Any, BitString, BmpString, GeneralString, GraphicString, Ia5String, NumericString, OctetString,
@@ -22,29 +22,6 @@ pub trait UnderConstraints {
         self,
         constraints: Constraints,
     ) -> Self::Output;
-
-    /// With a sequence or a set, which has tables: as with any type, where nothing else is said.
-    fn under_fields<const RC: usize, const EC: usize, T>(
-        self,
-        constraints: Constraints,
-    ) -> Self::Output
-    where
-        Self: Sized,
-        T: Decode + Encode + Debug + PartialEq + Constructed<RC, EC>,
-    {
-        self.under::<T>(constraints)
-    }
-
-    /// With a choice, which has tables too.
-    fn under_choice<T: Decode + Encode + Debug + PartialEq + Choice>(
-        self,
-        constraints: Constraints,
-    ) -> Self::Output
-    where
-        Self: Sized,
-    {
-        self.under::<T>(constraints)
-    }
 }
 
 /// The same under the type's own constraints.
@@ -58,17 +35,6 @@ impl<W: UnderConstraints> OnType for Own<W> {
 
     fn on<T: Decode + Encode + Debug + PartialEq>(self) -> W::Output {
         self.work.under::<T>(T::CONSTRAINTS)
-    }
-
-    fn on_fields<const RC: usize, const EC: usize, T>(self) -> W::Output
-    where
-        T: Decode + Encode + Debug + PartialEq + Constructed<RC, EC>,
-    {
-        self.work.under_fields::<RC, EC, T>(T::CONSTRAINTS)
-    }
-
-    fn on_choice<T: Decode + Encode + Debug + PartialEq + Choice>(self) -> W::Output {
-        self.work.under_choice::<T>(T::CONSTRAINTS)
     }
 }
 
@@ -148,27 +114,25 @@ fn with_scope<W: UnderConstraints + Drop>(word: &str, work: W) -> Option<W::Outp
     match word {
         "null" => Some(work.under::<()>(Constraints::NONE)),
         "Boxed" => Some(work.under::<Box<bool>>(Constraints::NONE)),
-        "Pair" => Some(work.under_fields::<2, 0, Pair>(Constraints::NONE)),
-        "Nested" => Some(work.under_fields::<2, 0, Nested>(Constraints::NONE)),
+        "Pair" => Some(work.under::<Pair>(Constraints::NONE)),
+        "Nested" => Some(work.under::<Nested>(Constraints::NONE)),
         _ => with_options(word, work),
     }
 }
 
 fn with_options<W: UnderConstraints + Drop>(word: &str, work: W) -> Option<W::Output> {
     match word {
-        "AllOptional" => Some(work.under_fields::<2, 0, AllOptional>(Constraints::NONE)),
-        "AllDefault" => Some(work.under_fields::<2, 0, AllDefault>(Constraints::NONE)),
-        "ConstrainedOptions" => Some(work.under_fields::<1, 0, ConstrainedOptions>(
-            Constraints::NONE,
-        )),
-        "AddDef" => Some(work.under_fields::<1, 1, AddDef>(Constraints::NONE)),
+        "AllOptional" => Some(work.under::<AllOptional>(Constraints::NONE)),
+        "AllDefault" => Some(work.under::<AllDefault>(Constraints::NONE)),
+        "ConstrainedOptions" => Some(work.under::<ConstrainedOptions>(Constraints::NONE)),
+        "AddDef" => Some(work.under::<AddDef>(Constraints::NONE)),
         _ => with_other_scope(word, work),
     }
 }
 
 fn with_other_scope<W: UnderConstraints + Drop>(word: &str, work: W) -> Option<W::Output> {
     match word {
-        "BoolChoice" => Some(work.under_choice::<BoolChoice>(Constraints::NONE)),
+        "BoolChoice" => Some(work.under::<BoolChoice>(Constraints::NONE)),
         "MixedSet" => Some(work.under::<MixedSet>(Constraints::NONE)),
         "SetOfOctets" => Some(work.under::<SetOf<OctetString>>(Constraints::NONE)),
         _ => with_recursive(word, work),

@@ -3,7 +3,6 @@
 mod leaves;
 mod scopes;
 
-use asn1_core::{Choice, Constructed};
 use leaves::with_leaf;
 use oer_write::Encode;
 use rasn_oer::Decode;
@@ -15,23 +14,6 @@ pub trait OnType {
     type Output;
 
     fn on<T: Decode + Encode + Debug + PartialEq>(self) -> Self::Output;
-
-    /// With a sequence or a set, which has tables: as with any type, where nothing else is said.
-    fn on_fields<const RC: usize, const EC: usize, T>(self) -> Self::Output
-    where
-        Self: Sized,
-        T: Decode + Encode + Debug + PartialEq + Constructed<RC, EC>,
-    {
-        self.on::<T>()
-    }
-
-    /// With a choice, which has tables too.
-    fn on_choice<T: Decode + Encode + Debug + PartialEq + Choice>(self) -> Self::Output
-    where
-        Self: Sized,
-    {
-        self.on::<T>()
-    }
 }
 
 /// Does it with the type of that word; none where no type has it.
