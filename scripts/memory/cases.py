@@ -403,12 +403,11 @@ THROUGH = {
     "decode_optional_with": ("Node", f"80 {G} 00 01 05 ff 00"),
     "decode_boxed_with": ("Node", f"80 {G} 00 01 05 ff 00"),
     "decode_extension_addition_with": ("Chain", "80 00 02 07 80 02 00 ff"),
+    "keep": ("nest", "01 01 01 00"),
     "decode_extension_addition_group": ("seq7", f"80 ff 02 04 30 {OPEN_G} 81 83 40 {G}"),
 }
 # calls of tables, rules and options, which have no allocator
-WITHOUT = {"is_oer", "is_coer", "oer", "coer", "with_depth"}
-# steps of reading by values alone, which each case of a sequence by its row or of a list of itself takes
-WITHOUT |= {"apart", "set_remaining", "open_list", "keep"}
+WITHOUT = {"is_oer", "is_coer", "oer", "coer", "with_depth", "apart", "set_remaining", "open_list"}
 # helpers of asn1_ints in a module of its own, which the writers of its integers call
 INNER = {"write_i128", "write_u128", "write_with_sign", "write_signed_u128"}
 
