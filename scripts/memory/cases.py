@@ -403,7 +403,7 @@ THROUGH = {
     "decode_optional_with": ("Node", f"80 {G} 00 01 05 ff 00"),
     "decode_boxed_with": ("Node", f"80 {G} 00 01 05 ff 00"),
     "decode_extension_addition_with": ("Chain", "80 00 02 07 80 02 00 ff"),
-    "keep": ("nest", "01 01 01 00"),
+    "keep": ("nest", "01 01 01 02 01 00 01 00"),
     "decode_extension_addition_group": ("seq7", f"80 ff 02 04 30 {OPEN_G} 81 83 40 {G}"),
 }
 # calls of tables, rules and options, which have no allocator
