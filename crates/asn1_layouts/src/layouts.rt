@@ -86,7 +86,7 @@ fn body_name(body: &Body) -> &'static str {
             "ENUMERATED, 1 octet from 0 to 127, else a count and signed octets",
         Body::SequenceOf(_) => "SEQUENCE OF, a quantity and elements",
         Body::SetOf(_) => "SET OF, a quantity and elements",
-        _ => "",
+        Body::Simple(_) | Body::Integer(_) | Body::BitString(_) | Body::Reference(_) => "",
     }
 }
 
@@ -167,7 +167,8 @@ pub fn unit_of(simple: Simple) -> Option<i128> {
         Simple::Utf8String | Simple::GeneralString => None,
         Simple::GraphicString | Simple::TeletexString => None,
         Simple::BmpString => Some(2),
-        _ => Some(1),
+        Simple::OctetString | Simple::NumericString | Simple::PrintableString => Some(1),
+        Simple::VisibleString | Simple::Ia5String => Some(1),
     }
 }
 

@@ -78,8 +78,11 @@ impl Walk {
 /// The members of a SEQUENCE, a SET or a CHOICE.
 pub fn members_of<'m>(of: &'m Type) -> Option<&'m [Member]> {
     match &of.body {
-        Body::Choice(alternatives) => Some(alternatives.as_slice()),
-        _ => components_of(of),
+        Body::Choice(members) | Body::Sequence(members) | Body::Set(members) => {
+            Some(members.as_slice())
+        }
+        Body::Simple(_) | Body::Integer(_) | Body::BitString(_) | Body::Enumerated(_, _) => None,
+        Body::SequenceOf(_) | Body::SetOf(_) | Body::Reference(_) => None,
     }
 }
 
@@ -157,17 +160,11 @@ fn taken_rows<'m>(
     let Some(levels) = levels.checked_sub(1) else {
         return Err(scope.refused(of.first, READS));
     };
-    let Some(members) = components_of(base) else {
-        return Err(scope.refused(of.first, READS));
-    };
-    written_rows(scope, members, levels)
-}
-
-/// The members of a SEQUENCE or a SET.
-fn components_of<'m>(of: &'m Type) -> Option<&'m [Member]> {
-    match &of.body {
-        Body::Sequence(members) | Body::Set(members) => Some(members.as_slice()),
-        _ => None,
+    match members_of(base) {
+        Some(members) if !matches!(base.body, Body::Choice(_)) => {
+            written_rows(scope, members, levels)
+        }
+        _ => Err(scope.refused(of.first, READS)),
     }
 }
 

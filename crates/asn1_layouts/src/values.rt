@@ -73,7 +73,12 @@ fn is_of(simple: Simple, token: Token<'_>) -> bool {
         Simple::Null => token.text == "NULL",
         Simple::OctetString => is_bits(token),
         Simple::ObjectIdentifier | Simple::Any => false,
-        _ => token.kind == Kind::Text,
+        Simple::UtcTime | Simple::GeneralizedTime | Simple::Date => token.kind == Kind::Text,
+        Simple::Utf8String | Simple::NumericString => token.kind == Kind::Text,
+        Simple::PrintableString | Simple::VisibleString => token.kind == Kind::Text,
+        Simple::Ia5String | Simple::GeneralString => token.kind == Kind::Text,
+        Simple::GraphicString | Simple::TeletexString => token.kind == Kind::Text,
+        Simple::BmpString => token.kind == Kind::Text,
     }
 }
 

@@ -284,7 +284,8 @@ fn held_of(simple: Simple) -> Option<Held> {
         Simple::GraphicString => any("GraphicText", "GraphicString::from_text", "Graphic"),
         Simple::TeletexString => any("TeletexText", "TeletexString::from_text", "Teletex"),
         Simple::BmpString => whole("BmpText", "bmp_from", "Bmp", Evidence::Pairs),
-        _ => return None,
+        Simple::Boolean | Simple::Null | Simple::ObjectIdentifier | Simple::Any => return None,
+        Simple::UtcTime | Simple::GeneralizedTime | Simple::Date => return None,
     })
 }
 
@@ -470,7 +471,8 @@ fn compares<'m>(scope: Scope<'m, '_>, list: &'m Type) -> Result<bool, Refusal> {
         at = match &at.body {
             Body::SequenceOf(element) | Body::SetOf(element) => scope.base_of(&**element)?,
             Body::Sequence(_) | Body::Set(_) | Body::Choice(_) => return Ok(false),
-            _ => return Ok(true),
+            Body::Simple(_) | Body::Integer(_) | Body::BitString(_) => return Ok(true),
+            Body::Enumerated(_, _) | Body::Reference(_) => return Ok(true),
         };
     }
     Ok(false)
@@ -542,7 +544,9 @@ pub fn push_default<'m>(
             settled(scope, spot)?,
             base,
         ),
-        _ => Err(scope.refused(row.name, PRINTED)),
+        Body::Sequence(_) | Body::Set(_) | Body::Choice(_) | Body::Reference(_) => {
+            Err(scope.refused(row.name, PRINTED))
+        }
     }
 }
 

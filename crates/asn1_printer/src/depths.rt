@@ -103,7 +103,9 @@ fn simple_depth(simple: Simple) -> usize {
         Simple::Date => 3,
         Simple::ObjectIdentifier | Simple::UtcTime | Simple::GeneralizedTime => 4,
         Simple::OctetString | Simple::Any => 8,
-        _ => 5,
+        Simple::Utf8String | Simple::NumericString | Simple::PrintableString => 5,
+        Simple::VisibleString | Simple::Ia5String | Simple::GeneralString => 5,
+        Simple::GraphicString | Simple::TeletexString | Simple::BmpString => 5,
     }
 }
 

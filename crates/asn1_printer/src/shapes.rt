@@ -106,7 +106,9 @@ fn purpose_of(base: &Type) -> Option<Purpose> {
         Body::Integer(_) => Some(Purpose::Value),
         Body::BitString(_) => Some(Purpose::Size),
         Body::Simple(simple) if unit_of(*simple).is_some() => Some(Purpose::Size),
-        _ => None,
+        Body::Simple(_) | Body::Enumerated(_, _) | Body::Reference(_) => None,
+        Body::Sequence(_) | Body::Set(_) | Body::Choice(_) => None,
+        Body::SequenceOf(_) | Body::SetOf(_) => None,
     }
 }
 
@@ -152,7 +154,9 @@ fn base_shape<'m>(
         Body::Integer(_) => number_type(limits),
         Body::BitString(_) => ("BitString", UNLIMITED),
         Body::Simple(simple) => (simple_type(*simple), UNLIMITED),
-        _ => ("", UNLIMITED),
+        Body::Sequence(_) | Body::Set(_) | Body::Choice(_) => ("", UNLIMITED),
+        Body::Enumerated(_, _) | Body::SequenceOf(_) | Body::SetOf(_) => ("", UNLIMITED),
+        Body::Reference(_) => ("", UNLIMITED),
     };
     Ok(limited(scope.alloc, rust, own, limits, purpose, name))
 }
