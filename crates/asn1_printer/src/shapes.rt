@@ -119,7 +119,8 @@ fn is_plain<'m>(scope: Scope<'m, '_>, chain: &[&'m Type], base: &'m Type) -> Res
     };
     let names = names_of(base);
     let whole = limits_of(scope, chain, names, purpose)?;
-    let named = limits_of(scope, chain.get(1..).unwrap_or(&[]), names, purpose)?;
+    let (_, behind) = chain.split_at(chain.len().min(1));
+    let named = limits_of(scope, behind, names, purpose)?;
     Ok(whole == named)
 }
 
