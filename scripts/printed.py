@@ -1,7 +1,7 @@
 #!/usr/bin/env python3
 """Says where crates/sample_types or crates/recursive_types, or the line of one in crates.txt, isn't what oergen prints of its module
 in crates/oergen/data, where types of made modules are put into other crates than they should be, or don't have the names that they
-should, where the types of scripts/printed.d/circle.asn, which contain each other, aren't printed with the definitions beside it, and
+should, where of the published modules in scripts/v2x.d a type is left out or isn't listed as listed.txt there has it, where the types of scripts/printed.d/circle.asn, which contain each other, aren't printed with the definitions beside it, and
 where what is printed of long.asn, which has long names and wide choices, isn't in the layout that `rt fmt` leaves as it is.
 
 usage: printed.py PROGRAM, for example: printed.py crates/oergen/out/oergen
@@ -17,6 +17,7 @@ import tempfile
 
 top = pathlib.Path(__file__).resolve().parent.parent
 DATA = top / "scripts/printed.d"
+PUBLISHED = top / "scripts/v2x.d"
 MODULES = {"sample_types": "samples.asn", "recursive_types": "recursive.asn"}
 
 
@@ -87,23 +88,61 @@ def misplaced(program):
     return faults
 
 
-# types with names that the library has, and a line of what is printed of each
-NAMES = {
-    "Bare ::= NULL": "pub type Bare_ = ();",
-    "Sequence ::= BOOLEAN": "pub type Sequence_ = bool;",
-    "Date ::= SEQUENCE { place Place }": "pub type Date_ = Sequence<Date_Components, 1, 0>;",
-    "Place ::= CHOICE { a NULL }": "    pub place: Place_,",
-}
+# modules with names that clash with one another's, with those that are printed of other types, or with the library's; and lines of
+# what is printed of each
+NAMES = (
+    (
+        "Bare ::= NULL Sequence ::= BOOLEAN Date ::= SEQUENCE { place Place } Place ::= CHOICE { a NULL }",
+        (
+            "pub type Bare_ = ();",
+            "pub type Sequence_ = bool;",
+            "pub type Date_ = Sequence<Date_Components, 1, 0>;",
+            "    pub place: Place_,",
+        ),
+    ),
+    ("Date ::= NULL DATe ::= BOOLEAN", ("pub type Date_ = ();", "pub type DATe__ = bool;")),
+    ("A-B ::= NULL AB ::= BOOLEAN", ("pub type AB = ();", "pub type AB_ = bool;")),
+    (
+        "T ::= INTEGER (0..255) END N DEFINITIONS ::= BEGIN T ::= INTEGER (0..65535) U ::= SEQUENCE { t T }",
+        ("pub type M_T = u8;", "pub type N_T = u16;", "    pub t: N_T,"),
+    ),
+    (
+        "Tariff ::= SEQUENCE { rows SEQUENCE OF TariffRow } TariffRow ::= SEQUENCE { a NULL }",
+        ("pub type Tariff_ = Sequence<Tariff_Components, 1, 0>;", "pub type TariffRow = Sequence<TariffRowComponents, 1, 0>;"),
+    ),
+    (
+        "A ::= SEQUENCE { a A OPTIONAL, k K } K ::= NULL AContent ::= BOOLEAN",
+        ("pub struct A_(pub A_Content<A_>);", "    pub k: K_,", "pub type K_ = ();", "pub type AContent = bool;"),
+    ),
+)
 
 
 def misnamed(program):
-    """Which types with the library's names aren't printed with `_` behind these."""
+    """Which types aren't printed with the names that they should have."""
+    faults = []
+    for body, wanted in NAMES:
+        with tempfile.TemporaryDirectory() as folder:
+            module = pathlib.Path(folder) / "made.asn"
+            module.write_text(f"M DEFINITIONS AUTOMATIC TAGS ::= BEGIN\n{body}\nEND\n")
+            _, files = printed(program, folder, "made", module)
+        lines = {line for text in files.values() for line in text.split("\n")}
+        faults += [f"of {body} there is no line {line!r}" for line in wanted if line not in lines]
+    return faults
+
+
+def unread(program):
+    """What isn't listed of the published modules as listed.txt has it, and whether any of their types isn't printed."""
+    files = sorted(str(it) for it in PUBLISHED.glob("*.asn"))
+    table = subprocess.run([program, "--list", *files], check=True, capture_output=True, text=True, timeout=60).stdout
+    blocks = {block for block in re.split(r"^(?! )", table, flags=re.M)}
+    wanted = re.split(r"^(?! )", (PUBLISHED / "listed.txt").read_text(encoding="utf-8"), flags=re.M)
+    faults = [f"of scripts/v2x.d it isn't listed: {block}" for block in wanted if block not in blocks]
     with tempfile.TemporaryDirectory() as folder:
-        module = pathlib.Path(folder) / "made.asn"
-        module.write_text("Made DEFINITIONS AUTOMATIC TAGS ::= BEGIN\n" + "\n".join(NAMES) + "\nEND\n")
-        _, files = printed(program, folder, "made", module)
-    lines = {line for text in files.values() for line in text.split("\n")}
-    return [f"of {of} there is no line {line!r}" for of, line in NAMES.items() if line not in lines]
+        words = [program, "--out", folder, "--name", "v2x", *files]
+        ran = subprocess.run(words, capture_output=True, text=True, timeout=60, check=False)
+        found = sum(len(re.findall(r"^/// `(?:[\w-]+ ::= |(?:SEQUENCE|CHOICE) \{)", it.read_text(), re.M)) for it in pathlib.Path(folder).rglob("*.rt"))
+    types = len(re.findall(r"^\S", table, re.M))
+    return faults + ([] if found == types and not ran.stderr else [f"of scripts/v2x.d {found} types are printed, and not {types}: {ran.stderr}"])
 
 
 def undefined(program):
@@ -127,7 +166,7 @@ def unformatted(program):
 
 
 def main(program):
-    faults = misplaced(program) + misnamed(program) + undefined(program) + unformatted(program)
+    faults = misplaced(program) + misnamed(program) + unread(program) + undefined(program) + unformatted(program)
     for fault in faults:
         print(f"printed: {fault}")
     status = 1 if faults else 0

@@ -128,12 +128,13 @@ fn contains_itself(all: &[Definition<'_>], at: usize) -> bool {
 /// How willingly a circle is cut at a type: at a SEQUENCE before a SET, at that before a CHOICE, at that before a list; nothing where
 /// it can't be.
 fn rank_of(definition: &Definition<'_>) -> Option<u8> {
-    match definition.link.of.body {
+    match definition.of.body {
         Body::Sequence(_) => Some(0),
         Body::Set(_) => Some(1),
         Body::Choice(_) => Some(2),
         Body::SequenceOf(_) => Some(3),
-        _ => None,
+        Body::SetOf(_) | Body::Reference(_) | Body::Enumerated(_, _) => None,
+        Body::Simple(_) | Body::Integer(_) | Body::BitString(_) => None,
     }
 }
 

@@ -2,10 +2,11 @@
 
 use crate::names::{component_name, push_type_name, type_name};
 use crate::rows::{Row, rows_of};
-use crate::scope::{Link, Scope};
-use asn1_modules::ast::{Body, Type};
+use crate::scope::Scope;
+use asn1_modules::ast::{Body, Reference, Type, TypeAssignment};
 use asn1_modules::lexer::TokenId;
 use asn1_modules::refusal::Refusal;
+use std::alloc::{AllocError, Global};
 use std::collections::BTreeMap;
 
 /// How many lists may stand inside one another.
@@ -43,7 +44,7 @@ pub struct Part<'m> {
     /// How many lists are around the type below.
     pub lists: usize,
     /// The type, without lists.
-    pub inner: Link<'m>,
+    pub inner: &'m Type,
     /// The place of its definition, where it has one.
     pub target: Option<usize>,
     /// `Plain` until circles are found.
@@ -54,7 +55,9 @@ pub struct Part<'m> {
 #[derive(Drop)]
 pub struct Definition<'m> {
     pub rust_name: String,
-    pub link: Link<'m>,
+    /// The module of the assignment that it is, or stands in, by its number.
+    pub module: usize,
+    pub of: &'m Type,
     pub parts: Vec<Part<'m>>,
     /// The circle that it is of: nothing where it isn't, and until circles are found.
     pub circle: Option<Circle>,
@@ -66,9 +69,10 @@ pub struct Definition<'m> {
 #[derive(Drop)]
 struct Pending<'m> {
     rust_name: String,
-    /// What it is named for: its assignment, or the component or the list that it stands in.
-    named: TokenId,
-    link: Link<'m>,
+    /// Its name in the module, where it is an assignment.
+    named: Option<TokenId>,
+    module: usize,
+    of: &'m Type,
 }
 
 /// A type without the lists around it, and how many these are.
@@ -97,31 +101,29 @@ fn has_parts(of: &Type) -> bool {
 fn make_part<'m>(
     scope: Scope<'m, '_>,
     pending: &mut Vec<Pending<'m>>,
-    parent: &str,
+    parent: (&str, usize),
     row: Option<Row<'m>>,
-    link: Link<'m>,
+    whole: &'m Type,
 ) -> Result<Part<'m>, Refusal> {
-    let (lists, of) = peeled(link.of);
-    let inner = Link {
-        module: link.module,
-        of,
-    };
+    let (lists, inner) = peeled(whole);
     let name = match row {
         Some(row) => scope.text(row.name),
         None => "item",
     };
     let rust_name = component_name(scope.alloc, name)?;
     let mut target = None;
-    if let Body::Reference(reference) = &of.body {
-        target = Some(scope.find_type(link.module, *reference)?.index);
-    } else if has_parts(of) && (lists != 0 || row.is_some()) {
+    if let Body::Reference(reference) = &inner.body {
+        target = Some(scope.find_type(*reference)?.index);
+    } else if has_parts(inner) && (lists != 0 || row.is_some()) {
+        let (parent, module) = parent;
         let mut own = String::from_str(scope.alloc, parent)?;
         push_type_name(&mut own, name)?;
         target = Some(pending.len());
         pending.push(Pending {
             rust_name: own,
-            named: row.map_or(of.first, |row| row.name),
-            link: inner,
+            named: None,
+            module,
+            of: inner,
         })?;
     }
     Ok(Part {
@@ -139,19 +141,23 @@ fn define<'m>(
     scope: Scope<'m, '_>,
     pending: &mut Vec<Pending<'m>>,
     rust_name: String,
-    link: Link<'m>,
+    own: (usize, &'m Type),
 ) -> Result<Definition<'m>, Refusal> {
-    let rows = rows_of(scope, link)?;
+    let (module, of) = own;
+    let rows = rows_of(scope, of)?;
     let mut parts = Vec::new(scope.alloc);
     for row in rows.iter() {
-        parts.push(make_part(scope, pending, rust_name.as_str(), Some(*row), row.link)?)?;
+        let parent = (rust_name.as_str(), module);
+        parts.push(make_part(scope, pending, parent, Some(*row), row.of)?)?;
     }
-    if rows.is_empty() && !has_parts(link.of) {
-        parts.push(make_part(scope, pending, rust_name.as_str(), None, link)?)?;
+    if rows.is_empty() && !has_parts(of) {
+        let parent = (rust_name.as_str(), module);
+        parts.push(make_part(scope, pending, parent, None, of)?)?;
     }
     Ok(Definition {
         rust_name,
-        link,
+        module,
+        of,
         parts,
         circle: None,
         fault: None,
@@ -171,70 +177,82 @@ fn assignments<'m>(scope: Scope<'m, '_>) -> Result<Vec<Pending<'m>>, Refusal> {
 fn push_assignments<'m>(
     scope: Scope<'m, '_>,
     module: usize,
-    types: &'m [asn1_modules::ast::TypeAssignment],
+    types: &'m [TypeAssignment],
     all: &mut Vec<Pending<'m>>,
 ) -> Result<(), Refusal> {
     for one in types.iter() {
         all.push(Pending {
             rust_name: type_name(scope.alloc, scope.text(one.name))?,
-            named: one.name,
-            link: Link {
-                module,
-                of: &one.of,
-            },
+            named: Some(one.name),
+            module,
+            of: &one.of,
         })?;
     }
     Ok(())
 }
 
-/// What names a type in a module: the module, and the name there.
-#[derive(Clone, Copy)]
-struct Naming {
-    module: usize,
-    name: TokenId,
-}
-
-/// The refusal of a type that has the Rust name of another.
-fn same_name(scope: Scope<'_, '_>, link: Link<'_>, rust: &str, pair: (Naming, Naming)) -> Refusal {
-    let (own, other) = pair;
-    let names = (scope.text(own.name), scope.text(other.name));
-    let modules = (
-        scope.module_name(own.module),
-        scope.module_name(other.module),
-    );
-    match format!(in scope.alloc;
-        "a type whose Rust name no other type has: '{}' of {} and '{}' of {} are both {rust}",
-        names.0, modules.0, names.1, modules.1
-    ) {
-        Ok(reads) => scope.refused(link.of.first, reads.as_str()),
-        Err(_) => Refusal::OutOfMemory,
+/// The Rust names of assignments, each with its module: nothing where several modules have it.
+fn homes_of(
+    alloc: Global,
+    all: &[Pending<'_>],
+) -> Result<BTreeMap<String, Option<usize>>, AllocError> {
+    let mut homes: BTreeMap<String, Option<usize>> = BTreeMap::new(alloc);
+    for one in all.iter() {
+        let home = match homes.get(one.rust_name.as_str()) {
+            Some(home) if *home != Some(one.module) => None,
+            _ => Some(one.module),
+        };
+        homes.insert(one.rust_name.clone()?, home)?;
     }
+    Ok(homes)
 }
 
-/// The definition of a type, whose Rust name none of those before may have.
-fn resolve<'m>(
-    scope: Scope<'m, '_>,
-    pending: &mut Vec<Pending<'m>>,
-    names: &mut BTreeMap<String, Naming>,
-    rust_name: String,
-    own: (Naming, Link<'m>),
-) -> Result<Definition<'m>, Refusal> {
-    let (naming, link) = own;
-    match names.get(rust_name.as_str()) {
-        Some(other) => {
-            let pair = (naming, *other);
-            return Err(same_name(scope, link, rust_name.as_str(), pair));
+/// Puts the module's name and `_` in front of the names that several modules have: ASN.1 has no such names.
+fn part_names(scope: Scope<'_, '_>, all: &mut Vec<Pending<'_>>) -> Result<(), AllocError> {
+    let homes = homes_of(scope.alloc, all.as_slice())?;
+    for one in all.iter_mut() {
+        if homes.get(one.rust_name.as_str()).copied() == Some(None) {
+            let module = type_name(scope.alloc, scope.module_name(one.module))?;
+            let name = one.rust_name.as_str();
+            one.rust_name = format!(in scope.alloc; "{module}_{name}")?;
         }
-        None => {}
     }
-    names.insert(rust_name.clone()?, naming)?;
-    define(scope, pending, rust_name, link)
+    Ok(())
+}
+
+/// A name that no type before has: the one given, or with `_` behind it, and puts it to the names.
+fn free_name(
+    alloc: Global,
+    names: &mut BTreeMap<String, usize>,
+    wanted: &str,
+) -> Result<String, AllocError> {
+    let mut name = String::from_str(alloc, wanted)?;
+    for _ in 0..names.len() {
+        if names.get(name.as_str()).is_none() {
+            break;
+        }
+        name.push('_')?;
+    }
+    names.insert(name.clone()?, names.len())?;
+    Ok(name)
+}
+
+/// Refuses a name that stands for another type in its module: one that is assigned there twice, or imported too.
+fn require_one(scope: Scope<'_, '_>, at: usize, name: TokenId) -> Result<(), Refusal> {
+    let reference = Reference { module: None, name };
+    if scope.find_type(reference)?.index == at {
+        return Ok(());
+    }
+    Err(scope.refused(
+        name,
+        "a name that its module assigns once, and doesn't import",
+    ))
 }
 
 /// A type that can't be resolved; the refusal itself where memory was refused, or where none is kept.
 fn faulty<'m>(
     rust_name: String,
-    link: Link<'m>,
+    own: (usize, &'m Type),
     why: Refusal,
     parts: Vec<Part<'m>>,
     keeps_faults: bool,
@@ -242,41 +260,55 @@ fn faulty<'m>(
     if !keeps_faults || matches!(why, Refusal::OutOfMemory) {
         return Err(why);
     }
+    let (module, of) = own;
     Ok(Definition {
         rust_name,
-        link,
+        module,
+        of,
         parts,
         circle: None,
         fault: Some(why),
     })
 }
 
-/// All definitions: first the assignments, then the types inside them. Refused at the first that can't be resolved, or that has another's
-/// Rust name; with `keeps_faults` that one says why.
+/// The definition of the type at a place, which `named` is the name of where it is an assignment.
+fn resolve<'m>(
+    scope: Scope<'m, '_>,
+    pending: &mut Vec<Pending<'m>>,
+    rust_name: String,
+    own: (usize, &'m Type),
+    named: (usize, Option<TokenId>),
+) -> Result<Definition<'m>, Refusal> {
+    if let (at, Some(name)) = named {
+        require_one(scope, at, name)?;
+    }
+    define(scope, pending, rust_name, own)
+}
+
+/// All definitions: first the assignments, then the types inside them. Refused at the first that can't be resolved; with `keeps_faults`
+/// that one says why.
 pub fn definitions<'m>(
     scope: Scope<'m, '_>,
     keeps_faults: bool,
 ) -> Result<Vec<Definition<'m>>, Refusal> {
     let mut pending = assignments(scope)?;
+    part_names(scope, &mut pending)?;
     let mut names = BTreeMap::new(scope.alloc);
     let mut all = Vec::new(scope.alloc);
     for at in 0..MAX_DEFINITIONS {
         let Some(next) = pending.get(at) else {
             break;
         };
-        let link = next.link;
-        let naming = Naming {
-            module: link.module,
-            name: next.named,
-        };
-        let name = next.rust_name.clone()?;
+        let own = (next.module, next.of);
+        let named = (at, next.named);
+        let name = free_name(scope.alloc, &mut names, next.rust_name.as_str())?;
         let kept = next.rust_name.clone()?;
         let count = pending.len();
-        match resolve(scope, &mut pending, &mut names, name, (naming, link)) {
+        match resolve(scope, &mut pending, name, own, named) {
             Ok(one) => all.push(one)?,
             Err(why) => {
                 pending.truncate(count);
-                all.push(faulty(kept, link, why, Vec::new(scope.alloc), keeps_faults)?)?;
+                all.push(faulty(kept, own, why, Vec::new(scope.alloc), keeps_faults)?)?;
             }
         }
     }

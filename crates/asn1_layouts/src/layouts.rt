@@ -2,7 +2,7 @@
 
 use crate::numbers::names_of;
 use crate::rows::members_of;
-use crate::scope::{Link, Scope};
+use crate::scope::Scope;
 use crate::visible::{Limits, Purpose, limits_of};
 use asn1_modules::ast::{Body, Member, Simple, Type};
 use asn1_modules::refusal::Refusal;
@@ -41,11 +41,11 @@ pub fn lists_of(alloc: Global, start: &Type) -> Result<String, AllocError> {
 
 /// A type's layout, with the constraints that give it. Refused where named bits have no fixed size, since canonical form would drop
 /// trailing zero bits (X.696, 13.3).
-pub fn layout_of<'m>(scope: Scope<'m, '_>, link: Link<'m>) -> Result<String, Refusal> {
-    let chain = scope.chain_of(link)?;
-    let base = chain.last().copied().unwrap_or(link);
+pub fn layout_of<'m>(scope: Scope<'m, '_>, of: &'m Type) -> Result<String, Refusal> {
+    let chain = scope.chain_of(of)?;
+    let base = chain.last().copied().unwrap_or(of);
     let names = names_of(base);
-    match &base.of.body {
+    match &base.body {
         Body::Integer(_) => {
             let limits = limits_of(scope, chain.as_slice(), names, Purpose::Value)?;
             Ok(integer_text(scope.alloc, limits)?)
@@ -54,7 +54,7 @@ pub fn layout_of<'m>(scope: Scope<'m, '_>, link: Link<'m>) -> Result<String, Ref
             let limits = size_of(scope, chain.as_slice())?;
             if !bits.is_empty() && limits.fixed().is_none() {
                 return Err(scope.refused(
-                    base.of.first,
+                    base.first,
                     "a BIT STRING with named bits under one fixed size",
                 ));
             }
@@ -72,8 +72,8 @@ pub fn layout_of<'m>(scope: Scope<'m, '_>, link: Link<'m>) -> Result<String, Ref
 }
 
 /// The sizes that a string may have.
-fn size_of<'m>(scope: Scope<'m, '_>, chain: &[Link<'m>]) -> Result<Limits, Refusal> {
-    limits_of(scope, chain, None, Purpose::Size)
+fn size_of<'m>(scope: Scope<'m, '_>, chain: &[&'m Type]) -> Result<Limits, Refusal> {
+    limits_of(scope, chain, &[], Purpose::Size)
 }
 
 /// What a type with parts is.
@@ -86,7 +86,7 @@ fn body_name(body: &Body) -> &'static str {
             "ENUMERATED, 1 octet from 0 to 127, else a count and signed octets",
         Body::SequenceOf(_) => "SEQUENCE OF, a quantity and elements",
         Body::SetOf(_) => "SET OF, a quantity and elements",
-        _ => "",
+        Body::Simple(_) | Body::Integer(_) | Body::BitString(_) | Body::Reference(_) => "",
     }
 }
 
@@ -167,7 +167,8 @@ pub fn unit_of(simple: Simple) -> Option<i128> {
         Simple::Utf8String | Simple::GeneralString => None,
         Simple::GraphicString | Simple::TeletexString => None,
         Simple::BmpString => Some(2),
-        _ => Some(1),
+        Simple::OctetString | Simple::NumericString | Simple::PrintableString => Some(1),
+        Simple::VisibleString | Simple::Ia5String => Some(1),
     }
 }
 

@@ -3,6 +3,7 @@
 
 pub mod circles;
 pub mod definitions;
+pub mod expansion;
 pub mod layouts;
 pub mod listing;
 pub mod names;

@@ -1,11 +1,12 @@
 //! The table of types: each in order of use, with its components, their tags, needs and layouts (X.696, clauses 9 to 29).
 
 use crate::definitions::{Definition, Part, definitions};
+use crate::expansion::tokens_of;
 use crate::layouts::{is_extensible, layout_of, lists_of, octets_text};
 use crate::numbers::enumerated_numbers;
 use crate::order::{boxes, order_of_use};
 use crate::rows::{Position, Row, tag_text};
-use crate::scope::{Link, Scope, all_tokens};
+use crate::scope::Scope;
 use crate::values::default_of;
 use asn1_modules::ast::{Body, Need, Numbered, Type};
 use asn1_modules::lexer::Token;
@@ -15,7 +16,7 @@ use std::alloc::{AllocError, Global};
 
 /// The table of the modules in the files' texts. Refused at the first place that can't be read or resolved.
 pub fn list(alloc: Global, texts: &[&str]) -> Result<String, Refusal> {
-    let tokens = all_tokens(alloc, texts)?;
+    let tokens = tokens_of(alloc, texts)?;
     list_tokens(alloc, tokens.as_slice())
 }
 
@@ -69,24 +70,18 @@ fn push_definition<'m>(
     out: &mut String,
 ) -> Result<(), Refusal> {
     let name = definition.rust_name.as_str();
-    let module = scope.module_name(definition.link.module);
+    let module = scope.module_name(definition.module);
     let mut what = String::new(scope.alloc);
     match definition.parts.first() {
-        Some(part) if part.row.is_none() => push_type(
-            scope,
-            all,
-            part,
-            definition.link,
-            &mut what,
-        )?,
-        _ => what = layout_of(scope, definition.link)?,
+        Some(part) if part.row.is_none() => push_type(scope, all, part, definition.of, &mut what)?,
+        _ => what = layout_of(scope, definition.of)?,
     }
-    let mark = mark_text(definition.link.of);
+    let mark = mark_text(definition.of);
     out.push_str(format!(in scope.alloc; "{name} of {module}: {what}{mark}\n")?.as_str())?;
     push_preamble(scope, definition, out)?;
-    if let Body::Enumerated(items, mark) = &definition.link.of.body {
+    if let Body::Enumerated(items, mark) = &definition.of.body {
         let root = mark.unwrap_or(items.len());
-        push_values(scope, definition.link.module, items.as_slice(), root, out)?;
+        push_values(scope, items.as_slice(), root, out)?;
     }
     Ok(())
 }
@@ -103,12 +98,11 @@ fn mark_text<'m>(of: &'m Type) -> &'static str {
 /// The values of an ENUMERATED, a line each.
 fn push_values<'m>(
     scope: Scope<'m, '_>,
-    module: usize,
     items: &'m [Numbered],
     root: usize,
     out: &mut String,
 ) -> Result<(), Refusal> {
-    let numbers = enumerated_numbers(scope, module, items, root)?;
+    let numbers = enumerated_numbers(scope, items, root)?;
     for (at, (name, number)) in numbers.iter().enumerate() {
         let text = scope.text(*name);
         let place = if at < root { "" } else { ", addition" };
@@ -123,7 +117,7 @@ fn push_preamble<'m>(
     definition: &Definition<'m>,
     out: &mut String,
 ) -> Result<(), Refusal> {
-    if !matches!(definition.link.of.body, Body::Sequence(_) | Body::Set(_)) {
+    if !matches!(definition.of.body, Body::Sequence(_) | Body::Set(_)) {
         return Ok(());
     }
     let mut bits = 0usize;
@@ -132,7 +126,7 @@ fn push_preamble<'m>(
             bits = bits.saturating_add(1);
         }
     }
-    let extension = is_extensible(definition.link.of);
+    let extension = is_extensible(definition.of);
     if extension {
         bits = bits.saturating_add(1);
     }
@@ -164,14 +158,14 @@ fn push_parts<'m>(
     for (place, part) in definition.parts.iter().enumerate() {
         if let Some(row) = part.row {
             push_row(scope, part, row, out)?;
-            if !matches!(definition.link.of.body, Body::Choice(_)) {
+            if !matches!(definition.of.body, Body::Choice(_)) {
                 push_need(scope, row, out)?;
             }
             out.push_str(": ")?;
             if boxed.contains(&(at, place)) {
                 out.push_str("boxed ")?;
             }
-            push_type(scope, all, part, row.link, out)?;
+            push_type(scope, all, part, row.of, out)?;
             out.push('\n')?;
         }
     }
@@ -219,10 +213,10 @@ fn push_type<'m>(
     scope: Scope<'m, '_>,
     all: &[Definition<'m>],
     part: &Part<'m>,
-    whole: Link<'m>,
+    whole: &'m Type,
     out: &mut String,
 ) -> Result<(), Refusal> {
-    out.push_str(lists_of(scope.alloc, whole.of)?.as_str())?;
+    out.push_str(lists_of(scope.alloc, whole)?.as_str())?;
     if let Some(target) = part.target.and_then(|t| all.get(t)) {
         out.push_str(target.rust_name.as_str())?;
         out.push_str(", ")?;

@@ -1,7 +1,7 @@
 //! The values that names and literals stand for.
 
-use crate::scope::{Link, Scope};
-use asn1_modules::ast::{Body, Numbered, Reference, Value};
+use crate::scope::Scope;
+use asn1_modules::ast::{Body, Numbered, Reference, Type, Value};
 use asn1_modules::lexer::{Kind, TokenId};
 use asn1_modules::refusal::Refusal;
 use std::collections::BTreeMap;
@@ -12,47 +12,46 @@ const MAX_CHAIN: usize = 64;
 /// What can be read where names lead back to themselves.
 const NAMED: &str = "a value that isn't a name of itself, or behind 64 names";
 
-/// The names that a type gives to numbers, and its module.
-#[derive(Clone, Copy)]
-pub struct Names<'m> {
-    pub module: usize,
-    pub items: &'m [Numbered],
-}
-
-/// A value, its module, and the names of its type.
+/// A value, and the names that its type gives to numbers: none where it has no such names.
 #[derive(Clone, Copy)]
 pub struct Spot<'m> {
-    pub module: usize,
     pub value: &'m Value,
-    pub names: Option<Names<'m>>,
+    pub names: &'m [Numbered],
 }
 
 /// The names that the type at the end of a chain gives to numbers.
-pub fn names_of<'m>(base: Link<'m>) -> Option<Names<'m>> {
-    let module = base.module;
-    match &base.of.body {
-        Body::Integer(names) | Body::Enumerated(names, _) | Body::BitString(names) => Some(Names {
-            module,
-            items: names.as_slice(),
-        }),
-        _ => None,
+pub fn names_of<'m>(base: &'m Type) -> &'m [Numbered] {
+    match &base.body {
+        Body::Integer(names) | Body::Enumerated(names, _) | Body::BitString(names) => {
+            names.as_slice()
+        }
+        Body::Simple(_) | Body::Reference(_) | Body::Choice(_) => &[],
+        Body::Sequence(_) | Body::Set(_) | Body::SequenceOf(_) | Body::SetOf(_) => &[],
     }
 }
 
-/// The value that a type's name for a number is written with, and its module.
-fn named_value<'m>(
+/// The one among a type's names for numbers that has the text of a name.
+pub fn named<'m>(
     scope: Scope<'m, '_>,
-    names: Option<Names<'m>>,
+    names: &'m [Numbered],
     name: TokenId,
-) -> Option<(usize, &'m Value)> {
-    let names = names?;
+) -> Option<&'m Numbered> {
     let text = scope.text(name);
-    for item in names.items.iter() {
+    for item in names.iter() {
         if scope.text(item.name) == text {
-            return Some((names.module, item.number.as_ref()?));
+            return Some(item);
         }
     }
     None
+}
+
+/// The value that a type's name for a number is written with.
+fn named_value<'m>(
+    scope: Scope<'m, '_>,
+    names: &'m [Numbered],
+    name: TokenId,
+) -> Option<&'m Value> {
+    named(scope, names, name)?.number.as_ref()
 }
 
 /// What a name stands for: a number of its type, or a value that is assigned; nothing where the value isn't a name.
@@ -60,14 +59,10 @@ fn next_spot<'m>(scope: Scope<'m, '_>, spot: Spot<'m>) -> Result<Option<Spot<'m>
     let Value::Reference(reference) = spot.value else {
         return Ok(None);
     };
-    if let Some((module, value)) = named_value(scope, spot.names, reference.name) {
-        return Ok(Some(Spot {
-            module,
-            value,
-            names: None,
-        }));
+    if let Some(value) = named_value(scope, spot.names, reference.name) {
+        return Ok(Some(Spot { value, names: &[] }));
     }
-    Ok(Some(assigned_spot(scope, spot.module, *reference)?))
+    Ok(Some(assigned_spot(scope, *reference)?))
 }
 
 /// The enumerated value that a value is, by the name that its type gives it; nothing where it is none of that type, whose names are
@@ -81,55 +76,32 @@ pub fn enumerated_of<'m>(
         let Value::Reference(reference) = spot.value else {
             return Ok(None);
         };
-        if let Some(name) = name_among(scope, spot.names, reference.name) {
+        if let Some(item) = named(scope, spot.names, reference.name) {
             return Ok(if are_same(spot.names, start.names) {
-                Some(name)
+                Some(item.name)
             } else {
                 None
             });
         }
-        spot = assigned_spot(scope, spot.module, *reference)?;
+        spot = assigned_spot(scope, *reference)?;
     }
     Err(scope.refused(first_of(start.value), NAMED))
 }
 
-/// The name among those of a type that has the text of another.
-fn name_among(scope: Scope<'_, '_>, names: Option<Names<'_>>, name: TokenId) -> Option<TokenId> {
-    let text = scope.text(name);
-    for item in names?.items.iter() {
-        if scope.text(item.name) == text {
-            return Some(item.name);
-        }
+/// Whether names are those of one type: whether they begin with one token.
+fn are_same(names: &[Numbered], others: &[Numbered]) -> bool {
+    match (names.first(), others.first()) {
+        (Some(name), Some(other)) => name.name.index == other.name.index,
+        (None, None) => true,
+        (Some(_), None) | (None, Some(_)) => false,
     }
-    None
-}
-
-/// Where the names of a type begin.
-fn first_name(names: Option<Names<'_>>) -> Option<usize> {
-    match names?.items.first() {
-        Some(first) => Some(first.name.index),
-        None => None,
-    }
-}
-
-/// Whether names are those of one type.
-fn are_same(names: Option<Names<'_>>, others: Option<Names<'_>>) -> bool {
-    first_name(names) == first_name(others)
 }
 
 /// The value that is assigned to a name, with the names of its type.
-fn assigned_spot<'m>(
-    scope: Scope<'m, '_>,
-    at: usize,
-    reference: Reference,
-) -> Result<Spot<'m>, Refusal> {
-    let (module, assigned) = scope.find_value(at, reference)?;
-    let base = scope.base_of(Link {
-        module,
-        of: &assigned.of,
-    })?;
+fn assigned_spot<'m>(scope: Scope<'m, '_>, reference: Reference) -> Result<Spot<'m>, Refusal> {
+    let assigned = scope.find_value(reference)?;
+    let base = scope.base_of(&assigned.of)?;
     Ok(Spot {
-        module,
         value: &assigned.value,
         names: names_of(base),
     })
@@ -191,14 +163,10 @@ pub fn number_of<'m>(scope: Scope<'m, '_>, spot: Spot<'m>) -> Result<i128, Refus
 }
 
 /// The numbers that are written in the root of an ENUMERATED.
-fn taken_numbers<'m>(
-    scope: Scope<'m, '_>,
-    module: usize,
-    root: &'m [Numbered],
-) -> Result<Vec<i128>, Refusal> {
+fn taken_numbers<'m>(scope: Scope<'m, '_>, root: &'m [Numbered]) -> Result<Vec<i128>, Refusal> {
     let mut taken = Vec::new(scope.alloc);
     for item in root.iter() {
-        if let Some(number) = written_number(scope, module, item)? {
+        if let Some(number) = written_number(scope, item)? {
             taken.push(number)?;
         }
     }
@@ -209,17 +177,16 @@ fn taken_numbers<'m>(
 /// those that were given before (X.680, 20.3 to 20.6). Refused where two are the same.
 pub fn enumerated_numbers<'m>(
     scope: Scope<'m, '_>,
-    module: usize,
     items: &'m [Numbered],
     root: usize,
 ) -> Result<Vec<(TokenId, i128)>, Refusal> {
     let front = items.get(..root).unwrap_or(items);
-    let taken = taken_numbers(scope, module, front)?;
+    let taken = taken_numbers(scope, front)?;
     let mut seen: BTreeMap<i128, TokenId> = BTreeMap::new(scope.alloc);
     let mut numbers = Vec::new(scope.alloc);
     let mut next = 0i128;
     for (at, item) in items.iter().enumerate() {
-        let written = written_number(scope, module, item)?;
+        let written = written_number(scope, item)?;
         let number = written.unwrap_or(free_number(taken.as_slice(), next));
         if written.is_none() || at >= root {
             next = number.saturating_add(1);
@@ -247,22 +214,11 @@ fn same_number(scope: Scope<'_, '_>, own: TokenId, other: TokenId, number: i128)
 }
 
 /// The number that is written behind a name of an ENUMERATED.
-fn written_number<'m>(
-    scope: Scope<'m, '_>,
-    module: usize,
-    item: &'m Numbered,
-) -> Result<Option<i128>, Refusal> {
-    let Some(value) = &item.number else {
-        return Ok(None);
-    };
-    Ok(Some(number_of(
-        scope,
-        Spot {
-            module,
-            value,
-            names: None,
-        },
-    )?))
+fn written_number<'m>(scope: Scope<'m, '_>, item: &'m Numbered) -> Result<Option<i128>, Refusal> {
+    match &item.number {
+        Some(value) => Ok(Some(number_of(scope, Spot { value, names: &[] })?)),
+        None => Ok(None),
+    }
 }
 
 /// The least number from `next` on that isn't taken.

@@ -50,7 +50,7 @@ pub fn behind_names(definitions: &[Definition<'_>], start: usize) -> usize {
     let mut at = start;
     for _ in 0..MAX_CHAIN {
         match definitions.get(at) {
-            Some(definition) if matches!(definition.link.of.body, Body::Reference(_)) => {
+            Some(definition) if matches!(definition.of.body, Body::Reference(_)) => {
                 at = first_target(definition).unwrap_or(at);
             }
             _ => break,

@@ -1,7 +1,7 @@
 //! The components of a SEQUENCE or a SET, and the alternatives of a CHOICE: each with its place and its tag.
 
 use crate::numbers::{Spot, number_of};
-use crate::scope::{Link, Scope};
+use crate::scope::Scope;
 use asn1_core::{Class, Tag};
 use asn1_modules::ast::{Body, Member, Need, Simple, Tagging, Type, WrittenTag};
 use asn1_modules::lexer::TokenId;
@@ -28,7 +28,7 @@ pub enum Position {
 #[derive(Clone, Copy)]
 pub struct Row<'m> {
     pub name: TokenId,
-    pub link: Link<'m>,
+    pub of: &'m Type,
     pub need: &'m Need,
     pub position: Position,
     /// None for a choice without a tag in front, and for an open type.
@@ -78,8 +78,11 @@ impl Walk {
 /// The members of a SEQUENCE, a SET or a CHOICE.
 pub fn members_of<'m>(of: &'m Type) -> Option<&'m [Member]> {
     match &of.body {
-        Body::Choice(alternatives) => Some(alternatives.as_slice()),
-        _ => components_of(of),
+        Body::Choice(members) | Body::Sequence(members) | Body::Set(members) => {
+            Some(members.as_slice())
+        }
+        Body::Simple(_) | Body::Integer(_) | Body::BitString(_) | Body::Enumerated(_, _) => None,
+        Body::SequenceOf(_) | Body::SetOf(_) | Body::Reference(_) => None,
     }
 }
 
@@ -96,7 +99,6 @@ fn first_of(member: &Member) -> TokenId {
 #[cycle(rows)]
 fn written_rows<'m>(
     scope: Scope<'m, '_>,
-    module: usize,
     members: &'m [Member],
     levels: u32,
 ) -> Result<Vec<Row<'m>>, Refusal> {
@@ -110,16 +112,13 @@ fn written_rows<'m>(
         match member {
             Member::Component(component) => rows.push(Row {
                 name: component.name,
-                link: Link {
-                    module,
-                    of: &component.of,
-                },
+                of: &component.of,
                 need: &component.need,
                 position: walk.position(),
                 tag: None,
             })?,
             Member::ComponentsOf(of) => {
-                let taken = taken_rows(scope, Link { module, of }, levels)?;
+                let taken = taken_rows(scope, of, levels)?;
                 push_roots(&mut rows, taken.as_slice(), walk.position())?;
             }
             other => {
@@ -153,52 +152,42 @@ fn push_roots<'m>(
 #[cycle(rows)]
 fn taken_rows<'m>(
     scope: Scope<'m, '_>,
-    link: Link<'m>,
+    of: &'m Type,
     levels: u32,
 ) -> Result<Vec<Row<'m>>, Refusal> {
     const READS: &str = "a SEQUENCE or a SET that doesn't take over its own components";
-    let base = scope.base_of(link)?;
+    let base = scope.base_of(of)?;
     let Some(levels) = levels.checked_sub(1) else {
-        return Err(scope.refused(link.of.first, READS));
+        return Err(scope.refused(of.first, READS));
     };
-    let Some(members) = components_of(base.of) else {
-        return Err(scope.refused(link.of.first, READS));
-    };
-    written_rows(scope, base.module, members, levels)
-}
-
-/// The members of a SEQUENCE or a SET.
-fn components_of<'m>(of: &'m Type) -> Option<&'m [Member]> {
-    match &of.body {
-        Body::Sequence(members) | Body::Set(members) => Some(members.as_slice()),
-        _ => None,
+    match members_of(base) {
+        Some(members) if !matches!(base.body, Body::Choice(_)) => {
+            written_rows(scope, members, levels)
+        }
+        _ => Err(scope.refused(of.first, READS)),
     }
 }
 
-/// Whether a member is a component with a tag in front of its type.
-fn is_tagged(member: &Member) -> bool {
+/// Whether a member is a component with a tag in front of its type, and written with it: no tag of what a parameter or the name of a
+/// type with parameters stands for (X.680, 25.3).
+fn is_tagged(scope: Scope<'_, '_>, member: &Member) -> bool {
     match member {
-        Member::Component(component) => !component.of.tags.is_empty(),
-        _ => false,
+        Member::Component(component) => {
+            let (name, first) = (scope.token(component.name), scope.token(component.of.first));
+            !component.of.tags.is_empty() && name.copy == first.copy
+        }
+        Member::Mark(_) | Member::Opens(_) | Member::Closes(_) | Member::ComponentsOf(_) => false,
     }
 }
 
 /// The number of a tag, which is a u32.
 fn tag_of<'m>(
     scope: Scope<'m, '_>,
-    module: usize,
     written: &'m WrittenTag,
     first: TokenId,
 ) -> Result<Tag, Refusal> {
     let value = &written.number;
-    let number = number_of(
-        scope,
-        Spot {
-            module,
-            value,
-            names: None,
-        },
-    )?;
+    let number = number_of(scope, Spot { value, names: &[] })?;
     match u32::try_from(number) {
         Ok(value) => Ok(Tag {
             class: written.class,
@@ -209,14 +198,14 @@ fn tag_of<'m>(
 }
 
 /// The tag that a type has by itself: the outermost that is written, or its universal one.
-fn own_tag<'m>(scope: Scope<'m, '_>, link: Link<'m>) -> Result<Option<Tag>, Refusal> {
-    let chain = scope.chain_of(link)?;
+fn own_tag<'m>(scope: Scope<'m, '_>, of: &'m Type) -> Result<Option<Tag>, Refusal> {
+    let chain = scope.chain_of(of)?;
     for one in chain.iter() {
-        if let Some(written) = one.of.tags.first() {
-            return Ok(Some(tag_of(scope, one.module, written, one.of.first)?));
+        if let Some(written) = one.tags.first() {
+            return Ok(Some(tag_of(scope, written, one.first)?));
         }
     }
-    Ok(chain.last().and_then(|base| universal_tag(&base.of.body)))
+    Ok(chain.last().and_then(|base| universal_tag(&base.body)))
 }
 
 /// The universal tag of a type (X.680, table 1).
@@ -281,7 +270,7 @@ fn numbered_rows<'m>(scope: Scope<'m, '_>, rows: &[Row<'m>]) -> Result<Vec<Row<'
 fn tagged_rows<'m>(scope: Scope<'m, '_>, rows: &[Row<'m>]) -> Result<Vec<Row<'m>>, Refusal> {
     let mut all = Vec::new(scope.alloc);
     for row in rows.iter() {
-        let tag = own_tag(scope, row.link)?;
+        let tag = own_tag(scope, row.of)?;
         all.push(Row { tag, ..*row })?;
     }
     Ok(all)
@@ -375,25 +364,22 @@ fn require_alternatives<'m>(
 }
 
 /// The components or alternatives of a type with members; none of another.
-pub fn rows_of<'m>(scope: Scope<'m, '_>, link: Link<'m>) -> Result<Vec<Row<'m>>, Refusal> {
-    let Some(members) = members_of(link.of) else {
+pub fn rows_of<'m>(scope: Scope<'m, '_>, of: &'m Type) -> Result<Vec<Row<'m>>, Refusal> {
+    let Some(members) = members_of(of) else {
         return Ok(Vec::new(scope.alloc));
     };
-    let written = written_rows(scope, link.module, members, MAX_NESTING)?;
-    let is_automatic = match scope.modules.get(link.module) {
-        Some(module) => module.tagging == Tagging::Automatic,
-        None => false,
-    };
-    let rows = if is_automatic && !members.iter().any(|m| is_tagged(m)) {
+    let written = written_rows(scope, members, MAX_NESTING)?;
+    let is_automatic = scope.tagging_of(of.first) == Tagging::Automatic;
+    let rows = if is_automatic && !members.iter().any(|m| is_tagged(scope, m)) {
         numbered_rows(scope, written.as_slice())?
     } else {
         tagged_rows(scope, written.as_slice())?
     };
-    let is_choice = matches!(link.of.body, Body::Choice(_));
+    let is_choice = matches!(of.body, Body::Choice(_));
     if is_choice {
         require_alternatives(scope, rows.as_slice(), members)?;
     }
-    if is_choice || matches!(link.of.body, Body::Set(_)) {
+    if is_choice || matches!(of.body, Body::Set(_)) {
         require_tags(scope, rows.as_slice(), is_choice)?;
     }
     Ok(rows)

@@ -1,6 +1,6 @@
 //! Finds what a name stands for: in its module, and in the modules that this one imports from (X.680, clause 13).
 
-use asn1_modules::ast::{Body, Module, Reference, Type, ValueAssignment};
+use asn1_modules::ast::{Body, Module, Reference, Tagging, Type, ValueAssignment};
 use asn1_modules::lexer::{Kind, Token, TokenId, tokens};
 use asn1_modules::refusal::{Place, Refusal};
 use std::alloc::{AllocError, Global};
@@ -17,6 +17,7 @@ const NO_TOKEN: Token<'static> = Token {
         line: 0,
         column: 0,
     },
+    copy: 0,
 };
 
 /// The modules that were handed in, and their tokens.
@@ -27,18 +28,11 @@ pub struct Scope<'m, 'a> {
     pub tokens: &'m [Token<'a>],
 }
 
-/// A type, and the module that it stands in, by its place.
-#[derive(Clone, Copy)]
-pub struct Link<'m> {
-    pub module: usize,
-    pub of: &'m Type,
-}
-
 /// A type that was assigned to a name: its place among all assignments of types, and the type.
 #[derive(Clone, Copy)]
 pub struct Found<'m> {
     pub index: usize,
-    pub link: Link<'m>,
+    pub of: &'m Type,
 }
 
 /// The tokens of the files' texts, in turn.
@@ -97,13 +91,37 @@ impl<'m, 'a> Scope<'m, 'a> {
         }
     }
 
+    /// The module that a token is written in, by its number: what a name stands for is looked up there.
+    pub fn module_of(&self, id: TokenId) -> usize {
+        self.module_at(self.token(id).place)
+    }
+
+    /// The module that a place is in: the last that begins there or in front of it.
+    pub fn module_at(&self, place: Place) -> usize {
+        let mut home = 0usize;
+        for (at, module) in self.modules.iter().enumerate() {
+            if !place.is_before(self.token(module.name).place) {
+                home = at;
+            }
+        }
+        home
+    }
+
+    /// How the types of the module that a token is written in are tagged.
+    pub fn tagging_of(&self, id: TokenId) -> Tagging {
+        match self.modules.get(self.module_of(id)) {
+            Some(module) => module.tagging,
+            None => Tagging::Explicit,
+        }
+    }
+
     /// Whether a name stands among others.
     fn has(&self, names: &[TokenId], name: &str) -> bool {
         names.iter().any(|id| self.text(*id) == name)
     }
 
     /// The place of the module of that name.
-    fn module_named(&self, name: TokenId) -> Result<usize, Refusal> {
+    pub fn module_named(&self, name: TokenId) -> Result<usize, Refusal> {
         let text = self.text(name);
         for (at, module) in self.modules.iter().enumerate() {
             if self.text(module.name) == text {
@@ -114,7 +132,7 @@ impl<'m, 'a> Scope<'m, 'a> {
     }
 
     /// The module that a name is imported from.
-    fn import_of(&self, at: usize, name: &str) -> Option<TokenId> {
+    pub fn import_of(&self, at: usize, name: &str) -> Option<TokenId> {
         let module = self.modules.get(at)?;
         for import in module.imports.iter() {
             if self.has(import.names.as_slice(), name) {
@@ -136,8 +154,9 @@ impl<'m, 'a> Scope<'m, 'a> {
     }
 
     /// The module in which the name is assigned. Refused where that module wasn't handed in, or doesn't export the name.
-    fn home_of(&self, at: usize, reference: Reference) -> Result<usize, Refusal> {
+    fn home_of(&self, reference: Reference) -> Result<usize, Refusal> {
         let name = reference.name;
+        let at = self.module_of(name);
         let from = match reference.module {
             Some(module) => Some(module),
             None => self.import_of(at, self.text(name)),
@@ -162,18 +181,14 @@ impl<'m, 'a> Scope<'m, 'a> {
     }
 
     /// The type of a name.
-    pub fn find_type(&self, at: usize, reference: Reference) -> Result<Found<'m>, Refusal> {
-        let home = self.home_of(at, reference)?;
+    pub fn find_type(&self, reference: Reference) -> Result<Found<'m>, Refusal> {
+        let home = self.home_of(reference)?;
         let name = self.text(reference.name);
         let mut index = self.types_before(home);
         if let Some(module) = self.modules.get(home) {
             for one in module.types.iter() {
                 if self.text(one.name) == name {
-                    let link = Link {
-                        module: home,
-                        of: &one.of,
-                    };
-                    return Ok(Found { index, link });
+                    return Ok(Found { index, of: &one.of });
                 }
                 index = index.saturating_add(1);
             }
@@ -184,18 +199,14 @@ impl<'m, 'a> Scope<'m, 'a> {
         ))
     }
 
-    /// The assignment of a value's name, and its module.
-    pub fn find_value(
-        &self,
-        at: usize,
-        reference: Reference,
-    ) -> Result<(usize, &'m ValueAssignment), Refusal> {
-        let home = self.home_of(at, reference)?;
+    /// The assignment of a value's name.
+    pub fn find_value(&self, reference: Reference) -> Result<&'m ValueAssignment, Refusal> {
+        let home = self.home_of(reference)?;
         let name = self.text(reference.name);
         if let Some(module) = self.modules.get(home) {
             for one in module.values.iter() {
                 if self.text(one.name) == name {
-                    return Ok((home, one));
+                    return Ok(one);
                 }
             }
         }
@@ -206,24 +217,24 @@ impl<'m, 'a> Scope<'m, 'a> {
     }
 
     /// A type and the types that it stands for, in turn; the last one is no name.
-    pub fn chain_of(&self, start: Link<'m>) -> Result<Vec<Link<'m>>, Refusal> {
+    pub fn chain_of(&self, start: &'m Type) -> Result<Vec<&'m Type>, Refusal> {
         let mut chain = Vec::new(self.alloc);
-        let mut link = start;
+        let mut of = start;
         for _ in 0..MAX_CHAIN {
-            chain.push(link)?;
-            match &link.of.body {
-                Body::Reference(name) => link = self.find_type(link.module, *name)?.link,
+            chain.push(of)?;
+            match &of.body {
+                Body::Reference(name) => of = self.find_type(*name)?.of,
                 _ => return Ok(chain),
             }
         }
         Err(self.refused(
-            start.of.first,
+            start.first,
             "a type that isn't a name of itself, or behind 64 names",
         ))
     }
 
     /// What a type stands for: no name.
-    pub fn base_of(&self, start: Link<'m>) -> Result<Link<'m>, Refusal> {
+    pub fn base_of(&self, start: &'m Type) -> Result<&'m Type, Refusal> {
         let chain = self.chain_of(start)?;
         Ok(chain.last().copied().unwrap_or(start))
     }

@@ -1,23 +1,14 @@
 //! The values of defaults.
 
-use crate::numbers::{Names, Spot, enumerated_of, first_of, names_of, number_of, settled};
+use crate::numbers::{Spot, enumerated_of, first_of, named, names_of, number_of, settled};
 use crate::rows::Row;
-use crate::scope::{Link, Scope};
-use asn1_modules::ast::{Body, Simple, Value};
+use crate::scope::Scope;
+use asn1_modules::ast::{Body, Numbered, Simple, Type, Value};
 use asn1_modules::lexer::{Kind, Token, TokenId};
 use asn1_modules::refusal::Refusal;
 
 const DEFAULT: &str =
     "a default of its type: TRUE or FALSE, NULL, a number, a value's name, a string, named bits, or {}";
-
-/// Whether a type gives a name to one of its values or bits.
-fn has_name(scope: Scope<'_, '_>, names: Option<Names<'_>>, name: TokenId) -> bool {
-    let text = scope.text(name);
-    match names {
-        Some(names) => names.items.iter().any(|n| scope.text(n.name) == text),
-        None => false,
-    }
-}
 
 /// A default as ASN.1 writes it, past names of values. Refused where it is no value of the type, as far as its sort goes.
 pub fn default_of<'m>(
@@ -25,14 +16,10 @@ pub fn default_of<'m>(
     row: Row<'m>,
     value: &'m Value,
 ) -> Result<String, Refusal> {
-    let base = scope.base_of(row.link)?;
+    let base = scope.base_of(row.of)?;
     let names = names_of(base);
-    let spot = Spot {
-        module: row.link.module,
-        value,
-        names,
-    };
-    match (&base.of.body, value) {
+    let spot = Spot { value, names };
+    match (&base.body, value) {
         (Body::Integer(_), _) => {
             let number = number_of(scope, spot)?;
             Ok(format!(in scope.alloc; "{number}")?)
@@ -56,11 +43,11 @@ pub fn enumerated_default<'m>(scope: Scope<'m, '_>, spot: Spot<'m>) -> Result<To
 /// A literal, where it is one of the type's sort.
 fn literal_of<'m>(
     scope: Scope<'m, '_>,
-    base: Link<'m>,
-    names: Option<Names<'m>>,
+    base: &'m Type,
+    names: &'m [Numbered],
     value: &'m Value,
 ) -> Result<String, Refusal> {
-    match (&base.of.body, value) {
+    match (&base.body, value) {
         (Body::Simple(simple), Value::Literal(id)) if is_of(*simple, scope.token(*id)) => {
             Ok(String::from_str(scope.alloc, scope.text(*id))?)
         }
@@ -86,19 +73,20 @@ fn is_of(simple: Simple, token: Token<'_>) -> bool {
         Simple::Null => token.text == "NULL",
         Simple::OctetString => is_bits(token),
         Simple::ObjectIdentifier | Simple::Any => false,
-        _ => token.kind == Kind::Text,
+        Simple::UtcTime | Simple::GeneralizedTime | Simple::Date => token.kind == Kind::Text,
+        Simple::Utf8String | Simple::NumericString => token.kind == Kind::Text,
+        Simple::PrintableString | Simple::VisibleString => token.kind == Kind::Text,
+        Simple::Ia5String | Simple::GeneralString => token.kind == Kind::Text,
+        Simple::GraphicString | Simple::TeletexString => token.kind == Kind::Text,
+        Simple::BmpString => token.kind == Kind::Text,
     }
 }
 
 /// Named bits between braces.
-fn bits_of(
-    scope: Scope<'_, '_>,
-    names: Option<Names<'_>>,
-    bits: &[TokenId],
-) -> Result<String, Refusal> {
+fn bits_of(scope: Scope<'_, '_>, names: &[Numbered], bits: &[TokenId]) -> Result<String, Refusal> {
     let mut text = String::from_str(scope.alloc, "{")?;
     for (at, bit) in bits.iter().enumerate() {
-        if !has_name(scope, names, *bit) {
+        if named(scope, names, *bit).is_none() {
             return Err(scope.refused(*bit, "a bit that the type names"));
         }
         if at != 0 {

@@ -1,11 +1,12 @@
 //! Which values and sizes a type's constraints leave, as far as the octet encoding rules see them (X.696, 8.2).
 
-use crate::numbers::{Names, Spot, number_of};
-use crate::scope::{Link, Scope};
-use asn1_modules::ast::{Constraint, Element, ElementSet, Value};
+use crate::numbers::{Spot, names_of, number_of};
+use crate::scope::Scope;
+use asn1_modules::ast::{Constraint, Element, ElementSet, End, Numbered, Reference, Type, Value};
+use asn1_modules::lexer::TokenId;
 use asn1_modules::refusal::Refusal;
 
-/// How deep sets of elements are nested.
+/// How deep sets of elements are nested, with those of the types in them.
 const MAX_NESTING: u32 = 128;
 
 /// The least and the greatest number that is left, where there is one, and whether an extension mark takes the limits away.
@@ -29,9 +30,10 @@ pub enum Purpose {
 #[derive(Clone, Copy)]
 struct View<'m, 'a> {
     scope: Scope<'m, 'a>,
-    module: usize,
-    names: Option<Names<'m>>,
+    names: &'m [Numbered],
     purpose: Purpose,
+    /// Where the constraint begins.
+    first: TokenId,
 }
 
 /// No limits.
@@ -181,7 +183,12 @@ fn see_element<'m>(
     levels: u32,
 ) -> Result<Option<Limits>, Refusal> {
     let Some(levels) = levels.checked_sub(1) else {
-        return Ok(None);
+        return Err(
+            view.scope.refused(
+                view.first,
+                "a constraint at most 128 deep, and without a type that it is of",
+            ),
+        );
     };
     match element {
         Element::Set(set) => see_set(view, set, levels),
@@ -196,54 +203,78 @@ fn see_element<'m>(
                 ..limits
             }))
         }
-        Element::Type(name) => Err(
-            view.scope.refused(
-                name.name,
-                "numbers, ranges and sizes: a type inside a constraint isn't read",
-            ),
-        ),
-        Element::Single(value) => see_range(view, Some(value), Some(value)),
-        Element::Range(from, to) => see_range(view, from.as_ref(), to.as_ref()),
-        _ => Ok(None),
+        Element::Type(name) => see_type(view, *name, levels),
+        Element::Single(_) | Element::Range(_, _) if view.purpose == Purpose::Size => Ok(None),
+        Element::Single(value) => {
+            let number = number_of(view.scope, spot_of(view, value))?;
+            Ok(Some(limits_between(Some(number), Some(number))))
+        }
+        Element::Range(from, to) => {
+            let (low, high) = (see_end(view, from, 1)?, see_end(view, to, -1)?);
+            Ok(Some(limits_between(low, high)))
+        }
+        Element::Size(_) | Element::Unseen => Ok(None),
     }
 }
 
-/// The limits of a range.
-fn see_range<'m>(
+/// The limits of a type that a constraint takes the values of. Refused where it has an extension mark.
+#[cycle(seen)]
+fn see_type<'m>(
     view: View<'m, '_>,
-    from: Option<&'m Value>,
-    to: Option<&'m Value>,
+    name: Reference,
+    levels: u32,
 ) -> Result<Option<Limits>, Refusal> {
-    if view.purpose == Purpose::Size {
-        return Ok(None);
+    let scope = view.scope;
+    let chain = scope.chain_of(scope.find_type(name)?.of)?;
+    let names = chain.last().map_or(view.names, |base| names_of(*base));
+    let limits = see_chain(View { names, ..view }, chain.as_slice(), levels)?;
+    if limits.is_extensible {
+        return Err(scope.refused(
+            name.name,
+            "a type without an extension mark, inside a constraint",
+        ));
     }
-    Ok(Some(Limits {
-        low: see_number(view, from)?,
-        high: see_number(view, to)?,
-        is_extensible: false,
-    }))
+    Ok(Some(limits))
 }
 
-/// The number of an end of a range.
-fn see_number<'m>(view: View<'m, '_>, end: Option<&'m Value>) -> Result<Option<i128>, Refusal> {
-    let Some(value) = end else {
-        return Ok(None);
-    };
-    let spot = Spot {
-        module: view.module,
+/// Limits without a mark.
+fn limits_between(low: Option<i128>, high: Option<i128>) -> Limits {
+    Limits {
+        low,
+        high,
+        is_extensible: false,
+    }
+}
+
+/// A value in a constraint.
+fn spot_of<'m>(view: View<'m, '_>, value: &'m Value) -> Spot<'m> {
+    Spot {
         value,
         names: view.names,
-    };
-    Ok(Some(number_of(view.scope, spot)?))
+    }
+}
+
+/// The number at an end of a range: the one that is written or, behind or in front of `<`, the next one inwards; none for `MIN` and `MAX`.
+fn see_end<'m>(view: View<'m, '_>, end: &'m End, inwards: i128) -> Result<Option<i128>, Refusal> {
+    match end {
+        End::Open => Ok(None),
+        End::At(value) => Ok(Some(number_of(view.scope, spot_of(view, value))?)),
+        End::Past(value) => {
+            let number = number_of(view.scope, spot_of(view, value))?;
+            Ok(Some(number.saturating_add(inwards)))
+        }
+    }
 }
 
 /// The limits behind a further constraint. Its mark counts, and no longer that of the constraints before it (X.680, 50.8).
-fn constrained<'m>(
+#[cycle(seen)]
+fn see_constraint<'m>(
     view: View<'m, '_>,
     before: Limits,
     constraint: &'m Constraint,
+    levels: u32,
 ) -> Result<Limits, Refusal> {
-    let Some(seen) = see_set(view, &constraint.set, MAX_NESTING)? else {
+    let Some(seen) = see_set(view, &constraint.set, levels)? else {
         return Ok(before);
     };
     let is_extensible = seen.is_extensible || constraint.is_extensible;
@@ -263,10 +294,30 @@ fn constrained<'m>(
 }
 
 /// The limits behind all constraints of a type that is written.
-fn link_limits<'m>(view: View<'m, '_>, before: Limits, link: Link<'m>) -> Result<Limits, Refusal> {
+#[cycle(seen)]
+fn see_constraints<'m>(
+    view: View<'m, '_>,
+    before: Limits,
+    of: &'m Type,
+    levels: u32,
+) -> Result<Limits, Refusal> {
     let mut limits = before;
-    for constraint in link.of.constraints.iter() {
-        limits = constrained(view, limits, constraint)?;
+    for constraint in of.constraints.iter() {
+        let view = View {
+            first: constraint.first,
+            ..view
+        };
+        limits = see_constraint(view, limits, constraint, levels)?;
+    }
+    Ok(limits)
+}
+
+/// The limits of a type by its chain, from what it stands for up to itself.
+#[cycle(seen)]
+fn see_chain<'m>(view: View<'m, '_>, chain: &[&'m Type], levels: u32) -> Result<Limits, Refusal> {
+    let mut limits = UNLIMITED;
+    for of in chain.iter().rev() {
+        limits = see_constraints(view, limits, *of, levels)?;
     }
     Ok(limits)
 }
@@ -274,19 +325,18 @@ fn link_limits<'m>(view: View<'m, '_>, before: Limits, link: Link<'m>) -> Result
 /// The limits of a type by its chain, from what it stands for up to itself.
 pub fn limits_of<'m>(
     scope: Scope<'m, '_>,
-    chain: &[Link<'m>],
-    names: Option<Names<'m>>,
+    chain: &[&'m Type],
+    names: &'m [Numbered],
     purpose: Purpose,
 ) -> Result<Limits, Refusal> {
-    let mut limits = UNLIMITED;
-    for link in chain.iter().rev() {
-        let view = View {
-            scope,
-            module: link.module,
-            names,
-            purpose,
-        };
-        limits = link_limits(view, limits, *link)?;
-    }
-    Ok(limits)
+    let Some(of) = chain.first() else {
+        return Ok(UNLIMITED);
+    };
+    let view = View {
+        scope,
+        names,
+        purpose,
+        first: of.first,
+    };
+    see_chain(view, chain, MAX_NESTING)
 }

@@ -21,6 +21,8 @@ pub struct Module {
     /// The names that others may import; all, where there is no list.
     pub exports: Option<Vec<TokenId>>,
     pub imports: Vec<Import>,
+    /// The first token of its assignments.
+    pub first: TokenId,
     pub types: Vec<TypeAssignment>,
     pub values: Vec<ValueAssignment>,
     /// The assignments that can't be read and were left out; none unless that was asked for.
@@ -188,13 +190,24 @@ pub struct ElementSet {
     pub unions: Vec<Vec<Element>>,
 }
 
+/// An end of a range.
+#[derive(Drop)]
+pub enum End {
+    /// `MIN` or `MAX`.
+    Open,
+    /// A value that is in the range.
+    At(Value),
+    /// A value that isn't, with `<` between it and the range.
+    Past(Value),
+}
+
 /// An element of a constraint.
 #[cycle(sets)]
 #[derive(Drop)]
 pub enum Element {
     Single(Value),
-    /// From, to; `MIN` and `MAX` are none.
-    Range(Option<Value>, Option<Value>),
+    /// From, to.
+    Range(End, End),
     Size(Box<Constraint>),
     Type(Reference),
     Set(ElementSet),

@@ -1,6 +1,6 @@
 //! Reads constraints (X.680, clauses 49 to 51).
 
-use crate::ast::{Constraint, Element, ElementSet, Reference, Value};
+use crate::ast::{Constraint, Element, ElementSet, End, Reference};
 use crate::lexer::Kind;
 use crate::reader::Reader;
 use crate::refusal::Refusal;
@@ -30,10 +30,9 @@ pub fn read_constraint(reader: &mut Reader<'_>, levels: u32) -> Result<Constrain
     };
     reader.expects("(")?;
     let set = read_set(reader, levels)?;
-    let mut is_extensible = false;
-    if reader.eats(",") {
+    let is_extensible = reader.eats(",");
+    if is_extensible {
         reader.expects("...")?;
-        is_extensible = true;
         if reader.eats(",") {
             let _ = read_set(reader, levels)?;
         }
@@ -105,36 +104,28 @@ fn read_element(reader: &mut Reader<'_>, levels: u32) -> Result<Element, Refusal
             let size = read_constraint(reader, levels)?;
             Ok(Element::Size(Box::new(reader.alloc, size)?))
         }
-        "FROM" | "WITH" => {
-            skip_inner(reader, levels)?;
-            Ok(Element::Unseen)
-        }
         _ => read_plain(reader),
     }
 }
 
-/// Passes over a constraint behind `FROM` or `WITH`.
-#[cycle(sets)]
-fn skip_inner(reader: &mut Reader<'_>, levels: u32) -> Result<(), Refusal> {
-    if reader.eats("FROM") {
-        let _ = read_constraint(reader, levels)?;
-        return Ok(());
+/// Passes over what stands between brackets of that sort.
+fn skip_inner(reader: &mut Reader<'_>, open: &str) -> Result<Element, Refusal> {
+    if !reader.is(open) {
+        let reads = format!(in reader.alloc; "'{open}'")?;
+        return Err(reader.refused(reads.as_str()));
     }
-    reader.expects("WITH")?;
-    if !reader.eats("COMPONENT") {
-        return read_with_components(reader);
-    }
-    let _ = read_constraint(reader, levels)?;
-    Ok(())
+    reader.skip_brackets()?;
+    Ok(Element::Unseen)
 }
 
-/// `COMPONENTS {..}`
-fn read_with_components(reader: &mut Reader<'_>) -> Result<(), Refusal> {
-    reader.expects("COMPONENTS")?;
-    if !reader.is("{") {
-        return Err(reader.refused("'{'"));
+/// Passes over a constraint behind `WITH`.
+fn skip_with(reader: &mut Reader<'_>) -> Result<Element, Refusal> {
+    let _ = reader.next();
+    if reader.eats("COMPONENT") {
+        return skip_inner(reader, "(");
     }
-    reader.skip_brackets()
+    reader.expects("COMPONENTS")?;
+    skip_inner(reader, "{")
 }
 
 /// An element without elements.
@@ -144,6 +135,11 @@ fn read_plain(reader: &mut Reader<'_>) -> Result<Element, Refusal> {
             reader.skip_to_close()?;
             Ok(Element::Unseen)
         }
+        "FROM" => {
+            let _ = reader.next();
+            skip_inner(reader, "(")
+        }
+        "WITH" => skip_with(reader),
         "PATTERN" | "SETTINGS" => {
             let _ = reader.next();
             let _ = read_value(reader)?;
@@ -160,24 +156,40 @@ fn read_plain(reader: &mut Reader<'_>) -> Result<Element, Refusal> {
 /// A value, a range of values, or the name of a type whose values are meant.
 fn read_range(reader: &mut Reader<'_>) -> Result<Element, Refusal> {
     let from = if reader.eats("MIN") {
-        None
+        End::Open
     } else if reader.peek().kind == Kind::Name && !is_value(reader) {
         return Ok(Element::Type(read_type_name(reader)?));
     } else {
-        Some(read_value(reader)?)
+        read_low(reader)?
     };
-    if !reader.eats("..") {
-        return match from {
-            Some(value) => Ok(Element::Single(value)),
-            None => Err(reader.refused("'..'")),
-        };
+    match from {
+        End::At(value) if !reader.is("..") => Ok(Element::Single(value)),
+        from => {
+            reader.expects("..")?;
+            Ok(Element::Range(from, read_high(reader)?))
+        }
     }
-    let to = if reader.eats("MAX") {
-        None
+}
+
+/// The low end of a range, with `<` behind it where it isn't in the range.
+fn read_low(reader: &mut Reader<'_>) -> Result<End, Refusal> {
+    let value = read_value(reader)?;
+    Ok(if reader.eats("<") {
+        End::Past(value)
     } else {
-        Some(read_value(reader)?)
-    };
-    Ok(Element::Range(from, to))
+        End::At(value)
+    })
+}
+
+/// The high end of a range, with `<` in front of it where it isn't in the range.
+fn read_high(reader: &mut Reader<'_>) -> Result<End, Refusal> {
+    if reader.eats("<") {
+        Ok(End::Past(read_value(reader)?))
+    } else if reader.eats("MAX") {
+        Ok(End::Open)
+    } else {
+        Ok(End::At(read_value(reader)?))
+    }
 }
 
 /// Whether a capital letter begins a value: `TRUE`, `FALSE`, `NULL`, or the name of another module's.
@@ -201,6 +213,9 @@ pub fn read_type_name(reader: &mut Reader<'_>) -> Result<Reference, Refusal> {
     }
     Ok(Reference {
         module: Some(first),
-        name: reader.takes(Kind::Name, "a type's name")?,
+        name: reader.takes(
+            Kind::Name,
+            "a type's name, or a field of a class that is assigned or imported",
+        )?,
     })
 }

@@ -24,12 +24,24 @@ pub enum Kind {
     End,
 }
 
-/// A token: its text as it stands, and where.
+/// A token: its text as it stands, where that is, and the number of the copying that put it where it is read, 0 for none.
 #[derive(Clone, Copy)]
 pub struct Token<'a> {
     pub kind: Kind,
     pub text: &'a str,
     pub place: Place,
+    pub copy: usize,
+}
+
+impl<'a> Token<'a> {
+    /// How many brackets are open behind it, where `depth` are in front of it.
+    pub fn depth_behind(self, depth: usize) -> usize {
+        match self.text {
+            "{" | "[" | "(" | "[[" => depth.saturating_add(1),
+            "}" | "]" | ")" | "]]" => depth.saturating_sub(1),
+            _ => depth,
+        }
+    }
 }
 
 /// A token by its number among those of all files that were handed in.
@@ -245,7 +257,12 @@ impl<'a> Cursor<'a> {
                 "UTF-8: other octets only in comments",
             ));
         }
-        Ok(Token { kind, text, place })
+        Ok(Token {
+            kind,
+            text,
+            place,
+            copy: 0,
+        })
     }
 }
 
@@ -279,6 +296,7 @@ pub fn tokens(alloc: Global, file: usize, text: &str) -> Result<Vec<Token<'_>>, 
         kind: Kind::End,
         text: "",
         place: cursor.place,
+        copy: 0,
     })?;
     Ok(tokens)
 }

@@ -73,6 +73,7 @@ fn read_module(reader: &mut Reader<'_>, leaves_out: bool) -> Result<Module, Refu
     let (name, tagging) = read_header(reader)?;
     let exports = read_exports(reader)?;
     let imports = read_imports(reader)?;
+    let first = reader.id();
     let Assignments {
         types,
         values,
@@ -83,6 +84,7 @@ fn read_module(reader: &mut Reader<'_>, leaves_out: bool) -> Result<Module, Refu
         tagging,
         exports,
         imports,
+        first,
         types,
         values,
         unread,
@@ -126,11 +128,14 @@ fn read_tagging(reader: &mut Reader<'_>) -> Result<Tagging, Refusal> {
     Ok(tagging)
 }
 
-/// Names with commas.
+/// Names with commas, each with `{}` behind it where it is of what has parameters.
 fn read_names(reader: &mut Reader<'_>) -> Result<Vec<TokenId>, Refusal> {
     let mut names = Vec::new(reader.alloc);
     for _ in 0..reader.left() {
         names.push(read_name(reader)?)?;
+        if reader.is("{") {
+            reader.skip_brackets()?;
+        }
         if !reader.eats(",") {
             break;
         }
@@ -178,12 +183,15 @@ fn read_imports(reader: &mut Reader<'_>) -> Result<Vec<Import>, Refusal> {
     Err(reader.refused("';'"))
 }
 
-/// Names, and the module that they are imported from.
+/// Names, and the module that they are imported from; whether a later version of it will do is passed over (X.680, 13.16).
 fn read_import(reader: &mut Reader<'_>) -> Result<Import, Refusal> {
     let names = read_names(reader)?;
     reader.expects("FROM")?;
     let from = reader.takes(Kind::Name, "a module's name")?;
     skip_identifier(reader)?;
+    if reader.eats("WITH") && !reader.eats("SUCCESSORS") {
+        reader.expects("DESCENDANTS")?;
+    }
     Ok(Import { names, from })
 }
 
@@ -246,9 +254,7 @@ fn require_next(reader: &Reader<'_>) -> Result<(), Refusal> {
 /// `Name ::= Type`
 fn read_type_assignment(reader: &mut Reader<'_>) -> Result<TypeAssignment, Refusal> {
     let name = reader.takes(Kind::Name, NAME)?;
-    if !reader.eats("::=") {
-        return Err(reader.refused("'::=', since parameters and value sets aren't read"));
-    }
+    reader.expects("::=")?;
     let of = read_whole_type(reader)?;
     Ok(TypeAssignment { name, of })
 }

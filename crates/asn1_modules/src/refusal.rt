@@ -13,6 +13,19 @@ pub struct Place {
     pub column: u32,
 }
 
+impl Place {
+    /// Whether it stands in front of another.
+    pub fn is_before(self, other: Place) -> bool {
+        if self.file != other.file {
+            self.file < other.file
+        } else if self.line != other.line {
+            self.line < other.line
+        } else {
+            self.column < other.column
+        }
+    }
+}
+
 /// A refusal.
 #[derive(Debug, Drop)]
 pub enum Refusal {

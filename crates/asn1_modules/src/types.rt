@@ -148,7 +148,13 @@ fn read_simple(reader: &mut Reader<'_>) -> Result<Body, Refusal> {
     if is_reserved(first.text) {
         return Err(reader.refused("a type that docs/COMPILER.md lists"));
     }
-    Ok(Body::Reference(read_type_name(reader)?))
+    let name = read_type_name(reader)?;
+    if reader.is("{") {
+        return Err(reader.refused(
+            "no parameters but those of a type that is assigned or imported, one for each, and at most 64 inside one another",
+        ));
+    }
+    Ok(Body::Reference(name))
 }
 
 /// Passes over the further words of a type without parts.

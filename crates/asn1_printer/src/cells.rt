@@ -134,9 +134,9 @@ fn push_shape<'m>(
     part: &Part<'m>,
     row: Row<'m>,
 ) -> Result<String, Refusal> {
-    let shape = shape_of(scope, all, part, row.link, own)?;
+    let shape = shape_of(scope, all, part, row.of, own)?;
     if let Some(limits) = shape.limits {
-        push_limits(scope, out, own, limits, row.link.of.first)?;
+        push_limits(scope, out, own, limits, row.of.first)?;
     }
     Ok(shape.text.end()?)
 }

@@ -176,7 +176,7 @@ fn require_names<'m>(scope: Scope<'m, '_>, definition: &Definition<'m>) -> Resul
         let name = alternative_name(scope.alloc, text).end()?;
         if let Some(other) = seen.get(name.as_str()) {
             return Err(scope.refused_beside(
-                definition.link.of.first,
+                definition.of.first,
                 "alternatives whose Rust names differ",
                 (text, scope.text(*other)),
                 name.as_str(),
@@ -198,7 +198,7 @@ pub fn push_choice<'m>(
     let alloc = scope.alloc;
     if definition.parts.is_empty() || definition.parts.len() > MAX_ALTERNATIVES {
         return Err(scope.refused(
-            definition.link.of.first,
+            definition.of.first,
             "a CHOICE of 1 to 16 alternatives: others aren't printed yet",
         ));
     }
@@ -211,7 +211,7 @@ pub fn push_choice<'m>(
         owner: definition.rust_name.as_str(),
         cells: cells.as_slice(),
         root_count,
-        is_extensible: is_extensible(definition.link.of),
+        is_extensible: is_extensible(definition.of),
         is_choice: true,
         knot: knot_name(all, definition),
         in_text: &[],

@@ -47,7 +47,7 @@ fn unprinted_row(definition: &Definition<'_>, part: &Part<'_>) -> Option<&'stati
     let Some(row) = part.row else {
         return None;
     };
-    if matches!(definition.link.of.body, Body::Choice(_)) {
+    if matches!(definition.of.body, Body::Choice(_)) {
         None
     } else if matches!(row.need, Need::Default(_)) {
         Some("a type that doesn't contain itself through a default: others aren't printed yet")
@@ -63,8 +63,8 @@ fn unprinted_row(definition: &Definition<'_>, part: &Part<'_>) -> Option<&'stati
 /// What can be read in the place of a part that leads back into its circle; nothing where it is printed.
 fn unprinted(definition: &Definition<'_>, part: &Part<'_>) -> Option<&'static str> {
     let whole = match part.row {
-        Some(row) => row.link.of,
-        None => definition.link.of,
+        Some(row) => row.of,
+        None => definition.of,
     };
     if is_in_set_of(whole) {
         Some("a type that doesn't contain itself through a SET OF: others aren't printed yet")
@@ -73,32 +73,11 @@ fn unprinted(definition: &Definition<'_>, part: &Part<'_>) -> Option<&'static st
     }
 }
 
-/// What can be read in the place of a part of a circle's type; nothing where it is printed.
-fn unprinted_part(
-    all: &[Definition<'_>],
-    definition: &Definition<'_>,
-    part: &Part<'_>,
-) -> Option<&'static str> {
-    if part.tie != Tie::Plain {
-        return unprinted(definition, part);
-    }
-    match part.target.and_then(|at| all.get(at)) {
-        Some(target) if target.rust_name.as_str() == "K" => Some(
-            "a type with another name than K, which types that contain themselves have for a parameter",
-        ),
-        _ => None,
-    }
-}
-
 /// Refuses a type of a circle that holds knots in a form that isn't printed.
-fn require_form<'m>(
-    scope: Scope<'m, '_>,
-    all: &[Definition<'m>],
-    definition: &Definition<'m>,
-) -> Result<(), Refusal> {
+fn require_form<'m>(scope: Scope<'m, '_>, definition: &Definition<'m>) -> Result<(), Refusal> {
     for part in definition.parts.iter() {
-        if let Some(reads) = unprinted_part(all, definition, part) {
-            return Err(scope.refused(part.inner.of.first, reads));
+        if let (true, Some(reads)) = (part.tie != Tie::Plain, unprinted(definition, part)) {
+            return Err(scope.refused(part.inner.first, reads));
         }
     }
     Ok(())
@@ -113,7 +92,7 @@ fn require_knot<'m>(
     match circle.knot {
         Some(_) => Ok(()),
         None => Err(scope.refused(
-            first.link.of.first,
+            first.of.first,
             "types that contain themselves only through one of them: others aren't printed yet",
         )),
     }
@@ -128,7 +107,7 @@ pub fn require_circle<'m>(
 ) -> Result<(), Refusal> {
     for at in run.iter() {
         if let Some(definition) = all.get(*at) {
-            require_form(scope, all, definition)?;
+            require_form(scope, definition)?;
         }
     }
     match run.first().and_then(|at| all.get(*at)) {

@@ -13,10 +13,10 @@ use crate::text::{Text, Words};
 use asn1_layouts::definitions::Definition;
 use asn1_layouts::numbers::{Spot, names_of, number_of, settled};
 use asn1_layouts::rows::Row;
-use asn1_layouts::scope::{Link, Scope};
+use asn1_layouts::scope::Scope;
 use asn1_layouts::values::enumerated_default;
 use asn1_layouts::visible::Limits;
-use asn1_modules::ast::{Body, Simple, Value};
+use asn1_modules::ast::{Body, Simple, Type, Value};
 use asn1_modules::lexer::TokenId;
 use asn1_modules::refusal::Refusal;
 use std::alloc::Global;
@@ -119,7 +119,7 @@ fn push_number<'m>(
     spot: Spot<'m>,
     name: &str,
 ) -> Result<Text, Refusal> {
-    let (base, is_limited, limits) = number_of_octets(scope, row.link)?;
+    let (base, is_limited, limits) = number_of_octets(scope, row.of)?;
     let number = default_number(scope, spot, row.name, limits)?;
     let words = number_words(scope.alloc, name, number, base);
     Ok(push_words(scope.alloc, out, name, is_limited, &words))
@@ -197,7 +197,7 @@ fn default_bits<'m>(
     const MAX_BITS: i128 = 65536;
     let mut bits = written_bits(scope, row, spot)?;
     let least = limits.low.unwrap_or(0);
-    if spot.names.is_some_and(|n| !n.items.is_empty()) && least <= MAX_BITS {
+    if !spot.names.is_empty() && least <= MAX_BITS {
         fill_up(&mut bits, usize::try_from(least).unwrap_or(0))?;
     }
     if allows(limits, i128::try_from(bits.len()).unwrap_or(i128::MAX)) {
@@ -215,7 +215,7 @@ fn push_bits<'m>(
     spot: Spot<'m>,
     name: &str,
 ) -> Result<Text, Refusal> {
-    let (is_limited, limits) = sizes_of(scope, row.link)?;
+    let (is_limited, limits) = sizes_of(scope, row.of)?;
     let bits = default_bits(scope, row, spot, limits)?;
     let octets = packed(scope.alloc, bits.as_slice())?;
     let mut words = bits_words(scope.alloc, name, octets.as_slice(), bits.len());
@@ -284,7 +284,8 @@ fn held_of(simple: Simple) -> Option<Held> {
         Simple::GraphicString => any("GraphicText", "GraphicString::from_text", "Graphic"),
         Simple::TeletexString => any("TeletexText", "TeletexString::from_text", "Teletex"),
         Simple::BmpString => whole("BmpText", "bmp_from", "Bmp", Evidence::Pairs),
-        _ => return None,
+        Simple::Boolean | Simple::Null | Simple::ObjectIdentifier | Simple::Any => return None,
+        Simple::UtcTime | Simple::GeneralizedTime | Simple::Date => return None,
     })
 }
 
@@ -401,7 +402,7 @@ fn push_held<'m>(
 ) -> Result<Text, Refusal> {
     let (simple, held) = of;
     let octets = default_octets(scope, row, spot, simple)?;
-    let (is_limited, limits) = sizes_of(scope, row.link)?;
+    let (is_limited, limits) = sizes_of(scope, row.of)?;
     if !allows_octets(limits, simple, octets.len()) {
         return Err(scope.refused(row.name, ALLOWED));
     }
@@ -411,9 +412,9 @@ fn push_held<'m>(
 }
 
 /// The Rust name of the definition of a type; none where it has none.
-fn definition_of<'d>(all: &'d [Definition<'_>], base: Link<'_>) -> &'d str {
+fn definition_of<'d>(all: &'d [Definition<'_>], base: &Type) -> &'d str {
     for definition in all.iter() {
-        if definition.link.of.first.index == base.of.first.index {
+        if definition.of.first.index == base.first.index {
             return definition.rust_name.as_str();
         }
     }
@@ -450,7 +451,7 @@ fn push_enumerated<'m>(
     scope: Scope<'m, '_>,
     all: &[Definition<'m>],
     out: &mut Text,
-    base: Link<'m>,
+    base: &'m Type,
     spot: Spot<'m>,
     named: (&str, &str),
 ) -> Result<Text, Refusal> {
@@ -462,19 +463,16 @@ fn push_enumerated<'m>(
 }
 
 /// Whether the library compares the elements of a list, also of lists in it: not sequences, sets and choices.
-fn compares<'m>(scope: Scope<'m, '_>, list: Link<'m>) -> Result<bool, Refusal> {
+fn compares<'m>(scope: Scope<'m, '_>, list: &'m Type) -> Result<bool, Refusal> {
     // more lists than may stand in one another (`depths`)
     const LISTS: usize = 64;
     let mut at = list;
     for _ in 0..LISTS {
-        let module = at.module;
-        at = match &at.of.body {
-            Body::SequenceOf(element) | Body::SetOf(element) => scope.base_of(Link {
-                module,
-                of: &**element,
-            })?,
+        at = match &at.body {
+            Body::SequenceOf(element) | Body::SetOf(element) => scope.base_of(&**element)?,
             Body::Sequence(_) | Body::Set(_) | Body::Choice(_) => return Ok(false),
-            _ => return Ok(true),
+            Body::Simple(_) | Body::Integer(_) | Body::BitString(_) => return Ok(true),
+            Body::Enumerated(_, _) | Body::Reference(_) => return Ok(true),
         };
     }
     Ok(false)
@@ -485,7 +483,7 @@ fn list_default<'m>(
     scope: Scope<'m, '_>,
     row: Row<'m>,
     spot: Spot<'m>,
-    base: Link<'m>,
+    base: &'m Type,
 ) -> Result<Text, Refusal> {
     let is_empty = matches!(spot.value, Value::Names(_, names) if names.is_empty());
     if !is_empty {
@@ -529,14 +527,13 @@ pub fn push_default<'m>(
     value: &'m Value,
     named: (&str, &str),
 ) -> Result<Text, Refusal> {
-    let base = scope.base_of(row.link)?;
+    let base = scope.base_of(row.of)?;
     let spot = Spot {
-        module: row.link.module,
         value,
         names: names_of(base),
     };
     let (name, _) = named;
-    match &base.of.body {
+    match &base.body {
         Body::Integer(_) => push_number(scope, out, row, spot, name),
         Body::Enumerated(_, _) => push_enumerated(scope, all, out, base, spot, named),
         Body::BitString(_) => push_bits(scope, out, row, settled(scope, spot)?, name),
@@ -547,7 +544,9 @@ pub fn push_default<'m>(
             settled(scope, spot)?,
             base,
         ),
-        _ => Err(scope.refused(row.name, PRINTED)),
+        Body::Sequence(_) | Body::Set(_) | Body::Choice(_) | Body::Reference(_) => {
+            Err(scope.refused(row.name, PRINTED))
+        }
     }
 }
 

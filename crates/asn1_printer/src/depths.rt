@@ -4,8 +4,8 @@ use crate::sequences::{in_text_order, root_places};
 use crate::shapes::{number_of_octets, sizes_of};
 use asn1_layouts::definitions::{Definition, Part, Tie};
 use asn1_layouts::rows::Position;
-use asn1_layouts::scope::{Link, Scope};
-use asn1_modules::ast::{Body, Need, Simple};
+use asn1_layouts::scope::Scope;
+use asn1_modules::ast::{Body, Need, Simple, Type};
 use asn1_modules::refusal::Refusal;
 use std::alloc::AllocError;
 
@@ -103,13 +103,15 @@ fn simple_depth(simple: Simple) -> usize {
         Simple::Date => 3,
         Simple::ObjectIdentifier | Simple::UtcTime | Simple::GeneralizedTime => 4,
         Simple::OctetString | Simple::Any => 8,
-        _ => 5,
+        Simple::Utf8String | Simple::NumericString | Simple::PrintableString => 5,
+        Simple::VisibleString | Simple::Ia5String | Simple::GeneralString => 5,
+        Simple::GraphicString | Simple::TeletexString | Simple::BmpString => 5,
     }
 }
 
 /// The depth of a number, a string or the like, within its limits.
-fn leaf_depth<'m>(scope: Scope<'m, '_>, link: Link<'m>, base: Link<'m>) -> Result<usize, Refusal> {
-    let (own, has_limits) = match &base.of.body {
+fn leaf_depth<'m>(scope: Scope<'m, '_>, link: &'m Type, base: &'m Type) -> Result<usize, Refusal> {
+    let (own, has_limits) = match &base.body {
         Body::Integer(_) => {
             let (rust, has_limits, _) = number_of_octets(scope, link)?;
             (if rust == "Integer" { INTEGER } else { 0 }, has_limits)
@@ -148,7 +150,7 @@ fn part_depth<'m>(
         return Ok(APART);
     }
     let base = scope.base_of(part.inner)?;
-    match base.of.body {
+    match base.body {
         Body::Integer(_) | Body::BitString(_) | Body::Simple(_) => {
             leaf_depth(scope, part.inner, base)
         }
@@ -272,7 +274,7 @@ fn depth_of<'m>(
     definition: &Definition<'m>,
 ) -> Result<Depth, Refusal> {
     let parts = definition.parts.as_slice();
-    match (&definition.link.of.body, parts.first()) {
+    match (&definition.of.body, parts.first()) {
         (Body::Sequence(_), _) => sequence_depth(scope, depths, parts, false),
         (Body::Set(_), _) => sequence_depth(scope, depths, parts, true),
         (Body::Choice(_), _) => choice_depth(scope, depths, parts),
@@ -347,8 +349,8 @@ fn require_lists<'m>(
     for part in definition.parts.iter() {
         if lists_of(all, part) > MAX_LISTS {
             let at = match part.row {
-                Some(row) => row.link.of.first,
-                None => definition.link.of.first,
+                Some(row) => row.of.first,
+                None => definition.of.first,
             };
             return Err(scope.refused(at, "at most 40 lists directly inside one another"));
         }
@@ -366,11 +368,11 @@ pub fn require_depth<'m>(
     require_lists(scope, all, definition)?;
     match depth {
         Some(depth) if depth.cells > MAX_CELLS => Err(scope.refused(
-            definition.link.of.first,
+            definition.of.first,
             "at most 50 components, and in a group as many: others aren't printed yet",
         )),
         Some(depth) if depth.within > MAX_DEPTH => Err(scope.refused(
-            definition.link.of.first,
+            definition.of.first,
             "a type that is at most 64 deep in Rust, as docs/COMPILER.md counts it: what a list holds is counted anew",
         )),
         _ => Ok(()),

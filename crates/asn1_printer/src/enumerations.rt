@@ -122,7 +122,7 @@ pub fn push_enumerated<'m>(
     doc: &str,
 ) -> Result<(), Refusal> {
     let owner = definition.rust_name.as_str();
-    let numbers = enumerated_numbers(scope, definition.link.module, items.0, items.1)?;
+    let numbers = enumerated_numbers(scope, items.0, items.1)?;
     let variants = variants_of(scope, numbers.as_slice())?;
     push_values(scope.alloc, out, owner, doc, variants.as_slice());
     Ok(())

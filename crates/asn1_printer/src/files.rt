@@ -8,7 +8,8 @@ use crate::text::Text;
 use crate::uses::{Homes, Paths, path_lines, push_path, use_lines};
 use asn1_layouts::circles::find_circles;
 use asn1_layouts::definitions::definitions;
-use asn1_layouts::scope::{Scope, all_tokens};
+use asn1_layouts::expansion::tokens_of;
+use asn1_layouts::scope::Scope;
 use asn1_modules::ast::Module;
 use asn1_modules::lexer::Token;
 use asn1_modules::modules::read_tree;
@@ -498,8 +499,8 @@ fn output_of(
 /// The crates of modules that were resolved.
 fn crates_of_scope(scope: Scope<'_, '_>, wish: Wish<'_>) -> Result<Output, Refusal> {
     let mut all = definitions(scope, wish.leaves_out)?;
-    free_names(scope.alloc, &mut all)?;
     let order = find_circles(scope.alloc, &mut all)?;
+    free_names(scope, &mut all)?;
     let outcome = print_types(scope, all.as_slice(), order.as_slice(), wish.leaves_out)?;
     Ok(output_of(scope, &outcome, wish)?)
 }
@@ -522,6 +523,6 @@ fn crates_of_tokens(
 /// The crates of the modules in the files' texts. Refused at the first place that can't be read, resolved or printed; where that is
 /// wished, assignments that can't be read, and types that can't be resolved or printed, are left out, and each has a line that says why.
 pub fn crates_of(alloc: Global, texts: &[&str], wish: Wish<'_>) -> Result<Output, Refusal> {
-    let tokens = all_tokens(alloc, texts)?;
+    let tokens = tokens_of(alloc, texts)?;
     crates_of_tokens(alloc, tokens.as_slice(), wish)
 }

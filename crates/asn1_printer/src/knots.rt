@@ -66,7 +66,7 @@ fn filled(alloc: Global, template: &str, words: &Words) -> Text {
 
 /// Whether a knot is a list of itself, and no more.
 fn is_list_of_itself(definition: &Definition<'_>) -> bool {
-    match (&definition.link.of.body, definition.parts.first()) {
+    match (&definition.of.body, definition.parts.first()) {
         (Body::SequenceOf(_), Some(part)) => part.lists == 1 && matches!(part.tie, Tie::Knot),
         _ => false,
     }
@@ -79,7 +79,7 @@ pub fn push_knot(
     definition: &Definition<'_>,
 ) -> Result<(), AllocError> {
     let mut words = name_words(alloc, definition.rust_name.as_str())?;
-    let (tag, is_choice) = match definition.link.of.body {
+    let (tag, is_choice) = match definition.of.body {
         Body::Choice(_) => ("EOC", IS_CHOICE),
         Body::Set(_) => ("SET", ""),
         _ => ("SEQUENCE", ""),

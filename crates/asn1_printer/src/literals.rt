@@ -1,9 +1,9 @@
 //! What a module writes of bits, octets and characters: the octets that a default of them has.
 
 use crate::text::Text;
-use asn1_layouts::numbers::{Names, Spot, number_of};
+use asn1_layouts::numbers::{Spot, named, number_of};
 use asn1_layouts::scope::Scope;
-use asn1_modules::ast::{Simple, Value};
+use asn1_modules::ast::{Numbered, Simple, Value};
 use asn1_modules::lexer::{Kind, TokenId};
 use asn1_modules::refusal::Refusal;
 use std::alloc::{AllocError, Global};
@@ -43,25 +43,12 @@ pub fn bits_of_literal(scope: Scope<'_, '_>, id: TokenId) -> Result<Vec<bool>, A
 /// The number of a named bit.
 fn bit_number<'m>(
     scope: Scope<'m, '_>,
-    names: Option<Names<'m>>,
+    names: &'m [Numbered],
     bit: TokenId,
 ) -> Result<usize, Refusal> {
-    let text = scope.text(bit);
-    if let Some(names) = names {
-        for item in names.items.iter() {
-            if let (true, Some(value)) = (scope.text(item.name) == text, item.number.as_ref()) {
-                let module = names.module;
-                let number = number_of(
-                    scope,
-                    Spot {
-                        module,
-                        value,
-                        names: None,
-                    },
-                )?;
-                return Ok(usize::try_from(number).unwrap_or(MAX_BITS));
-            }
-        }
+    if let Some(value) = named(scope, names, bit).and_then(|item| item.number.as_ref()) {
+        let number = number_of(scope, Spot { value, names: &[] })?;
+        return Ok(usize::try_from(number).unwrap_or(MAX_BITS));
     }
     Err(scope.refused(bit, "a bit that the type names"))
 }
@@ -69,7 +56,7 @@ fn bit_number<'m>(
 /// The bits of named ones, up to the last that is named.
 pub fn bits_of_names<'m>(
     scope: Scope<'m, '_>,
-    names: Option<Names<'m>>,
+    names: &'m [Numbered],
     named: &[TokenId],
 ) -> Result<Vec<bool>, Refusal> {
     let mut bits = Vec::new(scope.alloc);

@@ -17,15 +17,6 @@ fn ends(token: Token<'_>) -> bool {
     }
 }
 
-/// How a token changes the count of open brackets.
-fn opened(depth: usize, token: Token<'_>) -> usize {
-    match token.text {
-        "{" | "[" | "(" | "[[" => depth.saturating_add(1),
-        "}" | "]" | ")" | "]]" => depth.saturating_sub(1),
-        _ => depth,
-    }
-}
-
 /// How many of the tokens, from the first on, belong to the type that begins there.
 fn length_of(tokens: &[Token<'_>]) -> usize {
     let mut depth = 0usize;
@@ -37,7 +28,7 @@ fn length_of(tokens: &[Token<'_>]) -> usize {
         if depth == 0 && (ends(*token) || assigns) {
             return at;
         }
-        depth = opened(depth, *token);
+        depth = token.depth_behind(depth);
     }
     tokens.len()
 }

@@ -38,6 +38,9 @@ readsknot readsknotalternatives rowed schemed sequence set standard tabled takes
 takesalternative takesknot takesknotalternative universal views writes octets openoctets bmptext generaltext graphictext ia5text numerictext printabletext teletextext \
 utf8text visibletext within equalasspelled spelled encode encoder bare isemptylist utf8_from are_bits bits_from bmp_from built fields from_row pairs rows_of table tags to_row";
 
+/// How often names may be put right.
+const MAX_RENAMES: usize = 16;
+
 /// A type that was printed: its text, and the names that others may use.
 #[derive(Drop)]
 pub struct Printed {
@@ -95,12 +98,15 @@ impl Progress {
     }
 }
 
-/// Refuses a type that stands on one that isn't printed, but for those of its own circle.
+/// Refuses a type that stands on one that isn't printed, but for those of its own circle; none where it isn't known yet what is printed.
 fn require_targets<'m>(
     scope: Scope<'m, '_>,
     definition: &Definition<'m>,
-    states: &[State],
+    states: Option<&[State]>,
 ) -> Result<(), Refusal> {
+    let Some(states) = states else {
+        return Ok(());
+    };
     for part in definition.parts.iter() {
         let Some(target) = part.target else {
             continue;
@@ -110,7 +116,7 @@ fn require_targets<'m>(
         }
         match states.get(target).copied() {
             Some(State::Printed) => {}
-            _ => return Err(scope.refused(part.inner.of.first, "a type that is printed")),
+            _ => return Err(scope.refused(part.inner.first, "a type that is printed")),
         }
     }
     Ok(())
@@ -137,14 +143,14 @@ fn push_alias<'m>(
         return Ok(());
     };
     let name = definition.rust_name.as_str();
-    let shape = shape_of(scope, all, part, definition.link, name)?;
+    let shape = shape_of(scope, all, part, definition.of, name)?;
     if let Some(knot) = knot_name(all, definition) {
         push_list(scope.alloc, out, doc, name, knot, &shape.text);
         return Ok(());
     }
     push_name(scope.alloc, out, name, doc, &shape.text);
     match shape.limits {
-        Some(limits) => push_limits(scope, out, name, limits, definition.link.of.first),
+        Some(limits) => push_limits(scope, out, name, limits, definition.of.first),
         None => Ok(()),
     }
 }
@@ -183,7 +189,7 @@ fn name_before<'a>(scope: Scope<'_, 'a>, start: usize) -> Option<&'a str> {
 
 /// A type's ASN.1 as a doc comment.
 fn doc_of(scope: Scope<'_, '_>, definition: &Definition<'_>) -> Result<String, AllocError> {
-    let start = definition.link.of.first.index;
+    let start = definition.of.first.index;
     let mut doc = Text::new(scope.alloc);
     doc.push("/// `");
     if let Some(name) = name_before(scope, start) {
@@ -199,13 +205,13 @@ fn text_of<'m>(
     scope: Scope<'m, '_>,
     all: &[Definition<'m>],
     definition: &Definition<'m>,
-    states: &[State],
+    states: Option<&[State]>,
 ) -> Result<String, Refusal> {
     require_targets(scope, definition, states)?;
     let doc = doc_of(scope, definition)?;
     let doc = doc.as_str();
     let mut out = Text::new(scope.alloc);
-    match &definition.link.of.body {
+    match &definition.of.body {
         Body::Sequence(_) | Body::Set(_) => push_sequence(scope, all, &mut out, definition, doc)?,
         Body::Choice(_) => push_choice(scope, all, &mut out, definition, doc)?,
         Body::Enumerated(items, root) => {
@@ -239,11 +245,97 @@ fn is_taken(name: &str) -> bool {
     is_known || TAKEN.split(' ').any(|taken| taken == name)
 }
 
-/// Puts `_` behind the names of types that printed text has from elsewhere: ASN.1 has no such names.
-pub fn free_names(alloc: Global, all: &mut Vec<Definition<'_>>) -> Result<(), AllocError> {
-    for definition in all.iter_mut() {
-        if is_taken(lower(alloc, definition.rust_name.as_str())?.as_str()) {
-            definition.rust_name.push('_')?;
+/// The names that the type at a place is printed with, each in small letters and whether it is the type's own: none of a type that isn't
+/// printed.
+fn names_at<'m>(
+    scope: Scope<'m, '_>,
+    all: &[Definition<'m>],
+    at: usize,
+) -> Result<Vec<(String, bool)>, AllocError> {
+    let alloc = scope.alloc;
+    let mut names = Vec::new(alloc);
+    let Some(definition) = all.get(at) else {
+        return Ok(names);
+    };
+    match text_of(scope, all, definition, None) {
+        Ok(text) => {
+            for (name, _) in declared_names(alloc, text.as_str())? {
+                let is_own = name.as_str() == definition.rust_name.as_str();
+                names.push((lower(alloc, name.as_str())?, is_own))?;
+            }
+            Ok(names)
+        }
+        Err(Refusal::OutOfMemory) => Err(AllocError),
+        Err(Refusal::At { .. }) => Ok(names),
+    }
+}
+
+/// Printed names in small letters, each with the place of its type and whether it is the type's own.
+type Places = BTreeMap<String, (usize, bool)>;
+
+/// The place of the type that has to be named otherwise, where a name of the one at a place is taken: of two types the one that takes the
+/// other's name for something that is printed of it, else the later.
+fn renamed(places: &Places, name: &str, is_own: bool, at: usize) -> Option<usize> {
+    if is_taken(name) {
+        return Some(at);
+    }
+    match places.get(name) {
+        Some((other, false)) if is_own => Some(*other),
+        Some(_) => Some(at),
+        None => None,
+    }
+}
+
+/// Puts the names of the type at a place to those of others. Answers the place of a type that has to be named otherwise.
+fn clash_at<'m>(
+    scope: Scope<'m, '_>,
+    all: &[Definition<'m>],
+    at: usize,
+    places: &mut Places,
+) -> Result<Option<usize>, AllocError> {
+    for (name, is_own) in names_at(scope, all, at)? {
+        let found = renamed(places, name.as_str(), is_own, at);
+        if found.is_some() {
+            return Ok(found);
+        }
+        places.insert(name, (at, is_own))?;
+    }
+    Ok(None)
+}
+
+/// The places of types that have to be named otherwise; one may be there twice.
+fn clashes<'m>(scope: Scope<'m, '_>, all: &[Definition<'m>]) -> Result<Vec<usize>, AllocError> {
+    let mut places = BTreeMap::new(scope.alloc);
+    let mut found = Vec::new(scope.alloc);
+    for definition in all.iter() {
+        if definition.circle.is_some() {
+            places.insert(String::from_str(scope.alloc, "k")?, (all.len(), true))?;
+            break;
+        }
+    }
+    for at in 0..all.len() {
+        if let Some(clash) = clash_at(scope, all, at, &mut places)? {
+            found.push(clash)?;
+        }
+    }
+    Ok(found)
+}
+
+/// Puts `_` behind names of types, which no name of ASN.1 has, until what is printed of each has names that neither another type nor the
+/// library has.
+pub fn free_names<'m>(
+    scope: Scope<'m, '_>,
+    all: &mut Vec<Definition<'m>>,
+) -> Result<(), AllocError> {
+    for _ in 0..MAX_RENAMES {
+        let found = clashes(scope, all.as_slice())?;
+        if found.is_empty() {
+            break;
+        }
+        for at in found.iter() {
+            if let Some(definition) = all.get_mut(*at) {
+                definition.rust_name.push('_')?;
+            }
         }
     }
     Ok(())
@@ -263,7 +355,7 @@ fn same_name(
         None => ("is the library's", ""),
     };
     match format!(in scope.alloc; "{READS}: {name} {behind}{owner}") {
-        Ok(reads) => scope.refused(definition.link.of.first, reads.as_str()),
+        Ok(reads) => scope.refused(definition.of.first, reads.as_str()),
         Err(_) => Refusal::OutOfMemory,
     }
 }
@@ -313,7 +405,7 @@ fn print_one<'m>(
     progress: &mut Progress,
 ) -> Result<Printed, Refusal> {
     require_depth(scope, all, definition, progress.depths.get(at))?;
-    let text = text_of(scope, all, definition, progress.states.as_slice())?;
+    let text = text_of(scope, all, definition, Some(progress.states.as_slice()))?;
     let names = names_of_text(scope, definition, text.as_str(), &mut progress.seen)?;
     Ok(Printed {
         text,
@@ -433,7 +525,7 @@ fn print_at<'m>(
     }
     match progress.waiting.pop() {
         Some(made) => made,
-        None => Err(scope.refused(definition.link.of.first, "a type that is printed")),
+        None => Err(scope.refused(definition.of.first, "a type that is printed")),
     }
 }
 

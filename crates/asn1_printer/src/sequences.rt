@@ -352,7 +352,7 @@ pub fn push_sequence<'m>(
     let owner = definition.rust_name.as_str();
     let parts = definition.parts.as_slice();
     require_names(scope, parts)?;
-    let is_set = matches!(definition.link.of.body, Body::Set(_));
+    let is_set = matches!(definition.of.body, Body::Set(_));
     let places = root_places(scope.alloc, parts, is_set)?;
     let mut cells = cells_at(scope, all, out, owner, parts, places.as_slice())?;
     let root_count = cells.len();
@@ -363,7 +363,7 @@ pub fn push_sequence<'m>(
         owner,
         cells: cells.as_slice(),
         root_count,
-        is_extensible: is_extensible(definition.link.of),
+        is_extensible: is_extensible(definition.of),
         is_choice: false,
         knot: knot_name(all, definition),
         in_text: in_text.as_slice(),

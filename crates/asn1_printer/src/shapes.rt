@@ -4,7 +4,7 @@ use crate::text::Text;
 use asn1_layouts::definitions::{Definition, Part, Tie};
 use asn1_layouts::layouts::unit_of;
 use asn1_layouts::numbers::names_of;
-use asn1_layouts::scope::{Link, Scope};
+use asn1_layouts::scope::Scope;
 use asn1_layouts::visible::{Limits, Purpose, UNLIMITED, limits_of};
 use asn1_modules::ast::{Body, Simple, Type};
 use asn1_modules::refusal::Refusal;
@@ -101,23 +101,26 @@ fn plain(alloc: Global, name: &str) -> Shape {
 }
 
 /// What the limits of a type are of; nothing where it has none.
-fn purpose_of(base: Link<'_>) -> Option<Purpose> {
-    match &base.of.body {
+fn purpose_of(base: &Type) -> Option<Purpose> {
+    match &base.body {
         Body::Integer(_) => Some(Purpose::Value),
         Body::BitString(_) => Some(Purpose::Size),
         Body::Simple(simple) if unit_of(*simple).is_some() => Some(Purpose::Size),
-        _ => None,
+        Body::Simple(_) | Body::Enumerated(_, _) | Body::Reference(_) => None,
+        Body::Sequence(_) | Body::Set(_) | Body::Choice(_) => None,
+        Body::SequenceOf(_) | Body::SetOf(_) => None,
     }
 }
 
 /// Whether a type that is named where it is used is taken by its name: nothing is said there that changes its limits.
-fn is_plain<'m>(scope: Scope<'m, '_>, chain: &[Link<'m>], base: Link<'m>) -> Result<bool, Refusal> {
+fn is_plain<'m>(scope: Scope<'m, '_>, chain: &[&'m Type], base: &'m Type) -> Result<bool, Refusal> {
     let Some(purpose) = purpose_of(base) else {
         return Ok(true);
     };
     let names = names_of(base);
     let whole = limits_of(scope, chain, names, purpose)?;
-    let named = limits_of(scope, chain.get(1..).unwrap_or(&[]), names, purpose)?;
+    let (_, behind) = chain.split_at(chain.len().min(1));
+    let named = limits_of(scope, behind, names, purpose)?;
     Ok(whole == named)
 }
 
@@ -126,8 +129,8 @@ fn name_taken<'d>(
     scope: Scope<'_, '_>,
     all: &'d [Definition<'_>],
     target: Option<usize>,
-    chain: &[Link<'_>],
-    base: Link<'_>,
+    chain: &[&Type],
+    base: &Type,
 ) -> Result<Option<&'d str>, Refusal> {
     match target.and_then(|t| all.get(t)) {
         Some(definition) if is_plain(scope, chain, base)? => {
@@ -140,19 +143,21 @@ fn name_taken<'d>(
 /// The Rust type at the end of a chain, within its limits; `name` is that of the limits, where they need one.
 fn base_shape<'m>(
     scope: Scope<'m, '_>,
-    chain: &[Link<'m>],
-    base: Link<'m>,
+    chain: &[&'m Type],
+    base: &'m Type,
     name: &str,
 ) -> Result<Shape, Refusal> {
     let (limits, purpose) = match purpose_of(base) {
         Some(purpose) => (limits_of(scope, chain, names_of(base), purpose)?, purpose),
         None => (UNLIMITED, Purpose::Value),
     };
-    let (rust, own) = match &base.of.body {
+    let (rust, own) = match &base.body {
         Body::Integer(_) => number_type(limits),
         Body::BitString(_) => ("BitString", UNLIMITED),
         Body::Simple(simple) => (simple_type(*simple), UNLIMITED),
-        _ => ("", UNLIMITED),
+        Body::Sequence(_) | Body::Set(_) | Body::Choice(_) => ("", UNLIMITED),
+        Body::Enumerated(_, _) | Body::SequenceOf(_) | Body::SetOf(_) => ("", UNLIMITED),
+        Body::Reference(_) => ("", UNLIMITED),
     };
     Ok(limited(scope.alloc, rust, own, limits, purpose, name))
 }
@@ -199,7 +204,7 @@ fn inner_shape<'m>(
 /// The Rust type of an INTEGER's numbers, whether it stands within limits, and these.
 pub fn number_of_octets<'m>(
     scope: Scope<'m, '_>,
-    link: Link<'m>,
+    link: &'m Type,
 ) -> Result<(&'static str, bool, Limits), Refusal> {
     let chain = scope.chain_of(link)?;
     let base = chain.last().copied().unwrap_or(link);
@@ -209,7 +214,7 @@ pub fn number_of_octets<'m>(
 }
 
 /// Whether the Rust type of a string stands within sizes, and these.
-pub fn sizes_of<'m>(scope: Scope<'m, '_>, link: Link<'m>) -> Result<(bool, Limits), Refusal> {
+pub fn sizes_of<'m>(scope: Scope<'m, '_>, link: &'m Type) -> Result<(bool, Limits), Refusal> {
     let chain = scope.chain_of(link)?;
     let base = chain.last().copied().unwrap_or(link);
     if purpose_of(base) != Some(Purpose::Size) {
@@ -243,12 +248,12 @@ pub fn shape_of<'m>(
     scope: Scope<'m, '_>,
     all: &[Definition<'m>],
     part: &Part<'m>,
-    whole: Link<'m>,
+    whole: &'m Type,
     name: &str,
 ) -> Result<Shape, Refusal> {
     let inner = inner_shape(scope, all, part, name)?;
     let mut text = Text::new(scope.alloc);
-    let lists = push_lists(&mut text, whole.of);
+    let lists = push_lists(&mut text, whole);
     text.push_text(&inner.text);
     text.push_times(">", lists);
     Ok(Shape {

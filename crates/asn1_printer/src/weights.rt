@@ -255,7 +255,7 @@ fn sequence_weights(
     push_use(&mut uses, owner, "Components");
     push_signature(&mut lines, snake.as_str(), owner, "Components");
     push_head(&mut lines, snake.as_str(), "v");
-    let is_set = matches!(definition.link.of.body, Body::Set(_));
+    let is_set = matches!(definition.of.body, Body::Set(_));
     push_components(alloc, &mut lines, all, definition.parts.as_slice(), is_set)?;
     lines.push("\n\n");
     Ok(Weights {
@@ -295,7 +295,7 @@ pub fn weights_of(
     all: &[Definition<'_>],
     definition: &Definition<'_>,
 ) -> Result<Weights, AllocError> {
-    match definition.link.of.body {
+    match definition.of.body {
         Body::Sequence(_) | Body::Set(_) if definition.circle.is_some() => sequence_weights(
             scope.alloc,
             all,

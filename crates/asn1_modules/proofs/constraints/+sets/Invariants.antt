@@ -15,6 +15,3 @@ decreases-read_operand l = 5 * l.levels + 1
 
 abbrev pub decreases-read_element : goal.decreases-read_element
 decreases-read_element l = 5 * l.levels
-
-abbrev pub decreases-skip_inner : goal.decreases-skip_inner
-decreases-skip_inner l = 5 * l.levels + 4

@@ -1,0 +1,680 @@
+"""A reading of ASN.1 modules, written from X.680, X.681, X.683 and X.696 alone, for scripts/second_reader.py: the lines that `oergen --list`
+should have of each type.
+"""
+import re
+
+TOKEN = re.compile(
+    r"""\s+|--(?:(?!--)[^\n])*(?:--|\n|$)|(?P<t>::=|\.\.\.|\.\.|\[\[|\]\]|"(?:[^"]|"")*"|'[^']*'[BH]|\d+"""
+    r"""|&?[A-Za-z](?:-?[A-Za-z0-9])*|[^\s])"""
+)
+BLOCK = re.compile(r"/\*(?:[^*/]|\*(?!/)|/(?!\*))*\*/")
+# universal tags, and how many octets a unit of the size has: none where sizes change no octet
+SIMPLE = {
+    "BOOLEAN": (1, None), "NULL": (5, None), "OCTET STRING": (4, 1), "OBJECT IDENTIFIER": (6, None), "UTF8String": (12, None),
+    "NumericString": (18, 1), "PrintableString": (19, 1), "VisibleString": (26, 1), "IA5String": (22, 1), "GeneralString": (27, None),
+    "GraphicString": (25, None), "TeletexString": (20, None), "BMPString": (30, 2), "UTCTime": (23, None),
+    "GeneralizedTime": (24, None), "DATE": (31, None), "ANY": (None, None),
+}  # fmt: skip
+OTHER_NAMES = {"ISO646String": "VisibleString", "T61String": "TeletexString"}
+PARTS = ("SEQUENCE", "SET", "CHOICE", "ENUMERATED")
+HELD = (*PARTS, "SEQUENCE OF", "SET OF")
+UNIVERSAL = {"INTEGER": 2, "BIT STRING": 3, "ENUMERATED": 10, "SEQUENCE": 16, "SET": 17, "SEQUENCE OF": 16, "SET OF": 17}
+KEYWORDS = set(
+    "abstract as async await become box break const continue crate do dyn else ensures enum extern false fn final for gen ghost if impl in let "
+    "loop macro match mod move mut override priv pub ref requires result return self static struct super trait true try type typeof union "
+    "unsafe unsized use virtual where while yield".split()
+)
+
+
+class Type:
+    """A type where it is written: its module, tags, sort, what the sort has, and its constraints."""
+
+    def __init__(self, module, tags, sort, inside, constraints):
+        self.module, self.tags, self.sort, self.inside, self.constraints = module, tags, sort, inside, constraints
+
+
+class Member:
+    """A component or an alternative: its name, type, need and default, and where it stands: 0 in the root, 1 as an addition, 2 in the
+    root behind the second mark, or in a group, with its number."""
+
+    def __init__(self, name, of, need, place, group):
+        self.name, self.of, self.need, self.place, self.group = name, of, need, place, group
+
+
+class Module:
+    def __init__(self, name):
+        self.name, self.tagging, self.imports = name, "EXPLICIT", {}
+        self.types, self.values, self.classes = {}, {}, {}
+
+
+def tokens(text):
+    while (shorter := BLOCK.sub(" ", text)) != text:
+        text = shorter
+    return [it["t"] for it in TOKEN.finditer(text.lstrip("\ufeff")) if it["t"]]
+
+
+class Parser:
+    """The modules of a text, by X.680's grammar as far as oergen reads it."""
+
+    def __init__(self, text, classes):
+        self.all, self.at, self.classes, self.module = tokens(text), 0, classes, None
+
+    def peek(self, ahead=0):
+        return self.all[self.at + ahead] if self.at + ahead < len(self.all) else ""
+
+    def next(self):
+        self.at += 1
+        return self.all[self.at - 1]
+
+    def eats(self, *words):
+        if self.all[self.at : self.at + len(words)] == list(words):
+            self.at += len(words)
+            return True
+        return False
+
+    def expects(self, word):
+        if self.next() != word:
+            raise ValueError(f"{' '.join(self.all[max(0, self.at - 12):self.at])}: not {word!r}")
+
+    def skip(self):
+        """Passes over brackets."""
+        depth = 0
+        while True:
+            word = self.next()
+            depth += (word in ("{", "(", "[", "[[")) - (word in ("}", ")", "]", "]]"))
+            if depth == 0:
+                return
+
+    def modules(self):
+        while self.peek():
+            self.module = Module(self.next())
+            if self.peek() == "{":
+                self.skip()
+            self.expects("DEFINITIONS")
+            if self.peek() in ("AUTOMATIC", "IMPLICIT", "EXPLICIT"):
+                self.module.tagging = self.next()
+                self.expects("TAGS")
+            self.expects("::=")
+            self.expects("BEGIN")
+            self.front()
+            while not self.eats("END"):
+                self.assignment()
+            yield self.module
+
+    def front(self):
+        if self.eats("EXPORTS"):
+            while self.next() != ";":
+                pass
+        if self.eats("IMPORTS"):
+            while not self.eats(";"):
+                names = [self.next()]
+                while not self.eats("FROM"):
+                    if self.peek() == "{":
+                        self.skip()
+                    elif not self.eats(","):
+                        names.append(self.next())
+                home = self.next()
+                if self.peek() == "{":
+                    self.skip()
+                _ = self.eats("WITH", "SUCCESSORS") or self.eats("WITH", "DESCENDANTS")
+                self.module.imports.update((name, home) for name in names)
+
+    def assignment(self):
+        name = self.next()
+        dummies = []
+        if self.eats("{"):
+            while not self.eats("}"):
+                dummies.append(self.next())
+                if self.eats(":"):
+                    dummies[-1] = self.next()
+                self.eats(",")
+        if name[0].islower():
+            of = self.type()
+            self.expects("::=")
+            self.module.values[name] = (of, self.value())
+        elif self.eats("::=", "CLASS"):
+            self.module.classes[name] = self.fields()
+            if self.eats("WITH", "SYNTAX"):
+                self.skip()
+        elif self.eats("::="):
+            self.module.types[name] = (dummies, self.type())
+        else:
+            is_objects = self.peek() in self.classes
+            of = self.type()
+            self.expects("::=")
+            if is_objects:
+                self.skip()
+                return
+            self.expects("{")
+            of.constraints.append(self.marked("}"))
+            self.module.types[name] = (dummies, of)
+
+    def fields(self):
+        fields = {}
+        self.expects("{")
+        while not self.eats("}"):
+            name = self.next()
+            fields[name] = None if name[1].isupper() else self.type()
+            while self.peek() in ("UNIQUE", "OPTIONAL"):
+                self.next()
+            self.eats(",")
+        return fields
+
+    def type(self):
+        tags = []
+        while self.eats("["):
+            kind = self.next() if self.peek() in ("UNIVERSAL", "APPLICATION", "PRIVATE") else ""
+            tags.append((kind, self.value()))
+            self.expects("]")
+            _ = self.eats("IMPLICIT") or self.eats("EXPLICIT")
+        sort, inside = self.body()
+        of = Type(self.module, tags, sort, inside, [])
+        while self.peek() == "(" and self.peek(1) != "{":
+            of.constraints.append(self.constraint())
+        return of
+
+    def body(self):
+        word = self.next()
+        if word in ("OCTET", "BIT", "OBJECT"):
+            word += " " + self.next()
+        word = OTHER_NAMES.get(word, word)
+        if word in ("INTEGER", "BIT STRING"):
+            return word, self.numbers() if self.peek() == "{" else []
+        if word in SIMPLE:
+            return word, None
+        if word == "ENUMERATED":
+            return word, self.numbers()
+        if word in ("SEQUENCE", "SET") and self.peek() != "{":
+            if self.eats("SIZE") or self.peek() == "(":
+                self.skip()
+            self.expects("OF")
+            return word + " OF", self.type()
+        if word in PARTS:
+            return word, self.members()
+        if self.peek() == "." and self.peek(1).startswith("&"):
+            names = []
+            while self.eats("."):
+                names.append(self.next())
+            if self.peek() == "(" and self.peek(1) == "{":
+                self.skip()
+            return "FIELD", (word, names)
+        home = word if self.eats(".") else None
+        name = self.next() if home else word
+        return "NAME", (home, name, self.actual() if self.peek() == "{" else [])
+
+    def actual(self):
+        """Actual parameters: types and values; nothing of sets of objects and of classes."""
+        found = []
+        self.expects("{")
+        while not self.eats("}"):
+            if self.peek() == "{":
+                self.skip()
+                found.append(None)
+            elif self.peek()[0].isupper() and self.peek() not in ("TRUE", "FALSE"):
+                found.append(("type", self.type()))
+            else:
+                found.append(("value", self.value()))
+            self.eats(",")
+        return found
+
+    def numbers(self):
+        """Names with their numbers; a mark is None."""
+        found = []
+        self.expects("{")
+        while not self.eats("}"):
+            name = None if self.eats("...") else self.next()
+            number = None
+            if self.eats("("):
+                number = self.value()
+                self.expects(")")
+            found.append((name, number))
+            self.eats(",")
+        return found
+
+    def members(self):
+        found, marks, groups, in_group = [], 0, 0, False
+        self.expects("{")
+        while not self.eats("}"):
+            if self.eats(","):
+                continue
+            if self.eats("..."):
+                marks += 1
+                found.append(Member(None, None, None, marks, None))
+            elif self.eats("[["):
+                groups, in_group = groups + 1, True
+                if self.peek(1) == ":":
+                    self.at += 2
+            elif self.eats("]]"):
+                in_group = False
+            elif self.eats("COMPONENTS", "OF"):
+                found.append(Member(None, self.type(), "COMPONENTS", marks, None))
+            else:
+                name, of, need = self.next(), self.type(), "required"
+                if self.eats("OPTIONAL"):
+                    need = "optional"
+                elif self.eats("DEFAULT"):
+                    need = self.value()
+                found.append(Member(name, of, need, marks, groups if in_group else None))
+        return found
+
+    def value(self):
+        """A value: its sort, what it says, and the module that it stands in."""
+        word = self.next()
+        if word == "{":
+            found = []
+            while not self.eats("}"):
+                found.append(self.next())
+                self.eats(",")
+            return "names", found, self.module
+        if word == "-":
+            return "number", -int(self.next()), self.module
+        if word.isdigit():
+            return "number", int(word), self.module
+        if word[0] in "\"'" or word in ("TRUE", "FALSE", "NULL"):
+            return "text", word, self.module
+        if word[0].isupper():
+            self.expects(".")
+            return "name", (word, self.next()), self.module
+        return "name", (None, word), self.module
+
+    def constraint(self):
+        self.expects("(")
+        return self.marked(")")
+
+    def marked(self, close):
+        """A set of values, and whether it has an extension mark."""
+        found = self.union()
+        has_mark = self.eats(",")
+        if has_mark:
+            self.expects("...")
+            if self.eats(","):
+                self.union()
+        self.expects(close)
+        return found, has_mark
+
+    def union(self):
+        found = [self.intersection()]
+        while self.eats("|") or self.eats("UNION"):
+            found.append(self.intersection())
+        return "union", found
+
+    def intersection(self):
+        found = [self.element()]
+        while self.eats("^") or self.eats("INTERSECTION"):
+            found.append(self.element())
+        return "intersection", found
+
+    def element(self):
+        found = None if self.eats("ALL") else self.unit()
+        if self.eats("EXCEPT"):
+            self.unit()
+        return found
+
+    def unit(self):
+        """An element: a set, a size, a range or a type; nothing of what X.696, 8.2 doesn't see."""
+        word = self.peek()
+        if word == "(":
+            return self.constraint()[0]
+        if self.eats("SIZE"):
+            return "size", *self.constraint()
+        if word in ("FROM", "WITH"):
+            while self.peek() not in ("(", "{"):
+                self.next()
+            self.skip()
+            return None
+        if word in ("CONTAINING", "CONSTRAINED"):
+            while self.peek() != ")":
+                if self.peek() in ("(", "{"):
+                    self.skip()
+                else:
+                    self.next()
+            return None
+        if word[0].isupper() and word not in ("MIN", "TRUE", "FALSE", "NULL") and not (self.peek(1) == "." and self.peek(2)[0].islower()):
+            return "type", self.type()
+        low = None if self.eats("MIN") else self.value()
+        past = self.eats("<")
+        if not self.eats(".."):
+            return "range", low, low, 0, 0
+        below = self.eats("<")
+        high = None if self.eats("MAX") else self.value()
+        return "range", low, high, int(past), int(below)
+
+
+class Limits:
+    """From, to and whether an extension mark is there (X.696, 8.2)."""
+
+    def __init__(self, low=None, high=None, mark=False):
+        self.low, self.high, self.mark = low, high, mark
+
+    def join(self, other):
+        low = None if None in (self.low, other.low) else min(self.low, other.low)
+        high = None if None in (self.high, other.high) else max(self.high, other.high)
+        return Limits(low, high, self.mark or other.mark)
+
+    def meet(self, other):
+        lows = [it for it in (self.low, other.low) if it is not None]
+        highs = [it for it in (self.high, other.high) if it is not None]
+        return Limits(max(lows, default=None), min(highs, default=None), self.mark or other.mark)
+
+    def fixed(self):
+        return self.low if self.low is not None and self.low == self.high and not self.mark else None
+
+    def text(self):
+        if (self.low, self.high, self.mark) == (None, None, False):
+            return ""
+        low = "MIN" if self.low is None else self.low
+        return f" ({low}..{'MAX' if self.high is None else self.high}{', ...' if self.mark else ''})"
+
+    def width(self):
+        """How many octets an INTEGER has, None behind a length, and whether they are signed (X.696, 10)."""
+        if self.mark or self.low is None or (self.low < 0 and self.high is None):
+            return None, True
+        if self.low >= 0:
+            found = [it for it in (1, 2, 4, 8) if self.high is not None and self.high < 2 ** (8 * it)]
+            return (found[0] if found else None), False
+        found = [it for it in (1, 2, 4, 8) if self.low >= -(2 ** (8 * it - 1)) and self.high < 2 ** (8 * it - 1)]
+        return (found[0] if found else None), True
+
+
+def octets(count):
+    return {0: "no octets", 1: "1 octet"}.get(count, f"{count} octets")
+
+
+class World:
+    """All modules. A type stands with its surroundings: what the parameters around it stand for."""
+
+    def __init__(self, modules):
+        self.modules = {it.name: it for it in modules}
+
+    def home(self, module, home, name):
+        return self.modules[home or module.imports.get(name) or module.name]
+
+    def step(self, of, around):
+        """What a name of a type, a parameter or a field of a class stands for; whether that is a name by itself."""
+        if of.sort == "FIELD":
+            name, fields = of.inside
+            for field in fields:
+                home = self.home(of.module, None, name)
+                found = home.classes[name][field]
+                if found is None:
+                    return Type(home, [], "ANY", None, []), {}, False
+                name = found.inside[1] if found.sort == "NAME" else None
+                if field is not fields[-1]:
+                    of = found
+            return found, {}, False
+        home, name, actual = of.inside
+        if home is None and name in around:
+            return (*around[name][1:], False)
+        dummies, found = self.home(of.module, home, name).types[name]
+        given = {dummy: (it[0], it[1], around) for dummy, it in zip(dummies, actual) if it}
+        return found, given, not dummies
+
+    def chain(self, of, around):
+        found = [(of, around)]
+        while of.sort in ("NAME", "FIELD"):
+            of, around, _ = self.step(of, around)
+            found.append((of, around))
+        return found
+
+    def base(self, of, around):
+        return self.chain(of, around)[-1]
+
+    def number(self, value, around, names=()):
+        sort, said, module = value
+        if sort != "name":
+            return said
+        home, name = said
+        for own, number in names:
+            if own == name and number:
+                return self.number(number, around)
+        if home is None and name in around:
+            return self.number(around[name][1], around[name][2])
+        of, found = self.home(module, home, name).values[name]
+        base = self.base(of, {})[0]
+        return self.number(found, {}, base.inside if base.sort in ("INTEGER", "ENUMERATED") else ())
+
+    def see(self, element, around, names, of_sizes):
+        """The limits of a set; None where it isn't seen."""
+        if element is None:
+            return None
+        sort = element[0]
+        if sort == "union":
+            found = [self.see(it, around, names, of_sizes) for it in element[1]]
+            if None in found:
+                return None
+            whole = found[0]
+            for it in found[1:]:
+                whole = whole.join(it)
+            return whole
+        if sort == "intersection":
+            found = [it for it in (self.see(it, around, names, of_sizes) for it in element[1]) if it]
+            whole = found[0] if found else None
+            for it in found[1:]:
+                whole = whole.meet(it)
+            return whole
+        if sort == "size":
+            found = self.see(element[1], around, names, False) if of_sizes else None
+            return found and Limits(found.low, found.high, found.mark or element[2])
+        if sort == "type":
+            return self.limits(element[1], around, of_sizes)
+        if of_sizes:
+            return None
+        _, low, high, past, below = element
+        low = None if low is None else self.number(low, around, names) + past
+        return Limits(low, None if high is None else self.number(high, around, names) - below)
+
+    def limits(self, of, around, of_sizes):
+        chain = self.chain(of, around)
+        base = chain[-1][0]
+        names = base.inside if base.sort == "INTEGER" else ()
+        whole = Limits()
+        for one, around_one in reversed(chain):
+            for found, mark in one.constraints:
+                seen = self.see(found, around_one, names, of_sizes)
+                if seen:
+                    met = whole.meet(seen)
+                    whole = Limits(met.low, met.high, seen.mark or mark)
+        return whole
+
+    def layout(self, of, around):
+        base, _ = self.base(of, around)
+        if base.sort == "INTEGER":
+            limits = self.limits(of, around, False)
+            width, is_signed = limits.width()
+            return f"INTEGER{limits.text()}, {'signed' if is_signed else 'unsigned'}, {octets(width) if width else 'behind a length'}"
+        if base.sort == "BIT STRING":
+            limits = self.limits(of, around, True)
+            fixed = limits.fixed()
+            behind = "behind a length and the count of unused bits" if fixed is None else octets((fixed + 7) // 8)
+            return f"BIT STRING{limits.text()}, {behind}"
+        if base.sort in SIMPLE:
+            unit = SIMPLE[base.sort][1]
+            limits = self.limits(of, around, True) if unit else Limits()
+            fixed = limits.fixed()
+            name = {"ANY": "open type"}.get(base.sort, base.sort)
+            plain = {"BOOLEAN": "1 octet", "NULL": "no octets"}.get(base.sort, "behind a length")
+            return f"{name}{limits.text()}, {plain if fixed is None else octets(fixed * unit)}"
+        behind = {
+            "ENUMERATED": ", 1 octet from 0 to 127, else a count and signed octets",
+            "SEQUENCE OF": ", a quantity and elements",
+            "SET OF": ", a quantity and elements",
+        }
+        return base.sort + behind.get(base.sort, "")
+
+    def tag(self, of, around):
+        """The outermost tag that is written, or the universal one (X.680, 31 and table 1)."""
+        chain = self.chain(of, around)
+        for one, around_one in chain:
+            if one.tags:
+                kind, number = one.tags[0]
+                return kind, self.number(number, around_one)
+        sort = chain[-1][0].sort
+        number = UNIVERSAL.get(sort) or SIMPLE.get(sort, (None,))[0]
+        return None if number is None else ("UNIVERSAL", number)
+
+    def rows(self, of, around):
+        """The components or alternatives, each with its surroundings and its tag (X.680, 25.3 to 25.9)."""
+        found = []
+        for it in of.inside:
+            if it.need == "COMPONENTS":
+                base = self.base(it.of, around)
+                found += [(Member(one.name, one.of, one.need, it.place, None), within) for one, within, _ in self.rows(*base) if one.place != 1]
+            elif it.name:
+                found.append((it, around))
+        is_tagged = any(it.name and it.of.tags for it in of.inside)
+        if of.module.tagging == "AUTOMATIC" and not is_tagged:
+            order = sorted(range(len(found)), key=lambda at: found[at][0].place == 1)
+            tags = {at: ("", number) for number, at in enumerate(order)}
+            return [(it, within, tags[at]) for at, (it, within) in enumerate(found)]
+        return [(it, within, self.tag(it.of, within)) for it, within in found]
+
+    def enumerated(self, items):
+        """The numbers of an ENUMERATED (X.680, 20)."""
+        mark = next((at for at, (name, _) in enumerate(items) if name is None), len(items))
+        root, more = items[:mark], items[mark + 1 :]
+        taken = {self.number(number, {}) for _, number in root if number}
+        found = []
+        for name, number in root:
+            if number is None:
+                least = next(it for it in range(len(items) + 1) if it not in taken)
+                taken.add(least)
+            found.append((name, least if number is None else self.number(number, {}), False))
+        last = None
+        for name, number in more:
+            if number is None:
+                at = 0 if last is None else last + 1
+                while at in taken:
+                    at += 1
+            else:
+                at = self.number(number, {})
+            last = at
+            found.append((name, at, True))
+        return found
+
+
+def camel(name):
+    return "".join(it[:1].upper() + it[1:] for it in name.split("-"))
+
+
+def snake(name):
+    found = re.sub(r"(?<=[a-z0-9])(?=[A-Z])", "_", name).replace("-", "_").lower()
+    return f"r_{found}" if found in KEYWORDS else found
+
+
+class Listing:
+    """The types with their Rust names and the lines of each in the table."""
+
+    def __init__(self, world):
+        self.world, self.pending, self.places = world, [], {}
+        for module in world.modules.values():
+            for name, (dummies, of) in module.types.items():
+                if not dummies:
+                    self.places[id(of)] = len(self.pending)
+                    self.pending.append([camel(name), module, of, {}])
+        self.part_names()
+        self.lines, self.printed = {}, {}
+        at, taken = 0, set()
+        while at < len(self.pending):
+            while self.pending[at][0] in taken:
+                self.pending[at][0] += "_"
+            taken.add(self.pending[at][0])
+            at += 1
+            self.define(*self.pending[at - 1])
+
+    def part_names(self):
+        homes = {}
+        for name, module, *_ in self.pending:
+            homes.setdefault(name, set()).add(module.name)
+        for one in self.pending:
+            if len(homes[one[0]]) > 1:
+                one[0] = f"{camel(one[1].name)}_{one[0]}"
+
+    def part(self, owner, module, of, around, name):
+        """The lists around a type, and how the type within is named: a place among the types, or none."""
+        lists = []
+        while True:
+            while of.sort in ("NAME", "FIELD"):
+                found, within, is_name = self.world.step(of, around)
+                if is_name:
+                    return lists, self.places[id(found)], (of, around)
+                inner = (of, around) if not lists or of.constraints else None
+                of, around = found, within
+                if inner and inner[0].constraints and of.sort not in ("NAME", "FIELD", *PARTS, "SEQUENCE OF", "SET OF"):
+                    return lists, None, inner
+            if of.sort not in ("SEQUENCE OF", "SET OF"):
+                break
+            lists.append(of.sort)
+            of = of.inside
+        if of.sort in PARTS and (lists or name):
+            self.pending.append([owner + camel(name or "item"), module, of, around])
+            return lists, len(self.pending) - 1, (of, around)
+        return lists, None, (of, around)
+
+    def define(self, rust, module, of, around):
+        world = self.world
+        base, within = of, around
+        while base.sort in ("NAME", "FIELD"):
+            found, next_around, is_name = world.step(base, within)
+            if is_name:
+                break
+            base, within = found, next_around
+        head, lines, rows = f"{rust} of {module.name}: ", [], []
+        if base.sort not in PARTS:
+            lists, target, inner = self.part(rust, module, of, around, None)
+            head = (head, lists, target, world.layout(*inner), "")
+            self.lines[rust] = (head, lines)
+            self.printed[rust] = ("alias", lists, target, (of, around))
+            return
+        if base.sort == "ENUMERATED":
+            has_mark = any(name is None for name, _ in base.inside)
+            values = world.enumerated(base.inside)
+            lines += [f"    {name} = {number}{', addition' if more else ''}" for name, number, more in values]
+            head = (head, [], None, world.layout(base, within), ", extensible" if has_mark else "")
+            self.printed[rust] = ("ENUMERATED", values)
+        else:
+            rows = world.rows(base, within)
+            has_mark = any(it.name is None and it.need is None for it in base.inside)
+            if base.sort != "CHOICE":
+                bits = has_mark + sum(it.place != 1 and it.need != "required" for it, _, _ in rows)
+                lines.append(f"    preamble: {octets((bits + 7) // 8)}, {'with' if has_mark else 'without'} an extension bit")
+            head = (head, [], None, base.sort, ", extensible" if has_mark and base.sort == "CHOICE" else "")
+            cells = []
+            for it, around_it, tag in rows:
+                part = self.part(rust, module, it.of, around_it, it.name)
+                text = "no tag" if tag is None else f"[{tag[0]}{' ' if tag[0] else ''}{tag[1]}]"
+                place = "" if it.place != 1 else f" group {it.group}" if it.group else " addition"
+                need = "" if base.sort == "CHOICE" else f" {self.need(it, around_it)}"
+                layout = world.layout(*part[2])
+                lines.append((f"    {snake(it.name)} {text}{place}{need}: ", part[0], part[1], layout))
+                cells.append((it, part, (it.of, around_it), tag))
+            self.printed[rust] = (base.sort, cells, has_mark)
+        self.lines[rust] = (head, lines)
+
+    def need(self, it, around):
+        if isinstance(it.need, str):
+            return it.need
+        return f"default {self.default(it.of, around, it.need)}"
+
+    def default(self, of, around, value):
+        base, _ = self.world.base(of, around)
+        if base.sort == "INTEGER":
+            return self.world.number(value, around, base.inside)
+        while value[0] == "name" and not (base.sort == "ENUMERATED" and any(value[1][1] == it for it, _ in base.inside)):
+            home, name = value[1]
+            if home is None and name in around:
+                value, around = around[name][1:]
+            else:
+                value, around = self.world.home(value[2], home, name).values[name][1], {}
+        if value[0] == "names":
+            return "{" + ", ".join(value[1]) + "}"
+        return value[1][1] if value[0] == "name" else value[1]
+
+    def block(self, rust):
+        """A type's lines as the table has them."""
+        (head, lists, target, layout, mark), lines = self.lines[rust]
+        found = [head + self.said(lists, target, layout) + mark]
+        return found + [it if isinstance(it, str) else it[0] + self.said(*it[1:]) for it in lines]
+
+    def said(self, lists, target, layout):
+        name = "" if target is None else self.pending[target][0] + ", "
+        return "".join(f"{it} " for it in lists) + name + layout
