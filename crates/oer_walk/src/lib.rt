@@ -1,0 +1,9 @@
+//! Where each part of a value lies in its octets: a walk by a table, into nodes that the caller owns. It takes no memory.
+#![tactic(auto)]
+
+mod nodes;
+mod table;
+mod walks;
+
+pub use nodes::Node;
+pub use walks::{Walked, walk};

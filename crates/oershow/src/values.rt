@@ -1,0 +1,212 @@
+//! Values of parts without parts, as text and as JSON (X.697).
+
+use crate::tables::Tables;
+use anyhow::Result;
+use oer_walk::Node;
+use std::alloc::Global;
+
+/// What a part is that has no parts.
+#[derive(Drop)]
+pub enum Leaf {
+    Truth(bool),
+    Nothing,
+    Number(i128),
+    /// A name of an enumerated value or of a number.
+    Name(String),
+    /// So many bits, in hexadecimal, and whether the type has no other size.
+    Bits(usize, bool, String),
+    Text(String),
+    /// A dotted number.
+    Identifier(String),
+    Hex(String),
+}
+
+/// The number that octets are, big end first; nothing past 128 bits.
+fn number_of(octets: &[u8], is_signed: bool) -> Option<i128> {
+    let is_negative = is_signed && octets.first().copied().unwrap_or(0) >= 128;
+    let mut number: i128 = if is_negative { -1 } else { 0 };
+    for octet in octets.iter() {
+        number = number.checked_mul(256)?.checked_add(i128::from(*octet))?;
+    }
+    Some(number)
+}
+
+fn hex_of(alloc: Global, octets: &[u8]) -> Result<String> {
+    Ok(hex::encode_upper(alloc, octets)?)
+}
+
+/// A number, by its name where it has one.
+fn number_leaf(
+    alloc: Global,
+    tables: &Tables,
+    node: Node,
+    octets: &[u8],
+    is_signed: bool,
+) -> Result<Leaf> {
+    let Some(number) = number_of(octets, is_signed) else {
+        return Ok(Leaf::Hex(hex_of(alloc, octets)?));
+    };
+    match tables.value_name(node.type_number, number) {
+        Some(name) => Ok(Leaf::Name(String::from_str(alloc, name)?)),
+        None => Ok(Leaf::Number(number)),
+    }
+}
+
+/// An enumerated value: an octet below 128, or a count and signed octets (X.696, 11).
+fn enumerated_leaf(alloc: Global, tables: &Tables, node: Node, octets: &[u8]) -> Result<Leaf> {
+    match octets {
+        [first, rest @ ..] if *first >= 128 => number_leaf(alloc, tables, node, rest, true),
+        _ => number_leaf(alloc, tables, node, octets, false),
+    }
+}
+
+/// The bits behind a count of unused ones (X.696, 13).
+fn bits_leaf(alloc: Global, octets: &[u8]) -> Result<Leaf> {
+    let [unused, rest @ ..] = octets else {
+        return Ok(Leaf::Bits(0, false, String::new(alloc)));
+    };
+    let count = rest
+        .len()
+        .saturating_mul(8)
+        .saturating_sub(usize::from(*unused));
+    Ok(Leaf::Bits(count, false, hex_of(alloc, rest)?))
+}
+
+/// The next arc of an object identifier, and the octets behind it (X.690, 8.19).
+fn next_arc(octets: &[u8]) -> Option<(u64, &[u8])> {
+    let mut arc: u64 = 0;
+    for (at, octet) in octets.iter().enumerate() {
+        arc = arc.checked_mul(128)?.checked_add(u64::from(*octet % 128))?;
+        if *octet < 128 {
+            let rest = octets.get(at.saturating_add(1)..)?;
+            return Some((arc, rest));
+        }
+    }
+    None
+}
+
+/// The first two arcs of an object identifier, of the number that stands for both.
+fn first_arcs(alloc: Global, both: u64) -> Result<String> {
+    let first = if both >= 80 { 2 } else { both / 40 };
+    let second = both.saturating_sub(first.saturating_mul(40));
+    Ok(format!(in alloc; "{first}.{second}")?)
+}
+
+/// The arcs of an object identifier; nothing where an arc is past 64 bits, or lacks its end.
+fn identifier_of(alloc: Global, octets: &[u8]) -> Result<Option<String>> {
+    let Some((both, rest)) = next_arc(octets) else {
+        return Ok(None);
+    };
+    let mut text = first_arcs(alloc, both)?;
+    let mut rest = rest;
+    for _ in 0..octets.len() {
+        if rest.is_empty() {
+            break;
+        }
+        let Some((arc, behind)) = next_arc(rest) else {
+            return Ok(None);
+        };
+        let more = format!(in alloc; ".{arc}")?;
+        text.push_str(more.as_str())?;
+        rest = behind;
+    }
+    Ok(Some(text))
+}
+
+/// Octets, as what the table says that they are.
+fn octets_leaf(alloc: Global, octets: &[u8], text: u32) -> Result<Leaf> {
+    match text {
+        1..=8 | 21..=23 => match std::str::from_utf8(octets) {
+            Ok(text) => Ok(Leaf::Text(String::from_str(alloc, text)?)),
+            Err(_) => Ok(Leaf::Hex(hex_of(alloc, octets)?)),
+        },
+        20 => match identifier_of(alloc, octets)? {
+            Some(text) => Ok(Leaf::Identifier(text)),
+            None => Ok(Leaf::Hex(hex_of(alloc, octets)?)),
+        },
+        _ => Ok(Leaf::Hex(hex_of(alloc, octets)?)),
+    }
+}
+
+/// What a part is, by its content.
+pub fn leaf_of(alloc: Global, tables: &Tables, node: Node, octets: &[u8]) -> Result<Leaf> {
+    let word = |index: usize| tables.word_of(node.type_number, index);
+    match node.kind {
+        0 => Ok(Leaf::Truth(octets.first().copied().unwrap_or(0) != 0)),
+        1 => Ok(Leaf::Nothing),
+        2 => number_leaf(alloc, tables, node, octets, word(1) == 1),
+        3 => number_leaf(alloc, tables, node, octets, word(0) == 1),
+        4 => enumerated_leaf(alloc, tables, node, octets),
+        5 => Ok(Leaf::Bits(word(0) as usize, true, hex_of(alloc, octets)?)),
+        6 => bits_leaf(alloc, octets),
+        7 => octets_leaf(alloc, octets, word(1)),
+        8 => octets_leaf(alloc, octets, word(0)),
+        _ => Ok(Leaf::Hex(hex_of(alloc, octets)?)),
+    }
+}
+
+/// A text between quotation marks, as JSON has it.
+pub fn push_quoted(alloc: Global, out: &mut String, text: &str) -> Result<()> {
+    out.push('"')?;
+    for character in text.chars() {
+        match character {
+            '"' => out.push_str("\\\"")?,
+            '\\' => out.push_str("\\\\")?,
+            _ if (character as u32) < 32 => {
+                let code = character as u32;
+                let escaped = format!(in alloc; "\\u{code:04x}")?;
+                out.push_str(escaped.as_str())?;
+            }
+            _ => out.push(character)?,
+        }
+    }
+    Ok(out.push('"')?)
+}
+
+impl Leaf {
+    /// Puts it behind a line of a tree.
+    pub fn push_text(&self, alloc: Global, out: &mut String) -> Result<()> {
+        match self {
+            Leaf::Truth(is_true) => Ok(out.push_str(if *is_true { "TRUE" } else { "FALSE" })?),
+            Leaf::Nothing => Ok(out.push_str("NULL")?),
+            Leaf::Bits(count, _, digits) => {
+                let digits = digits.as_str();
+                let text = format!(in alloc; "'{digits}'H, {count} bits")?;
+                Ok(out.push_str(text.as_str())?)
+            }
+            Leaf::Text(text) => push_quoted(alloc, &mut *out, text.as_str()),
+            Leaf::Number(number) => {
+                let text = format!(in alloc; "{number}")?;
+                Ok(out.push_str(text.as_str())?)
+            }
+            Leaf::Hex(digits) => {
+                let digits = digits.as_str();
+                let text = format!(in alloc; "'{digits}'H")?;
+                Ok(out.push_str(text.as_str())?)
+            }
+            Leaf::Name(text) | Leaf::Identifier(text) => Ok(out.push_str(text.as_str())?),
+        }
+    }
+
+    /// Puts it behind JSON.
+    pub fn push_json(&self, alloc: Global, out: &mut String) -> Result<()> {
+        match self {
+            Leaf::Truth(is_true) => Ok(out.push_str(if *is_true { "true" } else { "false" })?),
+            Leaf::Nothing => Ok(out.push_str("null")?),
+            Leaf::Number(number) => {
+                let text = format!(in alloc; "{number}")?;
+                Ok(out.push_str(text.as_str())?)
+            }
+            Leaf::Bits(count, false, digits) => {
+                let digits = digits.as_str();
+                let text = format!(in alloc; "{{\"value\":\"{digits}\",\"length\":{count}}}")?;
+                Ok(out.push_str(text.as_str())?)
+            }
+            Leaf::Bits(_, true, text)
+            | Leaf::Text(text)
+            | Leaf::Name(text)
+            | Leaf::Identifier(text)
+            | Leaf::Hex(text) => push_quoted(alloc, &mut *out, text.as_str()),
+        }
+    }
+}
