@@ -40,6 +40,11 @@ ROWS = {
     "nest": ("nest", digits("nest", 20)),
     "link": (type_of("link"), digits("link", 10)),
     "times": (type_of("times"), digits("times", 10)),
+    "colors": (type_of("colors"), digits("colors", 10)),
+    "intset": ("intset", digits("intset", 10)),
+    "utf8": ("utf8", "0568656c6c6f"),
+    "bits": ("bits", "0304a1b0"),
+    "oid": ("oid", "062a864886f70d"),
 }
 
 
