@@ -89,6 +89,7 @@ impl Tabled<5, 0> for MessageComponents {
         rows_of!(Self::EXTENDED_FIELDS)
     }
 
+    #[inline(always)]
     fn put(&self, encoder: &mut Encoder<'_>) -> Result<(), EncodeError> {
         MessageRow::write(&views![self: version, sent, level, key, path], encoder)
     }

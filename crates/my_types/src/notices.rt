@@ -59,6 +59,7 @@ impl Tabled<2, 0> for ClosingComponents {
         rows_of!(Self::EXTENDED_FIELDS)
     }
 
+    #[inline(always)]
     fn put(&self, encoder: &mut Encoder<'_>) -> Result<(), EncodeError> {
         ClosingRow::write(&Both(&self.last, Both(&self.count, ())), encoder)
     }
@@ -124,6 +125,7 @@ impl Tabled<1, 2> for NoticeComponents {
         rows_of!(Self::EXTENDED_FIELDS)
     }
 
+    #[inline(always)]
     fn put(&self, encoder: &mut Encoder<'_>) -> Result<(), EncodeError> {
         NoticeRow::write(&views![self: ok, level, closing], encoder)
     }

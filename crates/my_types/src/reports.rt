@@ -57,6 +57,7 @@ impl Tabled<2, 0> for ReportComponents {
         rows_of!(Self::EXTENDED_FIELDS)
     }
 
+    #[inline(always)]
     fn put(&self, encoder: &mut Encoder<'_>) -> Result<(), EncodeError> {
         ReportRow::write(&views![self: urgent, number], encoder)
     }

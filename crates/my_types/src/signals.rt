@@ -51,6 +51,7 @@ impl Alternating for SignalAlternatives {
         from_row!(value => SignalAlternatives: Busy, Level, Count)
     }
 
+    #[inline(always)]
     fn put<E: Choice>(&self, encoder: &mut Encoder<'_>) -> Result<(), EncodeError> {
         let view = to_row!(self => SignalAlternatives: Busy, Level, Count);
         SignalRow::write_alternative::<E>(&view, encoder)

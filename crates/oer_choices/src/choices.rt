@@ -166,6 +166,7 @@ impl<T: Alternating> Spelled for OneOf<T> {
 }
 
 impl<T: Alternating> Encode for OneOf<T> {
+    #[inline(always)]
     fn encode_with_tag_and_constraints(
         &self,
         encoder: &mut Encoder<'_>,

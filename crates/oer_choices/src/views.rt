@@ -12,6 +12,7 @@ use oer_write::{Encode, Encoder};
 /// value.
 ///
 /// Refused by what the value is refused by, or for want of memory.
+#[inline(always)]
 pub fn put_alternative<E: Choice, T: Encode>(
     encoder: &mut Encoder<'_>,
     tag: Tag,
@@ -58,6 +59,7 @@ impl<'v> AlternativeViews<'v> for NoMore {
 
     ghost SeesOne = { λ v P. ⊤ };
 
+    #[inline(always)]
     fn write_alternative<E: Choice>(
         _view: &(),
         _encoder: &mut Encoder<'_>,
@@ -74,6 +76,7 @@ impl<'v, G: Place, B: Encode + 'v, R: AlternativeViews<'v>> AlternativeViews<'v>
 
     ghost SeesOne = { elim [ First b ↦ λ P. P (First b.now) | Rest r ↦ λ P. R.SeesOne r (λ v. P (Rest v)) ] };
 
+    #[inline(always)]
     fn write_alternative<E: Choice>(
         view: &Either<&'v B, R::View>,
         encoder: &mut Encoder<'_>,
@@ -90,6 +93,7 @@ impl<'v, R: AlternativeViews<'v>> AlternativeViews<'v> for Extensible<R> {
 
     ghost SeesOne = { λ v P. R.SeesOne v P };
 
+    #[inline(always)]
     fn write_alternative<E: Choice>(
         view: &R::View,
         encoder: &mut Encoder<'_>,

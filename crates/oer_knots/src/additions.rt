@@ -128,6 +128,7 @@ impl<'v, G: Place, B: Encode + 'v, R: AdditionViews<'v>> AdditionViews<'v> for M
 
     ghost seen = { λ v. both v.0.now (R.seen v.1) };
 
+    #[inline(always)]
     fn write_additions(
         view: &Both<&'v Option<B>, R::MoreView>,
         encoder: &mut Encoder<'_>,

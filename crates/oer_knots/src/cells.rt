@@ -119,6 +119,7 @@ impl<'v, G: Place, B: Encode + 'v, R: Views<'v>> Views<'v> for NeedsKnot<G, B, R
 
     ghost seen = { λ v. both v.0.now (R.seen v.1) };
 
+    #[inline(always)]
     fn write(view: &Both<&'v B, R::View>, encoder: &mut Encoder<'_>) -> Result<(), EncodeError> {
         view.0.encode_with_tag(encoder, G::tag())?;
         R::write(&view.1, encoder)
@@ -130,6 +131,7 @@ impl<'v, G: Place, B: Encode + 'v, R: Views<'v>> Views<'v> for MayHaveKnot<G, B,
 
     ghost seen = { λ v. both v.0.now (R.seen v.1) };
 
+    #[inline(always)]
     fn write(
         view: &Both<&'v Option<B>, R::View>,
         encoder: &mut Encoder<'_>,

@@ -138,6 +138,7 @@ impl<'v, G: Place, B: Encode + 'v, R: AlternativeViews<'v>> AlternativeViews<'v>
 
     ghost SeesOne = { elim [ First b ↦ λ P. P (First b.now) | Rest r ↦ λ P. R.SeesOne r (λ v. P (Rest v)) ] };
 
+    #[inline(always)]
     fn write_alternative<E: Choice>(
         view: &Either<&'v B, R::View>,
         encoder: &mut Encoder<'_>,

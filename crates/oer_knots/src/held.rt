@@ -38,6 +38,7 @@ impl<K: Spelled> Spelled for Held<K> {
 }
 
 impl<K: Encode> Encode for Held<K> {
+    #[inline(always)]
     fn encode_with_tag_and_constraints(
         &self,
         encoder: &mut Encoder<'_>,
@@ -125,7 +126,7 @@ impl<K: Spelled> Spelled for Bare<K> {
 }
 
 impl<K: Encode> Encode for Bare<K> {
-    #[inline]
+    #[inline(always)]
     fn encode_with_tag_and_constraints(
         &self,
         encoder: &mut Encoder<'_>,

@@ -146,12 +146,14 @@ impl<const RC: usize, const EC: usize, T: Tabled<RC, EC>> Writes for Sequence<T,
 
     ghost additions = { λ v. T.row_schema.additions.rows (T.components v.0) };
 
+    #[inline(always)]
     fn put(&self, encoder: &mut Encoder<'_>) -> Result<(), EncodeError> {
         self.0.put(encoder)
     }
 }
 
 impl<const RC: usize, const EC: usize, T: Tabled<RC, EC>> Encode for Sequence<T, RC, EC> {
+    #[inline(always)]
     fn encode_with_tag_and_constraints(
         &self,
         encoder: &mut Encoder<'_>,

@@ -114,6 +114,7 @@ impl<const RC: usize, const EC: usize, T: InTagOrder<RC, EC>> Writes for Set<T, 
 
     ghost additions = { λ v. T.row_schema.additions.rows (T.components v.0) };
 
+    #[inline(always)]
     fn put(&self, encoder: &mut Encoder<'_>) -> Result<(), EncodeError> {
         self.0.put(encoder)
     }

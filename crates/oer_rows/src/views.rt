@@ -34,6 +34,7 @@ impl<'v> Views<'v> for NoMore {
 
     ghost seen = { λ v. v };
 
+    #[inline(always)]
     fn write(_view: &(), _encoder: &mut Encoder<'_>) -> Result<(), EncodeError> {
         Ok(())
     }
@@ -44,6 +45,7 @@ impl<'v, G: Place, B: Encode + 'v, R: Views<'v>> Views<'v> for Needs<G, B, R> {
 
     ghost seen = { λ v. both v.0.now (R.seen v.1) };
 
+    #[inline(always)]
     fn write(view: &Both<&'v B, R::View>, encoder: &mut Encoder<'_>) -> Result<(), EncodeError> {
         view.0.encode_with_tag(encoder, G::tag())?;
         R::write(&view.1, encoder)
@@ -55,6 +57,7 @@ impl<'v, G: Place, B: Encode + 'v, R: Views<'v>> Views<'v> for MayHave<G, B, R> 
 
     ghost seen = { λ v. both v.0.now (R.seen v.1) };
 
+    #[inline(always)]
     fn write(
         view: &Both<&'v Option<B>, R::View>,
         encoder: &mut Encoder<'_>,
@@ -70,6 +73,7 @@ impl<'v, G: Place, B: Encode + EqualAsSpelled + 'v, D: Standard<B>, R: Views<'v>
 
     ghost seen = { λ v. both v.0.now (R.seen v.1) };
 
+    #[inline(always)]
     fn write(view: &Both<&'v B, R::View>, encoder: &mut Encoder<'_>) -> Result<(), EncodeError> {
         put_default::<D, B>(encoder, G::tag(), view.0)?;
         R::write(&view.1, encoder)
@@ -97,6 +101,7 @@ impl<'v> AdditionViews<'v> for NoMore {
 
     ghost seen = { λ v. v };
 
+    #[inline(always)]
     fn write_additions(_view: &(), _encoder: &mut Encoder<'_>) -> Result<(), EncodeError> {
         Ok(())
     }
@@ -107,6 +112,7 @@ impl<'v, G: Place, B: Encode + 'v, R: AdditionViews<'v>> AdditionViews<'v> for M
 
     ghost seen = { λ v. both v.0.now (R.seen v.1) };
 
+    #[inline(always)]
     fn write_additions(
         view: &Both<&'v Option<B>, R::MoreView>,
         encoder: &mut Encoder<'_>,
@@ -121,6 +127,7 @@ impl<'v, G: Place, B: Encode + 'v, R: AdditionViews<'v>> AdditionViews<'v> for A
 
     ghost seen = { λ v. both v.0.now (R.seen v.1) };
 
+    #[inline(always)]
     fn write_additions(
         view: &Both<&'v B, R::MoreView>,
         encoder: &mut Encoder<'_>,
@@ -141,6 +148,7 @@ impl<
 
     ghost seen = { λ v. both v.0.now (R.seen v.1) };
 
+    #[inline(always)]
     fn write_additions(
         view: &Both<&'v B, R::MoreView>,
         encoder: &mut Encoder<'_>,
@@ -161,6 +169,7 @@ impl<
 
     ghost seen = { λ v. both v.0.now (R.seen v.1) };
 
+    #[inline(always)]
     fn write_additions(
         view: &Both<&'v Option<B>, R::MoreView>,
         encoder: &mut Encoder<'_>,
@@ -175,6 +184,7 @@ impl<'v, R: AdditionViews<'v>> Views<'v> for Extensible<R> {
 
     ghost seen = { λ v. R.seen v };
 
+    #[inline(always)]
     fn write(view: &R::MoreView, encoder: &mut Encoder<'_>) -> Result<(), EncodeError> {
         R::write_additions(view, encoder)
     }

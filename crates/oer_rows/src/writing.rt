@@ -13,7 +13,7 @@ use oer_write::{Encode, Encoder};
 /// Writes a required component (X.696, 16).
 ///
 /// Refused by what the value is refused by.
-#[inline]
+#[inline(always)]
 pub fn put_needed<E: Encode>(
     encoder: &mut Encoder<'_>,
     tag: Tag,
@@ -30,7 +30,7 @@ pub fn put_needed<E: Encode>(
 /// Writes an OPTIONAL component: its presence bit, and the value that is there.
 ///
 /// Refused by what the value is refused by.
-#[inline]
+#[inline(always)]
 pub fn put_optional<E: Encode>(
     encoder: &mut Encoder<'_>,
     tag: Tag,
@@ -52,7 +52,7 @@ pub fn put_optional<E: Encode>(
 ///
 /// It doesn't ask what scope is open: as a set closes, what it wrote is dropped. Refused by what the value is refused by,
 /// or for want of memory; the octets of before and the open scopes stay.
-#[inline]
+#[inline(always)]
 pub fn put_default<D: Standard<E>, E: Encode + EqualAsSpelled>(
     encoder: &mut Encoder<'_>,
     tag: Tag,
@@ -70,7 +70,7 @@ pub fn put_default<D: Standard<E>, E: Encode + EqualAsSpelled>(
 /// Writes an OPTIONAL extension addition, one that is there as an open type (X.696, 16.4 and 30).
 ///
 /// Refused by what the value is refused by.
-#[inline]
+#[inline(always)]
 pub fn put_addition<E: Encode>(
     encoder: &mut Encoder<'_>,
     tag: Tag,
@@ -87,7 +87,7 @@ pub fn put_addition<E: Encode>(
 /// Writes a required extension addition as an open type (X.696, 16.4 and 30).
 ///
 /// Refused by what the value is refused by.
-#[inline]
+#[inline(always)]
 pub fn put_added<E: Encode>(
     encoder: &mut Encoder<'_>,
     tag: Tag,
@@ -103,7 +103,7 @@ pub fn put_added<E: Encode>(
 /// Writes an extension addition with the DEFAULT `D`: nothing but its bit of the bitmap where the value equals it.
 ///
 /// Refused by what the value is refused by.
-#[inline]
+#[inline(always)]
 pub fn put_default_addition<D: Standard<E>, E: Encode + EqualAsSpelled>(
     encoder: &mut Encoder<'_>,
     tag: Tag,
@@ -125,6 +125,7 @@ pub fn put_default_addition<D: Standard<E>, E: Encode + EqualAsSpelled>(
 /// Writes an addition group that is there as an open type (X.696, 16.4 and 30).
 ///
 /// Refused by what a component of the group is refused by.
+#[inline(always)]
 pub fn put_group<E: Encode>(encoder: &mut Encoder<'_>, value: &Option<E>) -> Result<(), EncodeError>
     ensures done { OnOk result (RowsDone NoRows (optional E.TAG (slot_of (E.tree E.CONSTRAINTS) value.now)) encoder.old encoder.new) }
     ensures value { OnOk result (IfSome value.now E.IsValue) }
@@ -153,7 +154,7 @@ pub trait Writes: Spelled {
 /// Writes a SEQUENCE (X.696, 16) by the rows of its value, with the tables of `C`: by the law of writing.
 ///
 /// Refused by what a component is refused by, or for want of memory.
-#[inline]
+#[inline(always)]
 pub fn encode_rows<const RC: usize, const EC: usize, C: Constructed<RC, EC>, T: Writes>(
     value: &T,
     encoder: &mut Encoder<'_>,

@@ -96,6 +96,7 @@ impl<K: Encode> Tabled<2, 0> for BushComponents<K> {
         &[]
     }
 
+    #[inline(always)]
     fn put(&self, encoder: &mut Encoder<'_>) -> Result<(), EncodeError> {
         BushRow::<K>::write(&views![self: a, b], encoder)
     }

@@ -100,6 +100,7 @@ impl Alternating for PriorityAlternatives {
         from_row!(value => PriorityAlternatives: Normal, High, Medium)
     }
 
+    #[inline(always)]
     fn put<E: Choice>(&self, encoder: &mut Encoder<'_>) -> Result<(), EncodeError> {
         let view = to_row!(self => PriorityAlternatives: Normal, High, Medium);
         PriorityRow::write_alternative::<E>(&view, encoder)
@@ -147,6 +148,7 @@ impl Alternating for WideAlternatives {
         from_row!(value => WideAlternatives: Normal, High, Medium)
     }
 
+    #[inline(always)]
     fn put<E: Choice>(&self, encoder: &mut Encoder<'_>) -> Result<(), EncodeError> {
         let view = to_row!(self => WideAlternatives: Normal, High, Medium);
         WideRow::write_alternative::<E>(&view, encoder)
@@ -194,6 +196,7 @@ impl Alternating for OnlyAlternatives {
         from_row!(value => OnlyAlternatives: Only)
     }
 
+    #[inline(always)]
     fn put<E: Choice>(&self, encoder: &mut Encoder<'_>) -> Result<(), EncodeError> {
         let view = to_row!(self => OnlyAlternatives: Only);
         OnlyRow::write_alternative::<E>(&view, encoder)
@@ -241,6 +244,7 @@ impl Alternating for BoolAlternatives {
         from_row!(value => BoolAlternatives: A, C, B)
     }
 
+    #[inline(always)]
     fn put<E: Choice>(&self, encoder: &mut Encoder<'_>) -> Result<(), EncodeError> {
         let view = to_row!(self => BoolAlternatives: A, C, B);
         BoolRow::write_alternative::<E>(&view, encoder)

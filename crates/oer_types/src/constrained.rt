@@ -52,6 +52,7 @@ impl Tabled<1, 0> for components::ConstrainedOptions {
         rows_of!(Self::EXTENDED_FIELDS)
     }
 
+    #[inline(always)]
     fn put(&self, encoder: &mut Encoder<'_>) -> Result<(), EncodeError> {
         ConstrainedOptionsRow::write(&Both(&self.a, ()), encoder)
     }

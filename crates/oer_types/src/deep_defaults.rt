@@ -113,6 +113,7 @@ impl Tabled<1, 0> for components::DeepDefault {
         rows_of!(Self::EXTENDED_FIELDS)
     }
 
+    #[inline(always)]
     fn put(&self, encoder: &mut Encoder<'_>) -> Result<(), EncodeError> {
         DeepDefaultRow::write(&Both(&self.n, ()), encoder)
     }

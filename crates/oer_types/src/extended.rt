@@ -111,6 +111,7 @@ impl Tabled<7, 4> for components::ExtendedOptional {
         rows_of!(Self::EXTENDED_FIELDS)
     }
 
+    #[inline(always)]
     fn put(&self, encoder: &mut Encoder<'_>) -> Result<(), EncodeError> {
         ExtendedRow::write(
             &views![self: value, integer1, octet1, integer2, octet2, integer3, octet3, integer4, octet4, integer5, octet5],

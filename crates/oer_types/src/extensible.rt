@@ -51,6 +51,7 @@ impl Tabled<1, 0> for components::Sequence1 {
         rows_of!(Self::EXTENDED_FIELDS)
     }
 
+    #[inline(always)]
     fn put(&self, encoder: &mut Encoder<'_>) -> Result<(), EncodeError> {
         Sequence1Row::write(&Both(&self.a, ()), encoder)
     }
@@ -110,6 +111,7 @@ impl Tabled<1, 2> for components::Sequence2 {
         rows_of!(Self::EXTENDED_FIELDS)
     }
 
+    #[inline(always)]
     fn put(&self, encoder: &mut Encoder<'_>) -> Result<(), EncodeError> {
         Sequence2Row::write(&Both(&self.a, Both(&self.b, Both(&self.c, ()))), encoder)
     }
@@ -162,6 +164,7 @@ impl Tabled<1, 1> for components::Sequence5 {
         rows_of!(Self::EXTENDED_FIELDS)
     }
 
+    #[inline(always)]
     fn put(&self, encoder: &mut Encoder<'_>) -> Result<(), EncodeError> {
         Sequence5Row::write(&Both(&self.a, Both(&self.b, ())), encoder)
     }
@@ -217,6 +220,7 @@ impl Tabled<1, 1> for components::Outer {
         rows_of!(Self::EXTENDED_FIELDS)
     }
 
+    #[inline(always)]
     fn put(&self, encoder: &mut Encoder<'_>) -> Result<(), EncodeError> {
         OuterRow::write(&Both(&self.a, Both(&self.b, ())), encoder)
     }
@@ -269,6 +273,7 @@ impl Tabled<0, 0> for components::EmptyExtensible {
         rows_of!(Self::EXTENDED_FIELDS)
     }
 
+    #[inline(always)]
     fn put(&self, encoder: &mut Encoder<'_>) -> Result<(), EncodeError> {
         EmptyExtensibleRow::write(&(), encoder)
     }

@@ -59,6 +59,7 @@ impl Tabled<1, 1> for components::AddDef {
         rows_of!(Self::EXTENDED_FIELDS)
     }
 
+    #[inline(always)]
     fn put(&self, encoder: &mut Encoder<'_>) -> Result<(), EncodeError> {
         AddDefRow::write(&Both(&self.a, Both(&self.b, ())), encoder)
     }
@@ -133,6 +134,7 @@ impl Tabled<1, 0> for components::Holder1 {
         rows_of!(Self::EXTENDED_FIELDS)
     }
 
+    #[inline(always)]
     fn put(&self, encoder: &mut Encoder<'_>) -> Result<(), EncodeError> {
         Holder1Row::write(&Both(&self.a, ()), encoder)
     }
@@ -207,6 +209,7 @@ impl Tabled<1, 0> for components::Holder2 {
         rows_of!(Self::EXTENDED_FIELDS)
     }
 
+    #[inline(always)]
     fn put(&self, encoder: &mut Encoder<'_>) -> Result<(), EncodeError> {
         Holder2Row::write(&Both(&self.a, ()), encoder)
     }

@@ -51,6 +51,7 @@ impl Tabled<1, 0> for components::Sequence4 {
         rows_of!(Self::EXTENDED_FIELDS)
     }
 
+    #[inline(always)]
     fn put(&self, encoder: &mut Encoder<'_>) -> Result<(), EncodeError> {
         Sequence4Row::write(&Both(&self.a, ()), encoder)
     }
@@ -103,6 +104,7 @@ impl Tabled<1, 1> for components::Sequence3 {
         rows_of!(Self::EXTENDED_FIELDS)
     }
 
+    #[inline(always)]
     fn put(&self, encoder: &mut Encoder<'_>) -> Result<(), EncodeError> {
         Sequence3Row::write(&Both(&self.a, Both(&self.b, ())), encoder)
     }
@@ -155,6 +157,7 @@ impl Tabled<1, 0> for components::Group6 {
         rows_of!(Self::EXTENDED_FIELDS)
     }
 
+    #[inline(always)]
     fn put(&self, encoder: &mut Encoder<'_>) -> Result<(), EncodeError> {
         Group6Row::write(&Both(&self.a, ()), encoder)
     }
@@ -207,6 +210,7 @@ impl Tabled<1, 1> for components::Sequence6 {
         rows_of!(Self::EXTENDED_FIELDS)
     }
 
+    #[inline(always)]
     fn put(&self, encoder: &mut Encoder<'_>) -> Result<(), EncodeError> {
         Sequence6Row::write(&Both(&self.a, Both(&self.b, ())), encoder)
     }

@@ -60,6 +60,7 @@ impl<T: Decode + Encode> Tabled<1, 0> for HoldingComponents<T> {
         &[]
     }
 
+    #[inline(always)]
     fn put(&self, encoder: &mut Encoder<'_>) -> Result<(), EncodeError> {
         <HoldingRow<T>>::write(&Both(&self.inner, ()), encoder)
     }
@@ -125,6 +126,7 @@ impl<T: Decode + Encode> Tabled<1, 1> for AddingComponents<T> {
         INNER_ADDITIONS
     }
 
+    #[inline(always)]
     fn put(&self, encoder: &mut Encoder<'_>) -> Result<(), EncodeError> {
         <AddingRow<T>>::write(&Both(&self.ok, Both(&self.inner, ())), encoder)
     }

@@ -97,6 +97,7 @@ impl<K: Encode> Tabled<2, 0> for LinkComponents<K> {
         &[]
     }
 
+    #[inline(always)]
     fn put(&self, encoder: &mut Encoder<'_>) -> Result<(), EncodeError> {
         LinkRow::<K>::write(&views![self: a, b], encoder)
     }
@@ -164,6 +165,7 @@ impl<K: Encode> Alternating for LinkAlternatives<K> {
         from_row!(value => LinkAlternatives: A, B)
     }
 
+    #[inline(always)]
     fn put<E: Choice>(&self, encoder: &mut Encoder<'_>) -> Result<(), EncodeError> {
         let view = to_row!(self => LinkAlternatives: A, B);
         LinkChoiceRow::<K>::write_alternative::<E>(&view, encoder)
@@ -230,6 +232,7 @@ impl Layered for Link {
 }
 
 /// Writes what a `Link` holds.
+#[inline(always)]
 fn encode_content<K: Encode>(
     inner: &LinkContent<K>,
     encoder: &mut Encoder<'_>,
@@ -243,6 +246,7 @@ fn encode_content<K: Encode>(
 }
 
 impl Encode for Link {
+    #[inline(always)]
     fn encode_with_tag_and_constraints(
         &self,
         encoder: &mut Encoder<'_>,

@@ -112,6 +112,7 @@ impl Tabled<13, 0> for components::ManyOptional {
         rows_of!(Self::EXTENDED_FIELDS)
     }
 
+    #[inline(always)]
     fn put(&self, encoder: &mut Encoder<'_>) -> Result<(), EncodeError> {
         ManyRow::write(
             &views![self: value, integer1, octet1, integer2, octet2, integer3, octet3, integer4, integer5, integer6, integer7, integer8, integer9],

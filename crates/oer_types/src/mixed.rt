@@ -58,6 +58,7 @@ impl Tabled<2, 0> for MixedComponents {
         rows_of!(Self::EXTENDED_FIELDS)
     }
 
+    #[inline(always)]
     fn put(&self, encoder: &mut Encoder<'_>) -> Result<(), EncodeError> {
         MixedRow::write(&Both(&self.priority, Both(&self.names, ())), encoder)
     }

@@ -74,6 +74,7 @@ impl Tabled<3, 1> for components::MixedSet {
         rows_of!(Self::EXTENDED_FIELDS)
     }
 
+    #[inline(always)]
     fn put(&self, encoder: &mut Encoder<'_>) -> Result<(), EncodeError> {
         MixedSetRow::write(
             &Both(&self.z, Both(&self.y, Both(&self.x, Both(&self.n, ())))),
@@ -160,6 +161,7 @@ impl Tabled<3, 2> for components::MixedSet2 {
         rows_of!(Self::EXTENDED_FIELDS)
     }
 
+    #[inline(always)]
     fn put(&self, encoder: &mut Encoder<'_>) -> Result<(), EncodeError> {
         MixedSet2Row::write(
             &Both(

@@ -51,6 +51,7 @@ impl Tabled<1, 1> for components::Omitted {
         rows_of!(Self::EXTENDED_FIELDS)
     }
 
+    #[inline(always)]
     fn put(&self, encoder: &mut Encoder<'_>) -> Result<(), EncodeError> {
         OmittedRow::write(&Both(&self.a, Both(&self.omitted, ())), encoder)
     }
@@ -121,6 +122,7 @@ impl Tabled<3, 1> for components::SequenceDuplicatesExtended {
         rows_of!(Self::EXTENDED_FIELDS)
     }
 
+    #[inline(always)]
     fn put(&self, encoder: &mut Encoder<'_>) -> Result<(), EncodeError> {
         SequenceDuplicatesExtendedRow::write(
             &Both(

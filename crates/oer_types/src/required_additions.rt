@@ -57,6 +57,7 @@ impl Tabled<1, 1> for SureComponents {
         rows_of!(Self::EXTENDED_FIELDS)
     }
 
+    #[inline(always)]
     fn put(&self, encoder: &mut Encoder<'_>) -> Result<(), EncodeError> {
         SureRow::write(&Both(&self.ok, Both(&self.sure, ())), encoder)
     }

@@ -52,6 +52,7 @@ impl Tabled<2, 0> for components::Nested {
         rows_of!(Self::EXTENDED_FIELDS)
     }
 
+    #[inline(always)]
     fn put(&self, encoder: &mut Encoder<'_>) -> Result<(), EncodeError> {
         NestedRow::write(&Both(&self.a, Both(&self.b, ())), encoder)
     }
@@ -104,6 +105,7 @@ impl Tabled<0, 0> for components::Empty {
         rows_of!(Self::EXTENDED_FIELDS)
     }
 
+    #[inline(always)]
     fn put(&self, encoder: &mut Encoder<'_>) -> Result<(), EncodeError> {
         EmptyRow::write(&(), encoder)
     }
@@ -156,6 +158,7 @@ impl Tabled<1, 0> for components::DefaultInteger {
         rows_of!(Self::EXTENDED_FIELDS)
     }
 
+    #[inline(always)]
     fn put(&self, encoder: &mut Encoder<'_>) -> Result<(), EncodeError> {
         DefaultIntegerRow::write(&Both(&self.a, ()), encoder)
     }
@@ -213,6 +216,7 @@ impl Tabled<2, 0> for components::DefaultAndOptional {
         rows_of!(Self::EXTENDED_FIELDS)
     }
 
+    #[inline(always)]
     fn put(&self, encoder: &mut Encoder<'_>) -> Result<(), EncodeError> {
         DefaultAndOptionalRow::write(&Both(&self.a, Both(&self.b, ())), encoder)
     }
@@ -270,6 +274,7 @@ impl Tabled<2, 0> for components::AllDefault {
         rows_of!(Self::EXTENDED_FIELDS)
     }
 
+    #[inline(always)]
     fn put(&self, encoder: &mut Encoder<'_>) -> Result<(), EncodeError> {
         AllDefaultRow::write(&Both(&self.a, Both(&self.b, ())), encoder)
     }
@@ -322,6 +327,7 @@ impl Tabled<2, 0> for components::AllOptional {
         rows_of!(Self::EXTENDED_FIELDS)
     }
 
+    #[inline(always)]
     fn put(&self, encoder: &mut Encoder<'_>) -> Result<(), EncodeError> {
         AllOptionalRow::write(&Both(&self.a, Both(&self.b, ())), encoder)
     }

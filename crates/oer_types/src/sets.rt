@@ -63,6 +63,7 @@ impl Tabled<3, 0> for components::Foo {
         rows_of!(Self::EXTENDED_FIELDS)
     }
 
+    #[inline(always)]
     fn put(&self, encoder: &mut Encoder<'_>) -> Result<(), EncodeError> {
         FooRow::write(&Both(&self.c, Both(&self.b, Both(&self.a, ()))), encoder)
     }

@@ -120,6 +120,7 @@ impl<K: Encode> Tabled<2, 0> for TopLevelComponents<K> {
         &[]
     }
 
+    #[inline(always)]
     fn put(&self, encoder: &mut Encoder<'_>) -> Result<(), EncodeError> {
         TopRow::<K>::write(&views![self: test, choice], encoder)
     }
@@ -190,6 +191,7 @@ impl<K: Encode> Alternating for TestAlternatives<K> {
         from_row!(value => TestAlternatives: Number1, Number2, Number3)
     }
 
+    #[inline(always)]
     fn put<E: Choice>(&self, encoder: &mut Encoder<'_>) -> Result<(), EncodeError> {
         let view = to_row!(self => TestAlternatives: Number1, Number2, Number3);
         TestRow::<K>::write_alternative::<E>(&view, encoder)

@@ -62,6 +62,7 @@ impl Tabled<2, 0> for Addition7Components {
         rows_of!(Self::EXTENDED_FIELDS)
     }
 
+    #[inline(always)]
     fn put(&self, encoder: &mut Encoder<'_>) -> Result<(), EncodeError> {
         Addition7Row::write(&Both(&self.e, Both(&self.f, ())), encoder)
     }
@@ -142,6 +143,7 @@ impl Tabled<1, 4> for Sequence7Components {
         rows_of!(Self::EXTENDED_FIELDS)
     }
 
+    #[inline(always)]
     fn put(&self, encoder: &mut Encoder<'_>) -> Result<(), EncodeError> {
         Sequence7Row::write(
             &Both(

@@ -28,7 +28,7 @@ pub trait Encode: Spelled {
         ensures refused { IfErr result (λ x. Refused (Self.tree constraints self.now) x encoder.old encoder.new) };
 
     /// Writes the value under the type's own constraints.
-    #[inline]
+    #[inline(always)]
     final fn encode(&self, encoder: &mut Encoder<'_>) -> Result<(), EncodeError>
         ensures done { OnOk result (Encodes (Self.tree Self.CONSTRAINTS self.now) encoder.old encoder.new) }
         ensures value { OnOk result (Self.IsValue self.now) }
@@ -38,7 +38,7 @@ pub trait Encode: Spelled {
     }
 
     /// Writes the value with another tag, under the type's own constraints.
-    #[inline]
+    #[inline(always)]
     final fn encode_with_tag(&self, encoder: &mut Encoder<'_>, tag: Tag) -> Result<(), EncodeError>
         ensures done { OnOk result (Encodes (Self.tree Self.CONSTRAINTS self.now) encoder.old encoder.new) }
         ensures value { OnOk result (Self.IsValue self.now) }
@@ -48,7 +48,7 @@ pub trait Encode: Spelled {
     }
 
     /// Writes the value under constraints that stand in place of the type's own.
-    #[inline]
+    #[inline(always)]
     final fn encode_with_constraints(
         &self,
         encoder: &mut Encoder<'_>,
@@ -71,7 +71,7 @@ pub trait Encode: Spelled {
 }
 
 impl Encode for bool {
-    #[inline]
+    #[inline(always)]
     fn encode_with_tag_and_constraints(
         &self,
         encoder: &mut Encoder<'_>,
@@ -83,7 +83,7 @@ impl Encode for bool {
 }
 
 impl Encode for () {
-    #[inline]
+    #[inline(always)]
     fn encode_with_tag_and_constraints(
         &self,
         encoder: &mut Encoder<'_>,
@@ -96,7 +96,7 @@ impl Encode for () {
 
 /// A box is written as its content.
 impl<T: Encode> Encode for Box<T> {
-    #[inline]
+    #[inline(always)]
     fn encode_with_tag_and_constraints(
         &self,
         encoder: &mut Encoder<'_>,
@@ -108,7 +108,7 @@ impl<T: Encode> Encode for Box<T> {
 }
 
 impl<T: Encode> Encode for Vec<T> {
-    #[inline]
+    #[inline(always)]
     fn encode_with_tag_and_constraints(
         &self,
         encoder: &mut Encoder<'_>,
@@ -120,7 +120,7 @@ impl<T: Encode> Encode for Vec<T> {
 }
 
 impl Encode for BitString {
-    #[inline]
+    #[inline(always)]
     fn encode_with_tag_and_constraints(
         &self,
         encoder: &mut Encoder<'_>,
@@ -132,7 +132,7 @@ impl Encode for BitString {
 }
 
 impl Encode for OctetString {
-    #[inline]
+    #[inline(always)]
     fn encode_with_tag_and_constraints(
         &self,
         encoder: &mut Encoder<'_>,
@@ -144,7 +144,7 @@ impl Encode for OctetString {
 }
 
 impl Encode for Any {
-    #[inline]
+    #[inline(always)]
     fn encode_with_tag_and_constraints(
         &self,
         encoder: &mut Encoder<'_>,

@@ -5,7 +5,7 @@ use asn1_core::{Constraints, EncodeError, Tag};
 use asn1_ints::{ConstrainedInteger, Integer, IntegerRange};
 
 impl Encode for i8 {
-    #[inline]
+    #[inline(always)]
     fn encode_with_tag_and_constraints(
         &self,
         encoder: &mut Encoder<'_>,
@@ -17,7 +17,7 @@ impl Encode for i8 {
 }
 
 impl Encode for i16 {
-    #[inline]
+    #[inline(always)]
     fn encode_with_tag_and_constraints(
         &self,
         encoder: &mut Encoder<'_>,
@@ -29,7 +29,7 @@ impl Encode for i16 {
 }
 
 impl Encode for i32 {
-    #[inline]
+    #[inline(always)]
     fn encode_with_tag_and_constraints(
         &self,
         encoder: &mut Encoder<'_>,
@@ -41,7 +41,7 @@ impl Encode for i32 {
 }
 
 impl Encode for i64 {
-    #[inline]
+    #[inline(always)]
     fn encode_with_tag_and_constraints(
         &self,
         encoder: &mut Encoder<'_>,
@@ -53,7 +53,7 @@ impl Encode for i64 {
 }
 
 impl Encode for i128 {
-    #[inline]
+    #[inline(always)]
     fn encode_with_tag_and_constraints(
         &self,
         encoder: &mut Encoder<'_>,
@@ -65,7 +65,7 @@ impl Encode for i128 {
 }
 
 impl Encode for isize {
-    #[inline]
+    #[inline(always)]
     fn encode_with_tag_and_constraints(
         &self,
         encoder: &mut Encoder<'_>,
@@ -77,7 +77,7 @@ impl Encode for isize {
 }
 
 impl Encode for u8 {
-    #[inline]
+    #[inline(always)]
     fn encode_with_tag_and_constraints(
         &self,
         encoder: &mut Encoder<'_>,
@@ -89,7 +89,7 @@ impl Encode for u8 {
 }
 
 impl Encode for u16 {
-    #[inline]
+    #[inline(always)]
     fn encode_with_tag_and_constraints(
         &self,
         encoder: &mut Encoder<'_>,
@@ -101,7 +101,7 @@ impl Encode for u16 {
 }
 
 impl Encode for u32 {
-    #[inline]
+    #[inline(always)]
     fn encode_with_tag_and_constraints(
         &self,
         encoder: &mut Encoder<'_>,
@@ -113,7 +113,7 @@ impl Encode for u32 {
 }
 
 impl Encode for u64 {
-    #[inline]
+    #[inline(always)]
     fn encode_with_tag_and_constraints(
         &self,
         encoder: &mut Encoder<'_>,
@@ -125,7 +125,7 @@ impl Encode for u64 {
 }
 
 impl Encode for u128 {
-    #[inline]
+    #[inline(always)]
     fn encode_with_tag_and_constraints(
         &self,
         encoder: &mut Encoder<'_>,
@@ -137,7 +137,7 @@ impl Encode for u128 {
 }
 
 impl Encode for usize {
-    #[inline]
+    #[inline(always)]
     fn encode_with_tag_and_constraints(
         &self,
         encoder: &mut Encoder<'_>,
@@ -149,7 +149,7 @@ impl Encode for usize {
 }
 
 impl Encode for Integer {
-    #[inline]
+    #[inline(always)]
     fn encode_with_tag_and_constraints(
         &self,
         encoder: &mut Encoder<'_>,
@@ -161,7 +161,7 @@ impl Encode for Integer {
 }
 
 impl<R: IntegerRange> Encode for ConstrainedInteger<R> {
-    #[inline]
+    #[inline(always)]
     fn encode_with_tag_and_constraints(
         &self,
         encoder: &mut Encoder<'_>,

@@ -15,7 +15,7 @@ impl<'buffer> Encoder<'buffer> {
     ///
     /// Refused for want of memory alone.
     #[tactic(auto, using(crate::proofs::Regions::more_around, crate::proofs::Regions::more_within), unfolding(oer_spec::specs::Spelled::boolean, oer_spec::specs::Encoding::canonical_octets, oer_spec::specs::Encoding::fails))]
-    #[inline]
+    #[inline(always)]
     pub fn encode_bool(&mut self, _tag: Tag, value: bool) -> Result<(), EncodeError>
         ensures done { OnOk result (Encodes (boolean value) self.old self.new) }
         ensures refused { IfErr result (λ x. WantsMemory x × Keeps self.old self.new) }
@@ -58,7 +58,7 @@ impl<'buffer> Encoder<'buffer> {
     ///
     /// A number outside a range that isn't extensible, or outside i128 under one, is refused by
     /// `ValueConstraintNotSatisfied`.
-    #[inline]
+    #[inline(always)]
     pub fn encode_integer<I: IntegerType>(
         &mut self,
         _tag: Tag,
@@ -74,7 +74,7 @@ impl<'buffer> Encoder<'buffer> {
     }
 
     #[tactic(auto, using(crate::proofs::Regions::more_around, crate::proofs::Regions::more_within), unfolding(oer_spec::specs::Spelled::integer, oer_spec::specs::Encoding::canonical_octets, oer_spec::specs::Encoding::fails))]
-    #[inline]
+    #[inline(always)]
     fn put_integer<I: IntegerType>(
         &mut self,
         constraints: Constraints,

@@ -27,6 +27,7 @@ fn octets_of(octets: &[u8]) -> &[u8]
 }
 
 impl Encode for Utf8String {
+    #[inline(always)]
     fn encode_with_tag_and_constraints(
         &self,
         encoder: &mut Encoder<'_>,
@@ -39,6 +40,7 @@ impl Encode for Utf8String {
 
 /// A restricted character string of any character set.
 impl<C: CharacterSet> Encode for RestrictedString<C> {
+    #[inline(always)]
     fn encode_with_tag_and_constraints(
         &self,
         encoder: &mut Encoder<'_>,

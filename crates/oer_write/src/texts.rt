@@ -22,6 +22,7 @@ impl<'buffer> Encoder<'buffer> {
     /// Refused, the first that applies: a size that a constraint that isn't extensible doesn't allow, by
     /// `SizeConstraintNotSatisfied` with the size; more than `usize::MAX / 8` octets behind a length, by
     /// `LengthExceedsPlatformSize`.
+    #[inline(always)]
     pub fn encode_bit_string(
         &mut self,
         _tag: Tag,
@@ -36,6 +37,7 @@ impl<'buffer> Encoder<'buffer> {
     }
 
     #[tactic(auto, using(crate::proofs::Regions::more_around, crate::proofs::Regions::more_within), unfolding(oer_spec::specs::Spelled::bit_string, oer_spec::specs::Encoding::canonical_octets, oer_spec::specs::Encoding::fails))]
+    #[inline(always)]
     fn put_bits(&mut self, constraints: Constraints, value: &BitString) -> Result<(), EncodeError>
         ensures done { OnOk result (Encodes (bit_string constraints value.now) self.old self.new) }
         ensures refused { IfErr result (λ x. RefusedLeaf (Bits (size_bounds constraints) value.now) x self.old self.new) }
@@ -49,6 +51,7 @@ impl<'buffer> Encoder<'buffer> {
     /// Refused, the first that applies: a size that a constraint that isn't extensible doesn't allow, by
     /// `SizeConstraintNotSatisfied` with the size; more than `usize::MAX / 8` octets behind a length, by
     /// `LengthExceedsPlatformSize`.
+    #[inline(always)]
     pub fn encode_octet_string(
         &mut self,
         _tag: Tag,
@@ -63,6 +66,7 @@ impl<'buffer> Encoder<'buffer> {
     }
 
     #[tactic(auto, using(crate::proofs::Regions::more_around, crate::proofs::Regions::more_within), unfolding(oer_spec::specs::Spelled::text, oer_spec::specs::Encoding::canonical_octets, oer_spec::specs::Encoding::fails))]
+    #[inline(always)]
     fn put_octets(&mut self, constraints: Constraints, value: &[u8]) -> Result<(), EncodeError>
         ensures done { OnOk result (Encodes (text AnyOctets constraints value.now) self.old self.new) }
         ensures refused { IfErr result (λ x. RefusedLeaf (Text AnyOctets (size_bounds constraints) (InOctets value.now)) x self.old self.new) }
@@ -74,6 +78,7 @@ impl<'buffer> Encoder<'buffer> {
     /// Writes octets as an open type (X.696, 30): a length, and the octets.
     ///
     /// More than `usize::MAX / 8` octets are refused by `LengthExceedsPlatformSize`.
+    #[inline(always)]
     pub fn encode_any(&mut self, _tag: Tag, value: &Any) -> Result<(), EncodeError>
         ensures done { OnOk result (Encodes (unsized_text AnyOctets value.now) self.old self.new) }
         ensures refused { IfErr result (λ x. RefusedLeaf (Text AnyOctets None (InOctets value.now)) x self.old self.new) }
@@ -83,6 +88,7 @@ impl<'buffer> Encoder<'buffer> {
     }
 
     #[tactic(auto, using(crate::proofs::Regions::more_around, crate::proofs::Regions::more_within), unfolding(oer_spec::specs::Spelled::unsized_text, oer_spec::specs::Encoding::canonical_octets, oer_spec::specs::Encoding::fails))]
+    #[inline(always)]
     fn put_any(&mut self, value: &Any) -> Result<(), EncodeError>
         ensures done { OnOk result (Encodes (unsized_text AnyOctets value.now) self.old self.new) }
         ensures refused { IfErr result (λ x. RefusedLeaf (Text AnyOctets None (InOctets value.now)) x self.old self.new) }
@@ -96,6 +102,7 @@ impl<'buffer> Encoder<'buffer> {
     /// Refused, the first that applies: a size that a constraint that isn't extensible doesn't allow, by
     /// `SizeConstraintNotSatisfied` with the size; more than `usize::MAX / 8` octets behind a length, by
     /// `LengthExceedsPlatformSize`.
+    #[inline(always)]
     pub fn encode_utf8_string(
         &mut self,
         _tag: Tag,
@@ -110,6 +117,7 @@ impl<'buffer> Encoder<'buffer> {
     }
 
     #[tactic(auto, using(crate::proofs::Regions::more_around, crate::proofs::Regions::more_within), unfolding(oer_spec::specs::Spelled::text, oer_spec::specs::Encoding::canonical_octets, oer_spec::specs::Encoding::fails))]
+    #[inline(always)]
     fn put_utf8(&mut self, constraints: Constraints, value: &str) -> Result<(), EncodeError>
         ensures done { OnOk result (Encodes (text Utf8 constraints value.now) self.old self.new) }
         ensures refused { IfErr result (λ x. RefusedLeaf (Text Utf8 (size_bounds constraints) (InOctets value.now)) x self.old self.new) }
@@ -123,6 +131,7 @@ impl<'buffer> Encoder<'buffer> {
     /// Refused, the first that applies: a size that a constraint that isn't extensible doesn't allow, by
     /// `SizeConstraintNotSatisfied` with the size; more than `usize::MAX / 8` octets behind a length, by
     /// `LengthExceedsPlatformSize`.
+    #[inline(always)]
     pub fn encode_visible_string(
         &mut self,
         _tag: Tag,
@@ -141,6 +150,7 @@ impl<'buffer> Encoder<'buffer> {
     /// Refused, the first that applies: a size that a constraint that isn't extensible doesn't allow, by
     /// `SizeConstraintNotSatisfied` with the size; more than `usize::MAX / 8` octets behind a length, by
     /// `LengthExceedsPlatformSize`.
+    #[inline(always)]
     pub fn encode_general_string(
         &mut self,
         _tag: Tag,
@@ -159,6 +169,7 @@ impl<'buffer> Encoder<'buffer> {
     /// Refused, the first that applies: a size that a constraint that isn't extensible doesn't allow, by
     /// `SizeConstraintNotSatisfied` with the size; more than `usize::MAX / 8` octets behind a length, by
     /// `LengthExceedsPlatformSize`.
+    #[inline(always)]
     pub fn encode_graphic_string(
         &mut self,
         _tag: Tag,
@@ -177,6 +188,7 @@ impl<'buffer> Encoder<'buffer> {
     /// Refused, the first that applies: a size that a constraint that isn't extensible doesn't allow, by
     /// `SizeConstraintNotSatisfied` with the size; more than `usize::MAX / 8` octets behind a length, by
     /// `LengthExceedsPlatformSize`.
+    #[inline(always)]
     pub fn encode_ia5_string(
         &mut self,
         _tag: Tag,
@@ -195,6 +207,7 @@ impl<'buffer> Encoder<'buffer> {
     /// Refused, the first that applies: a size that a constraint that isn't extensible doesn't allow, by
     /// `SizeConstraintNotSatisfied` with the size; more than `usize::MAX / 8` octets behind a length, by
     /// `LengthExceedsPlatformSize`.
+    #[inline(always)]
     pub fn encode_printable_string(
         &mut self,
         _tag: Tag,
@@ -213,6 +226,7 @@ impl<'buffer> Encoder<'buffer> {
     /// Refused, the first that applies: a size that a constraint that isn't extensible doesn't allow, by
     /// `SizeConstraintNotSatisfied` with the size; more than `usize::MAX / 8` octets behind a length, by
     /// `LengthExceedsPlatformSize`.
+    #[inline(always)]
     pub fn encode_numeric_string(
         &mut self,
         _tag: Tag,
@@ -231,6 +245,7 @@ impl<'buffer> Encoder<'buffer> {
     /// Refused, the first that applies: a size that a constraint that isn't extensible doesn't allow, by
     /// `SizeConstraintNotSatisfied` with the size; more than `usize::MAX / 8` octets behind a length, by
     /// `LengthExceedsPlatformSize`.
+    #[inline(always)]
     pub fn encode_teletex_string(
         &mut self,
         _tag: Tag,
@@ -249,6 +264,7 @@ impl<'buffer> Encoder<'buffer> {
     /// Refused, the first that applies: a size that a constraint that isn't extensible doesn't allow, by
     /// `SizeConstraintNotSatisfied` with the size; more than `usize::MAX / 8` octets behind a length, by
     /// `LengthExceedsPlatformSize`.
+    #[inline(always)]
     pub fn encode_bmp_string(
         &mut self,
         _tag: Tag,
@@ -263,6 +279,7 @@ impl<'buffer> Encoder<'buffer> {
     }
 
     #[tactic(auto, using(crate::proofs::Regions::more_around, crate::proofs::Regions::more_within), unfolding(oer_spec::specs::Spelled::text, oer_spec::specs::Encoding::canonical_octets, oer_spec::specs::Encoding::fails))]
+    #[inline(always)]
     fn put_text<C: CharacterSet>(
         &mut self,
         constraints: Constraints,
