@@ -1,13 +1,13 @@
 //! Lists of themselves.
-ghost use Rattle.std.specs.Prelude.{◌<◌, length, IfOk, IfErr};
-ghost use Rattle.oer_read.specs.Law.{Decodes, RefusedBy};
-ghost use Rattle.oer_read.specs.State.{apart};
-ghost use Rattle.oer_knots.specs.OwnLists.{Pushed};
+ghost use Rattle.std.specs.Prelude.{◌<◌};
+ghost use Rattle.std.specs.Result.{result_map_both};
+ghost use Rattle.oer_read.specs.Law.{Decodes, Promised};
+ghost use Rattle.oer_knots.specs.Answering.{bare, promised, of_list, KnotAnswers, within};
 
 use crate::held::Bare;
 use crate::knots::Knot;
-use asn1_core::{AsnType, Codec, DecodeError, DecodeErrorKind, Tag};
-use oer_read::{Decoder, keep};
+use asn1_core::{AsnType, DecodeError, Tag};
+use oer_read::Decoder;
 use oer_rows::ListOf;
 use oer_spec::Spelled;
 use std::alloc::Global;
@@ -52,68 +52,50 @@ impl<K: Spelled> Element<K> for Bare<K> {
 
 /// Reads a value of a type that is a list of itself (X.696, 17), within the levels left: each element within fewer.
 ///
-/// `decode_knotted` reads the same, and takes longer: there a value is taken apart and put together at each level.
+/// `decode_knotted` reads the same, and takes longer: here a result is the element of the list around it as it stands, and there
+/// it is taken apart and put together twice more.
 ///
 /// Refused, the first that applies: no level is left, as `ExceedsMaxParseDepth`; the quantity of elements as the decoder's
-/// `read_quantity` refuses it; in turn for each element, what it refuses. Memory may be refused, as `OutOfMemory`.
+/// `read_quantity` refuses it; in turn for each element, what it refuses, and the 65,537th without octets as
+/// `TooManyEmptyElements`. Memory may be refused, as `OutOfMemory`.
 pub fn decode_list_of_itself<B: Element<K>, K: Knot<ListOf<B>>>(
     alloc: Global,
     decoder: &mut Decoder<'_>,
-    _tag: Tag,
+    tag: Tag,
 ) -> Result<K, DecodeError>
-    ensures { Decodes (K.tree K.CONSTRAINTS) K.IsValue decoder.old result decoder.new }
+    ensures law { Decodes (K.tree K.CONSTRAINTS) K.IsValue decoder.old result decoder.new }
+    ensures answered { KnotAnswers K.content (of_list (λ vs. vs) (promised (B.tree B.CONSTRAINTS) B.IsValue (bare B.Knot.content))) decoder.old result decoder.new }
 {
-    let mut items: Vec<B> = Vec::new(alloc);
-    match push_element::<B, K>(
-        alloc,
-        decoder.codec(),
-        decoder.levels(),
-        decoder.remaining(),
-        &mut items,
-        1,
-    ) {
+    match decode_element::<B, K>(alloc, decoder, tag) {
+        Ok(element) => Ok(element.into_held()),
         Err(e) => Err(e),
-        Ok(rest) => {
-            decoder.set_remaining(rest);
-            match items.pop() {
-                Some(element) => Ok(element.into_held()),
-                None => unreachable!(),
-            }
-        }
     }
 }
 
-/// Reads a value from the front of these octets, as an element of a list of so many, puts it behind those that were read, and
-/// answers what is left. No decoder and no value is handed on, since both would lie in memory at each level.
+/// Reads a value as an element of the list around it.
 ///
-/// Refused as `decode_list_of_itself` refuses. An element takes octets for its own quantity, so none counts as empty.
-#[cycle(push_element)]
-fn push_element<'a, B: Element<K>, K: Knot<ListOf<B>>>(
+/// Refused as `decode_list_of_itself` refuses.
+#[cycle(decode_element)]
+fn decode_element<B: Element<K>, K: Knot<ListOf<B>>>(
     alloc: Global,
-    codec: Codec,
-    levels: usize,
-    input: &'a [u8],
-    items: &mut Vec<B>,
-    quantity: usize,
-) -> Result<&'a [u8], DecodeError>
-    ensures read { IfOk result (λ rest. Pushed (B.tree B.CONSTRAINTS) B.IsValue (apart codec levels input.entry.now) items.old.items items.new.items (apart codec levels rest.now)) }
-    ensures takes { IfOk result (λ rest. length rest.now < length input.entry.now) }
-    ensures refused { IfErr result (λ e. RefusedBy (B.tree B.CONSTRAINTS) B.IsValue e (apart codec levels input.entry.now) (apart codec levels input.entry.now)) }
+    decoder: &mut Decoder<'_>,
+    tag: Tag,
+) -> Result<B, DecodeError>
+    ensures law { Decodes (B.tree B.CONSTRAINTS) B.IsValue decoder.old result decoder.new }
+    ensures answered { KnotAnswers K.content (of_list (λ vs. vs) (promised (B.tree B.CONSTRAINTS) B.IsValue (bare B.Knot.content))) decoder.old (result_map_both B.Knot.content (λ e. e) result) decoder.new }
 {
-    let list: Decoder<'a> = Decoder::apart(input, codec, levels);
-    match list.open_list() {
-        Err(kind) => Err(kind.with_codec(codec)),
-        Ok((count, start)) => {
-            let mut own: Vec<B> = Vec::new(alloc);
-            let mut rest = start;
-            for i in 0..count {
-                rest = push_element::<B, K>(alloc, codec, levels - 1, rest, &mut own, count)?;
-            }
-            let element = B::from_content(K::from_content(ListOf(own)));
-            match keep(items, element, quantity, input.len(), rest.len()) {
-                Ok(()) => Ok(rest),
-                Err(_) => Err(DecodeErrorKind::OutOfMemory.with_codec(codec)),
-            }
-        }
-    }
+    let levels = decoder.levels();
+    let items = decoder.decode_sequence_of_with::<B, _>(
+        alloc,
+        tag,
+        ListOf::<B>::CONSTRAINTS,
+        |inner: &mut Decoder<'_>| -> Result<B, DecodeError>
+            requires { inner.old.levels < levels }
+            ensures { Promised (B.tree B.CONSTRAINTS) B.IsValue (λ s r t. within K.content (of_list (λ vs. vs) (promised (B.tree B.CONSTRAINTS) B.IsValue (bare B.Knot.content))) levels s (result_map_both B.Knot.content (λ e. e) r) t) inner.old result inner.new }
+        {
+            let _bound = levels;
+            decode_element::<B, K>(alloc, inner, K::TAG)
+        },
+    )?;
+    Ok(B::from_content(K::from_content(ListOf(items))))
 }
