@@ -5,8 +5,8 @@ usage: instructions.py [--write] [CRATES]
 
 CRATES is the folder with crates/oer_speed, whose binary lies in out/ once `rt run` or `rt ci` built it. Each row is run by
 `valgrind --tool=callgrind`, which counts what the processor does, not how long it takes: so the figures are the same on every
-machine, up to how its C library copies. A figure is a tenth of what twelve runs take more than two. It may be at most 3 % above
-the one in the file: what makes a row dearer is seen. One that is more than 3 % below is named, so that the file is made anew by
+machine, up to how its C library copies. A figure is a two-hundredth of what 202 runs take more than two. It may be at most 3 %
+and one instruction above the one in the file: what makes a row dearer is seen. One that is more than 3 % below is named, so that the file is made anew by
 `--write`. Where valgrind isn't installed a line says so, and the status is 0.
 """
 import concurrent.futures
@@ -61,8 +61,8 @@ def collected(program, word, way, times, octets):
 def count(program, row, way):
     """The instructions of one encoding or decoding of that row's value."""
     word, octets = ROWS[row]
-    few, many = (collected(program, word, way, times, octets) for times in (2, 12))
-    return round((many - few) / 10)
+    few, many = (collected(program, word, way, times, octets) for times in (2, 202))
+    return round((many - few) / 200)
 
 
 def stated():
@@ -95,10 +95,10 @@ def main(words):
     before, dearer = stated(), 0
     for task, n in figures.items():
         was = before.get(task)
-        if was is None or n > was * MOST:
+        if was is None or n > was * MOST + 1:
             dearer += 1
             print(f"instructions: {' '.join(task)} takes {n}, and {'has no figure' if was is None else was} in {FILE.name}")
-        elif n * MOST < was:
+        elif n * MOST + 1 < was:
             print(f"instructions: {' '.join(task)} takes {n}, less than the {was} in {FILE.name}: write it anew")
     print(f"instructions: {len(figures) - dearer} of {len(figures)} figures are at most 3 % above those in {FILE.name}")
     return 1 if dearer else 0
