@@ -28,19 +28,8 @@ class Maker:
         form = self.rng.randrange(10)
         if form == 0:
             return self.rng.choice((f"{low}..MAX", "least..MAX", "0..most"))
-        if form == 1:
-            return f"MIN..{high}"
-        if form == 2:
-            return f"{low}"
-        if form == 3:
-            return f"{low}<..{high + 2}"
-        if form == 4:
-            return f"{low - 2}..<{high}"
-        if form == 5:
-            return f"{low} | {high}"
-        if form == 6:
-            return f"{low}..{high} EXCEPT {low}"
-        return f"{low}..{high}"
+        forms = [f"MIN..{high}", f"{low}", f"{low}<..{high + 2}", f"{low - 2}..<{high}", f"{low} | {high}", f"{low}..{high} EXCEPT {low}"]
+        return forms[form - 1] if form <= len(forms) else f"{low}..{high}"
 
     def integer(self):
         named = " { low(-3), high(3) }" if self.rng.random() < 0.1 else ""

@@ -42,8 +42,8 @@ impl OctetType for AnyType {
 
 /// Octets: a value of OCTET STRING, or the content of an open type.
 ///
-/// The octets have one owner: so they take one request for memory, where `Bytes` takes another to count its owners. They
-/// stand in a box: `BytesMut` is eight words, all of which are moved wherever a value is.
+/// The octets have one owner, and stand in a box: `BytesMut` is eight words, all of which would be moved wherever a value
+/// is. So they take two requests for memory.
 #[derive_where(Debug)]
 #[derive(Drop)]
 pub struct OctetContent<K: OctetType> {
