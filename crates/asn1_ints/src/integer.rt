@@ -258,6 +258,7 @@ impl IntegerType for Integer {
         Integer::to_i128(self)
     }
 
+    #[inline(always)]
     fn is_negative(&self) -> bool {
         match &self.number {
             Number::Small(n) => *n < 0,

@@ -16,7 +16,6 @@ use Rattle.oer_spec.specs.Tree.{Tree, Choice}
 use Rattle.oer_write.specs.Choices.{Picks, ContentDone, Appended, AppendedOpen, ChoiceDone, ChoiceBroken, alternative_octets, IsKnownToPick}
 use Rattle.oer_write.specs.Written.{Written, append, Encodes, Refused}
 use Rattle.oer_write.proofs.Items.{or_false, or_left}
-use Rattle.oer_write.proofs.Filling.{open_written, open_short}
 
 not_above : (a b : ℕ) → a < suc b → nat_lt b a ≡ false
 not_above a b h = grind arith
@@ -65,35 +64,3 @@ choice_refused picks roots additions tag t old new x known h = record {
   mode = elim h.reason [ inl m ↦ m.1 | inr c ↦ (known _ _ _ c.opened c.ran).mode ];
   keeps = h.keeps;
 }
-
--- a tag, and a root alternative behind it
-pub root_written : (picks : Picks) (is_root : Bool) (tag : Tag) (old mid new : Octets) → is_root ≡ true → mid ≡ old ++ tag_octets tag → Appended picks mid new
-    → (o : Octets) × ContentDone picks o × (is_root ≡ false → length o < 2 ^ 64) × (new ≡ old ++ (tag_octets tag ++ alternative_octets is_root o))
-root_written picks is_root tag old mid new root e h = (
-  h.content,
-  h.done,
-  (λ other. absurd cc),
-  h.appended ∙ ap (λ (x : Octets). x ++ h.content) e ∙ append_assoc old (tag_octets tag) h.content ∙ ap (λ (b : Bool). old ++ (tag_octets tag ++ alternative_octets b h.content)) (sym root),
-)
-
--- ---- an alternative beyond the root
-
-pub open_behind : (picks : Picks) (is_root : Bool) (tag : Tag) (old mid new : Octets) → is_root ≡ false → mid ≡ old ++ tag_octets tag → AppendedOpen picks mid new
-    → (o : Octets) × ContentDone picks o × (is_root ≡ false → length o < 2 ^ 64) × (new ≡ old ++ (tag_octets tag ++ alternative_octets is_root o))
-open_behind picks is_root tag old mid new other e h = (
-  h.content,
-  h.done,
-  (λ _. h.short),
-  h.appended ∙ ap (λ (x : Octets). x ++ behind_length h.content) e ∙ append_assoc old (tag_octets tag) _ ∙ ap (λ (b : Bool). old ++ (tag_octets tag ++ alternative_octets b h.content)) (sym other),
-)
-
-pub open_picked : (picks : Picks) (old free mid all new : Octets) (start : ℕ) → start ≡ length old → length free ≡ 1 → mid ≡ old ++ free → length all < 2 ^ 64 → Appended picks mid all → new ≡ take start all ++ behind_length (drop (start + 1) all) → AppendedOpen picks old new
-open_picked picks old free mid all new start s f m short h e =
-    let laid : all ≡ (old ++ free) ++ h.content = h.appended ∙ ap (λ (o : Octets). o ++ h.content) m in
-    let few : length h.content ≤ usize_max = open_short old free all h.content short laid in
-    record {
-      content = h.content;
-      done = h.done;
-      short = omega (arith, few);
-      appended = open_written old free all h.content new start s f laid e;
-    }

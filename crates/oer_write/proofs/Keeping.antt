@@ -1,5 +1,7 @@
 -- What two calls, one after the other, leave of an encoder.
-use Rattle.std.proofs.Common.{◌++◌, ap, ◌∙◌, append_assoc}
+use Rattle.std.specs.Prelude.{OnOk}
+use Rattle.asn1_core.specs.declared.error.EncodeError.{EncodeError}
+use Rattle.std.proofs.Common.{◌≡◌, Result, Ok, Err, ◌++◌, ap, ◌∙◌, append_assoc}
 use Rattle.asn1_core.specs.Octets.{Octets}
 use Rattle.oer_spec.specs.Writing.{BeginsWith}
 use Rattle.oer_write.specs.Written.{Written, Keeps}
@@ -16,3 +18,8 @@ keeps_then e e1 e' h i = record {
   start = i.start ∙ h.start;
   outer = i.outer ∙ h.outer;
 }
+
+-- what holds of an answer that is Ok
+pub ok_of : {X : Type 0} (r : Result (Unit {0}) EncodeError) → r ≡ Ok tt → OnOk r X → X
+ok_of (Ok u) e h = h
+ok_of (Err x) e h = cc

@@ -2,6 +2,7 @@ pub mod Items
 pub mod Sequences
 pub mod Refusals
 pub mod Elements
+pub mod Lawful
 pub mod Keeping
 pub mod Chosen
 pub mod Arranging
@@ -12,8 +13,16 @@ pub mod Gathering
 pub mod AnyOrder
 pub mod ByClosure
 pub mod Words
+pub mod Mapped
 pub mod Filling
 pub mod Cutting
 pub mod Places
 pub mod Regions
 pub mod Closing
+pub mod Layouts
+pub mod Stored
+pub mod Moving
+pub mod Passing
+pub mod Holding
+pub mod Nesting
+pub mod Exchanging

@@ -1,156 +1,370 @@
--- Additions that lie in the output, and the octets around them.
-use Rattle.std.proofs.Common.{◌≡◌, ℕ, ◌+◌, ◌-◌, ◌≤◌, Bool, true, false, cond, not, ◌&&◌, List, [], ◌++◌, length, take, drop, ap, ap₂, sym, ◌∙◌, subst, arith, append_assoc, append-nil, length-append, length-drop}
+-- A scope's octets and additions in the output, with its insertions in their places.
+use Rattle.std.proofs.Common.{◌≡◌, ℕ, ◌+◌, ◌-◌, ◌<◌, ◌≤◌, Bool, true, false, cond, not, ◌&&◌, ◌||◌, List, [], ◌∷◌, ◌++◌, map, length, take, drop, refl, ap, ap₂, sym, ◌∙◌, subst, arith, append_assoc, append-nil, length-append, length-drop}
 use Rattle.std.proofs.lemmas.List.{take-append-le, drop-append-le, take-append-drop, length-take-le, take_at, drop_at, drop-drop, drop-take, take_all, drop_all}
 use Rattle.asn1_core.specs.Octets.{Octets}
 use Rattle.oer_spec.specs.Writing.{BeginsWith}
 use Rattle.oer_write.specs.declared.region.Region.{Region}
 use Rattle.oer_write.specs.declared.scope.Scope.{Scope}
-use Rattle.oer_write.specs.ByClosure.{AppendedBy}
-use Rattle.oer_write.specs.Lists.{ElementsDone}
-use Rattle.oer_write.specs.Scopes.{Runs}
+use Rattle.oer_write.specs.Held.{marks, pieces_in, frame_at, lent_frame, shut_at, Holds, Leaves, Kept}
+use Rattle.oer_write.specs.Layout.{Piece, free_at, slots, filled, spread, total, top, Ascends, Adds}
 use Rattle.oer_write.specs.Seen.{around, within, IsLaid, IsSound, frame_of, opens_in, region_at}
-use Rattle.oer_write.specs.Written.{Written, WriteFrame}
+use Rattle.oer_write.specs.Written.{Written, WriteFrame, Keeps, append, fresh}
+use Rattle.oer_write.proofs.Layouts.{filled_at, ascends_le, ascends_join, ascends_top, ascends_more, spread_append, spread_more, spread_length, total_append}
 
--- ---- no additions
-pub none_within : (start size : ℕ) (o : Octets) → within (region_at start size) o ≡ []
+-- ---- no additions yet
+
+pub none_around : (b n : ℕ) (o : Octets) (is : List Piece) → length is ≤ n → around (region_at b n) o is ≡ o
+unfolding around
+none_around b n o is h =
+    let t : take n is ≡ is = take_all n is h in
+    let d : drop n is ≡ [] = drop_all n is h in
+    let e : drop n (take n is) ≡ [] = ap (drop n) t ∙ d in
+    let f : drop b (take b o) ≡ [] = (let z : b ≡ b + 0 = omega arith in ap (λ (m : ℕ). drop b (take m o)) z ∙ drop-take b 0 o) in
+    rw (e, d, f) (take-append-drop b o)
+
+-- with insertions in their places
+pub opened_around : (b n : ℕ) (o : Octets) (is : List Piece) → around (region_at b n) o is ≡ take b o ++ spread b o (drop n is)
+unfolding around
+opened_around b n o is =
+    let z : b ≡ b + 0 = omega arith in
+    let y : n ≡ n + 0 = omega arith in
+    let e : drop n (take n is) ≡ [] = ap (λ (m : ℕ). drop n (take m is)) y ∙ drop-take n 0 is in
+    let f : drop b (take b o) ≡ [] = ap (λ (m : ℕ). drop b (take m o)) z ∙ drop-take b 0 o in
+    rw (e, f) refl
+
+pub none_within : (b n : ℕ) (o : Octets) (is : List Piece) → within (region_at b n) o is ≡ []
 unfolding within
-none_within start size o = let e : start ≡ start + 0 = omega arith in ap (λ (n : ℕ). drop start (take n o)) e ∙ drop-take start 0 o
+none_within b n o is =
+    let z : b ≡ b + 0 = omega arith in
+    let y : n ≡ n + 0 = omega arith in
+    let e : drop n (take n is) ≡ [] = ap (λ (m : ℕ). drop n (take m is)) y ∙ drop-take n 0 is in
+    let f : drop b (take b o) ≡ [] = ap (λ (m : ℕ). drop b (take m o)) z ∙ drop-take b 0 o in
+    rw (e, f) refl
 
-pub none_around : (start size : ℕ) (o : Octets) → around (region_at start size) o ≡ o
-unfolding around
-none_around start size o = take-append-drop start o
+pub none_laid : (b n w : ℕ) (is : List Piece) → b ≤ w → n ≡ length is → IsLaid (region_at b n) w is
+none_laid b n w is h e =
+    let y : n ≡ n + 0 = omega arith in
+    let t : drop n (take n is) ≡ [] = ap (λ (m : ℕ). drop n (take m is)) y ∙ drop-take n 0 is in
+    let d : drop n is ≡ [] = drop_all n is (omega (arith, e)) in
+    record {
+      first = omega arith;
+      opens = omega arith;
+      last = omega (arith, e);
+      roots = rw t (omega arith);
+      added = rw t (omega arith);
+      later = rw d (omega arith);
+      inside = rw d h;
+      none = λ _. refl;
+      begun = λ k. absurd (omega (arith, k));
+    }
 
--- and so they may be thought to lie at the end
-pub moved_around : (r : Region) (o : Octets) (n : ℕ) → r.start ≡ r.end → around (record r { start = n; opens = n; end = n }) o ≡ around r o
-unfolding around
-moved_around r o n e = take-append-drop n o ∙ sym (ap (λ (m : ℕ). take m o ++ drop r.end o) e ∙ take-append-drop r.end o)
-
-pub moved_within : (r : Region) (o : Octets) (n : ℕ) → r.start ≤ r.opens → r.opens ≤ r.end → r.start ≡ r.end → within (record r { start = n; opens = n; end = n }) o ≡ within r o
-unfolding within
-moved_within r o n h k e = let f : r.opens ≡ r.end = omega (arith, h, k, e) in none_within n r.size o ∙ sym (ap (λ (m : ℕ). drop m (take r.end o)) f ∙ none_within r.end r.size o)
-
--- ---- what is appended to the output is appended to what is seen
-pub more_around : (r : Region) (o x : Octets) → IsLaid r (length o) → around r (o ++ x) ≡ around r o ++ x
-unfolding around
-more_around r o x l = ap₂ (λ (a b : Octets). a ++ b) (take-append-le r.start o x (omega arith)) (drop-append-le r.end o x (omega arith)) ∙ sym (append_assoc (take r.start o) (drop r.end o) x)
-
-pub more_within : (r : Region) (o x : Octets) → IsLaid r (length o) → within r (o ++ x) ≡ within r o
-unfolding within
-more_within r o x l = ap (drop r.opens) (take-append-le r.end o x (omega arith))
-
--- ---- more additions
-pub around_last : (r : Region) (o p x : Octets) (n : ℕ) → r.start ≤ length o → r.end ≡ length o → p ≡ o ++ x → n ≡ length p → around (record r { end = n }) p ≡ around r o
-unfolding around
-around_last r o p x n h e f k =
-    ap₂ (λ (a b : Octets). a ++ b) (ap (take r.start) f ∙ take-append-le r.start o x h) (drop_all n p (omega (arith, k)) ∙ sym (drop_all r.end o (omega (arith, e))))
-
-pub within_last : (r : Region) (o p x : Octets) (n : ℕ) → r.opens ≤ r.end → r.end ≡ length o → p ≡ o ++ x → n ≡ length p → within (record r { end = n }) p ≡ within r o ++ x
-unfolding within
-within_last r o p x n h e f k =
-    ap (drop r.opens) (take_all n p (omega (arith, k)) ∙ f) ∙ drop-append-le r.opens o x (omega (arith, h, e))
-    ∙ ap (λ (q : Octets). drop r.opens q ++ x) (sym (take_all r.end o (omega (arith, e))))
-
-pub laid_last : (r : Region) (o p x : Octets) (n : ℕ) → IsLaid r (length o) → r.end ≡ length o → p ≡ o ++ x → n ≡ length p → IsLaid (record r { end = n }) (length p)
-laid_last r o p x n l e f k = record { few = l.few; free = l.free; ends = (let m = l.ends in omega (arith, m, e, ap length f, length-append o x, k)); inside = omega (arith, k) }
-
--- ---- octets kept free in front of a first addition
-pub around_begun : (r : Region) (o p free : Octets) (m n : ℕ) → r.start ≤ length o → r.end ≡ length o → p ≡ o ++ free → n ≡ length p → around (record r { opens = m; end = n }) p ≡ around r o
-unfolding around
-around_begun r o p free m n h e f k = around_last r o p free n h e f k
-
-pub within_begun : (r : Region) (o p : Octets) (m n : ℕ) → r.start ≤ r.opens → r.opens ≤ r.end → r.start ≡ r.end → r.end ≡ length o → m ≡ length p → n ≡ length p → within (record r { opens = m; end = n }) p ≡ within r o
-unfolding within
-within_begun r o p m n h k e f i j =
-    ap (drop m) (take_all n p (omega (arith, j))) ∙ drop_all m p (omega (arith, i))
-    ∙ sym (ap (drop r.opens) (take_all r.end o (omega (arith, f))) ∙ drop_all r.opens o (omega (arith, h, k, e, f)))
-
-pub laid_begun : (r : Region) (o p free : Octets) (m n : ℕ) → IsLaid r (length o) → r.end ≡ length o → p ≡ o ++ free → m ≡ length p → n ≡ length p → IsLaid (record r { opens = m; end = n }) (length p)
-laid_begun r o p free m n l e f i j =
-    record { few = l.few; free = (let a = l.free in let b = l.ends in omega (arith, a, b, e, ap length f, length-append o free, i)); ends = omega (arith, i, j); inside = omega (arith, j) }
-
--- ---- root octets behind additions are put in front of them
-settled : (r : Region) (o p : Octets) → r.start ≤ r.end → r.end ≤ length o → p ≡ take r.start o ++ (drop (r.end - r.start) (drop r.start o) ++ take (r.end - r.start) (drop r.start o))
-    → p ≡ around r o ++ take (r.end - r.start) (drop r.start o)
-unfolding around
-settled r o p h k e =
-    let till : r.start + (r.end - r.start) ≡ r.end = omega (arith, h) in
-    let rear : drop (r.end - r.start) (drop r.start o) ≡ drop r.end o = drop-drop (r.end - r.start) r.start o ∙ ap (λ (n : ℕ). drop n o) till in
-    e ∙ ap (λ (x : Octets). take r.start o ++ (x ++ take (r.end - r.start) (drop r.start o))) rear ∙ sym (append_assoc (take r.start o) (drop r.end o) _)
-
-around_length : (r : Region) (o : Octets) → r.start ≤ r.end → r.end ≤ length o → length (around r o) ≡ r.start + (length o - r.end)
-unfolding around
-around_length r o h k = omega (arith, length-append (take r.start o) (drop r.end o), length-take-le r.start o (omega (arith, h, k)), length-drop r.end o)
-
-middle_length : (r : Region) (o : Octets) → r.start ≤ r.end → r.end ≤ length o → length (take (r.end - r.start) (drop r.start o)) ≡ r.end - r.start
-middle_length r o h k = length-take-le (r.end - r.start) (drop r.start o) (omega (arith, length-drop r.start o, h, k))
-
-both : (r : Region) (p o : Octets) → take r.start p ≡ o → drop r.end p ≡ [] → around r p ≡ o
-unfolding around
-both r p o a b = ap₂ (λ (x y : Octets). x ++ y) a b ∙ append-nil o
-
-pub settled_around : (r : Region) (o p : Octets) (roots : ℕ) → r.start ≤ r.end → r.end ≤ length o → roots ≡ length o - r.end
-    → p ≡ take r.start o ++ (drop (r.end - r.start) (drop r.start o) ++ take (r.end - r.start) (drop r.start o))
-    → around (record r { start = r.start + roots; opens = r.opens + roots; end = r.end + roots }) p ≡ around r o
-settled_around r o p roots h k n e =
-    let middle : List ℕ = take (r.end - r.start) (drop r.start o) in
-    let whole : p ≡ around r o ++ middle = settled r o p h k e in
-    let l = around_length r o h k in
-    let m : length middle ≡ r.end - r.start = middle_length r o h k in
-    let all : length p ≡ r.end + roots = omega (arith, ap length whole, length-append (around r o) middle, l, m, n, h, k) in
-    both (record r { start = r.start + roots; opens = r.opens + roots; end = r.end + roots }) p (around r o) (ap (take (r.start + roots)) whole ∙ take_at (around r o) middle (r.start + roots) (omega (arith, l, n))) (drop_all (r.end + roots) p (omega (arith, all)))
-
-pub settled_within : (r : Region) (o p : Octets) (roots : ℕ) → r.start ≤ r.opens → r.opens ≤ r.end → r.end ≤ length o → roots ≡ length o - r.end
-    → p ≡ take r.start o ++ (drop (r.end - r.start) (drop r.start o) ++ take (r.end - r.start) (drop r.start o))
-    → within (record r { start = r.start + roots; opens = r.opens + roots; end = r.end + roots }) p ≡ within r o
-unfolding within
-settled_within r o p roots h i k n e =
-    let middle : List ℕ = take (r.end - r.start) (drop r.start o) in
-    let whole : p ≡ around r o ++ middle = settled r o p (omega (arith, h, i)) k e in
-    let l = around_length r o (omega (arith, h, i)) k in
-    let m : length middle ≡ r.end - r.start = middle_length r o (omega (arith, h, i)) k in
-    let all : length p ≡ r.end + roots = omega (arith, ap length whole, length-append (around r o) middle, l, m, n, h, i, k) in
-    let behind : drop (r.start + roots) p ≡ middle = ap (drop (r.start + roots)) whole ∙ drop_at (around r o) middle (r.start + roots) (omega (arith, l, n)) in
-    let more : (r.start + roots) + (r.opens - r.start) ≡ r.opens + roots = omega (arith, h) in
-    let till : r.start + (r.end - r.start) ≡ r.end = omega (arith, h, i) in
-    let from : r.start + (r.opens - r.start) ≡ r.opens = omega (arith, h) in
-    let same : middle ≡ drop r.start (take r.end o) = sym (ap (λ (z : ℕ). drop r.start (take z o)) (sym till) ∙ drop-take r.start (r.end - r.start) o) in
-    ap (drop (r.opens + roots)) (take_all (r.end + roots) p (omega (arith, all))) ∙ ap (λ (z : ℕ). drop z p) (sym more) ∙ sym (drop-drop (r.opens - r.start) (r.start + roots) p)
-    ∙ ap (drop (r.opens - r.start)) (behind ∙ same) ∙ drop-drop (r.opens - r.start) r.start (take r.end o) ∙ ap (λ (z : ℕ). drop z (take r.end o)) from
-
--- ---- and so is what a closure appends
-pub elements_more : {E : Type 0} (runs : E → Runs) (xs : List E) (r : Region) (o p : Octets) → IsLaid r (length o) → ElementsDone runs xs o p → ElementsDone runs xs (around r o) (around r p)
-elements_more runs xs r o p l h = record { contents = h.contents; each = h.each; few = h.few; appended = ap (around r) h.appended ∙ more_around r o _ l }
-
-pub appended_more : (runs : Runs) (r : Region) (o p : Octets) → IsLaid r (length o) → AppendedBy runs o p → AppendedBy runs (around r o) (around r p)
-appended_more runs r o p l h = record { content = h.content; wrote = h.wrote; appended = ap (around r) h.appended ∙ more_around r o _ l }
-
--- ---- where no scope is open
-pub shut_around : (s : Scope) (o p : Octets) → IsSound s.is_open s.start s.region (length o) → s.is_open ≡ false → around s.region p ≡ p
-unfolding around
-shut_around s o p h e =
-    let none : s.region.end ≡ 0 = h.shut e in
-    let first : s.region.start ≡ s.region.end = (let l = h.laid in omega (arith, none)) in
-    ap (λ (n : ℕ). take n p ++ drop s.region.end p) first ∙ take-append-drop s.region.end p
-
-pub shut_seen : (s : Scope) (outer : List WriteFrame) (o p : Octets) → IsSound s.is_open s.start s.region (length o) → s.is_open ≡ false → p ≡ []
-    → ◌≡◌ {A = Written} (record { octets = around s.region p; frame = frame_of p s; outer = outer }) (record { octets = []; frame = frame_of o s; outer = outer })
-shut_seen s outer o p h e f =
-    let opens : opens_in p s ≡ opens_in o s =
-    ap (λ (b : Bool). cond (b && not s.is_set) (within s.region p) s.opens.items) e ∙ sym (ap (λ (b : Bool). cond (b && not s.is_set) (within s.region o) s.opens.items) e) in
-    ap₂ (λ (x y : Octets). record { octets = x; frame = record (frame_of o s) { opens = y }; outer = outer }) (shut_around s o p h e ∙ f) opens
-
--- ---- what is kept true of a scope
-pub sound_more : (is_open : Bool) (start : ℕ) (r : Region) (o p : Octets) → IsSound is_open start r (length o) → BeginsWith o p → IsSound is_open start r (length p)
-sound_more is_open start r o p h b = record {
-  laid = record { few = h.laid.few; free = h.laid.free; ends = h.laid.ends; inside = (let l = h.laid.inside in omega (arith, l, ap length b.1, length-append o b.0)) };
-  begun = h.begun;
-  shut = h.shut;
+pub none_sound : (s : Scope) (l i : Bool) (w b n : ℕ) (is : List Piece) → s.region ≡ region_at b n → b ≤ w → n ≡ length is → (i ≡ false → is ≡ []) → (i ≡ true → (s.is_open || l) ≡ true) → ((s.is_open || l) ≡ false → b ≡ 0) → (s.is_open ≡ true → i ≡ true) → IsSound s l i w is
+none_sound s l i w b n is r h e a k z y = record {
+  laid = subst (λ (x : Region). IsLaid x w is) (sym r) (none_laid b n w is h e);
+  shut = λ _. ap (λ (x : Region). x.last) r ∙ sym (ap (λ (x : Region). x.first) r);
+  alone = a;
+  set = λ _. ap (λ (x : Region). x.last) r ∙ sym (ap (λ (x : Region). x.first) r);
+  inner = k;
+  origin = λ x. ap (λ (y : Region). y.base) r ∙ z x;
+  opened = y;
 }
 
-pub sound_opened : (is_open : Bool) (m n : ℕ) (r : Region) (size : ℕ) → is_open ≡ true → m ≡ n → r ≡ region_at n size → size ≤ 16 → IsSound is_open m r n
-sound_opened true m n r size e f g h = subst (λ (x : Region). IsSound true m x n) (sym g) (record { laid = record { few = h; free = omega arith; ends = omega arith; inside = omega arith }; begun = omega (arith, f); shut = λ other. absurd cc })
-sound_opened false m n r size e f g h = absurd cc
+-- ---- places in the output
 
--- ---- lengths
-pub around_long : (r : Region) (o : Octets) → IsLaid r (length o) → length (around r o) ≡ length o - (r.end - r.start)
-around_long r o l = let n = around_length r o (omega arith) (omega arith) in omega (arith, n)
+pub later_of : (r : Region) (w : ℕ) (is : List Piece) → IsLaid r w is → Ascends r.end (drop r.last is) w
+later_of r w is l = ascends_more r.end (drop r.last is) (top r.end (drop r.last is)) w l.later l.inside
+
+pub places : (r : Region) (w : ℕ) (is : List Piece) → IsLaid r w is → (r.base ≤ r.start) × ((r.start ≤ r.end) × (r.end ≤ w))
+places r w is l = (ascends_le r.base _ r.start l.roots, (ascends_le r.start _ r.end l.added, ascends_le r.end _ w (later_of r w is l)))
+
+-- ---- what is added to the output is added to what is seen
+
+pub grown_around : (r : Region) (o x p : Octets) (is js : List Piece) → IsLaid r (length o) is → Adds x o is p js → around r p js ≡ around r o is ++ x
+unfolding around
+grown_around r o x p is js l a =
+    let q = places r (length o) is l in
+    let y : List ℕ = a.begins.0 in
+    let front : take r.base p ≡ take r.base o = ap (take r.base) a.begins.1 ∙ take-append-le r.base o y (omega (arith, q.0, q.1.0, q.1.1)) in
+    let till : take r.start p ≡ take r.start o = ap (take r.start) a.begins.1 ∙ take-append-le r.start o y (omega (arith, q.1.0, q.1.1)) in
+    let few : take r.opens js ≡ take r.opens is = ap (take r.opens) a.more ∙ take-append-le r.opens is a.rear (let m = l.opens in let n = l.last in omega (arith, m, n)) in
+    let more : drop r.last js ≡ drop r.last is ++ a.rear = ap (drop r.last) a.more ∙ drop-append-le r.last is a.rear l.last in
+    let rear : spread r.end p (drop r.last is ++ a.rear) ≡ spread r.end o (drop r.last is) ++ x =
+    ap (λ (z : Octets). spread r.end z (drop r.last is ++ a.rear)) a.begins.1 ∙ spread_more r.end o y (drop r.last is) a.rear (length p) (later_of r (length o) is l) a.ascends
+    ∙ ap (λ (z : Octets). spread r.end o (drop r.last is) ++ spread (length o) z a.rear) (sym a.begins.1) ∙ ap (λ (z : Octets). spread r.end o (drop r.last is) ++ z) a.adds in
+    rw (front, till, few, more, rear) (simp append_assoc)
+
+pub grown_within : (r : Region) (o x p : Octets) (is js : List Piece) → IsLaid r (length o) is → Adds x o is p js → within r p js ≡ within r o is
+unfolding within
+grown_within r o x p is js l a =
+    let q = places r (length o) is l in
+    let y : List ℕ = a.begins.0 in
+    let till : take r.end p ≡ take r.end o = ap (take r.end) a.begins.1 ∙ take-append-le r.end o y q.1.1 in
+    let few : take r.last js ≡ take r.last is = ap (take r.last) a.more ∙ take-append-le r.last is a.rear l.last in
+    rw (till, few) refl
+
+pub grown_front : (n : ℕ) (o x p : Octets) (is js : List Piece) → n ≤ length is → Adds x o is p js → take n js ≡ take n is
+grown_front n o x p is js h a = ap (take n) a.more ∙ take-append-le n is a.rear h
+
+grown_long : (o x p : Octets) (is js : List Piece) → Adds x o is p js → length o ≤ length p
+grown_long o x p is js a = omega (arith, ap length a.begins.1, length-append o a.begins.0)
+
+later_grown : (r : Region) (o x p : Octets) (is js : List Piece) → IsLaid r (length o) is → Adds x o is p js → Ascends r.end (drop r.last js) (length p)
+later_grown r o x p is js l a =
+    let more : drop r.last js ≡ drop r.last is ++ a.rear = ap (drop r.last) a.more ∙ drop-append-le r.last is a.rear l.last in
+    rw more (ascends_join r.end (length o) (length p) (drop r.last is) a.rear (later_of r (length o) is l) a.ascends)
+
+pub grown_laid : (r : Region) (o x p : Octets) (is js : List Piece) → IsLaid r (length o) is → Adds x o is p js → IsLaid r (length p) js
+grown_laid r o x p is js l a =
+    let few : take r.opens js ≡ take r.opens is = grown_front r.opens o x p is js (let m = l.opens in let n = l.last in omega (arith, m, n)) a in
+    let fewer : take r.last js ≡ take r.last is = grown_front r.last o x p is js l.last a in
+    record {
+      first = l.first;
+      opens = l.opens;
+      last = (let n = l.last in omega (arith, n, ap length a.more, length-append is a.rear));
+      roots = rw few l.roots;
+      added = rw fewer l.added;
+      later = (ascends_top r.end (drop r.last js) (length p) (later_grown r o x p is js l a)).0;
+      inside = (ascends_top r.end (drop r.last js) (length p) (later_grown r o x p is js l a)).1;
+      none = l.none;
+      begun = λ k. let b = l.begun k in (b.0, ap (drop r.opens) fewer ∙ b.1);
+    }
+
+pub grown_sound : (s : Scope) (l i : Bool) (o x p : Octets) (is js : List Piece) → IsSound s l i (length o) is → Adds x o is p js → (i ≡ false → js ≡ []) → IsSound s l i (length p) js
+grown_sound s l i o x p is js h a k = record { laid = grown_laid s.region o x p is js h.laid a; shut = h.shut; alone = k; set = h.set; inner = h.inner; origin = h.origin; opened = h.opened }
+
+-- an encoder over what was added to
+pub grown_seen : (s : Scope) (l i : Bool) (o x p : Octets) (is js : List Piece) → IsSound s l i (length o) is → Adds x o is p js
+    → ◌≡◌ {A = Written} (record { octets = around s.region p js; frame = frame_of p js s; outer = marks l i (take s.region.first js) })
+    (append x (record { octets = around s.region o is; frame = frame_of o is s; outer = marks l i (take s.region.first is) }))
+grown_seen s l i o x p is js h a =
+    let g : around s.region p js ≡ around s.region o is ++ x = grown_around s.region o x p is js h.laid a in
+    let w : within s.region p js ≡ within s.region o is = grown_within s.region o x p is js h.laid a in
+    let f : take s.region.first js ≡ take s.region.first is = grown_front s.region.first o x p is js (let b = h.laid.first in let c = h.laid.opens in let d = h.laid.last in omega (arith, b, c, d)) a in
+    rw (g, w, f) refl
+
+-- ---- octets alone
+
+alone_adds : (o x : Octets) (is : List Piece) → Adds x o is (o ++ x) is
+alone_adds o x is = record { rear = []; begins = (x, refl); more = sym (append-nil is); ascends = omega (arith, length-append o x); adds = drop_at o x (length o) refl }
+
+pub more_around : (r : Region) (o x : Octets) (is : List Piece) → IsLaid r (length o) is → around r (o ++ x) is ≡ around r o is ++ x
+more_around r o x is l = grown_around r o x (o ++ x) is is l (alone_adds o x is)
+
+pub more_within : (r : Region) (o x : Octets) (is : List Piece) → IsLaid r (length o) is → within r (o ++ x) is ≡ within r o is
+more_within r o x is l = grown_within r o x (o ++ x) is is l (alone_adds o x is)
+
+pub sound_more : (s : Scope) (l i : Bool) (o p : Octets) (is : List Piece) → IsSound s l i (length o) is → BeginsWith o p → IsSound s l i (length p) is
+sound_more s l i o p is h b = subst (λ (z : Octets). IsSound s l i (length z) is) (sym b.1) (grown_sound s l i o b.0 (o ++ b.0) is is h (alone_adds o b.0 is) h.alone)
+
+-- ---- two parts of octets
+
+pub append_split : (a b c d : Octets) → a ++ b ≡ c ++ d → length a ≡ length c → (a ≡ c) × (b ≡ d)
+append_split a b c d e l =
+    (sym (take_at a b (length a) refl) ∙ ap (take (length a)) e ∙ take_at c d (length a) (sym l), sym (drop_at a b (length a) refl) ∙ ap (drop (length a)) e ∙ drop_at c d (length a) (sym l))
+
+-- ---- a region without additions is where the scope begins
+
+pub same_region : (r : Region) (w : ℕ) (is : List Piece) → IsLaid r w is → r.last ≡ r.first → r ≡ region_at r.base r.first
+same_region r w is l e =
+    let q = places r w is l in
+    let a : r.end ≡ r.base = l.none e in
+    let b : r.start ≡ r.base = omega (arith, q.0, q.1.0, a) in
+    let c : r.opens ≡ r.first = (let m = l.first in let n = l.opens in omega (arith, m, n, e)) in
+    ap (λ (x : ℕ). let z : Region = record { base = r.base; first = r.first; start = x; opens = r.opens; end = r.end; last = r.last } in z) b
+    ∙ ap (λ (x : ℕ). let z : Region = record { base = r.base; first = r.first; start = r.base; opens = x; end = r.end; last = r.last } in z) c
+    ∙ ap (λ (x : ℕ). let z : Region = record { base = r.base; first = r.first; start = r.base; opens = r.first; end = x; last = r.last } in z) a
+    ∙ ap (λ (x : ℕ). let z : Region = record { base = r.base; first = r.first; start = r.base; opens = r.first; end = r.base; last = x } in z) e
+
+-- a first addition begins behind all
+module _ (r : Region) (o : Octets) (is js : List Piece) (n k m : ℕ) (l : IsLaid r (length o) is) (e : r.last ≡ r.first) (f : n ≡ length o) (g : k ≡ length is) (h : js ≡ is ++ free_at n ∷ []) (i : m ≡ length js) where
+  abbrev pub next : Region
+  next = record { base = r.base; first = r.first; start = n; opens = k; end = n; last = m }
+
+  kept : take k js ≡ is
+  kept = ap (take k) h ∙ take_at is (free_at n ∷ []) k (sym g)
+
+  slot : drop k js ≡ free_at n ∷ []
+  slot = ap (drop k) h ∙ drop_at is (free_at n ∷ []) k (sym g)
+
+  none_behind : drop m js ≡ []
+  none_behind = drop_all m js (omega (arith, i))
+
+  whole : take m js ≡ js
+  whole = take_all m js (omega (arith, i))
+
+  pub begun_around : around next o js ≡ around r o is
+  unfolding around
+  begun_around =
+      let a : take n o ≡ o = take_all n o (omega (arith, f)) in
+      let b : drop n o ≡ [] = drop_all n o (omega (arith, f)) in
+      let c : around r o is ≡ take r.base o ++ spread r.base o (drop r.first is) = ap (λ (x : Region). around x o is) (same_region r (length o) is l e) ∙ opened_around r.base r.first o is in
+      let d : around next o js ≡ take r.base o ++ (spread r.base (take n o) (drop r.first (take k js)) ++ spread n o (drop m js)) = refl in
+      d ∙ rw (a, kept, none_behind, b, append-nil) refl ∙ sym c
+
+  pub begun_within : within next o js ≡ within r o is
+  unfolding within
+  begun_within =
+      let b : drop n (take n o) ≡ [] = (let z : n ≡ n + 0 = omega arith in ap (λ (x : ℕ). drop n (take x o)) z ∙ drop-take n 0 o) in
+      let c : within r o is ≡ [] = ap (λ (x : Region). within x o is) (same_region r (length o) is l e) ∙ none_within r.base r.first o is in
+      let d : within next o js ≡ spread n (take n o) (drop k (take m js)) = refl in
+      let z : n - n ≡ 0 = omega arith in
+      d ∙ rw (whole, slot, b, z) refl ∙ sym c
+
+  pub begun_laid : IsLaid next (length o) js
+  begun_laid =
+      let q = places r (length o) is l in
+      let first : r.first ≤ length is = (let a = l.first in let b = l.opens in let c = l.last in omega (arith, a, b, c)) in
+      let long : length js ≡ length is + 1 = omega (arith, ap length h, length-append is (free_at n ∷ [])) in
+      let roots : Ascends r.base (drop r.first is) n = (let a = later_of (region_at r.base r.first) (length o) is (subst (λ (x : Region). IsLaid x (length o) is) (same_region r (length o) is l e) l) in ascends_more r.base (drop r.first is) (length o) n a (omega (arith, f))) in
+      record {
+        first = omega (arith, first, g);
+        opens = omega (arith, long, g, i);
+        last = omega (arith, i);
+        roots = rw kept roots;
+        added = rw (whole, slot) (omega arith, omega arith);
+        later = rw none_behind (omega arith);
+        inside = rw none_behind (omega (arith, f));
+        none = λ (x : m ≡ r.first). absurd (omega (arith, x, first, long, i));
+        begun = λ _. ([], ap (drop k) whole ∙ slot);
+      }
+
+-- ---- an encoder that is lent
+
+pub lent_seen : (s : Scope) (i : Bool) (o : Octets) (is : List Piece) (b n : ℕ) → s.region ≡ region_at b n → b ≡ length o → n ≡ length is → s.is_open ≡ false → s.is_set ≡ false → s.extensible ≡ false → s.presence ≡ [] → s.components ≡ [] → s.bitmap ≡ [] → s.opens.items ≡ []
+    → ◌≡◌ {A = Written} (record { octets = around s.region o is; frame = frame_of o is s; outer = marks true i (take s.region.first is) }) (record { octets = o; frame = shut_at (length o); outer = marks true i is })
+lent_seen s i o is b n r e f g h j k m p q =
+    let a : around s.region o is ≡ o = ap (λ (x : Region). around x o is) r ∙ none_around b n o is (omega (arith, f)) in
+    let t : take s.region.first is ≡ is = take_all s.region.first is (omega (arith, f, ap (λ (x : Region). x.first) r)) in
+    let z : s.region.base ≡ length o = ap (λ (x : Region). x.base) r ∙ e in
+    rw (a, t, z, g, h, j, k, m, p, q) refl
+
+either : (c : Bool) (x y : Octets) → x ≡ [] → y ≡ [] → cond c x y ≡ []
+either true x y e f = e
+either false x y e f = f
+
+pub opened_seen : (s : Scope) (is_set extensible : Bool) (o : Octets) (is : List Piece) (b n : ℕ) → s.region ≡ region_at b n → b ≡ length o → n ≡ length is → s.is_open ≡ true → s.is_set ≡ is_set → s.extensible ≡ extensible → s.presence ≡ [] → s.components ≡ [] → s.bitmap ≡ [] → s.opens.items ≡ []
+    → ◌≡◌ {A = Written} (record { octets = around s.region o is; frame = frame_of o is s; outer = marks false true (take s.region.first is) }) (record { octets = o; frame = fresh is_set extensible (length o); outer = marks false true is })
+unfolding within
+opened_seen s is_set extensible o is b n r e f g h j k m p q =
+    let a : around s.region o is ≡ o = ap (λ (x : Region). around x o is) r ∙ none_around b n o is (omega (arith, f)) in
+    let w : within s.region o is ≡ [] = ap (λ (x : Region). within x o is) r ∙ none_within b n o is in
+    let t : take s.region.first is ≡ is = take_all s.region.first is (omega (arith, f, ap (λ (x : Region). x.first) r)) in
+    let z : s.region.base ≡ length o = ap (λ (x : Region). x.base) r ∙ e in
+    let v : opens_in o is s ≡ [] = either (s.is_open && not s.is_set) (within s.region o is) s.opens.items w q in
+    rw (a, t, z, v, g, h, j, k, m, p) refl
+
+-- ---- a scope that is closed fills its slot
+
+no_size : (inside : Bool) (m start : ℕ) → m + total (slots inside start) ≡ m
+no_size true m start = omega arith
+no_size false m start = omega arith
+
+pub filled_adds : (inside : Bool) (start n : ℕ) (o : Octets) (is : List Piece) (content octets : Octets) → inside ≡ true → n ≤ length is → start ≤ length o → Adds content (take start o) (take n is ++ slots inside start) o is → Adds (octets ++ content) (take start o) (take n is) o (filled is n octets)
+filled_adds inside start n o is content octets b h k a =
+    let f : length (take start o) ≡ start = length-take-le start o k in
+    let g : length (take n is) ≡ n = length-take-le n is h in
+    let s : slots inside start ≡ free_at start ∷ [] = ap (λ (c : Bool). slots c start) b in
+    let p : Piece = record { place = start; octets = octets } in
+    let m : is ≡ take n is ++ free_at start ∷ a.rear = a.more ∙ ap (λ (z : List Piece). (take n is ++ z) ++ a.rear) s ∙ append_assoc (take n is) (free_at start ∷ []) a.rear in
+    let asc : Ascends start a.rear (length o) = rw f at a.ascends in
+    let add : spread start o a.rear ≡ content = rw f at a.adds in
+    let z : start - start ≡ 0 = omega arith in
+    record {
+      rear = p ∷ a.rear;
+      begins = a.begins;
+      more = ap (λ (q : List Piece). filled q n octets) m ∙ filled_at (take n is) (free_at start) a.rear n octets (sym g);
+      ascends = rw f (omega arith, asc);
+      adds = rw (f, z, add) refl;
+    }
+
+pub adds_length : (inside : Bool) (start n : ℕ) (o : Octets) (is : List Piece) (content : Octets) → start ≤ length o → Adds content (take start o) (take n is ++ slots inside start) o is → (total (take n is) ≤ total is) × (length content ≡ (length o - start) + (total is - total (take n is)))
+adds_length inside start n o is content k a =
+    let f : length (take start o) ≡ start = length-take-le start o k in
+    let asc : Ascends start a.rear (length o) = rw f at a.ascends in
+    let add : spread start o a.rear ≡ content = rw f at a.adds in
+    let l = spread_length start o a.rear asc in
+    let t : total is ≡ total (take n is) + total a.rear = ap total a.more ∙ total_append (take n is ++ slots inside start) a.rear ∙ ap (λ (m : ℕ). m + total a.rear) (total_append (take n is) (slots inside start) ∙ no_size inside (total (take n is)) start) in
+    (omega (arith, t), omega (arith, l, t, k, ap length add))
+
+-- ---- one more addition, behind all
+
+module _ (r : Region) (o x p : Octets) (is js : List Piece) (n m : ℕ) (l : IsLaid r (length o) is) (e : r.end ≡ length o) (f : r.last ≡ length is) (g : r.first < r.last) (a : Adds x o is p js) (h : n ≡ length p) (k : m ≡ length js) where
+  abbrev pub wider : Region
+  wider = record { base = r.base; first = r.first; start = r.start; opens = r.opens; end = n; last = m }
+
+  all_is : take r.last is ≡ is
+  all_is = take_all r.last is (omega (arith, f))
+
+  all_js : take m js ≡ js
+  all_js = take_all m js (omega (arith, k))
+
+  long_js : length js ≡ length is + length a.rear
+  long_js = omega (arith, ap length a.more, length-append is a.rear)
+
+  long_p : length o ≤ length p
+  long_p = omega (arith, ap length a.begins.1, length-append o a.begins.0)
+
+  opens_within : r.opens ≤ length is
+  opens_within = let b = l.opens in omega (arith, b, f)
+
+  pub wider_around : around wider p js ≡ around r o is
+  unfolding around
+  wider_around =
+      let q = places r (length o) is l in
+      let c : take r.base p ≡ take r.base o = ap (take r.base) a.begins.1 ∙ take-append-le r.base o a.begins.0 (omega (arith, q.0, q.1.0, q.1.1)) in
+      let d : take r.start p ≡ take r.start o = ap (take r.start) a.begins.1 ∙ take-append-le r.start o a.begins.0 (omega (arith, q.1.0, q.1.1)) in
+      let t : take r.opens js ≡ take r.opens is = ap (take r.opens) a.more ∙ take-append-le r.opens is a.rear opens_within in
+      let u : drop m js ≡ [] = drop_all m js (omega (arith, k)) in
+      let v : drop n p ≡ [] = drop_all n p (omega (arith, h)) in
+      let w : drop r.last is ≡ [] = drop_all r.last is (omega (arith, f)) in
+      let z : drop r.end o ≡ [] = drop_all r.end o (omega (arith, e)) in
+      let left : around wider p js ≡ take r.base p ++ (spread r.base (take r.start p) (drop r.first (take r.opens js)) ++ spread n p (drop m js)) = refl in
+      let right : around r o is ≡ take r.base o ++ (spread r.base (take r.start o) (drop r.first (take r.opens is)) ++ spread r.end o (drop r.last is)) = refl in
+      let y : around wider p js ≡ take r.base o ++ (spread r.base (take r.start o) (drop r.first (take r.opens is)) ++ []) = left ∙ rw (c, d, t, u, v) refl in
+      let x' : around r o is ≡ take r.base o ++ (spread r.base (take r.start o) (drop r.first (take r.opens is)) ++ []) = right ∙ rw (w, z) refl in
+      y ∙ sym x'
+
+  pub wider_within : within wider p js ≡ within r o is ++ x
+  unfolding within
+  wider_within =
+      let q = places r (length o) is l in
+      let rear : drop r.opens js ≡ drop r.opens is ++ a.rear = ap (drop r.opens) a.more ∙ drop-append-le r.opens is a.rear opens_within in
+      let asc : Ascends r.start (drop r.opens is) (length o) = rw (all_is, e) at l.added in
+      let left : within wider p js ≡ spread r.start (take n p) (drop r.opens (take m js)) = refl in
+      let right : within r o is ≡ spread r.start (take r.end o) (drop r.opens (take r.last is)) = refl in
+      let c : take n p ≡ p = take_all n p (omega (arith, h)) in
+      let d : take r.end o ≡ o = take_all r.end o (omega (arith, e)) in
+      let more : spread r.start (o ++ a.begins.0) (drop r.opens is ++ a.rear) ≡ spread r.start o (drop r.opens is) ++ spread (length o) (o ++ a.begins.0) a.rear = spread_more r.start o a.begins.0 (drop r.opens is) a.rear (length p) asc a.ascends in
+      left ∙ ap₂ (λ (y : Octets) (ps : List Piece). spread r.start y (drop r.opens ps)) c all_js ∙ ap (λ (ps : List Piece). spread r.start p ps) rear
+      ∙ ap (λ (y : Octets). spread r.start y (drop r.opens is ++ a.rear)) a.begins.1 ∙ more ∙ ap (λ (y : Octets). spread r.start o (drop r.opens is) ++ spread (length o) y a.rear) (sym a.begins.1)
+      ∙ ap (λ (y : Octets). spread r.start o (drop r.opens is) ++ y) a.adds ∙ ap (λ (y : Octets). y ++ x) (sym (right ∙ ap₂ (λ (y : Octets) (ps : List Piece). spread r.start y (drop r.opens ps)) d all_is))
+
+  pub wider_laid : IsLaid wider (length p) js
+  wider_laid =
+      let t : take r.opens js ≡ take r.opens is = ap (take r.opens) a.more ∙ take-append-le r.opens is a.rear opens_within in
+      let rear : drop r.opens js ≡ drop r.opens is ++ a.rear = ap (drop r.opens) a.more ∙ drop-append-le r.opens is a.rear opens_within in
+      let asc : Ascends r.start (drop r.opens is) (length o) = rw (all_is, e) at l.added in
+      let u : drop m js ≡ [] = drop_all m js (omega (arith, k)) in
+      let b = l.begun g in
+      let whole : drop r.opens is ≡ free_at r.start ∷ b.0 = ap (drop r.opens) (sym all_is) ∙ b.1 in
+      record {
+        first = l.first;
+        opens = omega (arith, opens_within, long_js, k);
+        last = omega (arith, k);
+        roots = rw t l.roots;
+        added = rw (all_js, rear, h) (ascends_join r.start (length o) (length p) (drop r.opens is) a.rear asc a.ascends);
+        later = rw u (omega arith);
+        inside = rw u (omega (arith, h));
+        none = λ (z : m ≡ r.first). absurd (omega (arith, z, g, f, long_js, k));
+        begun = λ _. (b.0 ++ a.rear, ap (drop r.opens) all_js ∙ rear ∙ ap (λ (z : List Piece). z ++ a.rear) whole);
+      }
+
+-- a scope's slot is free
+pub slot_free : (inside : Bool) (start n : ℕ) (is rear : List Piece) → inside ≡ true → n ≤ length is → is ≡ (take n is ++ slots inside start) ++ rear → (front behind : List Piece) × (m : ℕ) × (is ≡ front ++ free_at m ∷ behind) × (n ≡ length front)
+slot_free inside start n is rear b h m =
+    let s : slots inside start ≡ free_at start ∷ [] = ap (λ (c : Bool). slots c start) b in
+    (take n is, rear, start, m ∙ ap (λ (z : List Piece). (take n is ++ z) ++ rear) s ∙ append_assoc (take n is) (free_at start ∷ []) rear, sym (length-take-le n is h))
+
+-- what was added to pieces that were taken out
+pub adds_from : (x o p : Octets) (is js ks : List Piece) → is ≡ ks → Adds x o is p js → Adds x o ks p js
+adds_from x o p is js ks e a = subst (λ (ps : List Piece). Adds x o ps p js) e a

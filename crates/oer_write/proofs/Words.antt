@@ -2,8 +2,10 @@
 use Rattle.std.proofs.Common.{◌≡◌, ◌≢◌, ℕ, zero, suc, ◌+◌, ◌-◌, ◌*◌, ◌/◌, ◌%◌, ◌^◌, ◌<◌, ◌≤◌, ◌==◌, Bool, true, false, cond, List, [], ◌∷◌, ◌++◌, ◌⊎◌, inl, inr, length, take, drop, refl, sym, ap, ap₂, ◌∙◌, subst, arith, append_assoc, append-nil, length-append}
 use Rattle.std.specs.Int.{w64, to_be_bytes, bytes_high_first}
 use Rattle.std.specs.Int.Bits.{shifted_half, shifted_even}
-use Rattle.std.proofs.Math.Nat.{pow-succ'}
-use Rattle.std.proofs.lemmas.Nat.{shl_whole}
+use Rattle.std.proofs.Math.Pow.{pow_mono}
+use Rattle.std.proofs.Math.Nat.{mul-le-mul_right, pow-succ', mul_assoc, mul_right_comm, mul-lt-mul_of_pos_right}
+use Rattle.std.proofs.lemmas.Nat.{shl_whole, pow-add, pow_pos}
+use Rattle.asn1_core.proofs.Digits.{powers}
 use Rattle.std.proofs.lemmas.Bool.{eq-eqb, ne_eqb, cases_eq}
 use Rattle.asn1_core.specs.Numbers.{low_octets}
 use Rattle.asn1_core.specs.Octets.{Octets, is_odd, bits8, bits_of, octets_for, pack, AllFalse}
@@ -173,3 +175,48 @@ put_rest start k x old new all lowest h a l e =
     let same : lowest ≡ low_octets k x = lowest_is k x all lowest h a l in
     let count : length lowest ≡ k = ap length same ∙ low_length k x in
     e ∙ ap₂ (λ o n. take start old ++ (o ++ drop (start + n) old)) same count
+
+-- ---- octets in front of those of a number
+
+whole_octets : (k : ℕ) → 2 ^ (k * 8) ≡ 256 ^ k
+whole_octets zero = refl
+whole_octets (suc k) =
+    let e : suc k * 8 ≡ k * 8 + 8 = omega arith in
+    let f : 2 ^ (k * 8 + 8) ≡ 2 ^ (k * 8) * 256 = pow-add 2 (k * 8) 8 in
+    ap (λ n. 2 ^ n) e ∙ f ∙ omega (arith, whole_octets k, powers k)
+
+pub aligned_small : (n w k x : ℕ) → w < 2 ^ n → k ≡ octets_for n → n ≤ 64 → x ≡ w * 2 ^ (k * 8 - n) % 2 ^ 64 → x < 256 ^ k
+aligned_small n w k x l e h f =
+    let p : ℕ = k * 8 - n in
+    let exact : x ≡ w * 2 ^ p = f ∙ shl_whole w n p 64 l (omega (arith, e, h)) in
+    let whole : n + p ≡ k * 8 = omega (arith, e) in
+    let below : w * 2 ^ p < 2 ^ n * 2 ^ p = mul-lt-mul_of_pos_right l (pow_pos p) in
+    let joined : 2 ^ n * 2 ^ p ≡ 256 ^ k = sym (pow-add 2 n p) ∙ ap (λ z. 2 ^ z) whole ∙ whole_octets k in
+    omega (arith, exact, below, joined)
+
+low_joined : (a k f x : ℕ) → x < 256 ^ k → low_octets (k + a) (f * 256 ^ k + x) ≡ low_octets a f ++ low_octets k x
+low_joined a zero f x h =
+    let e : f * 256 ^ 0 + x ≡ f = omega (arith, h) in
+    let z : 0 + a ≡ a = omega arith in
+    ap₂ (λ m n. low_octets m n) z e ∙ sym (append-nil (low_octets a f))
+low_joined a (suc k) f x h =
+    let s : suc k + a ≡ suc (k + a) = omega arith in
+    let p : 256 * 256 ^ k ≡ 256 ^ suc k = powers k in
+    let m : f * 256 ^ suc k ≡ f * 256 ^ k * 256 = ap (λ z. f * z) (sym p) ∙ sym (mul_assoc f 256 (256 ^ k)) ∙ mul_right_comm f 256 (256 ^ k) in
+    let half : (f * 256 ^ suc k + x) / 256 ≡ f * 256 ^ k + x / 256 = omega (arith, m) in
+    let low : (f * 256 ^ suc k + x) % 256 ≡ x % 256 = omega (arith, m) in
+    let small : x / 256 < 256 ^ k = omega (arith, h, p) in
+    ap (λ n. low_octets n (f * 256 ^ suc k + x)) s ∙ ap₂ (λ y z. low_octets (k + a) y ++ (z ∷ [])) half low
+    ∙ ap (λ o. o ++ (x % 256 ∷ [])) (low_joined a k f (x / 256) small) ∙ append_assoc (low_octets a f) (low_octets k (x / 256)) (x % 256 ∷ [])
+
+-- a front of n bits and so many octets in one word
+pub fronted : (n a k f x s : ℕ) → f < 2 ^ n → n + k * 8 ≤ 64 → x < 256 ^ k → s ≡ f * 2 ^ (k * 8) % 2 ^ 64 → (s + x < 2 ^ 64) × (low_octets (k + a) (s + x) ≡ low_octets a f ++ low_octets k x)
+fronted n a k f x s l h b e =
+    let exact : s ≡ f * 2 ^ (k * 8) = e ∙ shl_whole f n (k * 8) 64 l h in
+    let w : 2 ^ (k * 8) ≡ 256 ^ k = whole_octets k in
+    let m : f * 2 ^ (k * 8) ≡ f * 256 ^ k = ap (λ z. f * z) w in
+    let room : (f + 1) * 2 ^ (k * 8) ≤ 2 ^ n * 2 ^ (k * 8) = mul-le-mul_right (2 ^ (k * 8)) (omega (arith, l)) in
+    let split : (f + 1) * 2 ^ (k * 8) ≡ f * 2 ^ (k * 8) + 2 ^ (k * 8) = omega arith in
+    let joined : 2 ^ n * 2 ^ (k * 8) ≡ 2 ^ (n + k * 8) = sym (pow-add 2 n (k * 8)) in
+    let top : 2 ^ (n + k * 8) ≤ 2 ^ 64 = pow_mono h in
+    (omega (arith, exact, b, w, room, split, joined, top), ap (λ z. low_octets (k + a) (z + x)) (exact ∙ m) ∙ low_joined a k f x b)

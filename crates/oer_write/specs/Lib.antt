@@ -1,5 +1,10 @@
 pub mod Written
+pub mod Layout
+pub mod Inserted
+pub mod Held
+pub mod Closed
 pub mod Bits
+pub mod Preambles
 pub mod Seen
 pub mod Kept
 pub mod Rows

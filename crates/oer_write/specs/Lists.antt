@@ -1,5 +1,5 @@
 -- What a list asks of the closure that writes its elements, and what it does with what that wrote.
-use Rattle.std.specs.Prelude.{◌≡◌, ℕ, ◌+◌, ◌^◌, ◌<◌, Bool, true, false, cond, List, [], ◌∷◌, ◌++◌, ◌⊎◌, ⊤, length, Result, Ok, Err, Contains}
+use Rattle.std.specs.Prelude.{◌≡◌, ℕ, ◌+◌, ◌^◌, ◌<◌, Bool, true, false, cond, List, [], ◌∷◌, ◌++◌, ◌⊎◌, ⊤, length, OnOk, Result, Ok, Err, Contains}
 use Rattle.std.specs.Borrow.{Bor, MutBor}
 use Rattle.std.specs.Fn.{Shared}
 use Rattle.asn1_core.specs.Octets.{Octets, joined}
@@ -27,6 +27,10 @@ pub record PromiseAt {F E : Type 0} (g : Shared F (MutBor Written × (Bor E × U
   pub is : element.now ≡ x
   pub met : g.post f (shown, (element, tt)) (r, (left, tt))
   pub leaves : left.now ≡ e'
+
+-- what a type does at an element by the law of writing
+abbrev pub ByLaw : {E : Type 0} → (E → Tree) → (E → Type 0) → E → Runs
+ByLaw tree is_value x e r e' = WritesTree (tree x) e r e' × OnOk r (is_value x)
 
 -- the octets of an element: what the closure appended in some encoder with no scope open
 pub record WroteElement (runs : Runs) (octets : Octets) : Type 0 where

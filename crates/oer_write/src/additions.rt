@@ -1,5 +1,5 @@
 //! Extension additions of the open scope: each that is present is written as an open type.
-ghost use Rattle.std.specs.Prelude.{◌≡◌, ◌≤◌, ◌⊎◌, ◌&&◌, not, true, false, List, [], ◌∷◌, ◌++◌, length, OnOk, OnErr, IfErr, IfSome};
+ghost use Rattle.std.specs.Prelude.{◌≡◌, ◌≤◌, ◌⊎◌, ◌&&◌, not, true, false, List, [], ◌∷◌, ◌++◌, take, length, OnOk, OnErr, IfErr, IfSome};
 ghost use Rattle.asn1_core.specs.declared.codec.Codec.TheVariants.{Coer};
 ghost use Rattle.asn1_core.specs.declared.error.EncodeErrorKind.TheVariants.{OutOfMemory};
 ghost use Rattle.oer_spec.specs.Encoding.{canonical_octets};
@@ -7,45 +7,97 @@ ghost use Rattle.oer_spec.specs.Failures.{Fails};
 ghost use Rattle.oer_spec.specs.Spelled.{IsConsistent};
 ghost use Rattle.oer_spec.specs.Writing.{BeginsWith};
 ghost use Rattle.oer_spec.specs.Tree.{NoRows, Present, Absent, slot_of, present_unless};
+ghost use Rattle.oer_write.specs.Held.{Kept};
+ghost use Rattle.oer_write.specs.Layout.{Adds};
 ghost use Rattle.oer_write.specs.Rows.{RowsDone, SetDone, RowsRefused, IsOpenEncodable, optional, defaulted, open_type};
 ghost use Rattle.oer_write.specs.Seen.{around, within, IsLaid};
 ghost use Rattle.oer_write.specs.Written.{Keeps, WantsMemory};
 
 use crate::encode::Encode;
 use crate::encoder::Encoder;
-use crate::holes::{close_open, keep_free};
+use crate::insertions::Insertions;
+use crate::opens::close_open;
 use crate::region::{Region, begin};
-use crate::rows::append_value;
+use crate::rows::append_within;
+use crate::scopes::open_scope;
 use asn1_core::{Constraints, EncodeError, EncodeErrorKind, Tag};
 use std::alloc::Global;
 
-/// Appends an open type (X.696, 30): the value behind its length, for which an octet is kept free.
+/// Appends an open type (X.696, 30): the value, and in front of it its length.
+#[inline(always)]
 fn write_open<E: Encode>(
     alloc: Global,
+    is_inside: bool,
     tag: Tag,
     constraints: Constraints,
     value: &E,
     out: &mut Vec<u8>,
+    insertions: &mut Insertions,
 ) -> Result<(), EncodeError>
-    requires { IsConsistent constraints }
+    requires consistent { IsConsistent constraints }
+    requires alone { is_inside ≡ false → insertions.old ≡ [] }
     ensures short { OnOk result (IsOpenEncodable (E.tree constraints value.now)) }
-    ensures done { OnOk result (out.new.items ≡ out.old.items ++ open_type (canonical_octets (E.tree constraints value.now))) }
+    ensures done { OnOk result (Adds (open_type (canonical_octets (E.tree constraints value.now))) out.old.items insertions.old out.new.items insertions.new) }
     ensures value { OnOk result (E.IsValue value.now) }
     ensures refused { IfErr result (λ x. (x.kind ≡ OutOfMemory) ⊎ Fails (E.tree constraints value.now) x.kind) }
     ensures mode { IfErr result (λ x. x.codec ≡ Coer) }
-    ensures begins { BeginsWith out.old.items out.new.items }
+    ensures kept { Kept out.old.items insertions.old out.new.items insertions.new }
+    ensures alone { is_inside ≡ false → OnOk result (insertions.new ≡ []) }
 {
     let start = out.len();
-    keep_free(1, out)?;
-    append_value(alloc, tag, constraints, value, out)?;
-    let _size = out.len();
-    close_open(start, out)?;
+    let slot = insertions.len();
+    let before = insertions.inserted();
+    open_scope(alloc, is_inside, &mut *out, &mut *insertions)?;
+    append_within(alloc, tag, constraints, value, &mut *out, &mut *insertions)?;
+    close_open(is_inside, start, slot, before, out, insertions)?;
     Ok(())
 }
 
-/// Appends an open type; where it refuses, the octets are as before.
-#[tactic(auto, using(crate::proofs::Filling::cut_begun))]
+/// Appends an open type; where it refuses, the octets and the insertions are as before.
+#[inline(always)]
 fn put_open<E: Encode>(
+    alloc: Global,
+    is_inside: bool,
+    tag: Tag,
+    constraints: Constraints,
+    value: &E,
+    out: &mut Vec<u8>,
+    insertions: &mut Insertions,
+) -> Result<(), EncodeError>
+    requires consistent { IsConsistent constraints }
+    requires alone { is_inside ≡ false → insertions.old ≡ [] }
+    ensures short { OnOk result (IsOpenEncodable (E.tree constraints value.now)) }
+    ensures done { OnOk result (Adds (open_type (canonical_octets (E.tree constraints value.now))) out.old.items insertions.old out.new.items insertions.new) }
+    ensures value { OnOk result (E.IsValue value.now) }
+    ensures refused { IfErr result (λ x. (x.kind ≡ OutOfMemory) ⊎ Fails (E.tree constraints value.now) x.kind) }
+    ensures mode { IfErr result (λ x. x.codec ≡ Coer) }
+    ensures unchanged { OnErr result (out.new.items ≡ out.old.items) }
+    ensures kept { OnErr result (insertions.new ≡ insertions.old) }
+    ensures alone { is_inside ≡ false → OnOk result (insertions.new ≡ []) }
+{
+    let start = out.len();
+    let slot = insertions.len();
+    match write_open(
+        alloc,
+        is_inside,
+        tag,
+        constraints,
+        value,
+        &mut *out,
+        &mut *insertions,
+    ) {
+        Ok(()) => Ok(()),
+        Err(e) => {
+            out.truncate(start);
+            insertions.cut_apart(alloc, slot);
+            Err(e)
+        }
+    }
+}
+
+/// Appends an open type to octets that stand apart, all in their places.
+#[inline(always)]
+fn put_apart<E: Encode>(
     alloc: Global,
     tag: Tag,
     constraints: Constraints,
@@ -60,18 +112,12 @@ fn put_open<E: Encode>(
     ensures mode { IfErr result (λ x. x.codec ≡ Coer) }
     ensures unchanged { OnErr result (out.new.items ≡ out.old.items) }
 {
-    let start = out.len();
-    match write_open(alloc, tag, constraints, value, out) {
-        Ok(()) => Ok(()),
-        Err(e) => {
-            out.truncate(start);
-            Err(e)
-        }
-    }
+    let mut insertions = Insertions::new(alloc);
+    put_open(alloc, false, tag, constraints, value, out, &mut insertions)
 }
 
 /// Appends an open type to the additions that lie in the output; where it refuses, these are as before.
-#[tactic(auto, using(crate::proofs::Regions::around_last, crate::proofs::Regions::within_last, crate::proofs::Regions::laid_last))]
+#[inline(always)]
 fn put_behind<E: Encode>(
     alloc: Global,
     tag: Tag,
@@ -79,22 +125,34 @@ fn put_behind<E: Encode>(
     value: &E,
     region: &mut Region,
     out: &mut Vec<u8>,
+    insertions: &mut Insertions,
 ) -> Result<(), EncodeError>
     requires consistent { IsConsistent constraints }
-    requires laid { IsLaid region.old (length out.old.items) }
+    requires laid { IsLaid region.old (length out.old.items) insertions.old }
     ensures short { OnOk result (IsOpenEncodable (E.tree constraints value.now)) }
-    ensures done { OnOk result (within region.new out.new.items ≡ within region.old out.old.items ++ open_type (canonical_octets (E.tree constraints value.now))) }
+    ensures done { OnOk result (within region.new out.new.items insertions.new ≡ within region.old out.old.items insertions.old ++ open_type (canonical_octets (E.tree constraints value.now))) }
     ensures value { OnOk result (E.IsValue value.now) }
     ensures refused { IfErr result (λ x. (x.kind ≡ OutOfMemory) ⊎ Fails (E.tree constraints value.now) x.kind) }
     ensures mode { IfErr result (λ x. x.codec ≡ Coer) }
-    ensures octets { around region.new out.new.items ≡ around region.old out.old.items }
-    ensures unchanged { OnErr result (within region.new out.new.items ≡ within region.old out.old.items) }
-    ensures laid { IsLaid region.new (length out.new.items) }
-    ensures behind { region.old.start ≤ region.new.start }
+    ensures octets { around region.new out.new.items insertions.new ≡ around region.old out.old.items insertions.old }
+    ensures unchanged { OnErr result (within region.new out.new.items insertions.new ≡ within region.old out.old.items insertions.old) }
+    ensures laid { IsLaid region.new (length out.new.items) insertions.new }
+    ensures base { region.new.base ≡ region.old.base }
+    ensures first { region.new.first ≡ region.old.first }
+    ensures front { take region.old.first insertions.new ≡ take region.old.first insertions.old }
 {
-    begin(region, out)?;
-    put_open(alloc, tag, constraints, value, out)?;
+    begin(alloc, region, insertions, out)?;
+    put_open(
+        alloc,
+        true,
+        tag,
+        constraints,
+        value,
+        &mut *out,
+        &mut *insertions,
+    )?;
     region.end = out.len();
+    region.last = insertions.len();
     Ok(())
 }
 
@@ -103,6 +161,7 @@ impl<'buffer> Encoder<'buffer> {
     /// place of the type's own.
     ///
     /// Refused by what the value is refused by.
+    #[inline(always)]
     pub fn encode_extension_addition<E: Encode>(
         &mut self,
         tag: Tag,
@@ -124,6 +183,7 @@ impl<'buffer> Encoder<'buffer> {
     /// Writes an addition group that is present as an open type, and records whether it is.
     ///
     /// Refused by what the group is refused by.
+    #[inline(always)]
     pub fn encode_extension_addition_group<E: Encode>(
         &mut self,
         value: Option<&E>,
@@ -139,6 +199,7 @@ impl<'buffer> Encoder<'buffer> {
     /// Writes an addition as an open type, or nothing where it equals its default, and records which.
     ///
     /// Refused by what the value is refused by.
+    #[inline(always)]
     pub fn encode_extension_addition_default<E: Encode + PartialEq>(
         &mut self,
         tag: Tag,
@@ -159,6 +220,7 @@ impl<'buffer> Encoder<'buffer> {
         }
     }
 
+    #[inline(always)]
     fn leave_addition(&mut self, _tag: Tag) -> Result<(), EncodeError>
         ensures done { OnOk result (RowsDone NoRows (optional _tag Absent) self.old self.new) }
         ensures in_set { self.old.frame.is_set ≡ true → OnOk result (SetDone NoRows (optional _tag Absent) self.old self.new) }
@@ -168,6 +230,7 @@ impl<'buffer> Encoder<'buffer> {
         Ok(())
     }
 
+    #[inline(always)]
     fn put_addition<E: Encode>(
         &mut self,
         tag: Tag,
@@ -183,12 +246,16 @@ impl<'buffer> Encoder<'buffer> {
         if self.scope.is_sequence() {
             return self.put_within(tag, constraints, value);
         }
-        put_open(self.alloc, tag, constraints, value, &mut self.scope.opens)?;
+        let mut opens = std::mem::replace(&mut self.scope.opens, Vec::new(self.alloc));
+        let answer = put_apart(self.alloc, tag, constraints, value, &mut opens);
+        self.scope.opens = opens;
+        answer?;
         self.note_addition(true)?;
         Ok(())
     }
 
     /// Writes an addition straight into the output.
+    #[inline(always)]
     fn put_within<E: Encode>(
         &mut self,
         tag: Tag,
@@ -201,24 +268,32 @@ impl<'buffer> Encoder<'buffer> {
         ensures value { OnOk result (E.IsValue value.now) }
         ensures refused { IfErr result (λ x. RowsRefused NoRows (optional tag (Present (E.tree constraints value.now))) x self.old self.new) }
     {
-        put_behind(
+        let mut region = self.scope.region;
+        let empty = Insertions::new(self.alloc);
+        let mut pieces = std::mem::replace(&mut self.insertions, empty);
+        let answer = put_behind(
             self.alloc,
             tag,
             constraints,
             value,
-            &mut self.scope.region,
+            &mut region,
             &mut *self.output,
-        )?;
+            &mut pieces,
+        );
+        self.scope.region = region;
+        self.insertions = pieces;
+        answer?;
         self.note_addition(true)?;
         Ok(())
     }
 
     /// Records whether an addition is present.
+    #[inline(always)]
     fn note_addition(&mut self, bit: bool) -> Result<(), EncodeErrorKind>
         ensures done { OnOk result (self.new ≡ record self.old { frame = record self.old.frame { bitmap = self.old.frame.bitmap ++ (bit ∷ []) } }) }
         ensures refused { IfErr result (λ k. (k ≡ OutOfMemory) × Keeps self.old self.new) }
     {
-        self.scope.bitmap.push(bit)?;
+        self.scope.bitmap.push(self.alloc, bit)?;
         Ok(())
     }
 }

@@ -1,7 +1,8 @@
 //! Presence bits and bitmaps, of which the first 64 lie in one word.
-ghost use Rattle.std.specs.Prelude.{◌≡◌, ◌+◌, ◌^◌, ◌<◌, ◌≤◌, [], ◌∷◌, ◌++◌, take, drop, length, vec_len, OnOk, IfErr, IfSome};
+ghost use Rattle.std.specs.Prelude.{◌≡◌, ◌+◌, ◌-◌, ◌*◌, ◌^◌, ◌<◌, ◌≤◌, [], ◌∷◌, ◌++◌, take, drop, length, vec_len, None, OnOk, IfErr, IfSome};
 ghost use Rattle.asn1_core.specs.Numbers.{low_octets};
-ghost use Rattle.asn1_core.specs.Octets.{pack};
+ghost use Rattle.asn1_core.specs.Octets.{octets_for, pack};
+ghost use Rattle.oer_spec.specs.Lengths.{counted_bits};
 ghost use Rattle.asn1_core.specs.declared.error.EncodeErrorKind.TheVariants.{OutOfMemory};
 ghost use Rattle.oer_spec.specs.Places.{extension_bit};
 ghost use Rattle.oer_spec.specs.Writing.{AppendsOrMemory};
@@ -9,13 +10,16 @@ ghost use Rattle.oer_write.specs.Bits.{low_bits, ArePacked};
 ghost use Rattle.oer_write.specs.Scopes.{any_true};
 
 use asn1_core::EncodeErrorKind;
-use oer_spec::leaf::octets_for;
+use oer_spec::leaf::{octets_for, unused_for};
 use smallvec::SmallVec;
 use std::alloc::Global;
 use std::marker::Model;
 
 /// How many bits the word has room for.
 const WORD: usize = 64;
+
+/// The bitmap of so many additions has at most eight octets.
+const MAPPED: usize = 48;
 
 /// Bits one by one.
 pub(crate) type Spelled = SmallVec<bool, 64>;
@@ -51,7 +55,7 @@ pub(crate) struct Packed {
 }
 
 /// A bit in front of the bits of a word.
-#[inline]
+#[inline(always)]
 #[tactic(auto, using(crate::proofs::Words::first_set, crate::proofs::Words::first_unset))]
 fn with_first(bit: bool, word: u64, count: usize) -> u64
     requires room { count < 64 }
@@ -63,12 +67,14 @@ fn with_first(bit: bool, word: u64, count: usize) -> u64
 }
 
 /// The bits of a word in whole octets, filled up with zero bits.
-#[inline]
-#[tactic(auto, using(crate::proofs::Words::aligned_is))]
+#[inline(always)]
+#[tactic(auto, using(crate::proofs::Words::aligned_is, crate::proofs::Words::aligned_small))]
 fn aligned(word: u64, count: usize) -> Packed
     requires room { count ≤ 64 }
     requires small { word < 2 ^ count }
-    ensures { ArePacked result.octets result.number (low_bits count word) }
+    ensures packed { ArePacked result.octets result.number (low_bits count word) }
+    ensures octets { result.octets ≡ octets_for count }
+    ensures small { result.number < 256 ^ result.octets }
 {
     let octets = octets_for(count);
     Packed {
@@ -105,7 +111,7 @@ fn any(bits: &[bool]) -> bool
 
 impl Bits {
     /// No bits. Takes no memory.
-    #[inline]
+    #[inline(always)]
     pub(crate) fn new(alloc: Global) -> Bits
         ensures { result ≡ [] }
     {
@@ -117,7 +123,7 @@ impl Bits {
     }
 
     /// How many bits there are.
-    #[inline]
+    #[inline(always)]
     #[tactic(auto, using(crate::proofs::Words::length_all))]
     pub(crate) fn len(&self) -> usize
         ensures { result ≡ length self.now }
@@ -125,16 +131,21 @@ impl Bits {
         self.count + self.more.len()
     }
 
-    /// Appends a bit.
-    #[inline]
+    /// Appends a bit; the bits behind the first 64 are lent to the call out of line, and the rest isn't.
+    #[inline(always)]
     #[tactic(auto, using(crate::proofs::Words::pushed_set, crate::proofs::Words::pushed_unset))]
-    pub(crate) fn push(&mut self, bit: bool) -> Result<(), EncodeErrorKind>
+    pub(crate) fn push(&mut self, alloc: Global, bit: bool) -> Result<(), EncodeErrorKind>
         ensures done { OnOk result (self.new ≡ self.old ++ (bit ∷ [])) }
         ensures refused { IfErr result (λ k. k ≡ OutOfMemory) }
     {
         if self.count == WORD {
-            self.more.push(bit)?;
-            return Ok(());
+            let mut more = std::mem::replace(&mut self.more, Vec::new(alloc));
+            let answer = more.push(bit);
+            self.more = more;
+            return match answer {
+                Ok(()) => Ok(()),
+                Err(_) => Err(EncodeErrorKind::OutOfMemory),
+            };
         }
         self.word = if bit {
             self.word * 2 + 1
@@ -145,8 +156,20 @@ impl Bits {
         Ok(())
     }
 
+    /// The bits as they are lent to a call out of line.
+    #[inline(always)]
+    pub(crate) fn lent(&self) -> LentBits<'_>
+        ensures { low_bits result.count result.word ++ result.more.now ≡ self.now }
+    {
+        LentBits {
+            word: self.word,
+            count: self.count,
+            more: self.more.as_slice(),
+        }
+    }
+
     /// Whether some bit is set.
-    #[inline]
+    #[inline(always)]
     #[tactic(auto, using(crate::proofs::Words::any_some, crate::proofs::Words::any_none))]
     pub(crate) fn any(&self) -> bool
         ensures { result ≡ any_true self.now }
@@ -157,29 +180,73 @@ impl Bits {
         any(self.more.as_slice())
     }
 
-    /// Appends the bits one by one.
-    pub(crate) fn spell_to(&self, bits: &mut Spelled) -> Result<(), EncodeErrorKind>
-        ensures done { OnOk result (bits.new.items ≡ bits.old.items ++ self.now) }
-        ensures refused { IfErr result (λ k. k ≡ OutOfMemory) }
-    {
-        spell(self.word, self.count, bits)?;
-        bits.extend_from_slice(self.more.as_slice())?;
-        Ok(())
-    }
-
-    /// The octets of a preamble with these presence bits, where these are fewer than 63 (X.696, 16.2).
-    #[inline]
+    /// The octets of a preamble with these presence bits, where these are at most 64 with the extension bit (X.696, 16.2).
+    #[inline(always)]
     pub(crate) fn packed(&self, extensible: bool, extended: bool) -> Option<Packed>
-        ensures { IfSome result (λ p. ArePacked p.octets p.number (extension_bit extensible extended ++ self.now)) }
+        ensures packed { IfSome result (λ p. ArePacked p.octets p.number (extension_bit extensible extended ++ self.now)) }
+        ensures many { result ≡ None → 64 < length (extension_bit extensible extended ++ self.now) }
     {
-        if self.count >= WORD - 1 {
-            return None;
+        if self.count == WORD {
+            if extensible {
+                return None;
+            }
+            if self.more.len() != 0 {
+                return None;
+            }
+            return Some(aligned(self.word, WORD));
         }
         if extensible {
             return Some(aligned(with_first(extended, self.word, self.count), self.count + 1));
         }
         Some(aligned(self.word, self.count))
     }
+
+    /// The octets of a bitmap with these bits, its length and the count of unused bits among them, where they are at most
+    /// eight (X.696, 16.4).
+    #[inline(always)]
+    pub(crate) fn mapped(&self) -> Option<Packed>
+        ensures mapped { IfSome result (λ p. (p.octets ≤ 8) × (low_octets p.octets p.number ≡ counted_bits self.now)) }
+        ensures many { result ≡ None → 48 < length self.now }
+    {
+        if self.count > MAPPED {
+            return None;
+        }
+        Some(behind_count(aligned(self.word, self.count), self.count))
+    }
+}
+
+/// The bits of a bitmap behind their length and the count of unused bits.
+#[inline(always)]
+fn behind_count(bits: Packed, count: usize) -> Packed
+    requires few { count ≤ 48 }
+    requires octets { bits.octets ≡ octets_for count }
+    requires small { bits.number < 256 ^ bits.octets }
+    ensures octets { result.octets ≡ 2 + bits.octets }
+    ensures number { low_octets result.octets result.number ≡ (bits.octets + 1) ∷ (8 * octets_for count - count) ∷ low_octets bits.octets bits.number }
+{
+    let front = (bits.octets as u64 + 1) * 256 + unused_for(count) as u64;
+    Packed {
+        number: (front << (bits.octets * 8)) + bits.number,
+        octets: 2 + bits.octets,
+    }
+}
+
+/// Bits as they are lent to a call out of line.
+#[derive(Clone, Copy)]
+pub(crate) struct LentBits<'bits> {
+    word: u64,
+    count: usize,
+    more: &'bits [bool],
+}
+
+/// Appends the bits one by one.
+pub(crate) fn spell_lent(lent: LentBits<'_>, bits: &mut Spelled) -> Result<(), EncodeErrorKind>
+    ensures done { OnOk result (bits.new.items ≡ bits.old.items ++ (low_bits lent.entry.count lent.entry.word ++ lent.entry.more.now)) }
+    ensures refused { IfErr result (λ k. k ≡ OutOfMemory) }
+{
+    spell(lent.word, lent.count, bits)?;
+    bits.extend_from_slice(lent.more)?;
+    Ok(())
 }
 
 /// Appends octets.
@@ -192,38 +259,4 @@ pub(crate) fn append_packed(packed: Packed, out: &mut Vec<u8>) -> Result<(), Enc
     let (_, lowest) = all.split_at(8 - packed.octets);
     out.extend_from_slice(lowest)?;
     Ok(())
-}
-
-/// Puts octets where as many are free from `start` on.
-#[inline]
-#[tactic(auto, using(crate::proofs::Filling::put_one))]
-pub(crate) fn put_packed(packed: Packed, start: usize, out: &mut Vec<u8>)
-    requires few { packed.octets ≤ 8 }
-    requires within { start + packed.octets ≤ vec_len out.old }
-    ensures { out.new.items ≡ take start out.old.items ++ (low_octets packed.octets packed.number ++ drop (start + packed.octets) out.old.items) }
-{
-    if packed.octets == 1 {
-        out[start] = (packed.number % 256) as u8;
-        return;
-    }
-    put_lowest(packed.number, packed.octets, start, out.as_mut_slice());
-}
-
-/// Puts a number's lowest octets over those from `start` on.
-fn put_lowest(number: u64, octets: usize, start: usize, out: &mut [u8])
-    requires few { octets ≤ 8 }
-    requires within { start + octets ≤ length out.old }
-    ensures { out.new ≡ take start out.old ++ (low_octets octets number ++ drop (start + octets) out.old) }
-{
-    let all = number.to_be_bytes();
-    let (_, lowest) = all.split_at(8 - octets);
-    put_within(start, lowest, out);
-}
-
-/// Puts octets over those from `start` on.
-pub(crate) fn put_within(start: usize, octets: &[u8], out: &mut [u8])
-    requires { start + length octets.now ≤ length out.old }
-    ensures { out.new ≡ take start out.old ++ (octets.now ++ drop (start + length octets.now) out.old) }
-{
-    out[start..start + octets.len()].copy_from_slice(octets);
 }

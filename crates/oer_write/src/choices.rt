@@ -1,22 +1,27 @@
 //! Choices: a tag, and the alternative that the closure writes.
-ghost use Rattle.std.specs.Prelude.{◌≡◌, ◌^◌, ◌<◌, ◌++◌, ◌⊎◌, Bool, true, false, length, OnOk, OnErr, IfErr};
+ghost use Rattle.std.specs.Prelude.{◌≡◌, ◌^◌, ◌<◌, ◌++◌, ◌⊎◌, [], Bool, true, false, length, OnOk, OnErr, IfErr};
 ghost use Rattle.std.specs.Fn.{FnOnceTakesAtMut};
 ghost use Rattle.asn1_core.specs.Octets.{Octets};
 ghost use Rattle.asn1_core.specs.Tags.{holds};
-ghost use Rattle.oer_spec.specs.Lengths.{tag_octets};
+ghost use Rattle.oer_spec.specs.Lengths.{behind_length, tag_octets};
 ghost use Rattle.oer_spec.specs.Tree.{Tree, Choice};
 ghost use Rattle.oer_spec.specs.Writing.{BeginsWith};
+ghost use Rattle.oer_write.specs.Held.{Kept};
+ghost use Rattle.oer_write.specs.Layout.{Adds};
 ghost use Rattle.oer_write.specs.Choices.{PromisePick, PicksTag, ContentDone, ContentRefused, Appended, AppendedOpen, alternative_octets, ChoiceDone, ChoiceBroken, IsKnownToPick};
 ghost use Rattle.oer_write.specs.Written.{Written, Keeps, Encodes, Refused, WantsMemory};
 
 use crate::encoder::Encoder;
-use crate::holes::{close_open, keep_free};
+use crate::insertions::Insertions;
+use crate::opens::close_open;
+use crate::scopes::open_scope;
 use asn1_core::{Choice, Constraints, EncodeError, Tag};
 use oer_leaf_write::write_tag;
 use oer_spec::is_among;
 use std::alloc::Global;
 
 /// Lends an encoder to a closure that answers a tag.
+#[inline(always)]
 fn lend_pick<F: FnOnce(&mut Encoder<'_>) -> Result<Tag, EncodeError>>(
     encoder: &mut Encoder<'_>,
     f: F,
@@ -28,6 +33,7 @@ fn lend_pick<F: FnOnce(&mut Encoder<'_>) -> Result<Tag, EncodeError>>(
 }
 
 /// Lends an encoder with no scope open to a closure that answers a tag.
+#[inline(always)]
 fn pick<F: FnOnce(&mut Encoder<'_>) -> Result<Tag, EncodeError>>(
     encoder: &mut Encoder<'_>,
     tag: Tag,
@@ -45,86 +51,121 @@ fn pick<F: FnOnce(&mut Encoder<'_>) -> Result<Tag, EncodeError>>(
 }
 
 /// Lends an encoder with no scope open, over an output.
+#[inline(always)]
 fn pick_into<F: FnOnce(&mut Encoder<'_>) -> Result<Tag, EncodeError>>(
     alloc: Global,
+    is_inside: bool,
     tag: Tag,
     f: F,
     out: &mut Vec<u8>,
+    insertions: &mut Insertions,
 ) -> Result<(), EncodeError>
     requires callable { (lent : Written) → lent.frame.is_open ≡ false → FnOnceTakesAtMut F.FnOnce f lent }
     requires picks { PicksTag (PromisePick F.FnOnce f) tag }
-    ensures done { OnOk result (Appended (PromisePick F.FnOnce f) out.old.items out.new.items) }
+    requires alone { is_inside ≡ false → insertions.old ≡ [] }
+    ensures done { OnOk result ((o : Octets) × ContentDone (PromisePick F.FnOnce f) o × Adds o out.old.items insertions.old out.new.items insertions.new) }
     ensures refused { IfErr result (λ x. ContentRefused (PromisePick F.FnOnce f) x) }
-    ensures begins { BeginsWith out.old.items out.new.items }
+    ensures kept { Kept out.old.items insertions.old out.new.items insertions.new }
+    ensures alone { is_inside ≡ false → insertions.new ≡ [] }
 {
-    let mut inner = Encoder::lent(alloc, &mut *out);
+    let empty = Insertions::new(alloc);
+    let pieces = std::mem::replace(&mut *insertions, empty);
+    let mut inner = Encoder::lent(alloc, is_inside, pieces, &mut *out);
     let answer = pick(&mut inner, tag, f);
-    *out = inner.into_octets();
+    let (octets, pieces) = inner.into_parts();
+    *out = octets;
+    *insertions = pieces;
     answer
 }
 
-/// Appends an open type: what a closure writes behind its length, for which an octet is kept free (X.696, 30).
+/// Appends an open type: what a closure writes, and in front of it its length (X.696, 30).
+#[inline(always)]
 fn pick_open<F: FnOnce(&mut Encoder<'_>) -> Result<Tag, EncodeError>>(
     alloc: Global,
+    is_inside: bool,
     tag: Tag,
     f: F,
     out: &mut Vec<u8>,
+    insertions: &mut Insertions,
 ) -> Result<(), EncodeError>
     requires callable { (lent : Written) → lent.frame.is_open ≡ false → FnOnceTakesAtMut F.FnOnce f lent }
     requires picks { PicksTag (PromisePick F.FnOnce f) tag }
-    ensures done { OnOk result (AppendedOpen (PromisePick F.FnOnce f) out.old.items out.new.items) }
+    requires alone { is_inside ≡ false → insertions.old ≡ [] }
+    ensures done { OnOk result ((o : Octets) × ContentDone (PromisePick F.FnOnce f) o × (length o < 2 ^ 64) × Adds (behind_length o) out.old.items insertions.old out.new.items insertions.new) }
     ensures refused { IfErr result (λ x. WantsMemory x ⊎ ContentRefused (PromisePick F.FnOnce f) x) }
-    ensures begins { BeginsWith out.old.items out.new.items }
+    ensures kept { Kept out.old.items insertions.old out.new.items insertions.new }
+    ensures alone { is_inside ≡ false → OnOk result (insertions.new ≡ []) }
 {
     let start = out.len();
-    keep_free(1, out)?;
-    pick_into(alloc, tag, f, &mut *out)?;
-    let _size = out.len();
-    close_open(start, out)?;
+    let slot = insertions.len();
+    let before = insertions.inserted();
+    open_scope(alloc, is_inside, &mut *out, &mut *insertions)?;
+    pick_into(alloc, true, tag, f, &mut *out, &mut *insertions)?;
+    close_open(is_inside, start, slot, before, out, insertions)?;
     Ok(())
 }
 
 /// Writes a tag, and behind it a root alternative as it is, another as an open type.
+#[inline(always)]
 fn write_choice<F: FnOnce(&mut Encoder<'_>) -> Result<Tag, EncodeError>>(
     alloc: Global,
+    is_inside: bool,
     tag: Tag,
     is_root: bool,
     f: F,
     out: &mut Vec<u8>,
+    insertions: &mut Insertions,
 ) -> Result<(), EncodeError>
     requires callable { (lent : Written) → lent.frame.is_open ≡ false → FnOnceTakesAtMut F.FnOnce f lent }
     requires picks { PicksTag (PromisePick F.FnOnce f) tag }
-    ensures done { OnOk result ((o : Octets) × ContentDone (PromisePick F.FnOnce f) o × (is_root ≡ false → length o < 2 ^ 64) × (out.new.items ≡ out.old.items ++ (tag_octets tag ++ alternative_octets is_root o))) }
+    requires alone { is_inside ≡ false → insertions.old ≡ [] }
+    ensures done { OnOk result ((o : Octets) × ContentDone (PromisePick F.FnOnce f) o × (is_root ≡ false → length o < 2 ^ 64) × Adds (tag_octets tag ++ alternative_octets is_root o) out.old.items insertions.old out.new.items insertions.new) }
     ensures refused { IfErr result (λ x. WantsMemory x ⊎ ContentRefused (PromisePick F.FnOnce f) x) }
-    ensures begins { BeginsWith out.old.items out.new.items }
+    ensures kept { Kept out.old.items insertions.old out.new.items insertions.new }
+    ensures alone { is_inside ≡ false → OnOk result (insertions.new ≡ []) }
 {
     write_tag(tag, out)?;
     if is_root {
-        return pick_into(alloc, tag, f, out);
+        return pick_into(alloc, is_inside, tag, f, out, insertions);
     }
-    pick_open(alloc, tag, f, out)
+    pick_open(alloc, is_inside, tag, f, out, insertions)
 }
 
-/// Writes a choice; where it refuses, the output is as before.
-#[tactic(auto, using(crate::proofs::Filling::cut_begun))]
+/// Writes a choice; where it refuses, the output and the insertions are as before.
+#[inline(always)]
 fn put_choice<F: FnOnce(&mut Encoder<'_>) -> Result<Tag, EncodeError>>(
     alloc: Global,
+    is_inside: bool,
     tag: Tag,
     is_root: bool,
     f: F,
     out: &mut Vec<u8>,
+    insertions: &mut Insertions,
 ) -> Result<(), EncodeError>
     requires callable { (lent : Written) → lent.frame.is_open ≡ false → FnOnceTakesAtMut F.FnOnce f lent }
     requires picks { PicksTag (PromisePick F.FnOnce f) tag }
-    ensures done { OnOk result ((o : Octets) × ContentDone (PromisePick F.FnOnce f) o × (is_root ≡ false → length o < 2 ^ 64) × (out.new.items ≡ out.old.items ++ (tag_octets tag ++ alternative_octets is_root o))) }
+    requires alone { is_inside ≡ false → insertions.old ≡ [] }
+    ensures done { OnOk result ((o : Octets) × ContentDone (PromisePick F.FnOnce f) o × (is_root ≡ false → length o < 2 ^ 64) × Adds (tag_octets tag ++ alternative_octets is_root o) out.old.items insertions.old out.new.items insertions.new) }
     ensures refused { IfErr result (λ x. WantsMemory x ⊎ ContentRefused (PromisePick F.FnOnce f) x) }
     ensures unchanged { OnErr result (out.new.items ≡ out.old.items) }
+    ensures kept { OnErr result (insertions.new ≡ insertions.old) }
+    ensures alone { is_inside ≡ false → OnOk result (insertions.new ≡ []) }
 {
     let start = out.len();
-    match write_choice(alloc, tag, is_root, f, &mut *out) {
+    let slot = insertions.len();
+    match write_choice(
+        alloc,
+        is_inside,
+        tag,
+        is_root,
+        f,
+        &mut *out,
+        &mut *insertions,
+    ) {
         Ok(()) => Ok(()),
         Err(e) => {
             out.truncate(start);
+            insertions.cut_apart(alloc, slot);
             Err(e)
         }
     }
@@ -135,6 +176,7 @@ impl<'buffer> Encoder<'buffer> {
     ///
     /// What the closure appends in an encoder with no scope open is what stands behind the tag: as it is where the tag is
     /// one of the root alternatives, else as an open type. Refused by what the closure refused, or for want of memory.
+    #[inline(always)]
     pub fn encode_choice<E: Choice, F: FnOnce(&mut Encoder<'_>) -> Result<Tag, EncodeError>>(
         &mut self,
         _constraints: Constraints,
@@ -151,7 +193,7 @@ impl<'buffer> Encoder<'buffer> {
         self.choice(tag, is_among(E::root_tags(), tag), f)
     }
 
-    #[tactic(auto, using(crate::proofs::Regions::more_around, crate::proofs::Regions::more_within))]
+    #[inline(always)]
     fn choice<F: FnOnce(&mut Encoder<'_>) -> Result<Tag, EncodeError>>(
         &mut self,
         tag: Tag,
@@ -164,7 +206,19 @@ impl<'buffer> Encoder<'buffer> {
         ensures refused { IfErr result (λ x. ChoiceBroken (PromisePick F.FnOnce f) x self.old self.new) }
         ensures unchanged { OnErr result (self.new ≡ self.old) }
     {
-        put_choice(self.alloc, tag, is_root, f, &mut *self.output)?;
+        let empty = Insertions::new(self.alloc);
+        let mut pieces = std::mem::replace(&mut self.insertions, empty);
+        let answer = put_choice(
+            self.alloc,
+            self.is_inside,
+            tag,
+            is_root,
+            f,
+            &mut *self.output,
+            &mut pieces,
+        );
+        self.insertions = pieces;
+        answer?;
         Ok(())
     }
 }

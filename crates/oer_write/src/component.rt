@@ -92,6 +92,7 @@ impl Model for Components {
 
 impl Components {
     /// No components. Takes no memory.
+    #[inline(always)]
     pub(crate) fn new(alloc: Global) -> Components
         ensures { result ≡ [] }
     {
@@ -102,6 +103,7 @@ impl Components {
     }
 
     /// Records a component that is absent.
+    #[inline(never)]
     pub(crate) fn push_absent(&mut self, tag: Tag) -> Result<(), EncodeErrorKind>
         ensures done { OnOk result (self.new ≡ self.old ++ (absent tag ∷ [])) }
         ensures refused { IfErr result (λ k. k ≡ OutOfMemory) }
@@ -111,6 +113,7 @@ impl Components {
     }
 
     /// Writes a component behind the others.
+    #[inline(never)]
     pub(crate) fn push_value<E: Encode>(
         &mut self,
         alloc: Global,

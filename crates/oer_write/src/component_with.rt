@@ -6,6 +6,7 @@ ghost use Rattle.oer_spec.specs.Places.{needed};
 ghost use Rattle.oer_spec.specs.Tree.{Tree, NoRows};
 ghost use Rattle.oer_spec.specs.Writing.{BeginsWith};
 ghost use Rattle.oer_write.specs.ByClosure.{AppendedBy, RefusedInside, PutBy, KeptBy, ComponentBroken, IsKnownToWriteTree};
+ghost use Rattle.oer_write.specs.Layout.{Adds};
 ghost use Rattle.oer_write.specs.Lists.{WroteElement, IsOrderlyHere};
 ghost use Rattle.oer_write.specs.Rows.{RowsDone, SetDone, RowsRefused, required};
 ghost use Rattle.oer_write.specs.Scopes.{Promise};
@@ -13,10 +14,12 @@ ghost use Rattle.oer_write.specs.Written.{Written, Keeps, WantsMemory};
 
 use crate::component::{Component, Components, push_place};
 use crate::encoder::Encoder;
+use crate::insertions::Insertions;
 use asn1_core::{EncodeError, Tag};
 use std::alloc::Global;
 
 /// Lends an encoder to a closure.
+#[inline(always)]
 fn lend_to<F: FnOnce(&mut Encoder<'_>) -> Result<(), EncodeError>>(
     encoder: &mut Encoder<'_>,
     f: F,
@@ -28,6 +31,7 @@ fn lend_to<F: FnOnce(&mut Encoder<'_>) -> Result<(), EncodeError>>(
 }
 
 /// Lends an encoder with no scope open to a closure.
+#[inline(always)]
 fn put_by<F: FnOnce(&mut Encoder<'_>) -> Result<(), EncodeError>>(
     encoder: &mut Encoder<'_>,
     f: F,
@@ -44,20 +48,29 @@ fn put_by<F: FnOnce(&mut Encoder<'_>) -> Result<(), EncodeError>>(
 }
 
 /// Lends an encoder with no scope open, over an output.
+#[inline(always)]
 fn put_into<F: FnOnce(&mut Encoder<'_>) -> Result<(), EncodeError>>(
     alloc: Global,
+    is_inside: bool,
     f: F,
     out: &mut Vec<u8>,
+    insertions: &mut Insertions,
 ) -> Result<(), EncodeError>
     requires callable { (lent : Written) → lent.frame.is_open ≡ false → FnOnceTakesAtMut F.FnOnce f lent }
     requires orderly { IsOrderlyHere (Promise F.FnOnce f) }
-    ensures done { OnOk result (AppendedBy (Promise F.FnOnce f) out.old.items out.new.items) }
+    requires alone { is_inside ≡ false → insertions.old ≡ [] }
+    ensures done { OnOk result ((o : Octets) × WroteElement (Promise F.FnOnce f) o × Adds o out.old.items insertions.old out.new.items insertions.new) }
     ensures refused { IfErr result (λ x. RefusedInside (Promise F.FnOnce f) x) }
-    ensures begins { BeginsWith out.old.items out.new.items }
+    ensures grown { (o : Octets) × Adds o out.old.items insertions.old out.new.items insertions.new }
+    ensures alone { is_inside ≡ false → insertions.new ≡ [] }
 {
-    let mut inner = Encoder::lent(alloc, &mut *out);
+    let empty = Insertions::new(alloc);
+    let pieces = std::mem::replace(&mut *insertions, empty);
+    let mut inner = Encoder::lent(alloc, is_inside, pieces, &mut *out);
     let answer = put_by(&mut inner, f);
-    *out = inner.into_octets();
+    let (octets, pieces) = inner.into_parts();
+    *out = octets;
+    *insertions = pieces;
     answer
 }
 
@@ -75,7 +88,8 @@ impl Components {
         ensures refused { IfErr result (λ x. WantsMemory x ⊎ RefusedInside (Promise F.FnOnce f) x) }
     {
         let start = self.octets.len();
-        put_into(alloc, f, &mut self.octets)?;
+        let mut insertions = Insertions::new(alloc);
+        put_into(alloc, false, f, &mut self.octets, &mut insertions)?;
         let size = self.octets.len() - start;
         push_place(
             &mut self.places,
@@ -122,25 +136,35 @@ impl<'buffer> Encoder<'buffer> {
         ensures refused { IfErr result (λ x. ComponentBroken (Promise F.FnOnce f) x self.old self.new) }
     {
         if self.scope.is_set {
-            self.scope.components.push_by(self.alloc, tag, f)?;
-            return Ok(());
+            let mut components = self.take_components();
+            let answer = components.push_by(self.alloc, tag, f);
+            self.scope.components = components;
+            return answer;
         }
         self.put_inside(f)
     }
 
     /// Lends an encoder with no scope open, over the same output.
-    #[tactic(auto, using(crate::proofs::Regions::appended_more, crate::proofs::Regions::more_around, crate::proofs::Regions::more_within))]
     fn put_inside<F: FnOnce(&mut Encoder<'_>) -> Result<(), EncodeError>>(
         &mut self,
         f: F,
     ) -> Result<(), EncodeError>
         requires callable { (lent : Written) → lent.frame.is_open ≡ false → FnOnceTakesAtMut F.FnOnce f lent }
         requires orderly { IsOrderlyHere (Promise F.FnOnce f) }
-        ensures done { OnOk result (AppendedBy (Promise F.FnOnce f) self.old.octets self.new.octets) }
+        ensures in_sequence { OnOk result (PutBy (Promise F.FnOnce f) self.old self.new) }
         ensures refused { IfErr result (λ x. RefusedInside (Promise F.FnOnce f) x) }
-        ensures begins { BeginsWith self.old.octets self.new.octets }
-        ensures left { self.new ≡ record self.old { octets = self.new.octets } }
+        ensures keeps { Keeps self.old self.new }
     {
-        put_into(self.alloc, f, &mut *self.output)
+        let empty = Insertions::new(self.alloc);
+        let mut pieces = std::mem::replace(&mut self.insertions, empty);
+        let answer = put_into(
+            self.alloc,
+            self.is_inside,
+            f,
+            &mut *self.output,
+            &mut pieces,
+        );
+        self.insertions = pieces;
+        answer
     }
 }

@@ -1,16 +1,18 @@
 //! Lists: a quantity and the elements, written straight behind the octets of before.
-ghost use Rattle.std.specs.Prelude.{◌≡◌, ◌+◌, ◌<◌, ◌⊎◌, Bool, true, false, List, ◌++◌, length, Contains, Err, OnOk, IfOk, IfErr};
+ghost use Rattle.std.specs.Prelude.{◌≡◌, ◌+◌, ◌<◌, ◌⊎◌, Bool, true, false, List, [], ◌++◌, length, Contains, Err, OnOk, IfOk, IfErr};
 ghost use Rattle.asn1_core.specs.Octets.{Octets};
 ghost use Rattle.asn1_core.specs.declared.error.EncodeErrorKind.TheVariants.{OutOfMemory};
 ghost use Rattle.oer_spec.specs.Lengths.{quantity_octets};
 ghost use Rattle.oer_spec.specs.Spelled.{list_of, EachValue};
 ghost use Rattle.oer_spec.specs.Tree.{Tree};
 ghost use Rattle.oer_spec.specs.Writing.{BeginsWith};
-ghost use Rattle.oer_write.specs.Lists.{is_nil, TakesElement, PromiseAt, WroteElement, IsOrderlyAt, IsOrderlyHere, ElementDone, ElementTooMany, ElementsDone, ElementsBroken, ListDone, ListBroken, IsKnownToWriteAt, IsByFirst};
+ghost use Rattle.oer_write.specs.Layout.{Adds};
+ghost use Rattle.oer_write.specs.Lists.{ByLaw, is_nil, TakesElement, PromiseAt, WroteElement, IsOrderlyAt, IsOrderlyHere, ElementDone, ElementTooMany, ElementsDone, ElementsBroken, ListDone, ListBroken, IsKnownToWriteAt, IsByFirst};
 ghost use Rattle.oer_write.specs.Written.{append, no_scope, Keeps, Encodes, Refused, WritesTree};
 
 use crate::encode::Encode;
 use crate::encoder::Encoder;
+use crate::insertions::Insertions;
 use asn1_core::{Constraints, EncodeError, EncodeErrorKind, Tag};
 use oer_leaf_write::write_quantity;
 use std::alloc::Global;
@@ -100,23 +102,65 @@ fn put_elements<E, F: Fn(&mut Encoder<'_>, &E) -> Result<(), EncodeError>>(
     Ok(())
 }
 
+/// Writes one element by its type, and counts those that take no octets.
+#[inline(always)]
+fn put_value<E: Encode>(encoder: &mut Encoder<'_>, x: &E, count: u32) -> Result<u32, EncodeError>
+    requires few { count < 65537 }
+    ensures done { IfOk result (λ n. ElementDone (ByLaw (E.tree E.CONSTRAINTS) E.IsValue x.now) encoder.old.octets encoder.new.octets count n) }
+    ensures left { OnOk result (encoder.new ≡ record encoder.old { octets = encoder.new.octets }) }
+    ensures refused { IfErr result (λ y. Refused (E.tree E.CONSTRAINTS x.now) y encoder.old encoder.new ⊎ ElementTooMany (ByLaw (E.tree E.CONSTRAINTS) E.IsValue x.now) count y) }
+    ensures keeps { Keeps encoder.old encoder.new }
+{
+    let before = encoder.written();
+    x.encode(encoder)?;
+    if encoder.written() != before {
+        return Ok(count);
+    }
+    if count == MAX_EMPTY_ELEMENTS {
+        return Err(EncodeError::from(EncodeErrorKind::TooManyEmptyElements));
+    }
+    Ok(count + 1)
+}
+
+/// Writes the elements in turn, each by its type, straight behind what is written.
+#[inline(always)]
+fn put_values<E: Encode>(encoder: &mut Encoder<'_>, elements: &[E]) -> Result<(), EncodeError>
+    ensures done { OnOk result ((encoder.new ≡ record encoder.old { octets = encoder.new.octets }) × ElementsDone (ByLaw (E.tree E.CONSTRAINTS) E.IsValue) elements.now encoder.old.octets encoder.new.octets) }
+    ensures refused { IfErr result (λ x. ElementsBroken (ByLaw (E.tree E.CONSTRAINTS) E.IsValue) elements.now x) }
+    ensures keeps { Keeps encoder.old encoder.new }
+{
+    let mut empty_count: u32 = 0;
+    for x in elements {
+        empty_count = put_value(encoder, x, empty_count)?;
+    }
+    Ok(())
+}
+
 /// Lends an encoder with no scope open, for each element, over an output.
 #[inline(never)]
 fn put_elements_into<E, F: Fn(&mut Encoder<'_>, &E) -> Result<(), EncodeError>>(
     alloc: Global,
+    is_inside: bool,
     value: &[E],
     f: &F,
     out: &mut Vec<u8>,
+    insertions: &mut Insertions,
 ) -> Result<(), EncodeError>
     requires callable { (x : E) → Contains value.now x → TakesElement F.Fn f.now x }
     requires orderly { IsOrderlyAt (PromiseAt F.Fn f.now) value.now }
-    ensures done { OnOk result (ElementsDone (PromiseAt F.Fn f.now) value.now out.old.items out.new.items) }
+    requires alone { is_inside ≡ false → insertions.old ≡ [] }
+    ensures done { OnOk result ((o : Octets) × ElementsDone (PromiseAt F.Fn f.now) value.now [] o × Adds o out.old.items insertions.old out.new.items insertions.new) }
     ensures refused { IfErr result (λ x. ElementsBroken (PromiseAt F.Fn f.now) value.now x) }
-    ensures begins { BeginsWith out.old.items out.new.items }
+    ensures grown { (o : Octets) × Adds o out.old.items insertions.old out.new.items insertions.new }
+    ensures alone { is_inside ≡ false → insertions.new ≡ [] }
 {
-    let mut inner = Encoder::lent(alloc, &mut *out);
+    let empty = Insertions::new(alloc);
+    let pieces = std::mem::replace(&mut *insertions, empty);
+    let mut inner = Encoder::lent(alloc, is_inside, pieces, &mut *out);
     let answer = put_elements(&mut inner, value, f);
-    *out = inner.into_octets();
+    let (octets, pieces) = inner.into_parts();
+    *out = octets;
+    *insertions = pieces;
     answer
 }
 
@@ -173,8 +217,6 @@ impl<'buffer> Encoder<'buffer> {
     }
 
     /// Writes each element behind the quantity.
-    #[tactic(auto, using(crate::proofs::Regions::elements_more, crate::proofs::Regions::more_around, crate::proofs::Regions::more_within))]
-    #[inline(always)]
     fn put_all<E, F: Fn(&mut Encoder<'_>, &E) -> Result<(), EncodeError>>(
         &mut self,
         value: &[E],
@@ -187,10 +229,18 @@ impl<'buffer> Encoder<'buffer> {
         ensures begins { BeginsWith self.old.octets self.new.octets }
         ensures left { self.new ≡ record self.old { octets = self.new.octets } }
     {
-        match put_elements_into(self.alloc, value, f, &mut *self.output) {
-            Ok(()) => Ok(()),
-            Err(x) => Err(x),
-        }
+        let empty = Insertions::new(self.alloc);
+        let mut pieces = std::mem::replace(&mut self.insertions, empty);
+        let answer = put_elements_into(
+            self.alloc,
+            self.is_inside,
+            value,
+            f,
+            &mut *self.output,
+            &mut pieces,
+        );
+        self.insertions = pieces;
+        answer
     }
 }
 
@@ -202,8 +252,8 @@ impl<'buffer> Encoder<'buffer> {
     #[inline(always)]
     pub fn encode_sequence_of<E: Encode>(
         &mut self,
-        tag: Tag,
-        constraints: Constraints,
+        _tag: Tag,
+        _constraints: Constraints,
         value: &[E],
     ) -> Result<(), EncodeError>
         ensures done { OnOk result (Encodes (list_of true (E.tree E.CONSTRAINTS) value.now) self.old self.new) }
@@ -211,14 +261,16 @@ impl<'buffer> Encoder<'buffer> {
         ensures refused { IfErr result (λ x. Refused (list_of true (E.tree E.CONSTRAINTS) value.now) x self.old self.new) }
         ensures first { IfErr result (λ x. IsByFirst (E.tree E.CONSTRAINTS) value.now x) }
     {
-        self.encode_sequence_of_with(
-            tag,
-            constraints,
-            value,
-            |encoder: &mut Encoder<'_>, x: &E| -> Result<(), EncodeError>
-                ensures written { WritesTree (E.tree E.CONSTRAINTS x.now) encoder.old result encoder.new }
-                ensures value { OnOk result (E.IsValue x.now) }
-            { x.encode(encoder) },
-        )
+        self.values(value)
+    }
+
+    /// Writes a list's quantity and its elements, each by its type.
+    #[inline(always)]
+    fn values<E: Encode>(&mut self, value: &[E]) -> Result<(), EncodeError>
+        ensures done { OnOk result (ListDone (ByLaw (E.tree E.CONSTRAINTS) E.IsValue) value.now self.old self.new) }
+        ensures refused { IfErr result (λ x. ListBroken (ByLaw (E.tree E.CONSTRAINTS) E.IsValue) value.now x self.old self.new) }
+    {
+        self.put_quantity(value.len())?;
+        put_values(self, value)
     }
 }

@@ -3,20 +3,26 @@ ghost use Rattle.std.specs.Prelude.{◌≡◌, ◌^◌, ◌<◌, Bool, true, fal
 ghost use Rattle.asn1_core.specs.declared.codec.Codec.TheVariants.{Coer};
 ghost use Rattle.asn1_core.specs.declared.error.EncodeErrorKind.TheVariants.{OutOfMemory};
 ghost use Rattle.oer_spec.specs.Encoding.{IsEncodable, canonical_octets};
+ghost use Rattle.oer_spec.specs.Places.{absent};
 ghost use Rattle.oer_spec.specs.Spelled.{IsConsistent};
 ghost use Rattle.oer_spec.specs.Tree.{NoRows, Present, Absent, slot_of, present_unless};
 ghost use Rattle.oer_spec.specs.Failures.{Fails};
 ghost use Rattle.oer_spec.specs.Writing.{BeginsWith};
+ghost use Rattle.oer_write.specs.Held.{Kept};
+ghost use Rattle.oer_write.specs.Layout.{Adds};
 ghost use Rattle.oer_write.specs.Rows.{RowsDone, SetDone, RowsRefused, required, optional, defaulted};
 ghost use Rattle.oer_write.specs.Written.{Keeps, Encodes, Refused, WantsMemory};
 
+use crate::component::Components;
 use crate::enc::EncoderOptions;
 use crate::encode::Encode;
 use crate::encoder::Encoder;
+use crate::insertions::Insertions;
 use asn1_core::{Constraints, EncodeError, EncodeErrorKind, Tag};
 use std::alloc::Global;
 
 /// Appends a value's octets to those of before.
+#[inline(always)]
 pub(crate) fn append_value<E: Encode>(
     alloc: Global,
     tag: Tag,
@@ -38,18 +44,46 @@ pub(crate) fn append_value<E: Encode>(
     answer
 }
 
+/// Appends a value's octets to those of before, within what is open.
+#[inline(always)]
+pub(crate) fn append_within<E: Encode>(
+    alloc: Global,
+    tag: Tag,
+    constraints: Constraints,
+    value: &E,
+    out: &mut Vec<u8>,
+    insertions: &mut Insertions,
+) -> Result<(), EncodeError>
+    requires { IsConsistent constraints }
+    ensures done { OnOk result (IsEncodable (E.tree constraints value.now) × Adds (canonical_octets (E.tree constraints value.now)) out.old.items insertions.old out.new.items insertions.new) }
+    ensures value { OnOk result (E.IsValue value.now) }
+    ensures refused { IfErr result (λ x. (x.kind ≡ OutOfMemory) ⊎ Fails (E.tree constraints value.now) x.kind) }
+    ensures mode { IfErr result (λ x. x.codec ≡ Coer) }
+    ensures kept { Kept out.old.items insertions.old out.new.items insertions.new }
+{
+    let empty = Insertions::new(alloc);
+    let pieces = std::mem::replace(&mut *insertions, empty);
+    let mut encoder = Encoder::lent(alloc, true, pieces, &mut *out);
+    let answer = value.encode_with_tag_and_constraints(&mut encoder, tag, constraints);
+    let (octets, pieces) = encoder.into_parts();
+    *out = octets;
+    *insertions = pieces;
+    answer
+}
+
 impl<'buffer> Encoder<'buffer> {
     /// Records a presence bit of a sequence.
+    #[inline(always)]
     fn mark(&mut self, bit: bool) -> Result<(), EncodeErrorKind>
         ensures done { OnOk result (self.new ≡ record self.old { frame = record self.old.frame { presence = self.old.frame.presence ++ (bit ∷ []) } }) }
         ensures refused { IfErr result (λ k. (k ≡ OutOfMemory) × Keeps self.old self.new) }
     {
-        self.scope.presence.push(bit)?;
+        self.scope.presence.push(self.alloc, bit)?;
         Ok(())
     }
 
     /// Writes an optional component of a sequence that is present, whatever scope is open.
-    #[inline]
+    #[inline(always)]
     fn write_present<E: Encode>(
         &mut self,
         tag: Tag,
@@ -65,9 +99,56 @@ impl<'buffer> Encoder<'buffer> {
         value.encode_with_tag_and_constraints(self, tag, constraints)
     }
 
+    /// Keeps a component of a set apart: the components are lent to the call, and the encoder isn't.
+    #[inline(always)]
+    fn keep_component<E: Encode>(
+        &mut self,
+        tag: Tag,
+        constraints: Constraints,
+        marked: bool,
+        value: &E,
+    ) -> Result<(), EncodeError>
+        requires { IsConsistent constraints }
+        ensures encodable { OnOk result (IsEncodable (E.tree constraints value.now)) }
+        ensures done { OnOk result (self.new ≡ record self.old { frame = record self.old.frame { components = self.old.frame.components ++ (record { tag = tag; marked = marked; bit = true; octets = canonical_octets (E.tree constraints value.now) } ∷ []) } }) }
+        ensures value { OnOk result (E.IsValue value.now) }
+        ensures refused { IfErr result (λ x. (x.kind ≡ OutOfMemory) ⊎ Fails (E.tree constraints value.now) x.kind) }
+        ensures mode { IfErr result (λ x. x.codec ≡ Coer) }
+        ensures keeps { Keeps self.old self.new }
+    {
+        let mut components = self.take_components();
+        let answer = components.push_value(self.alloc, tag, constraints, marked, value);
+        self.scope.components = components;
+        answer
+    }
+
+    /// The same where it is absent.
+    #[inline(always)]
+    fn keep_absent(&mut self, tag: Tag) -> Result<(), EncodeError>
+        ensures done { OnOk result (self.new ≡ record self.old { frame = record self.old.frame { components = self.old.frame.components ++ (absent tag ∷ []) } }) }
+        ensures refused { IfErr result (λ x. WantsMemory x) }
+        ensures keeps { Keeps self.old self.new }
+    {
+        let mut components = self.take_components();
+        let answer = components.push_absent(tag);
+        self.scope.components = components;
+        answer?;
+        Ok(())
+    }
+
+    /// Takes out the components of a set, to be lent to a call; they are put back behind it.
+    #[inline(always)]
+    pub(crate) fn take_components(&mut self) -> Components
+        ensures taken { result ≡ self.old.frame.components }
+        ensures left { self.new ≡ record self.old { frame = record self.old.frame { components = [] } } }
+    {
+        std::mem::replace(&mut self.scope.components, Components::new(self.alloc))
+    }
+
     /// Writes a required component under constraints that stand in place of the type's own.
     ///
     /// In a set this is the only way to write one. Refused by what the value is refused by.
+    #[inline(always)]
     pub fn encode_component<E: Encode>(
         &mut self,
         tag: Tag,
@@ -81,10 +162,7 @@ impl<'buffer> Encoder<'buffer> {
         ensures refused { IfErr result (λ x. RowsRefused (required tag (E.tree constraints value.now)) NoRows x self.old self.new) }
     {
         if self.scope.is_set {
-            self.scope
-                .components
-                .push_value(self.alloc, tag, constraints, false, value)?;
-            return Ok(());
+            return self.keep_component(tag, constraints, false, value);
         }
         value.encode_with_tag_and_constraints(self, tag, constraints)?;
         Ok(())
@@ -95,7 +173,7 @@ impl<'buffer> Encoder<'buffer> {
     ///
     /// It doesn't ask what scope is open: as a set closes, what it wrote is dropped. Refused by what the value is refused by,
     /// or for want of memory; the octets of before and the open scopes stay.
-    #[inline]
+    #[inline(always)]
     pub fn encode_optional_in_sequence<E: Encode>(
         &mut self,
         tag: Tag,
@@ -114,6 +192,7 @@ impl<'buffer> Encoder<'buffer> {
     /// Writes an optional component that is present, under constraints that stand in place of the type's own.
     ///
     /// Refused by what the value is refused by.
+    #[inline(always)]
     pub fn encode_some_with_tag_and_constraints<E: Encode>(
         &mut self,
         tag: Tag,
@@ -127,10 +206,7 @@ impl<'buffer> Encoder<'buffer> {
         ensures refused { IfErr result (λ x. RowsRefused (optional tag (Present (E.tree constraints value.now))) NoRows x self.old self.new) }
     {
         if self.scope.is_set {
-            self.scope
-                .components
-                .push_value(self.alloc, tag, constraints, true, value)?;
-            return Ok(());
+            return self.keep_component(tag, constraints, true, value);
         }
         self.write_present(tag, constraints, value)
     }
@@ -138,6 +214,7 @@ impl<'buffer> Encoder<'buffer> {
     /// Writes an optional component that is present, with the type's own tag and constraints.
     ///
     /// Refused by what the value is refused by.
+    #[inline(always)]
     pub fn encode_some<E: Encode>(&mut self, value: &E) -> Result<(), EncodeError>
         ensures in_sequence { self.old.frame.is_set ≡ false → OnOk result (RowsDone (optional E.TAG (Present (E.tree E.CONSTRAINTS value.now))) NoRows self.old self.new) }
         ensures in_set { self.old.frame.is_set ≡ true → OnOk result (SetDone (optional E.TAG (Present (E.tree E.CONSTRAINTS value.now))) NoRows self.old self.new) }
@@ -150,14 +227,14 @@ impl<'buffer> Encoder<'buffer> {
     /// Records that an optional component is absent.
     ///
     /// Refused for want of memory alone.
+    #[inline(always)]
     pub fn encode_none_with_tag(&mut self, tag: Tag) -> Result<(), EncodeError>
         ensures in_sequence { self.old.frame.is_set ≡ false → OnOk result (RowsDone (optional tag Absent) NoRows self.old self.new) }
         ensures in_set { self.old.frame.is_set ≡ true → OnOk result (SetDone (optional tag Absent) NoRows self.old self.new) }
         ensures refused { IfErr result (λ x. WantsMemory x × Keeps self.old self.new) }
     {
         if self.scope.is_set {
-            self.scope.components.push_absent(tag)?;
-            return Ok(());
+            return self.keep_absent(tag);
         }
         self.mark(false)?;
         Ok(())
@@ -166,6 +243,7 @@ impl<'buffer> Encoder<'buffer> {
     /// Records that an optional component with the type's own tag is absent.
     ///
     /// Refused for want of memory alone.
+    #[inline(always)]
     pub fn encode_none<E: Encode>(&mut self) -> Result<(), EncodeError>
         ensures in_sequence { self.old.frame.is_set ≡ false → OnOk result (RowsDone (optional E.TAG Absent) NoRows self.old self.new) }
         ensures in_set { self.old.frame.is_set ≡ true → OnOk result (SetDone (optional E.TAG Absent) NoRows self.old self.new) }
@@ -177,6 +255,7 @@ impl<'buffer> Encoder<'buffer> {
     /// Writes a component, or nothing where it equals its default, under constraints that stand in place of the type's own.
     ///
     /// Refused by what the value is refused by.
+    #[inline(always)]
     pub fn encode_default_with_tag_and_constraints<E: Encode + PartialEq>(
         &mut self,
         tag: Tag,
@@ -200,6 +279,7 @@ impl<'buffer> Encoder<'buffer> {
     /// Writes a component, or nothing where it equals its default, with the type's own tag and constraints.
     ///
     /// Refused by what the value is refused by.
+    #[inline(always)]
     pub fn encode_default<E: Encode + PartialEq>(
         &mut self,
         value: &E,
@@ -214,6 +294,7 @@ impl<'buffer> Encoder<'buffer> {
     }
 
     /// Writes a value behind an explicit tag, of which the octet encoding rules write nothing (X.696, 8.7).
+    #[inline(always)]
     pub fn encode_explicit_prefix<E: Encode>(
         &mut self,
         _tag: Tag,

@@ -1,21 +1,34 @@
 //! What is recorded in an open scope, and how it is written as the scope closes.
-ghost use Rattle.std.specs.Prelude.{◌≡◌, ◌+◌, ◌≤◌, ◌++◌, ◌&&◌, not, true, false, length, take, drop, vec_len, OnOk, IfErr};
+ghost use Rattle.std.specs.Prelude.{ℕ, ◌∷◌, ◌≡◌, ◌+◌, ◌≤◌, ◌<◌, ◌++◌, ◌&&◌, not, true, false, [], length, take, drop, vec_len, OnOk, IfOk, IfErr, List};
 ghost use Rattle.asn1_core.specs.Octets.{Octets, pack};
 ghost use Rattle.oer_spec.specs.Lengths.{counted_bits};
 ghost use Rattle.oer_spec.specs.Places.{extension_bit};
 ghost use Rattle.asn1_core.specs.declared.error.EncodeErrorKind.TheVariants.{OutOfMemory};
 ghost use Rattle.oer_spec.specs.Writing.{AppendsOrMemory, BeginsWith};
-ghost use Rattle.oer_write.specs.Scopes.{any_true, extension_of, sequence_octets};
+ghost use Rattle.oer_write.specs.Layout.{Piece, spread, Ascends, filled, free_at};
+ghost use Rattle.oer_write.specs.Bits.{low_bits};
+ghost use Rattle.oer_write.specs.Preambles.{IsSized, preamble_octets};
+ghost use Rattle.oer_write.specs.Scopes.{any_true, extension_of};
 ghost use Rattle.oer_write.specs.Seen.{around, within, IsLaid, frame_of, region_at};
-ghost use Rattle.oer_write.specs.Written.{fresh, no_scope};
+ghost use Rattle.oer_write.specs.Closed.{ClosedOff, FrontLeft};
+ghost use Rattle.oer_write.specs.Written.{fresh};
+ghost use Rattle.oer_write.specs.Held.{shut_at};
 
-use crate::bits::{Bits, Spelled, append_packed, put_packed};
+use crate::bits::{Bits, LentBits, Packed, Spelled, append_packed, spell_lent};
 use crate::component::Components;
-use crate::holes::fill;
-use crate::region::{Region, settle};
+use crate::insertions::Insertions;
+use crate::region::{Region, begin};
 use asn1_core::EncodeErrorKind;
 use oer_leaf_write::{write_bitmap, write_preamble};
 use std::alloc::Global;
+
+/// The extension bit and the presence bits of a sequence, in whole octets.
+#[derive(Drop)]
+pub(crate) enum Preamble {
+    /// At most eight octets.
+    Few(Packed),
+    Many(Vec<u8>),
+}
 
 /// What was recorded in a scope so far.
 #[derive(Drop)]
@@ -23,155 +36,169 @@ pub(crate) struct Scope {
     pub(crate) is_open: bool,
     pub(crate) is_set: bool,
     pub(crate) extensible: bool,
-    /// How many octets were written when it was opened.
-    pub(crate) start: usize,
     /// A sequence's presence bits.
     pub(crate) presence: Bits,
     /// A set's root components, in the order handed in.
     pub(crate) components: Components,
     /// For each addition whether it is present.
     pub(crate) bitmap: Bits,
-    /// Where a sequence's additions lie in the output.
+    /// Where it begins, and where a sequence's additions lie in the output.
     pub(crate) region: Region,
     /// The open types of the additions that are present, where no sequence is open.
     pub(crate) opens: Vec<u8>,
 }
 
 impl Scope {
-    /// An open scope in which nothing was recorded, with so many octets to be kept free for a bitmap.
-    #[tactic(auto, using(crate::proofs::Regions::none_within))]
+    /// An open scope in which nothing was recorded.
+    #[inline(always)]
     pub(crate) fn open(
         alloc: Global,
         is_set: bool,
         extensible: bool,
         start: usize,
-        size: usize,
+        first: usize,
     ) -> Scope
-        ensures frame { (o : Octets) → frame_of o result ≡ fresh is_set extensible start }
-        ensures region { result.region ≡ region_at start size }
         ensures is_open { result.is_open ≡ true }
-        ensures start { result.start ≡ start }
+        ensures is_set { result.is_set ≡ is_set }
+        ensures extensible { result.extensible ≡ extensible }
+        ensures presence { result.presence ≡ [] }
+        ensures components { result.components ≡ [] }
+        ensures bitmap { result.bitmap ≡ [] }
+        ensures region { result.region ≡ region_at start first }
+        ensures opens { result.opens.items ≡ [] }
     {
         Scope {
             is_open: true,
             is_set,
             extensible,
-            start,
             presence: Bits::new(alloc),
             components: Components::new(alloc),
             bitmap: Bits::new(alloc),
-            region: Region::at(start, size),
+            region: Region::at(start, first),
             opens: Vec::new(alloc),
         }
     }
 
     /// Where no scope is open.
-    pub(crate) fn none(alloc: Global) -> Scope
-        ensures frame { (o : Octets) → frame_of o result ≡ no_scope }
-        ensures region { result.region ≡ region_at 0 0 }
-        ensures start { result.start ≡ 0 }
+    #[inline(always)]
+    pub(crate) fn none(alloc: Global, start: usize, first: usize) -> Scope
+        ensures is_open { result.is_open ≡ false }
+        ensures is_set { result.is_set ≡ false }
+        ensures extensible { result.extensible ≡ false }
+        ensures presence { result.presence ≡ [] }
+        ensures components { result.components ≡ [] }
+        ensures bitmap { result.bitmap ≡ [] }
+        ensures region { result.region ≡ region_at start first }
+        ensures opens { result.opens.items ≡ [] }
     {
         Scope {
             is_open: false,
             is_set: false,
             extensible: false,
-            start: 0,
             presence: Bits::new(alloc),
             components: Components::new(alloc),
             bitmap: Bits::new(alloc),
-            region: Region::at(0, 0),
+            region: Region::at(start, first),
             opens: Vec::new(alloc),
         }
     }
 
     /// Whether it is an open sequence: its additions lie in the output.
-    #[inline]
+    #[inline(always)]
     pub(crate) fn is_sequence(&self) -> bool
         ensures { result ≡ (self.now.is_open && not self.now.is_set) }
     {
         self.is_open && !self.is_set
     }
 
-    /// Closes a sequence whose root components stand behind `size` octets that are free at `start`: what is missing of its
-    /// additions is put where they are, and the preamble in front.
-    #[tactic(auto, using(crate::proofs::Closing::front_kept, crate::proofs::Closing::long_enough, crate::proofs::Closing::sequence_closed))]
+    /// Closes the additions of a sequence, and answers its preamble.
+    #[inline(always)]
     pub(crate) fn close_sequence(
         &self,
         alloc: Global,
-        start: usize,
-        size: usize,
         out: &mut Vec<u8>,
-    ) -> Result<(), EncodeErrorKind>
-        requires sequence { (self.now.is_open && not self.now.is_set) ≡ true }
-        requires laid { IsLaid self.now.region (length out.old.items) }
-        requires behind { start + size ≤ self.now.region.start }
-        ensures done { OnOk result (out.new.items ≡ take start out.old.items ++ sequence_octets (frame_of out.old.items self.now) (drop (start + size) (around self.now.region out.old.items))) }
-        ensures refused { IfErr result (λ k. (k ≡ OutOfMemory) × BeginsWith (take start out.old.items) out.new.items) }
+        insertions: &mut Insertions,
+    ) -> Result<Preamble, EncodeErrorKind>
+        requires { IsLaid self.now.region (length out.old.items) insertions.old }
+        ensures preamble { IfOk result (λ p. IsSized p × (preamble_octets p ≡ pack (extension_bit self.now.extensible (any_true self.now.bitmap) ++ self.now.presence))) }
+        ensures done { OnOk result (ClosedOff self.now.region self.now.bitmap out.old.items insertions.old out.new.items insertions.new) }
+        ensures refused { IfErr result (λ k. (k ≡ OutOfMemory) × FrontLeft self.now.region out.old.items insertions.old out.new.items insertions.new) }
     {
-        self.close_additions(alloc, out)?;
-        self.fill_preamble(alloc, start, size, out)?;
-        Ok(())
+        self.close_additions(alloc, &mut *out, &mut *insertions)?;
+        self.preamble(alloc)
     }
 
-    /// Puts the bitmap where octets are free in front of the additions, or where none is present cuts these off.
-    fn close_additions(&self, alloc: Global, out: &mut Vec<u8>) -> Result<(), EncodeErrorKind>
-        requires { IsLaid self.now.region (length out.old.items) }
-        ensures done { OnOk result (out.new.items ≡ around self.now.region out.old.items ++ extension_of self.now.bitmap (within self.now.region out.old.items)) }
-        ensures refused { IfErr result (λ k. (k ≡ OutOfMemory) × BeginsWith (take self.now.region.start out.old.items) out.new.items) }
+    /// Fills the bitmap's slot, or where no addition is present cuts all of them off.
+    #[inline(always)]
+    fn close_additions(
+        &self,
+        alloc: Global,
+        out: &mut Vec<u8>,
+        insertions: &mut Insertions,
+    ) -> Result<(), EncodeErrorKind>
+        requires { IsLaid self.now.region (length out.old.items) insertions.old }
+        ensures done { OnOk result (ClosedOff self.now.region self.now.bitmap out.old.items insertions.old out.new.items insertions.new) }
+        ensures refused { IfErr result (λ k. (k ≡ OutOfMemory) × FrontLeft self.now.region out.old.items insertions.old out.new.items insertions.new) }
     {
         let mut region = self.region;
-        settle(&mut region, out);
-        let is_extended = self.bitmap.any();
-        if !is_extended {
+        if self.bitmap.any() {
+            begin(alloc, &mut region, &mut *insertions, &mut *out)?;
+            return self.fill_bitmap(alloc, region.opens, insertions);
+        }
+        if region.last != region.first {
+            begin(alloc, &mut region, &mut *insertions, &mut *out)?;
             out.truncate(region.start);
-            return Ok(());
+            insertions.cut_apart(alloc, region.opens);
         }
-        self.write_bitmap(alloc, &mut *out)?;
-        fill(region.start, region.opens - region.start, region.end, out);
         Ok(())
     }
 
-    /// Puts the preamble of a sequence where `size` octets are free at `start`.
-    ///
-    /// Where it has as many octets nothing else is moved.
-    #[tactic(auto, using(crate::proofs::Filling::begins_taken, crate::proofs::Filling::preamble_filled))]
-    fn fill_preamble(
+    /// Fills the bitmap's slot.
+    #[inline(always)]
+    fn fill_bitmap(
         &self,
         alloc: Global,
-        start: usize,
-        size: usize,
-        out: &mut Vec<u8>,
+        slot: usize,
+        insertions: &mut Insertions,
     ) -> Result<(), EncodeErrorKind>
-        requires { start + size ≤ vec_len out.old }
-        ensures done { OnOk result (out.new.items ≡ take start out.old.items ++ (pack (extension_bit self.now.extensible (any_true self.now.bitmap) ++ self.now.presence) ++ drop (start + size) out.old.items)) }
-        ensures refused { IfErr result (λ k. (k ≡ OutOfMemory) × BeginsWith (take start out.old.items) out.new.items) }
+        requires free { (front rear : List Piece) × (n : ℕ) × (insertions.old ≡ front ++ free_at n ∷ rear) × (slot ≡ length front) }
+        ensures done { OnOk result (insertions.new ≡ filled insertions.old slot (counted_bits self.now.bitmap)) }
+        ensures refused { IfErr result (λ k. (k ≡ OutOfMemory) × (insertions.new ≡ insertions.old)) }
     {
-        match self.presence.packed(self.extensible, self.bitmap.any()) {
-            Some(packed) if packed.octets == size => {
-                put_packed(packed, start, out);
-                Ok(())
-            }
-            _ => self.move_preamble(alloc, start, size, out),
+        match self.bitmap.mapped() {
+            Some(packed) => insertions.fill(slot, packed),
+            None => self.fill_long_bitmap(alloc, slot, insertions),
         }
     }
 
-    /// The same, for a preamble of any number of octets: it is written behind all, and the rest is moved.
-    #[tactic(auto, using(crate::proofs::Filling::begins_taken, crate::proofs::Filling::preamble_moved))]
-    fn move_preamble(
+    /// Fills the slot of a bitmap of more than eight octets.
+    #[inline(always)]
+    fn fill_long_bitmap(
         &self,
         alloc: Global,
-        start: usize,
-        size: usize,
-        out: &mut Vec<u8>,
+        slot: usize,
+        insertions: &mut Insertions,
     ) -> Result<(), EncodeErrorKind>
-        requires { start + size ≤ vec_len out.old }
-        ensures done { OnOk result (out.new.items ≡ take start out.old.items ++ (pack (extension_bit self.now.extensible (any_true self.now.bitmap) ++ self.now.presence) ++ drop (start + size) out.old.items)) }
-        ensures refused { IfErr result (λ k. (k ≡ OutOfMemory) × BeginsWith (take start out.old.items) out.new.items) }
+        requires many { 48 < length self.now.bitmap }
+        requires free { (front rear : List Piece) × (n : ℕ) × (insertions.old ≡ front ++ free_at n ∷ rear) × (slot ≡ length front) }
+        ensures done { OnOk result (insertions.new ≡ filled insertions.old slot (counted_bits self.now.bitmap)) }
+        ensures refused { IfErr result (λ k. (k ≡ OutOfMemory) × (insertions.new ≡ insertions.old)) }
     {
-        let end = out.len();
-        self.write_preamble(alloc, &self.presence, out)?;
-        fill(start, size, end, out);
-        Ok(())
+        let octets = mapped_octets(alloc, self.bitmap.lent())?;
+        insertions.fill_apart(alloc, slot, octets.as_slice())
+    }
+
+    /// The extension bit and the presence bits, in whole octets (X.696, 16.2).
+    #[inline(always)]
+    fn preamble(&self, alloc: Global) -> Result<Preamble, EncodeErrorKind>
+        ensures preamble { IfOk result (λ p. IsSized p × (preamble_octets p ≡ pack (extension_bit self.now.extensible (any_true self.now.bitmap) ++ self.now.presence))) }
+        ensures refused { IfErr result (λ k. k ≡ OutOfMemory) }
+    {
+        let extended = self.bitmap.any();
+        match self.presence.packed(self.extensible, extended) {
+            Some(packed) => Ok(Preamble::Few(packed)),
+            None => long_preamble(alloc, self.extensible, extended, self.presence.lent()),
+        }
     }
 
     /// Writes the extension bit and the presence bits, in whole octets (X.696, 16.2).
@@ -183,27 +210,11 @@ impl Scope {
     ) -> Result<(), EncodeErrorKind>
         ensures { AppendsOrMemory result (pack (extension_bit self.now.extensible (any_true self.now.bitmap) ++ presence.now)) out.old.items out.new.items }
     {
-        match presence.packed(self.extensible, self.bitmap.any()) {
+        let extended = self.bitmap.any();
+        match presence.packed(self.extensible, extended) {
             Some(packed) => append_packed(packed, out),
-            None => self.spell_preamble(alloc, presence, out),
+            None => spell_preamble(alloc, self.extensible, extended, presence.lent(), out),
         }
-    }
-
-    /// The same bit by bit, for any number of bits.
-    fn spell_preamble(
-        &self,
-        alloc: Global,
-        presence: &Bits,
-        out: &mut Vec<u8>,
-    ) -> Result<(), EncodeErrorKind>
-        ensures { AppendsOrMemory result (pack (extension_bit self.now.extensible (any_true self.now.bitmap) ++ presence.now)) out.old.items out.new.items }
-    {
-        let mut bits = Spelled::new(alloc);
-        if self.extensible {
-            bits.push(self.bitmap.any())?;
-        }
-        presence.spell_to(&mut bits)?;
-        write_preamble(bits.as_slice(), out)
     }
 
     /// Writes the bitmap and the open types that lie apart, where some addition is present (X.696, 16.4 and 16.5).
@@ -217,17 +228,73 @@ impl Scope {
         if !self.bitmap.any() {
             return Ok(());
         }
-        self.write_bitmap(alloc, out)?;
+        write_mapped(alloc, self.bitmap.lent(), out)?;
         out.extend_from_slice(&self.opens)?;
         Ok(())
     }
+}
 
-    /// Writes the bitmap of the additions.
-    fn write_bitmap(&self, alloc: Global, out: &mut Vec<u8>) -> Result<(), EncodeErrorKind>
-        ensures { AppendsOrMemory result (counted_bits self.now.bitmap) out.old.items out.new.items }
-    {
-        let mut bits = Spelled::new(alloc);
-        self.bitmap.spell_to(&mut bits)?;
-        write_bitmap(bits.as_slice(), out)
+/// The octets of a preamble that has more than eight.
+#[inline(always)]
+fn long_preamble(
+    alloc: Global,
+    extensible: bool,
+    extended: bool,
+    presence: LentBits<'_>,
+) -> Result<Preamble, EncodeErrorKind>
+    requires many { 64 < length (extension_bit extensible extended ++ (low_bits presence.count presence.word ++ presence.more.now)) }
+    ensures preamble { IfOk result (λ p. IsSized p × (preamble_octets p ≡ pack (extension_bit extensible extended ++ (low_bits presence.entry.count presence.entry.word ++ presence.entry.more.now)))) }
+    ensures refused { IfErr result (λ k. k ≡ OutOfMemory) }
+{
+    let mut octets = Vec::new(alloc);
+    match spell_preamble(alloc, extensible, extended, presence, &mut octets) {
+        Ok(()) => Ok(Preamble::Many(octets)),
+        Err(kind) => Err(kind),
     }
+}
+
+/// The extension bit and the presence bits bit by bit, for any number of bits.
+#[inline(never)]
+fn spell_preamble(
+    alloc: Global,
+    extensible: bool,
+    extended: bool,
+    presence: LentBits<'_>,
+    out: &mut Vec<u8>,
+) -> Result<(), EncodeErrorKind>
+    ensures { AppendsOrMemory result (pack (extension_bit extensible extended ++ (low_bits presence.entry.count presence.entry.word ++ presence.entry.more.now))) out.old.items out.new.items }
+{
+    let mut bits = Spelled::new(alloc);
+    if extensible {
+        bits.push(extended)?;
+    }
+    spell_lent(presence, &mut bits)?;
+    write_preamble(bits.as_slice(), out)
+}
+
+/// The octets of a bitmap.
+#[inline(always)]
+fn mapped_octets(alloc: Global, bitmap: LentBits<'_>) -> Result<Vec<u8>, EncodeErrorKind>
+    ensures octets { IfOk result (λ o. o.items ≡ counted_bits (low_bits bitmap.entry.count bitmap.entry.word ++ bitmap.entry.more.now)) }
+    ensures refused { IfErr result (λ k. k ≡ OutOfMemory) }
+{
+    let mut octets = Vec::new(alloc);
+    match write_mapped(alloc, bitmap, &mut octets) {
+        Ok(()) => Ok(octets),
+        Err(kind) => Err(kind),
+    }
+}
+
+/// Writes a bitmap.
+#[inline(never)]
+fn write_mapped(
+    alloc: Global,
+    bitmap: LentBits<'_>,
+    out: &mut Vec<u8>,
+) -> Result<(), EncodeErrorKind>
+    ensures { AppendsOrMemory result (counted_bits (low_bits bitmap.entry.count bitmap.entry.word ++ bitmap.entry.more.now)) out.old.items out.new.items }
+{
+    let mut bits = Spelled::new(alloc);
+    spell_lent(bitmap, &mut bits)?;
+    write_bitmap(bits.as_slice(), out)
 }

@@ -1,6 +1,6 @@
-//! Scopes: closures that write the components of a sequence straight behind the octets of before, its preamble into octets
-//! kept free in front of them.
-ghost use Rattle.std.specs.Prelude.{◌≡◌, ◌≤◌, ◌++◌, ◌⊎◌, true, false, length, OnOk, OnErr, IfOk, IfErr};
+//! Scopes: closures that write the components of a sequence straight behind the octets of before; its preamble is put in
+//! front of them as the outermost scope closes.
+ghost use Rattle.std.specs.Prelude.{◌≡◌, ◌<◌, ◌≤◌, ◌++◌, ◌⊎◌, take, [], true, false, length, OnOk, OnErr, IfOk, IfErr};
 ghost use Rattle.std.specs.Fn.{FnOnceTakesAtMut};
 ghost use Rattle.asn1_core.specs.Octets.{Octets};
 ghost use Rattle.asn1_core.specs.declared.error.EncodeErrorKind.TheVariants.{OutOfMemory};
@@ -8,26 +8,25 @@ ghost use Rattle.oer_spec.specs.Tree.{Rows, Struct};
 ghost use Rattle.oer_spec.specs.Writing.{BeginsWith};
 ghost use Rattle.oer_write.specs.Rows.{IsKnownToWrite};
 ghost use Rattle.oer_write.specs.Scopes.{Promise, IsNew, IsOrderly, RanInScope, Closed, Stopped, Broken, sequence_octets};
+ghost use Rattle.oer_write.specs.Held.{Kept};
+ghost use Rattle.oer_write.specs.Layout.{Adds, slots};
+ghost use Rattle.asn1_core.specs.Numbers.{low_octets};
+ghost use Rattle.oer_write.specs.Preambles.{IsSized, preamble_octets};
 ghost use Rattle.oer_write.specs.Seen.{around, frame_of, IsSound};
 ghost use Rattle.oer_write.specs.Written.{Written, WriteFrame, Keeps, Encodes, Refused, WantsMemory};
 
+use crate::bits::Packed;
 use crate::encoder::Encoder;
-use crate::holes::{keep_free, preamble_size};
-use crate::region::bitmap_size;
-use crate::scope::Scope;
-use asn1_core::{Constructed, EncodeError, Tag};
+use crate::insertions::Insertions;
+use crate::scope::Preamble;
+use asn1_core::{Constructed, EncodeError, EncodeErrorKind, Tag};
 use std::alloc::Global;
 
-/// How many octets a sequence keeps free.
-#[derive(Clone, Copy)]
-struct Sizes {
-    preamble: usize,
-    bitmap: usize,
-    ghost few_preamble: { preamble ≤ 16 },
-    ghost few_bitmap: { bitmap ≤ 16 },
-}
+/// Room that an outermost scope asks for at once, so that the octets of a small value take one request for memory.
+pub(crate) const ROOM: usize = 32;
 
 /// Lends an encoder to a closure.
+#[inline(always)]
 pub(crate) fn lend<F: FnOnce(&mut Encoder<'_>) -> Result<(), EncodeError>>(
     encoder: &mut Encoder<'_>,
     f: F,
@@ -40,54 +39,179 @@ pub(crate) fn lend<F: FnOnce(&mut Encoder<'_>) -> Result<(), EncodeError>>(
     f(encoder)
 }
 
-/// Writes a sequence with octets kept free for its preamble and its bitmap.
-fn write_sequence<F: FnOnce(&mut Encoder<'_>) -> Result<(), EncodeError>>(
+/// Opens a scope: inside of another it takes a slot; else room for a small value is asked for.
+#[inline(always)]
+pub(crate) fn open_scope(
     alloc: Global,
-    extensible: bool,
-    sizes: Sizes,
+    is_inside: bool,
     output: &mut Vec<u8>,
-    f: F,
-) -> Result<(), EncodeError>
-    requires callable { (lent : Written) → IsNew false extensible lent → FnOnceTakesAtMut F.FnOnce f lent }
-    requires orderly { IsOrderly false extensible (Promise F.FnOnce f) }
-    ensures done { OnOk result ((frame : WriteFrame) × (o : Octets) × RanInScope (Promise F.FnOnce f) false extensible frame o × (output.new.items ≡ output.old.items ++ sequence_octets frame o)) }
-    ensures refused { IfErr result (λ x. WantsMemory x ⊎ Stopped (Promise F.FnOnce f) false extensible x) }
-    ensures begins { BeginsWith output.old.items output.new.items }
+    insertions: &mut Insertions,
+) -> Result<(), EncodeErrorKind>
+    ensures done { OnOk result (insertions.new ≡ insertions.old ++ slots is_inside (length output.old.items)) }
+    ensures refused { IfErr result (λ k. (k ≡ OutOfMemory) × (insertions.new ≡ insertions.old)) }
+    ensures unchanged { output.new.items ≡ output.old.items }
 {
-    let start = output.len();
-    keep_free(sizes.preamble, output)?;
-    let (answer, octets, closed) = {
-        let mut inner = Encoder::open(alloc, false, extensible, sizes.bitmap, &mut *output);
-        let answer = lend(&mut inner, f);
-        let (octets, closed) = inner.close_sequence(start, sizes.preamble);
-        (answer, octets, closed)
-    };
-    *output = octets;
-    answer?;
-    closed?;
+    if is_inside {
+        return insertions.open(alloc, output.len());
+    }
+    output.reserve(ROOM)?;
     Ok(())
 }
 
-/// Writes a sequence; where it refuses, the output is as before.
-#[tactic(auto, using(crate::proofs::Filling::cut_begun))]
-fn put_sequence<F: FnOnce(&mut Encoder<'_>) -> Result<(), EncodeError>>(
+/// Closes a scope: what belongs in front of it fills its slot, or where it is the outermost is put there with all insertions.
+#[inline(always)]
+pub(crate) fn close_scope(
+    is_inside: bool,
+    start: usize,
+    slot: usize,
+    octets: Packed,
+    output: &mut Vec<u8>,
+    insertions: &mut Insertions,
+) -> Result<(), EncodeErrorKind>
+    requires few { octets.octets ≤ 8 }
+    requires slot { slot ≤ length insertions.old }
+    requires start { start ≤ length output.old.items }
+    requires alone { is_inside ≡ false → slot ≡ 0 }
+    requires adds { (content : Octets) × Adds content (take start output.old.items) (take slot insertions.old ++ slots is_inside start) output.old.items insertions.old }
+    ensures done { (content : Octets) → Adds content (take start output.old.items) (take slot insertions.old ++ slots is_inside start) output.old.items insertions.old → OnOk result (Adds (low_octets octets.octets octets.number ++ content) (take start output.old.items) (take slot insertions.old) output.new.items insertions.new) }
+    ensures refused { IfErr result (λ k. (k ≡ OutOfMemory) × (output.new.items ≡ output.old.items) × (insertions.new ≡ insertions.old)) }
+    ensures alone { is_inside ≡ false → OnOk result (insertions.new ≡ []) }
+{
+    if is_inside {
+        return insertions.fill(slot, octets);
+    }
+    insertions.join(start, octets, output)
+}
+
+/// The same with more than eight octets.
+#[inline(always)]
+fn close_long(
+    alloc: Global,
+    is_inside: bool,
+    start: usize,
+    slot: usize,
+    octets: &[u8],
+    output: &mut Vec<u8>,
+    insertions: &mut Insertions,
+) -> Result<(), EncodeErrorKind>
+    requires many { 8 < length octets.now }
+    requires slot { slot ≤ length insertions.old }
+    requires start { start ≤ length output.old.items }
+    requires alone { is_inside ≡ false → slot ≡ 0 }
+    requires adds { (content : Octets) × Adds content (take start output.old.items) (take slot insertions.old ++ slots is_inside start) output.old.items insertions.old }
+    ensures done { (content : Octets) → Adds content (take start output.old.items) (take slot insertions.old ++ slots is_inside start) output.old.items insertions.old → OnOk result (Adds (octets.now ++ content) (take start output.old.items) (take slot insertions.old) output.new.items insertions.new) }
+    ensures refused { IfErr result (λ k. (k ≡ OutOfMemory) × (output.new.items ≡ output.old.items) × (insertions.new ≡ insertions.old)) }
+    ensures alone { is_inside ≡ false → OnOk result (insertions.new ≡ []) }
+{
+    if is_inside {
+        return insertions.fill_apart(alloc, slot, octets);
+    }
+    insertions.join_apart(alloc, start, octets, output)
+}
+
+/// Closes a sequence by its preamble.
+#[inline(always)]
+fn close_by(
+    alloc: Global,
+    is_inside: bool,
+    start: usize,
+    slot: usize,
+    preamble: Preamble,
+    output: &mut Vec<u8>,
+    insertions: &mut Insertions,
+) -> Result<(), EncodeErrorKind>
+    requires sized { IsSized preamble }
+    requires slot { slot ≤ length insertions.old }
+    requires start { start ≤ length output.old.items }
+    requires alone { is_inside ≡ false → slot ≡ 0 }
+    requires adds { (content : Octets) × Adds content (take start output.old.items) (take slot insertions.old ++ slots is_inside start) output.old.items insertions.old }
+    ensures done { (content : Octets) → Adds content (take start output.old.items) (take slot insertions.old ++ slots is_inside start) output.old.items insertions.old → OnOk result (Adds (preamble_octets preamble ++ content) (take start output.old.items) (take slot insertions.old) output.new.items insertions.new) }
+    ensures refused { IfErr result (λ k. (k ≡ OutOfMemory) × (output.new.items ≡ output.old.items) × (insertions.new ≡ insertions.old)) }
+    ensures alone { is_inside ≡ false → OnOk result (insertions.new ≡ []) }
+{
+    match preamble {
+        Preamble::Few(octets) => close_scope(is_inside, start, slot, octets, output, insertions),
+        Preamble::Many(octets) => close_long(
+            alloc,
+            is_inside,
+            start,
+            slot,
+            octets.as_slice(),
+            output,
+            insertions,
+        ),
+    }
+}
+
+/// Writes a sequence: the octets of its root components and additions straight behind those of before.
+#[inline(always)]
+fn write_sequence<F: FnOnce(&mut Encoder<'_>) -> Result<(), EncodeError>>(
     alloc: Global,
     extensible: bool,
-    sizes: Sizes,
+    is_inside: bool,
     output: &mut Vec<u8>,
+    insertions: &mut Insertions,
     f: F,
 ) -> Result<(), EncodeError>
     requires callable { (lent : Written) → IsNew false extensible lent → FnOnceTakesAtMut F.FnOnce f lent }
     requires orderly { IsOrderly false extensible (Promise F.FnOnce f) }
-    ensures done { OnOk result ((frame : WriteFrame) × (o : Octets) × RanInScope (Promise F.FnOnce f) false extensible frame o × (output.new.items ≡ output.old.items ++ sequence_octets frame o)) }
+    requires alone { is_inside ≡ false → insertions.old ≡ [] }
+    ensures done { OnOk result ((frame : WriteFrame) × (o : Octets) × RanInScope (Promise F.FnOnce f) false extensible frame o × Adds (sequence_octets frame o) output.old.items insertions.old output.new.items insertions.new) }
     ensures refused { IfErr result (λ x. WantsMemory x ⊎ Stopped (Promise F.FnOnce f) false extensible x) }
-    ensures unchanged { OnErr result (output.new.items ≡ output.old.items) }
+    ensures kept { Kept output.old.items insertions.old output.new.items insertions.new }
+    ensures alone { is_inside ≡ false → OnOk result (insertions.new ≡ []) }
 {
     let start = output.len();
-    match write_sequence(alloc, extensible, sizes, &mut *output, f) {
+    let slot = insertions.len();
+    open_scope(alloc, is_inside, &mut *output, &mut *insertions)?;
+    let (answer, octets, pieces, closed) = {
+        let empty = Insertions::new(alloc);
+        let pieces = std::mem::replace(&mut *insertions, empty);
+        let mut inner = Encoder::open(alloc, false, extensible, pieces, &mut *output);
+        let answer = lend(&mut inner, f);
+        let (octets, pieces, closed) = inner.close_sequence();
+        (answer, octets, pieces, closed)
+    };
+    *output = octets;
+    *insertions = pieces;
+    answer?;
+    let preamble = closed?;
+    close_by(alloc, is_inside, start, slot, preamble, output, insertions)?;
+    Ok(())
+}
+
+/// Writes a sequence; where it refuses, the output and the insertions are as before.
+fn put_sequence<F: FnOnce(&mut Encoder<'_>) -> Result<(), EncodeError>>(
+    alloc: Global,
+    extensible: bool,
+    is_inside: bool,
+    output: &mut Vec<u8>,
+    insertions: &mut Insertions,
+    f: F,
+) -> Result<(), EncodeError>
+    requires callable { (lent : Written) → IsNew false extensible lent → FnOnceTakesAtMut F.FnOnce f lent }
+    requires orderly { IsOrderly false extensible (Promise F.FnOnce f) }
+    requires alone { is_inside ≡ false → insertions.old ≡ [] }
+    ensures done { OnOk result ((frame : WriteFrame) × (o : Octets) × RanInScope (Promise F.FnOnce f) false extensible frame o × Adds (sequence_octets frame o) output.old.items insertions.old output.new.items insertions.new) }
+    ensures refused { IfErr result (λ x. WantsMemory x ⊎ Stopped (Promise F.FnOnce f) false extensible x) }
+    ensures unchanged { OnErr result (output.new.items ≡ output.old.items) }
+    ensures kept { OnErr result (insertions.new ≡ insertions.old) }
+    ensures alone { is_inside ≡ false → OnOk result (insertions.new ≡ []) }
+{
+    let start = output.len();
+    let slot = insertions.len();
+    match write_sequence(
+        alloc,
+        extensible,
+        is_inside,
+        &mut *output,
+        &mut *insertions,
+        f,
+    ) {
         Ok(()) => Ok(()),
         Err(e) => {
             output.truncate(start);
+            insertions.cut_apart(alloc, slot);
             Err(e)
         }
     }
@@ -100,6 +224,7 @@ impl<'buffer> Encoder<'buffer> {
     /// presence bits, the root components, and where some addition is present the bitmap and the open types. So a closure
     /// that is known to write the rows of a sequence writes that sequence. Refused by what the closure refused, or for
     /// want of memory.
+    #[inline(always)]
     pub fn encode_sequence<
         const RL: usize,
         const EL: usize,
@@ -113,19 +238,14 @@ impl<'buffer> Encoder<'buffer> {
         ensures tree { (roots additions : Rows) → IsKnownToWrite C.IS_EXTENSIBLE (Promise F.FnOnce f) roots additions → OnOk result (Encodes (Struct false C.IS_EXTENSIBLE roots additions) self.old self.new) }
         ensures tree_refused { (roots additions : Rows) → IsKnownToWrite C.IS_EXTENSIBLE (Promise F.FnOnce f) roots additions → IfErr result (λ x. Refused (Struct false C.IS_EXTENSIBLE roots additions) x self.old self.new) }
     {
-        let extensible = C::IS_EXTENSIBLE;
-        let sizes = Sizes {
-            preamble: preamble_size(extensible, C::FIELDS.fields),
-            bitmap: bitmap_size(EL),
-        };
-        self.sequence(extensible, sizes, f)
+        self.sequence(C::IS_EXTENSIBLE, f)
     }
 
     #[tactic(auto, using(crate::proofs::Regions::more_around, crate::proofs::Regions::more_within))]
+    #[inline(always)]
     fn sequence<F: FnOnce(&mut Encoder<'_>) -> Result<(), EncodeError>>(
         &mut self,
         extensible: bool,
-        sizes: Sizes,
         f: F,
     ) -> Result<(), EncodeError>
         requires callable { (lent : Written) → IsNew false extensible lent → FnOnceTakesAtMut F.FnOnce f lent }
@@ -134,7 +254,18 @@ impl<'buffer> Encoder<'buffer> {
         ensures refused { IfErr result (λ x. Broken (Promise F.FnOnce f) false extensible x self.old self.new) }
         ensures unchanged { OnErr result (self.new ≡ self.old) }
     {
-        put_sequence(self.alloc, extensible, sizes, &mut *self.output, f)?;
+        let empty = Insertions::new(self.alloc);
+        let mut pieces = std::mem::replace(&mut self.insertions, empty);
+        let answer = put_sequence(
+            self.alloc,
+            extensible,
+            self.is_inside,
+            &mut *self.output,
+            &mut pieces,
+            f,
+        );
+        self.insertions = pieces;
+        answer?;
         Ok(())
     }
 }

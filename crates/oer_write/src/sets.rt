@@ -1,5 +1,5 @@
 //! Sets: root components in the order of their tags, whatever the order in which they are handed in.
-ghost use Rattle.std.specs.Prelude.{◌≡◌, ◌++◌, ◌⊎◌, [], true, map, OnOk, OnErr, IfErr};
+ghost use Rattle.std.specs.Prelude.{◌≡◌, ◌++◌, ◌⊎◌, List, [], true, map, OnOk, OnErr, IfErr};
 ghost use Rattle.std.specs.Fn.{FnOnceTakesAtMut};
 ghost use Rattle.asn1_core.specs.Octets.{Octets};
 ghost use Rattle.asn1_core.specs.declared.error.EncodeErrorKind.TheVariants.{OutOfMemory};
@@ -11,10 +11,12 @@ ghost use Rattle.oer_write.specs.Rows.{IsKnownToWriteSet};
 ghost use Rattle.oer_write.specs.Scopes.{Promise, IsNew, IsOrderly, IsSameInAnyOrder, RanInScope, SetClosed, Stopped, Broken, set_octets};
 ghost use Rattle.oer_write.specs.Seen.{frame_of};
 ghost use Rattle.oer_write.specs.Written.{Written, WriteFrame, Encodes, Refused, WantsMemory};
+ghost use Rattle.oer_write.specs.Layout.{Piece};
 
 use crate::bits::Bits;
 use crate::component::{Component, Components, body_of};
 use crate::encoder::Encoder;
+use crate::insertions::Insertions;
 use crate::scope::Scope;
 use crate::scopes::lend;
 use asn1_core::{Constructed, EncodeError, EncodeErrorKind, Tag};
@@ -30,13 +32,17 @@ fn arrange(components: &mut Vec<Component>) -> Result<(), EncodeErrorKind>
 }
 
 /// Appends the presence bits of components.
-fn put_presence(components: &[Component], bits: &mut Bits) -> Result<(), EncodeErrorKind>
+fn put_presence(
+    alloc: Global,
+    components: &[Component],
+    bits: &mut Bits,
+) -> Result<(), EncodeErrorKind>
     ensures done { OnOk result (bits.new ≡ bits.old ++ presence (map (item []) components.now)) }
     ensures refused { IfErr result (λ k. k ≡ OutOfMemory) }
 {
     for component in components {
         if component.marked {
-            bits.push(component.bit)?;
+            bits.push(alloc, component.bit)?;
         }
     }
     Ok(())
@@ -66,7 +72,7 @@ impl Scope {
         out: &mut Vec<u8>,
     ) -> Result<(), EncodeErrorKind>
         requires { self.old.is_set ≡ true }
-        ensures { (o : Octets) → AppendsOrMemory result (set_octets (frame_of o self.old)) out.old.items out.new.items }
+        ensures { (o : Octets) (is : List Piece) → AppendsOrMemory result (set_octets (frame_of o is self.old)) out.old.items out.new.items }
     {
         let Components { mut places, octets } = std::mem::replace(
             &mut self.components,
@@ -74,7 +80,7 @@ impl Scope {
         );
         arrange(&mut places)?;
         let mut presence = Bits::new(alloc);
-        put_presence(&places, &mut presence)?;
+        put_presence(alloc, &places, &mut presence)?;
         self.write_preamble(alloc, &presence, out)?;
         put_bodies(&places, &octets, out)?;
         self.write_extension(alloc, out)
@@ -86,6 +92,7 @@ fn write_set<F: FnOnce(&mut Encoder<'_>) -> Result<(), EncodeError>>(
     alloc: Global,
     extensible: bool,
     output: &mut Vec<u8>,
+    insertions: &mut Insertions,
     f: F,
 ) -> Result<(), EncodeError>
     requires callable { (lent : Written) → IsNew true extensible lent → FnOnceTakesAtMut F.FnOnce f lent }
@@ -93,15 +100,18 @@ fn write_set<F: FnOnce(&mut Encoder<'_>) -> Result<(), EncodeError>>(
     ensures done { OnOk result ((frame : WriteFrame) × (o : Octets) × RanInScope (Promise F.FnOnce f) true extensible frame o × (output.new.items ≡ output.old.items ++ set_octets frame)) }
     ensures refused { IfErr result (λ x. WantsMemory x ⊎ Stopped (Promise F.FnOnce f) true extensible x) }
     ensures begins { BeginsWith output.old.items output.new.items }
+    ensures kept { insertions.new ≡ insertions.old }
 {
-    let start = output.len();
-    let (answer, octets, closed) = {
-        let mut inner = Encoder::open(alloc, true, extensible, 0, &mut *output);
+    let (answer, octets, pieces, closed) = {
+        let empty = Insertions::new(alloc);
+        let pieces = std::mem::replace(&mut *insertions, empty);
+        let mut inner = Encoder::open(alloc, true, extensible, pieces, &mut *output);
         let answer = lend(&mut inner, f);
-        let (octets, closed) = inner.close_set(start);
-        (answer, octets, closed)
+        let (octets, pieces, closed) = inner.close_set();
+        (answer, octets, pieces, closed)
     };
     *output = octets;
+    *insertions = pieces;
     answer?;
     closed?;
     Ok(())
@@ -113,6 +123,7 @@ fn put_set<F: FnOnce(&mut Encoder<'_>) -> Result<(), EncodeError>>(
     alloc: Global,
     extensible: bool,
     output: &mut Vec<u8>,
+    insertions: &mut Insertions,
     f: F,
 ) -> Result<(), EncodeError>
     requires callable { (lent : Written) → IsNew true extensible lent → FnOnceTakesAtMut F.FnOnce f lent }
@@ -120,9 +131,10 @@ fn put_set<F: FnOnce(&mut Encoder<'_>) -> Result<(), EncodeError>>(
     ensures done { OnOk result ((frame : WriteFrame) × (o : Octets) × RanInScope (Promise F.FnOnce f) true extensible frame o × (output.new.items ≡ output.old.items ++ set_octets frame)) }
     ensures refused { IfErr result (λ x. WantsMemory x ⊎ Stopped (Promise F.FnOnce f) true extensible x) }
     ensures unchanged { OnErr result (output.new.items ≡ output.old.items) }
+    ensures kept { insertions.new ≡ insertions.old }
 {
     let start = output.len();
-    match write_set(alloc, extensible, &mut *output, f) {
+    match write_set(alloc, extensible, &mut *output, &mut *insertions, f) {
         Ok(()) => Ok(()),
         Err(e) => {
             output.truncate(start);
@@ -166,7 +178,10 @@ impl<'buffer> Encoder<'buffer> {
         ensures refused { IfErr result (λ x. Broken (Promise F.FnOnce f) true extensible x self.old self.new) }
         ensures unchanged { OnErr result (self.new ≡ self.old) }
     {
-        put_set(self.alloc, extensible, &mut *self.output, f)?;
-        Ok(())
+        let empty = Insertions::new(self.alloc);
+        let mut pieces = std::mem::replace(&mut self.insertions, empty);
+        let answer = put_set(self.alloc, extensible, &mut *self.output, &mut pieces, f);
+        self.insertions = pieces;
+        answer
     }
 }

@@ -1,24 +1,28 @@
-use Rattle.std.proofs.Common.{◌≡◌, ◌^◌, ◌<◌, length, ◌∙◌, rules}
-use Rattle.oer_spec.specs.Lengths.{behind_length}
-use Rattle.oer_write.specs.Choices.{AppendedOpen, PromisePick}
-use Rattle.oer_write.proofs.Chosen.{open_picked}
-use Rattle.oer_write.proofs.Filling.{begins_closed}
-use Rattle.oer_write.proofs.Keeping.{begins_then}
+use Rattle.std.proofs.Common.{◌≡◌, ◌++◌, length, ap, ◌∙◌, rules}
+use Rattle.asn1_core.specs.Octets.{Octets}
+use Rattle.oer_write.specs.Layout.{slots}
+use Rattle.oer_write.proofs.Holding.{kept_added}
+use Rattle.oer_write.proofs.Nesting.{adds_alike, kept_same, kept_less, kept_alike, taken_adds}
 use Rattle.oer_write.proofs.choices.pick_open.Goals as goal
 
-pub returns-in_err-pick_into-clause-begins : goal.returns-in_err-pick_into-clause-begins
-returns-in_err-pick_into-clause-begins g c = begins_then _ _ _ (c.in_ok-keep_free.ensures.done.0, c.in_ok-keep_free.ensures.done.2) c.pick_into.ensures.begins
+pub returns-in_err-open_scope-clause-kept : goal.returns-in_err-open_scope-clause-kept
+returns-in_err-open_scope-clause-kept g c = kept_same c.args.out.now.items c.open_scope.new.output.items c.args.insertions.now c.open_scope.new.insertions c.in_err-open_scope.ensures.unchanged c.in_err-open_scope.ensures.refused.1
 
-pub returns-in_err-close_open-clause-begins : goal.returns-in_err-close_open-clause-begins
-returns-in_err-close_open-clause-begins g c = begins_closed _ _ _ _ _ _ (c.len-start.ensures ∙ c.args.out.now.ok.0) c.in_ok-keep_free.ensures.done.2 c.pick_into.ensures.begins c.in_err-close_open.ensures.refused.1
+pub close_open-requires-clause-adds : goal.close_open-requires-clause-adds
+close_open-requires-clause-adds g c =
+    let start : c.len-start.result ≡ length c.args.out.now.items = c.len-start.ensures ∙ c.args.out.now.ok.0 in
+    let d = c.in_ok-pick_into.ensures.done in
+    let adds = adds_alike d.0 c.args.out.now.items c.open_scope.new.output.items c.pick_into.new.out.items (c.args.insertions.now ++ slots c.args.is_inside (length c.args.out.now.items)) c.open_scope.new.insertions c.pick_into.new.insertions c.in_ok-open_scope.ensures.unchanged c.in_ok-open_scope.ensures.done d.2 in
+    (d.0, (taken_adds c.args.is_inside c.len-start.result c.len-slot.result c.args.out.now.items c.pick_into.new.out.items c.args.insertions.now c.pick_into.new.insertions d.0 start c.len-slot.ensures adds).2)
 
 pub returns-clause-done : goal.returns-clause-done
 returns-clause-done g c =
     let start : c.len-start.result ≡ length c.args.out.now.items = c.len-start.ensures ∙ c.args.out.now.ok.0 in
-    let few : length c.pick_into.new.out.items < 2 ^ 64 = search rules in
-    open_picked (PromisePick g.F.FnOnce c.args.f) c.args.out.now.items c.in_ok-keep_free.ensures.done.0 c.keep_free.new.out.items c.pick_into.new.out.items c.close_open.new.out.items c.len-start.result start c.in_ok-keep_free.ensures.done.1 c.in_ok-keep_free.ensures.done.2 few c.in_ok-pick_into.ensures.done c.in_ok-close_open.ensures.done
+    let d = c.in_ok-pick_into.ensures.done in
+    let adds = adds_alike d.0 c.args.out.now.items c.open_scope.new.output.items c.pick_into.new.out.items (c.args.insertions.now ++ slots c.args.is_inside (length c.args.out.now.items)) c.open_scope.new.insertions c.pick_into.new.insertions c.in_ok-open_scope.ensures.unchanged c.in_ok-open_scope.ensures.done d.2 in
+    let t = taken_adds c.args.is_inside c.len-start.result c.len-slot.result c.args.out.now.items c.pick_into.new.out.items c.args.insertions.now c.pick_into.new.insertions d.0 start c.len-slot.ensures adds in
+    let r = c.in_ok-close_open.ensures.done d.0 t.2 in
+    (d.0, d.1, r.1, rw (t.0, t.1) at r.0)
 
-pub returns-clause-begins : goal.returns-clause-begins
-returns-clause-begins g c =
-    let done : AppendedOpen (PromisePick g.F.FnOnce c.args.f) c.args.out.now.items c.close_open.new.out.items = returns-clause-done g c in
-    (behind_length done.content, done.appended)
+pub returns-clause-kept : goal.returns-clause-kept
+returns-clause-kept g c = let done = returns-clause-done g c in kept_added _ _ _ _ _ done.3

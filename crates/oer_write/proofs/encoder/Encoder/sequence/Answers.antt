@@ -1,0 +1,39 @@
+use Rattle.std.proofs.lemmas.Result.{err_from_is_err_and}
+use Rattle.oer_write.specs.Held.{marks}
+use Rattle.oer_write.specs.Layout.{Piece}
+use Rattle.oer_write.specs.Seen.{around, frame_of}
+use Rattle.oer_write.proofs.Lawful.{keeps_all}
+use Rattle.std.proofs.Common.{List, take, ap₂, subst, Ok, ◌≡◌, ◌++◌, ap, sym, ◌∙◌, rules}
+use Rattle.asn1_core.specs.Octets.{Octets}
+use Rattle.oer_write.specs.Scopes.{Closed, sequence_octets}
+use Rattle.oer_write.specs.Written.{Written, append, Keeps}
+use Rattle.oer_write.proofs.Keeping.{ok_of}
+use Rattle.oer_write.proofs.Regions.{adds_from, grown_seen, grown_sound}
+use Rattle.oer_write.proofs.encoder.Encoder.sequence.Goals as goal
+
+pub invariant_of-self-2 : goal.invariant_of-self-2
+invariant_of-self-2 g c =
+    let q : c.replace-pieces.result ≡ c.self.inside.insertions = search rules in
+    let answered : c.put_sequence-answer.result ≡ Ok tt = search rules in
+    let d = ok_of _ answered c.put_sequence-answer.ensures.done in
+    grown_sound c.self.inside.scope c.self.inside.is_lent c.self.inside.is_inside c.self.inside.output.now.items (sequence_octets d.0 d.1) c.put_sequence-answer.new.output.items c.self.inside.insertions c.put_sequence-answer.new.insertions c.self.invariant (adds_from _ _ _ _ _ _ q d.3) (λ h. ok_of _ answered (c.put_sequence-answer.ensures.alone h))
+
+pub returns-clause-done : goal.returns-clause-done
+returns-clause-done g c =
+    let q : c.replace-pieces.result ≡ c.self.inside.insertions = search rules in
+    let answered : c.put_sequence-answer.result ≡ Ok tt = search rules in
+    let d = ok_of _ answered c.put_sequence-answer.ensures.done in
+    record {
+      frame = d.0;
+      components = d.1;
+      ran = d.2;
+      appended = grown_seen c.self.inside.scope c.self.inside.is_lent c.self.inside.is_inside c.self.inside.output.now.items (sequence_octets d.0 d.1) c.put_sequence-answer.new.output.items c.self.inside.insertions c.put_sequence-answer.new.insertions c.self.invariant (adds_from _ _ _ _ _ _ q d.3) ∙ ap (append (sequence_octets d.0 d.1)) c.self.view_is;
+    }
+
+pub returns-in_err-answer-clause-refused : goal.returns-in_err-answer-clause-refused
+returns-in_err-answer-clause-refused g c =
+    let p = err_from_is_err_and c.from_residual.result c.from_residual.ensures.1 in
+    let q : c.replace-pieces.result ≡ c.self.inside.insertions = search rules in
+    let s = c.self.inside.scope in
+    let e = ap₂ (λ (o : Octets) (is : List Piece). let w : Written = record { octets = around s.region o is; frame = frame_of o is s; outer = marks c.self.inside.is_lent c.self.inside.is_inside (take s.region.first is) } in w) c.in_err-answer.ensures.unchanged (c.in_err-answer.ensures.kept ∙ q) ∙ c.self.view_is in
+    rw (p.1, p.2) (record { keeps = subst (λ (w : Written). Keeps c.args.self.now w) (sym e) (keeps_all c.args.self.now); reason = c.in_err-answer.ensures.refused })
