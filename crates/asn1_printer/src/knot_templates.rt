@@ -45,6 +45,8 @@ pub const KNOT_ROWED: &str = r#"impl<K> KnotRowed<K> for @NAME@Components<K> {
 }
 
 impl<K: Encode> TakesKnot<K> for @NAME@Components<K> {
+    ghost refusing = { ⟦<@NAME@Row<K> as ReadsKnot<K>>⟧.refusing };
+
     fn take_knot<F: Fn(&mut Decoder<'_>) -> Result<K, DecodeError>>(
         alloc: Global,
         decoder: &mut Decoder<'_>,
@@ -128,6 +130,8 @@ pub const KNOT_ALTERNATING: &str = r#"impl<K> KnotAlternating<K> for @NAME@Alter
 }
 
 impl<K: Encode> TakesKnotAlternative<K> for @NAME@Alternatives<K> {
+    ghost refusing = { ⟦<@NAME@Row<K> as ReadsKnotAlternatives<K>>⟧.refusing };
+
     fn take_knot<D: Choice, F: Fn(&mut Decoder<'_>) -> Result<K, DecodeError>>(
         alloc: Global,
         decoder: &mut Decoder<'_>,
@@ -221,10 +225,7 @@ impl Knot<@NAME@Content<@NAME@>> for @NAME@ {
 }
 
 impl Decode for @NAME@ {
-    ghost use Rattle.std.specs.Prelude.{⊤};
-
-    ghost Answered = { λ c s r t. ⊤ };
-
+@ANSWERED@
     fn decode_with_tag_and_constraints(
         alloc: Global,
         decoder: &mut Decoder<'_>,
@@ -235,6 +236,18 @@ impl Decode for @NAME@ {
     }
 }
 
+"#;
+
+/// What a knot promises of its answers.
+pub const ANSWERED: &str = r#"    ghost use Rattle.rasn_oer.specs.Answering.{KnotAnswers};
+
+    ghost Answered = { λ c s r t. KnotAnswers ⟦<@NAME@ as Knot<@NAME@Content<@NAME@>>>⟧.content ⟦<@NAME@Content<@NAME@> as DecodeKnot<@NAME@>>⟧.answering s r t };
+"#;
+
+/// What a knot promises that is a list of itself.
+pub const LIST_ANSWERED: &str = r#"    ghost use Rattle.std.specs.Prelude.{⊤};
+
+    ghost Answered = { λ c s r t. ⊤ };
 "#;
 
 /// What reads a knot by its content.

@@ -1,6 +1,6 @@
--- A type that contains itself is read as its content.
+-- A type that contains itself is read as its content, and promises of its answers what that does.
 use Rattle.std.specs.Result.{OnOk, IfErr}
-use Rattle.std.proofs.Common.{◌≡◌, Result, Ok, Err, refl, sym, ap, ◌∙◌, subst}
+use Rattle.std.proofs.Common.{◌≡◌, ◌≤◌, ℕ, suc, Result, Ok, Err, refl, sym, ap, ◌∙◌, subst}
 use Rattle.asn1_core.specs.declared.error.DecodeError.{DecodeError}
 use Rattle.asn1_core.specs.declared.error.EncodeError.{EncodeError}
 use Rattle.oer_write.specs.Written.{Written, Encodes, Refused}
@@ -8,6 +8,7 @@ use Rattle.oer_spec.specs.Tree.{Tree}
 use Rattle.oer_read.proofs.Alternatives.{alternative_made, alternative_refused}
 use Rattle.oer_read.specs.Law.{Decodes}
 use Rattle.oer_read.specs.State.{State}
+use Rattle.oer_knots.specs.Answering.{Beside, Follows, Answering, within}
 use Rattle.oer_knots.specs.Knots.{IsLayered}
 
 module _ {K C : Type 0} (tree : K → Tree) (IsValue : K → Type 0) (content : K → C) (inner : C → Tree) (IsInner : C → Type 0) (l : IsLayered tree IsValue content inner IsInner) where
@@ -19,6 +20,17 @@ module _ {K C : Type 0} (tree : K → Tree) (IsValue : K → Type 0) (content : 
 
   pub layer_stops : (s u : State) (x : DecodeError) → Decodes inner IsInner s (Err x) u → Decodes tree IsValue s (Err x) u
   layer_stops s u x d = alternative_refused tree IsValue inner IsInner only (λ y. y ≡ x) s u x (Err x) d refl (λ y p. p)
+
+-- ---- what it promises of its answers
+
+module _ {K C : Type 0} (content : K → C) (c : Answering K C) (P : Beside K) (n : ℕ) (h : Follows P (within content c n)) where
+  pub layer_answers : (s u : State) (b : C) (v : K) → content v ≡ b → c.Answered P s (Ok b) u → within content c (suc n) s (Ok v) u
+  unfolding within
+  layer_answers s u b v e k = subst (λ (x : C). c.Answered (within content c n) s (Ok x) u) (sym e) (c.also P (within content c n) h s (Ok b) u k)
+
+  pub layer_refuses : (s u : State) (x : DecodeError) → c.Answered P s (Err x) u → within content c (suc n) s (Err x) u
+  unfolding within
+  layer_refuses s u x k = c.also P (within content c n) h s (Err x) u k
 
 -- ---- what holds each value is read where the value is
 

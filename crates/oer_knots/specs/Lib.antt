@@ -1,4 +1,5 @@
 pub mod Additions
+pub mod Answering
 pub mod Choices
 pub mod Knots
 pub mod Lists

@@ -1,8 +1,9 @@
 //! Extension additions that hold knots.
-ghost use Rattle.std.specs.Prelude.{◌≡◌, ⊤, Some, OnOk};
+ghost use Rattle.std.specs.Prelude.{◌≡◌, Some, OnOk, IfErr};
 ghost use Rattle.oer_spec.specs.Tree.{NoRows};
 ghost use Rattle.oer_read.specs.Additions.{Adds};
 ghost use Rattle.oer_read.specs.Law.{Decodes};
+ghost use Rattle.oer_read.specs.Lists.{FnReturnsAtMut};
 ghost use Rattle.oer_read.specs.Parts.{NoParts, Takes, Stops};
 ghost use Rattle.oer_write.specs.Rows.{InSequence};
 ghost use Rattle.oer_rows.specs.Values.{both};
@@ -140,6 +141,8 @@ impl<'v, G: Place, B: Encode + 'v, R: AdditionViews<'v>> AdditionViews<'v> for M
 
 /// Additions that are read, each knot in them by what is handed in.
 pub trait ReadsKnotAdditions<K: Spelled>: Additions {
+    ghost use Rattle.oer_knots.specs.Answering.{Refusing};
+
     /// Where they are put as they are read, as of `ReadsAdditions`.
     type Slots;
 
@@ -148,6 +151,9 @@ pub trait ReadsKnotAdditions<K: Spelled>: Additions {
 
     /// They hold no other values.
     ghost filled_once: { (v w : Self.More) → filled v ≡ filled w → v ≡ w };
+
+    /// Why reading them is refused, as `Refuses` of `ReadsAdditions`, by what is said of the knots' answers.
+    ghost refusing: { Refusing K };
 
     /// Places that hold nothing.
     fn empty() -> Self::Slots;
@@ -164,7 +170,8 @@ pub trait ReadsKnotAdditions<K: Spelled>: Additions {
     ) -> Result<(), DecodeError>
         requires { ReadsKnots F.Fn knot.now (K.tree K.CONSTRAINTS) K.IsValue decoder.old.levels }
         ensures read { OnOk result ((v : Self.More) × (slots.new ≡ filled v) × Takes decoder.old NoParts Self.table.parts NoRows (Self.table.rows v) decoder.new × Self.table.IsValue v) }
-        ensures stops { Stops decoder.old NoParts Self.table.parts result };
+        ensures stops { Stops decoder.old NoParts Self.table.parts result }
+        ensures refused { IfErr result (λ e. Self.refusing.Refuses (FnReturnsAtMut F.Fn knot.now) decoder.old e) };
 
     /// The values that the places hold.
     fn taken(slots: Self::Slots) -> Self::More
@@ -183,25 +190,29 @@ fn read_added<K: Spelled, B: DecodeKnot<K>, F: Fn(&mut Decoder<'_>) -> Result<K,
     knot: &F,
 ) -> Result<Option<B>, DecodeError>
     requires { ReadsKnots F.Fn knot.now (K.tree K.CONSTRAINTS) K.IsValue decoder.old.levels }
-    ensures { Adds (B.tree B.CONSTRAINTS) B.IsValue (λ s r t. ⊤) decoder.old (Some tag) result decoder.new }
+    ensures { Adds (B.tree B.CONSTRAINTS) B.IsValue (B.answering.Answered (FnReturnsAtMut F.Fn knot.now)) decoder.old (Some tag) result decoder.new }
 {
     decoder.decode_extension_addition_with::<B, _>(
         tag,
         |inner: &mut Decoder<'_>| -> Result<B, DecodeError>
             requires { ReadsKnots F.Fn knot.now (K.tree K.CONSTRAINTS) K.IsValue inner.old.levels }
-            ensures { Decodes (B.tree B.CONSTRAINTS) B.IsValue inner.old result inner.new }
+            ensures law { Decodes (B.tree B.CONSTRAINTS) B.IsValue inner.old result inner.new }
+            ensures answered { B.answering.Answered (FnReturnsAtMut F.Fn knot.entry.now) inner.old result inner.new }
         { B::decode_knot(alloc, inner, tag, knot) },
     )
 }
 
 impl<K: Spelled> ReadsKnotAdditions<K> for NoMore {
     ghost use Rattle.std.specs.Prelude.{refl};
+    ghost use Rattle.oer_knots.specs.Answering.{unknotted};
 
     type Slots = ();
 
     ghost filled = { λ v. tt };
 
     ghost filled_once = { λ v w e. refl };
+
+    ghost refusing = { unknotted (λ s e. ⊥) };
 
     fn empty() -> () {
         ()
@@ -223,6 +234,7 @@ impl<K: Spelled> ReadsKnotAdditions<K> for NoMore {
 
 impl<K: Spelled, G: Place, B: Decode, R: ReadsKnotAdditions<K>> ReadsKnotAdditions<K>
     for MayAdd<G, B, R> {
+    ghost use Rattle.oer_knots.specs.Answering.{plain, before};
     ghost use Rattle.oer_rows.specs.Slots.{with_optional, optional_once};
 
     type Slots = Both<Option<B>, R::Slots>;
@@ -230,6 +242,8 @@ impl<K: Spelled, G: Place, B: Decode, R: ReadsKnotAdditions<K>> ReadsKnotAdditio
     ghost filled = { with_optional R.filled };
 
     ghost filled_once = { optional_once R.filled R.filled_once };
+
+    ghost refusing = { before (plain (λ s r t. Adds (B.tree B.CONSTRAINTS) B.IsValue (B.Answered B.CONSTRAINTS) s (Some G.tag) r t)) R.refusing };
 
     fn empty() -> Self::Slots {
         Both(None, R::empty())
@@ -255,6 +269,7 @@ impl<K: Spelled, G: Place, B: Decode, R: ReadsKnotAdditions<K>> ReadsKnotAdditio
 
 impl<K: Spelled, G: Place, B: DecodeKnot<K>, R: ReadsKnotAdditions<K>> ReadsKnotAdditions<K>
     for MayAddKnot<G, B, R> {
+    ghost use Rattle.oer_knots.specs.Answering.{added, before};
     ghost use Rattle.oer_rows.specs.Slots.{with_optional, optional_once};
 
     type Slots = Both<Option<B>, R::Slots>;
@@ -262,6 +277,8 @@ impl<K: Spelled, G: Place, B: DecodeKnot<K>, R: ReadsKnotAdditions<K>> ReadsKnot
     ghost filled = { with_optional R.filled };
 
     ghost filled_once = { optional_once R.filled R.filled_once };
+
+    ghost refusing = { before (added (B.tree B.CONSTRAINTS) B.IsValue G.tag B.answering) R.refusing };
 
     fn empty() -> Self::Slots {
         Both(None, R::empty())

@@ -1,9 +1,10 @@
 //! Choices with alternatives that hold knots.
-ghost use Rattle.std.specs.Prelude.{◌≡◌, ◌++◌, true, false};
+ghost use Rattle.std.specs.Prelude.{◌≡◌, ◌++◌, true, false, IfErr};
 ghost use Rattle.asn1_core.specs.Tags.{AreDistinct};
 ghost use Rattle.oer_choices.specs.Choosing.{are_apart, IsOneOf};
 ghost use Rattle.oer_choices.specs.Putting.{PutsOne};
-ghost use Rattle.oer_read.specs.Law.{Decodes};
+ghost use Rattle.oer_read.specs.Law.{Decodes, Promised};
+ghost use Rattle.oer_read.specs.Lists.{FnReturnsAtMut};
 ghost use Rattle.oer_knots.specs.Reading.{ReadsKnots};
 
 use crate::ties::{DecodeInside, DecodeKnot, HoldsKnot};
@@ -160,6 +161,13 @@ fn is_same(a: Tag, b: Tag) -> bool
 
 /// Alternatives that are read, each knot in them by what is handed in.
 pub trait ReadsKnotAlternatives<K: Spelled>: Alternatives {
+    ghost use Rattle.asn1_core.specs.declared.tag.Tag.{Tag};
+    ghost use Rattle.oer_knots.specs.Answering.{Refusing};
+
+    /// Why reading the alternative with that tag is refused, as `Refuses` of `ReadsAlternatives`, by what is said of the knots'
+    /// answers.
+    ghost refusing: { Tag → Refusing K };
+
     /// Reads what the alternative with that tag holds (X.696, 20), each value of `K` in it by `knot`.
     ///
     /// Refused as `ReadsAlternatives::read` refuses, and as `knot` does.
@@ -171,10 +179,16 @@ pub trait ReadsKnotAlternatives<K: Spelled>: Alternatives {
     ) -> Result<Self::Values, DecodeError>
         requires distinct { AreDistinct (Self.choices.roots ++ Self.choices.additions) }
         requires knots { ReadsKnots F.Fn knot.now (K.tree K.CONSTRAINTS) K.IsValue decoder.old.levels }
-        ensures { Decodes Self.choices.child (λ v. Self.choices.IsValue v × (Self.choices.tag_of v ≡ tag)) decoder.old result decoder.new };
+        ensures law { Decodes Self.choices.child (λ v. Self.choices.IsValue v × (Self.choices.tag_of v ≡ tag)) decoder.old result decoder.new }
+        ensures refused { IfErr result (λ e. (Self.refusing tag).Refuses (FnReturnsAtMut F.Fn knot.now) decoder.old e) };
 }
 
 impl<K: Spelled> ReadsKnotAlternatives<K> for NoMore {
+    ghost use Rattle.oer_choices.specs.Refusals.{NoAlternative};
+    ghost use Rattle.oer_knots.specs.Answering.{unknotted};
+
+    ghost refusing = { λ g. unknotted (NoAlternative g) };
+
     fn read_knots<D: Choice, F: Fn(&mut Decoder<'_>) -> Result<K, DecodeError>>(
         _alloc: Global,
         decoder: &mut Decoder<'_>,
@@ -187,6 +201,10 @@ impl<K: Spelled> ReadsKnotAlternatives<K> for NoMore {
 
 impl<K: Spelled, G: Place, B: Decode, R: ReadsKnotAlternatives<K>> ReadsKnotAlternatives<K>
     for Offers<G, B, R> {
+    ghost use Rattle.oer_knots.specs.Answering.{plain, offered};
+
+    ghost refusing = { offered G.tag (plain (B.Answered B.CONSTRAINTS)) R.refusing };
+
     fn read_knots<D: Choice, F: Fn(&mut Decoder<'_>) -> Result<K, DecodeError>>(
         alloc: Global,
         decoder: &mut Decoder<'_>,
@@ -209,6 +227,10 @@ impl<K: Spelled, G: Place, B: Decode, R: ReadsKnotAlternatives<K>> ReadsKnotAlte
 
 impl<K: Spelled, G: Place, B: DecodeKnot<K>, R: ReadsKnotAlternatives<K>> ReadsKnotAlternatives<K>
     for OffersKnot<G, B, R> {
+    ghost use Rattle.oer_knots.specs.Answering.{offered};
+
+    ghost refusing = { offered G.tag B.answering R.refusing };
+
     fn read_knots<D: Choice, F: Fn(&mut Decoder<'_>) -> Result<K, DecodeError>>(
         alloc: Global,
         decoder: &mut Decoder<'_>,
@@ -230,6 +252,8 @@ impl<K: Spelled, G: Place, B: DecodeKnot<K>, R: ReadsKnotAlternatives<K>> ReadsK
 }
 
 impl<K: Spelled, R: ReadsKnotAlternatives<K>> ReadsKnotAlternatives<K> for Extensible<R> {
+    ghost refusing = { R.refusing };
+
     fn read_knots<D: Choice, F: Fn(&mut Decoder<'_>) -> Result<K, DecodeError>>(
         alloc: Global,
         decoder: &mut Decoder<'_>,
@@ -266,6 +290,12 @@ pub trait KnotAlternating<K> {
 
 /// A type that is read by its row, where what reads a knot is handed in.
 pub trait TakesKnotAlternative<K: Spelled>: Alternating {
+    ghost use Rattle.asn1_core.specs.declared.tag.Tag.{Tag};
+    ghost use Rattle.oer_knots.specs.Answering.{Refusing};
+
+    /// Why reading the alternative with that tag is refused (`ReadsKnotAlternatives::refusing` of the row).
+    ghost refusing: { Tag → Refusing K };
+
     /// Reads what the alternative with that tag holds (X.696, 20): `read_knot_alternative`.
     ///
     /// Refused as `ReadsKnotAlternatives::read_knots` refuses, with the choice `D`.
@@ -276,7 +306,8 @@ pub trait TakesKnotAlternative<K: Spelled>: Alternating {
         knot: &F,
     ) -> Result<Self, DecodeError>
         requires { ReadsKnots F.Fn knot.now (K.tree K.CONSTRAINTS) K.IsValue decoder.old.levels }
-        ensures { Decodes (λ v. Self.row_choices.child (Self.alternative v)) (λ v. IsOneOf Self.row_choices (Self.alternative v) × (Self.row_choices.tag_of (Self.alternative v) ≡ tag)) decoder.old result decoder.new };
+        ensures law { Decodes (λ v. Self.row_choices.child (Self.alternative v)) (λ v. IsOneOf Self.row_choices (Self.alternative v) × (Self.row_choices.tag_of (Self.alternative v) ≡ tag)) decoder.old result decoder.new }
+        ensures refused { IfErr result (λ e. (Self.refusing tag).Refuses (FnReturnsAtMut F.Fn knot.now) decoder.old e) };
 }
 
 /// Reads what the alternative with that tag holds (X.696, 20), by the row `R` of `T`: what `TakesKnotAlternative::take_knot`
@@ -292,7 +323,8 @@ pub fn read_knot_alternative<
 >(alloc: Global, decoder: &mut Decoder<'_>, tag: Tag, knot: &F) -> Result<T, DecodeError>
     requires apart { are_apart (R.choices.roots ++ R.choices.additions) ≡ true }
     requires knots { ReadsKnots F.Fn knot.now (K.tree K.CONSTRAINTS) K.IsValue decoder.old.levels }
-    ensures { Decodes (λ v. R.choices.child (T.alternative v)) (λ v. IsOneOf R.choices (T.alternative v) × (R.choices.tag_of (T.alternative v) ≡ tag)) decoder.old result decoder.new }
+    ensures law { Decodes (λ v. R.choices.child (T.alternative v)) (λ v. IsOneOf R.choices (T.alternative v) × (R.choices.tag_of (T.alternative v) ≡ tag)) decoder.old result decoder.new }
+    ensures refused { IfErr result (λ e. (R.refusing tag).Refuses (FnReturnsAtMut F.Fn knot.now) decoder.old e) }
 {
     match R::read_knots::<D, F>(alloc, decoder, tag, knot) {
         Ok(value) => Ok(T::from_alternative(value)),
@@ -311,6 +343,12 @@ impl<K, T: KnotAlternating<K>> HoldsKnot<K> for OneOf<T> {
 }
 
 impl<K: Spelled, T: TakesKnotAlternative<K>> DecodeKnot<K> for OneOf<T> {
+    ghost use Rattle.std.specs.Prelude.{◌≡◌};
+    ghost use Rattle.oer_choices.specs.Choosing.{IsOneOf};
+    ghost use Rattle.oer_knots.specs.Answering.{of_choice};
+
+    ghost answering = { of_choice (λ v. T.row_choices.child (T.alternative v.0)) (λ g v. IsOneOf T.row_choices (T.alternative v.0) × (T.row_choices.tag_of (T.alternative v.0) ≡ g)) T.row_choices.roots T.row_choices.additions T.row_choices.is_extensible T.refusing };
+
     fn decode_knot<F: Fn(&mut Decoder<'_>) -> Result<K, DecodeError>>(
         alloc: Global,
         decoder: &mut Decoder<'_>,
@@ -322,8 +360,6 @@ impl<K: Spelled, T: TakesKnotAlternative<K>> DecodeKnot<K> for OneOf<T> {
 }
 
 impl<K: Spelled, T: TakesKnotAlternative<K>> DecodeInside<K> for OneOf<T> {
-    ghost use Rattle.oer_read.specs.Choices.{ReadsAlternative};
-
     fn decode_inside<F: Fn(&mut Decoder<'_>) -> Result<K, DecodeError>>(
         alloc: Global,
         decoder: &mut Decoder<'_>,
@@ -334,7 +370,7 @@ impl<K: Spelled, T: TakesKnotAlternative<K>> DecodeInside<K> for OneOf<T> {
             OneOf::<T>::CONSTRAINTS,
             |inner: &mut Decoder<'_>, tag: Tag| -> Result<OneOf<T>, DecodeError>
                 requires { ReadsKnots F.Fn knot.now (K.tree K.CONSTRAINTS) K.IsValue inner.old.levels }
-                ensures { ReadsAlternative (λ v. T.row_choices.child (T.alternative v.0)) (λ v. IsOneOf T.row_choices (T.alternative v.0)) (λ v. T.row_choices.tag_of (T.alternative v.0)) tag inner.old result inner.new }
+                ensures { Promised (λ v. T.row_choices.child (T.alternative v.0)) (λ v. IsOneOf T.row_choices (T.alternative v.0) × (T.row_choices.tag_of (T.alternative v.0) ≡ tag)) (λ s r t. IfErr r (λ e. (T.refusing tag).Refuses (FnReturnsAtMut F.Fn knot.entry.now) s e)) inner.old result inner.new }
             {
                 match T::take_knot::<OneOf<T>, F>(alloc, inner, tag, knot) {
                     Ok(value) => Ok(OneOf(value)),

@@ -1,5 +1,6 @@
 //! The place of a knot in a type that it contains.
 ghost use Rattle.oer_read.specs.Law.{Decodes};
+ghost use Rattle.oer_read.specs.Lists.{FnReturnsAtMut};
 ghost use Rattle.oer_knots.specs.Reading.{ReadsKnots};
 
 use crate::ties::{DecodeKnot, HoldsKnot};
@@ -78,6 +79,10 @@ impl<K> HoldsKnot<K> for Held<K> {
 }
 
 impl<K: Spelled> DecodeKnot<K> for Held<K> {
+    ghost use Rattle.oer_knots.specs.Answering.{boxed};
+
+    ghost answering = { boxed (λ h. h.0.value) };
+
     fn decode_knot<F: Fn(&mut Decoder<'_>) -> Result<K, DecodeError>>(
         alloc: Global,
         decoder: &mut Decoder<'_>,
@@ -88,7 +93,8 @@ impl<K: Spelled> DecodeKnot<K> for Held<K> {
             alloc,
             |inner: &mut Decoder<'_>| -> Result<K, DecodeError>
                 requires { ReadsKnots F.Fn knot.now (K.tree K.CONSTRAINTS) K.IsValue inner.old.levels }
-                ensures { Decodes (K.tree K.CONSTRAINTS) K.IsValue inner.old result inner.new }
+                ensures law { Decodes (K.tree K.CONSTRAINTS) K.IsValue inner.old result inner.new }
+                ensures answered { FnReturnsAtMut F.Fn knot.entry.now inner.old result inner.new }
             { knot(inner) },
         ) {
             Ok(content) => Ok(Held(content)),
@@ -175,12 +181,17 @@ fn read_knot<K: Spelled, F: Fn(&mut Decoder<'_>) -> Result<K, DecodeError>>(
     knot: &F,
 ) -> Result<K, DecodeError>
     requires { ReadsKnots F.Fn knot.now (K.tree K.CONSTRAINTS) K.IsValue decoder.old.levels }
-    ensures { Decodes (K.tree K.CONSTRAINTS) K.IsValue decoder.old result decoder.new }
+    ensures law { Decodes (K.tree K.CONSTRAINTS) K.IsValue decoder.old result decoder.new }
+    ensures answered { FnReturnsAtMut F.Fn knot.now decoder.old result decoder.new }
 {
     knot(decoder)
 }
 
 impl<K: Spelled> DecodeKnot<K> for Bare<K> {
+    ghost use Rattle.oer_knots.specs.Answering.{bare};
+
+    ghost answering = { bare (λ h. h.0) };
+
     fn decode_knot<F: Fn(&mut Decoder<'_>) -> Result<K, DecodeError>>(
         _alloc: Global,
         decoder: &mut Decoder<'_>,

@@ -3,6 +3,7 @@ ghost use Rattle.std.specs.Prelude.{◌<◌, Result, OnOk, IfErr};
 ghost use Rattle.asn1_core.specs.declared.error.EncodeError.{EncodeError};
 ghost use Rattle.oer_write.specs.Written.{Written, Encodes, Refused};
 ghost use Rattle.oer_read.specs.Law.{Decodes};
+ghost use Rattle.oer_knots.specs.Answering.{KnotAnswers, within};
 
 use crate::ties::DecodeInside;
 use asn1_core::{DecodeError, Tag};
@@ -51,12 +52,14 @@ pub fn decode_knotted<C: DecodeInside<K>, K: Knot<C>>(
     decoder: &mut Decoder<'_>,
     tag: Tag,
 ) -> Result<K, DecodeError>
-    ensures { Decodes (K.tree K.CONSTRAINTS) K.IsValue decoder.old result decoder.new }
+    ensures law { Decodes (K.tree K.CONSTRAINTS) K.IsValue decoder.old result decoder.new }
+    ensures answered { KnotAnswers K.content C.answering decoder.old result decoder.new }
 {
     let levels = decoder.levels();
     let read = |inner: &mut Decoder<'_>| -> Result<K, DecodeError>
         requires { inner.old.levels < levels }
-        ensures { Decodes (K.tree K.CONSTRAINTS) K.IsValue inner.old result inner.new }
+        ensures law { Decodes (K.tree K.CONSTRAINTS) K.IsValue inner.old result inner.new }
+        ensures answered { within K.content C.answering levels inner.old result inner.new }
     {
         let _bound = levels;
         decode_knotted::<C, K>(alloc, inner, K::TAG)

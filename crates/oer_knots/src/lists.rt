@@ -1,6 +1,7 @@
 //! Lists of values that hold knots.
 ghost use Rattle.std.specs.Prelude.{◌<◌};
-ghost use Rattle.oer_read.specs.Law.{Decodes};
+ghost use Rattle.oer_read.specs.Law.{Promised};
+ghost use Rattle.oer_read.specs.Lists.{FnReturnsAtMut};
 ghost use Rattle.oer_knots.specs.Reading.{ReadsKnots};
 
 use crate::ties::{DecodeInside, DecodeKnot, HoldsKnot};
@@ -22,6 +23,10 @@ impl<K, B: HoldsKnot<K>> HoldsKnot<K> for ListOf<B> {
 }
 
 impl<K: Spelled, B: DecodeKnot<K>> DecodeKnot<K> for ListOf<B> {
+    ghost use Rattle.oer_knots.specs.Answering.{promised, of_list};
+
+    ghost answering = { of_list (λ vs. vs) (promised (B.tree B.CONSTRAINTS) B.IsValue B.answering) };
+
     fn decode_knot<F: Fn(&mut Decoder<'_>) -> Result<K, DecodeError>>(
         alloc: Global,
         decoder: &mut Decoder<'_>,
@@ -45,7 +50,7 @@ impl<K: Spelled, B: DecodeKnot<K>> DecodeInside<K> for ListOf<B> {
             ListOf::<B>::CONSTRAINTS,
             |inner: &mut Decoder<'_>| -> Result<B, DecodeError>
                 requires { ReadsKnots F.Fn knot.now (K.tree K.CONSTRAINTS) K.IsValue inner.old.levels }
-                ensures { Decodes (B.tree B.CONSTRAINTS) B.IsValue inner.old result inner.new }
+                ensures { Promised (B.tree B.CONSTRAINTS) B.IsValue (B.answering.Answered (FnReturnsAtMut F.Fn knot.entry.now)) inner.old result inner.new }
             { B::decode_knot(alloc, inner, B::TAG, knot) },
         )?;
         Ok(ListOf(items))

@@ -22,6 +22,7 @@ impl<K, G: Place, B: Spelled, R: Additions> KnotAdditions<K> for Adds<G, B, R> {
 }
 
 impl<K: Spelled, G: Place, B: Decode, R: ReadsAdditions> ReadsKnotAdditions<K> for Adds<G, B, R> {
+    ghost use Rattle.oer_knots.specs.Answering.{unknotted};
     ghost use Rattle.oer_rows.specs.Slots.{with_needed, needed_once};
 
     type Slots = Both<Option<B>, R::Slots>;
@@ -29,6 +30,8 @@ impl<K: Spelled, G: Place, B: Decode, R: ReadsAdditions> ReadsKnotAdditions<K> f
     ghost filled = { with_needed R.filled };
 
     ghost filled_once = { needed_once R.filled R.filled_once };
+
+    ghost refusing = { unknotted ⟦<Adds<G, B, R> as ReadsAdditions>⟧.Refuses };
 
     fn empty() -> Self::Slots {
         <Self as ReadsAdditions>::empty()
@@ -70,6 +73,7 @@ impl<
     D: Standard<B>,
     R: ReadsAdditions,
 > ReadsKnotAdditions<K> for AddDefaults<G, B, D, R> {
+    ghost use Rattle.oer_knots.specs.Answering.{unknotted};
     ghost use Rattle.oer_rows.specs.Slots.{with_needed, needed_once};
 
     type Slots = Both<Option<B>, R::Slots>;
@@ -77,6 +81,8 @@ impl<
     ghost filled = { with_needed R.filled };
 
     ghost filled_once = { needed_once R.filled R.filled_once };
+
+    ghost refusing = { unknotted ⟦<AddDefaults<G, B, D, R> as ReadsAdditions>⟧.Refuses };
 
     fn empty() -> Self::Slots {
         <Self as ReadsAdditions>::empty()
@@ -123,6 +129,7 @@ impl<
     B: Decode + Constructed<RC, EC>,
     R: ReadsAdditions,
 > ReadsKnotAdditions<K> for MayAddGroup<RC, EC, B, R> {
+    ghost use Rattle.oer_knots.specs.Answering.{unknotted};
     ghost use Rattle.oer_rows.specs.Slots.{with_optional, optional_once};
 
     type Slots = Both<Option<B>, R::Slots>;
@@ -130,6 +137,8 @@ impl<
     ghost filled = { with_optional R.filled };
 
     ghost filled_once = { optional_once R.filled R.filled_once };
+
+    ghost refusing = { unknotted ⟦<MayAddGroup<RC, EC, B, R> as ReadsAdditions>⟧.Refuses };
 
     fn empty() -> Self::Slots {
         <Self as ReadsAdditions>::empty()

@@ -1,7 +1,8 @@
 //! Rows that are read, where what reads a knot is handed in.
-ghost use Rattle.std.specs.Prelude.{◌≡◌, ⊤, OnOk};
+ghost use Rattle.std.specs.Prelude.{◌≡◌, OnOk, IfErr};
 ghost use Rattle.oer_read.specs.Components.{Asks};
-ghost use Rattle.oer_read.specs.Law.{Decodes};
+ghost use Rattle.oer_read.specs.Law.{Decodes, Promised};
+ghost use Rattle.oer_read.specs.Lists.{FnReturnsAtMut};
 ghost use Rattle.oer_read.specs.Parts.{Takes, Stops};
 ghost use Rattle.oer_knots.specs.Reading.{ReadsKnots};
 
@@ -18,6 +19,8 @@ use std::alloc::Global;
 
 /// A row whose components are read, each knot in them by what is handed in.
 pub trait ReadsKnot<K: Spelled>: Components {
+    ghost use Rattle.oer_knots.specs.Answering.{Refusing};
+
     /// Where they are put as they are read, as of `Reads`.
     type Slots;
 
@@ -26,6 +29,9 @@ pub trait ReadsKnot<K: Spelled>: Components {
 
     /// They hold no other values.
     ghost filled_once: { (v w : Self.Values) → filled v ≡ filled w → v ≡ w };
+
+    /// Why reading the row is refused, as `Refuses` of `Reads`, by what is said of the knots' answers.
+    ghost refusing: { Refusing K };
 
     /// Places that hold nothing.
     fn empty() -> Self::Slots;
@@ -42,7 +48,8 @@ pub trait ReadsKnot<K: Spelled>: Components {
     ) -> Result<(), DecodeError>
         requires { ReadsKnots F.Fn knot.now (K.tree K.CONSTRAINTS) K.IsValue decoder.old.levels }
         ensures read { OnOk result ((v : Self.Values) × (slots.new ≡ filled v) × Takes decoder.old Self.schema.roots.parts Self.schema.additions.parts (Self.schema.roots.rows v) (Self.schema.additions.rows v) decoder.new × Self.schema.roots.IsValue v × Self.schema.additions.IsValue v) }
-        ensures stops { Stops decoder.old Self.schema.roots.parts Self.schema.additions.parts result };
+        ensures stops { Stops decoder.old Self.schema.roots.parts Self.schema.additions.parts result }
+        ensures refused { IfErr result (λ e. Self.refusing.Refuses (FnReturnsAtMut F.Fn knot.now) decoder.old e) };
 
     /// The values that the places hold.
     fn taken(slots: Self::Slots) -> Self::Values
@@ -61,25 +68,29 @@ fn read_optional<K: Spelled, B: DecodeKnot<K>, F: Fn(&mut Decoder<'_>) -> Result
     knot: &F,
 ) -> Result<Option<B>, DecodeError>
     requires { ReadsKnots F.Fn knot.now (K.tree K.CONSTRAINTS) K.IsValue decoder.old.levels }
-    ensures { Asks (B.tree B.CONSTRAINTS) B.IsValue (λ s r t. ⊤) decoder.old tag result decoder.new }
+    ensures { Asks (B.tree B.CONSTRAINTS) B.IsValue (B.answering.Answered (FnReturnsAtMut F.Fn knot.now)) decoder.old tag result decoder.new }
 {
     decoder.decode_optional_with::<B, _>(
         tag,
         |inner: &mut Decoder<'_>| -> Result<B, DecodeError>
             requires { ReadsKnots F.Fn knot.now (K.tree K.CONSTRAINTS) K.IsValue inner.old.levels }
-            ensures { Decodes (B.tree B.CONSTRAINTS) B.IsValue inner.old result inner.new }
+            ensures law { Decodes (B.tree B.CONSTRAINTS) B.IsValue inner.old result inner.new }
+            ensures answered { B.answering.Answered (FnReturnsAtMut F.Fn knot.entry.now) inner.old result inner.new }
         { B::decode_knot(alloc, inner, tag, knot) },
     )
 }
 
 impl<K: Spelled> ReadsKnot<K> for NoMore {
     ghost use Rattle.std.specs.Prelude.{refl};
+    ghost use Rattle.oer_knots.specs.Answering.{unknotted};
 
     type Slots = ();
 
     ghost filled = { λ v. tt };
 
     ghost filled_once = { λ v w e. refl };
+
+    ghost refusing = { unknotted (λ s e. ⊥) };
 
     fn empty() -> () {
         ()
@@ -106,6 +117,8 @@ impl<K: Spelled, R: ReadsKnotAdditions<K>> ReadsKnot<K> for Extensible<R> {
 
     ghost filled_once = { R.filled_once };
 
+    ghost refusing = { R.refusing };
+
     fn empty() -> R::Slots {
         R::empty()
     }
@@ -125,6 +138,7 @@ impl<K: Spelled, R: ReadsKnotAdditions<K>> ReadsKnot<K> for Extensible<R> {
 }
 
 impl<K: Spelled, G: Place, B: Decode, R: ReadsKnot<K>> ReadsKnot<K> for Needs<G, B, R> {
+    ghost use Rattle.oer_knots.specs.Answering.{plain, before};
     ghost use Rattle.oer_rows.specs.Slots.{with_needed, needed_once};
 
     type Slots = Both<Option<B>, R::Slots>;
@@ -132,6 +146,8 @@ impl<K: Spelled, G: Place, B: Decode, R: ReadsKnot<K>> ReadsKnot<K> for Needs<G,
     ghost filled = { with_needed R.filled };
 
     ghost filled_once = { needed_once R.filled R.filled_once };
+
+    ghost refusing = { before (plain (Promised (B.tree B.CONSTRAINTS) B.IsValue (B.Answered B.CONSTRAINTS))) R.refusing };
 
     fn empty() -> Self::Slots {
         Both(None, R::empty())
@@ -156,6 +172,7 @@ impl<K: Spelled, G: Place, B: Decode, R: ReadsKnot<K>> ReadsKnot<K> for Needs<G,
 }
 
 impl<K: Spelled, G: Place, B: Decode, R: ReadsKnot<K>> ReadsKnot<K> for MayHave<G, B, R> {
+    ghost use Rattle.oer_knots.specs.Answering.{plain, before};
     ghost use Rattle.oer_rows.specs.Slots.{with_optional, optional_once};
 
     type Slots = Both<Option<B>, R::Slots>;
@@ -163,6 +180,8 @@ impl<K: Spelled, G: Place, B: Decode, R: ReadsKnot<K>> ReadsKnot<K> for MayHave<
     ghost filled = { with_optional R.filled };
 
     ghost filled_once = { optional_once R.filled R.filled_once };
+
+    ghost refusing = { before (plain (λ s r t. Asks (B.tree B.CONSTRAINTS) B.IsValue (B.Answered B.CONSTRAINTS) s G.tag r t)) R.refusing };
 
     fn empty() -> Self::Slots {
         Both(None, R::empty())
@@ -188,6 +207,8 @@ impl<K: Spelled, G: Place, B: Decode, R: ReadsKnot<K>> ReadsKnot<K> for MayHave<
 
 impl<K: Spelled, G: Place, B: Decode + EqualAsSpelled, D: Standard<B>, R: ReadsKnot<K>> ReadsKnot<K>
     for Defaults<G, B, D, R> {
+    ghost use Rattle.oer_knots.specs.Answering.{plain, before};
+    ghost use Rattle.oer_rows.specs.Standards.{AsksStandard};
     ghost use Rattle.oer_rows.specs.Slots.{with_needed, needed_once};
 
     type Slots = Both<Option<B>, R::Slots>;
@@ -195,6 +216,8 @@ impl<K: Spelled, G: Place, B: Decode + EqualAsSpelled, D: Standard<B>, R: ReadsK
     ghost filled = { with_needed R.filled };
 
     ghost filled_once = { needed_once R.filled R.filled_once };
+
+    ghost refusing = { before (plain (λ s r t. AsksStandard (B.tree B.CONSTRAINTS) B.IsValue (B.Answered B.CONSTRAINTS) B.eq D.wants_memory s G.tag D.value r t)) R.refusing };
 
     fn empty() -> Self::Slots {
         Both(None, R::empty())
@@ -219,6 +242,7 @@ impl<K: Spelled, G: Place, B: Decode + EqualAsSpelled, D: Standard<B>, R: ReadsK
 }
 
 impl<K: Spelled, G: Place, B: DecodeKnot<K>, R: ReadsKnot<K>> ReadsKnot<K> for NeedsKnot<G, B, R> {
+    ghost use Rattle.oer_knots.specs.Answering.{promised, before};
     ghost use Rattle.oer_rows.specs.Slots.{with_needed, needed_once};
 
     type Slots = Both<Option<B>, R::Slots>;
@@ -226,6 +250,8 @@ impl<K: Spelled, G: Place, B: DecodeKnot<K>, R: ReadsKnot<K>> ReadsKnot<K> for N
     ghost filled = { with_needed R.filled };
 
     ghost filled_once = { needed_once R.filled R.filled_once };
+
+    ghost refusing = { before (promised (B.tree B.CONSTRAINTS) B.IsValue B.answering) R.refusing };
 
     fn empty() -> Self::Slots {
         Both(None, R::empty())
@@ -251,6 +277,7 @@ impl<K: Spelled, G: Place, B: DecodeKnot<K>, R: ReadsKnot<K>> ReadsKnot<K> for N
 
 impl<K: Spelled, G: Place, B: DecodeKnot<K>, R: ReadsKnot<K>> ReadsKnot<K>
     for MayHaveKnot<G, B, R> {
+    ghost use Rattle.oer_knots.specs.Answering.{asked, before};
     ghost use Rattle.oer_rows.specs.Slots.{with_optional, optional_once};
 
     type Slots = Both<Option<B>, R::Slots>;
@@ -258,6 +285,8 @@ impl<K: Spelled, G: Place, B: DecodeKnot<K>, R: ReadsKnot<K>> ReadsKnot<K>
     ghost filled = { with_optional R.filled };
 
     ghost filled_once = { optional_once R.filled R.filled_once };
+
+    ghost refusing = { before (asked (B.tree B.CONSTRAINTS) B.IsValue G.tag B.answering) R.refusing };
 
     fn empty() -> Self::Slots {
         Both(None, R::empty())

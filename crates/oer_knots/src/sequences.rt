@@ -1,7 +1,10 @@
 //! Sequences with components that hold knots.
-ghost use Rattle.std.specs.Prelude.{◌≡◌, IfOk};
+ghost use Rattle.std.specs.Prelude.{◌≡◌, IfOk, IfErr};
 ghost use Rattle.oer_read.specs.Law.{Decodes};
+ghost use Rattle.oer_read.specs.Lists.{FnReturnsAtMut};
 ghost use Rattle.oer_read.specs.Parts.{ReadsParts};
+ghost use Rattle.oer_read.specs.Scopes.{SequenceRefused};
+ghost use Rattle.oer_rows.specs.Refusals.{RowRan};
 ghost use Rattle.oer_rows.specs.Schema.{IsOf, HasTables, tree_of};
 ghost use Rattle.oer_knots.specs.Reading.{ReadsInside, ReadsKnots};
 
@@ -35,6 +38,11 @@ pub trait KnotRowed<K> {
 
 /// A type that is read by its row, where what reads a knot is handed in.
 pub trait TakesKnot<K: Spelled>: Rowed + Drop {
+    ghost use Rattle.oer_knots.specs.Answering.{Refusing};
+
+    /// Why reading the components is refused (`ReadsKnot::refusing` of the row).
+    ghost refusing: { Refusing K };
+
     /// Reads the components in the order of the row, inside the scope of a sequence (X.696, 16): `read_knot_row`.
     ///
     /// Refused, the first that applies, as the calls of `Decoder` refuse that read each component.
@@ -45,7 +53,8 @@ pub trait TakesKnot<K: Spelled>: Rowed + Drop {
     ) -> Result<Self, DecodeError>
         requires { ReadsKnots F.Fn knot.now (K.tree K.CONSTRAINTS) K.IsValue decoder.old.levels }
         ensures read { ReadsParts Self.row_schema.roots.parts Self.row_schema.additions.parts (λ v. Self.row_schema.roots.rows (Self.components v)) (λ v. Self.row_schema.additions.rows (Self.components v)) decoder.old result decoder.new }
-        ensures value { IfOk result (λ v. IsOf Self.row_schema (Self.components v)) };
+        ensures value { IfOk result (λ v. IsOf Self.row_schema (Self.components v)) }
+        ensures refused { IfErr result (λ e. Self.refusing.Refuses (FnReturnsAtMut F.Fn knot.now) decoder.old e) };
 }
 
 /// Reads the components of `T` in the order of its row `R`, inside the scope of a sequence (X.696, 16): what
@@ -63,6 +72,7 @@ where
     requires { ReadsKnots F.Fn knot.now (K.tree K.CONSTRAINTS) K.IsValue decoder.old.levels }
     ensures read { ReadsParts R.schema.roots.parts R.schema.additions.parts (λ v. R.schema.roots.rows (T.components v)) (λ v. R.schema.additions.rows (T.components v)) decoder.old result decoder.new }
     ensures value { IfOk result (λ v. IsOf R.schema (T.components v)) }
+    ensures refused { IfErr result (λ e. R.refusing.Refuses (FnReturnsAtMut F.Fn knot.now) decoder.old e) }
 {
     let mut slots = R::empty();
     R::read(alloc, decoder, &mut slots, knot)?;
@@ -85,7 +95,8 @@ pub fn decode_knot_row<
     requires back { (v : _) → IsOf T.row_schema (T.components v) → T.IsValue v }
     requires tables { HasTables T.row_schema T.EXTENSIBLE T.IS_EXTENSIBLE T.root_rows T.addition_rows }
     requires knots { ReadsInside F.Fn knot.now (K.tree K.CONSTRAINTS) K.IsValue decoder.old.levels }
-    ensures { Decodes (T.tree T.CONSTRAINTS) T.IsValue decoder.old result decoder.new }
+    ensures law { Decodes (T.tree T.CONSTRAINTS) T.IsValue decoder.old result decoder.new }
+    ensures refused { IfErr result (λ e. SequenceRefused (RowRan T.row_schema (T.refusing.Refuses (FnReturnsAtMut F.Fn knot.now))) T.IS_EXTENSIBLE T.root_rows T.addition_rows decoder.old e) }
 {
     decoder.decode_sequence::<RC, EC, T, _>(
         tag,
@@ -93,6 +104,7 @@ pub fn decode_knot_row<
             requires { ReadsKnots F.Fn knot.now (K.tree K.CONSTRAINTS) K.IsValue inner.old.levels }
             ensures read { ReadsParts T.row_schema.roots.parts T.row_schema.additions.parts (λ v. T.row_schema.roots.rows (T.components v)) (λ v. T.row_schema.additions.rows (T.components v)) inner.old result inner.new }
             ensures value { IfOk result (λ v. IsOf T.row_schema (T.components v)) }
+            ensures refused { IfErr result (λ e. T.refusing.Refuses (FnReturnsAtMut F.Fn knot.entry.now) inner.old e) }
         { T::take_knot(alloc, inner, knot) },
     )
 }
@@ -109,6 +121,8 @@ impl<K, const RC: usize, const EC: usize, T: KnotRowed<K>> HoldsKnot<K> for Sequ
 
 impl<K: Spelled, const RC: usize, const EC: usize, T: Tabled<RC, EC> + TakesKnot<K>> TakesKnot<K>
     for Sequence<T, RC, EC> {
+    ghost refusing = { T.refusing };
+
     fn take_knot<F: Fn(&mut Decoder<'_>) -> Result<K, DecodeError>>(
         alloc: Global,
         decoder: &mut Decoder<'_>,
@@ -132,6 +146,10 @@ impl<K: Spelled, const RC: usize, const EC: usize, T: Tabled<RC, EC> + TakesKnot
 
 impl<K: Spelled, const RC: usize, const EC: usize, T: Tabled<RC, EC> + TakesKnot<K>> DecodeKnot<K>
     for Sequence<T, RC, EC> {
+    ghost use Rattle.oer_knots.specs.Answering.{of_row};
+
+    ghost answering = { of_row T.row_schema T.EXTENSIBLE T.refusing };
+
     fn decode_knot<F: Fn(&mut Decoder<'_>) -> Result<K, DecodeError>>(
         alloc: Global,
         decoder: &mut Decoder<'_>,

@@ -41,6 +41,10 @@ impl<
 impl<K: Spelled, const RC: usize, const EC: usize, T: InTagOrder<RC, EC> + TakesKnot<K>> DecodeKnot<
     K,
 > for Set<T, RC, EC> {
+    ghost use Rattle.oer_knots.specs.Answering.{of_row};
+
+    ghost answering = { of_row T.row_schema T.EXTENSIBLE T.refusing };
+
     fn decode_knot<F: Fn(&mut Decoder<'_>) -> Result<K, DecodeError>>(
         alloc: Global,
         decoder: &mut Decoder<'_>,

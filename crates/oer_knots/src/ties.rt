@@ -21,8 +21,13 @@ pub trait HoldsKnot<K> {
 
 /// A type that is read, where what reads a value of `K` is handed in.
 pub trait DecodeKnot<K: Spelled>: Spelled {
+    ghost use Rattle.oer_knots.specs.Answering.{Answering};
     ghost use Rattle.oer_knots.specs.Reading.{ReadsKnots};
     ghost use Rattle.oer_read.specs.Law.{Decodes};
+    ghost use Rattle.oer_read.specs.Lists.{FnReturnsAtMut};
+
+    /// What the type promises of its answers beside the law, as `Answered` of `Decode`, by what is said of the knots' answers.
+    ghost answering: { Answering K Self };
 
     /// Reads a value, under the handed-in tag and the type's own constraints; each value of `K` in it by `knot`, which is
     /// called within no more levels than are left.
@@ -35,13 +40,15 @@ pub trait DecodeKnot<K: Spelled>: Spelled {
         knot: &F,
     ) -> Result<Self, DecodeError>
         requires { ReadsKnots F.Fn knot.now (K.tree K.CONSTRAINTS) K.IsValue decoder.old.levels }
-        ensures { Decodes (Self.tree Self.CONSTRAINTS) Self.IsValue decoder.old result decoder.new };
+        ensures law { Decodes (Self.tree Self.CONSTRAINTS) Self.IsValue decoder.old result decoder.new }
+        ensures answered { Self.answering.Answered (FnReturnsAtMut F.Fn knot.now) decoder.old result decoder.new };
 }
 
 /// A type that opens a scope, within which each value of `K` in it is read.
 pub trait DecodeInside<K: Spelled>: DecodeKnot<K> {
     ghost use Rattle.oer_knots.specs.Reading.{ReadsInside};
     ghost use Rattle.oer_read.specs.Law.{Decodes};
+    ghost use Rattle.oer_read.specs.Lists.{FnReturnsAtMut};
 
     /// Reads a value as `decode_knot` does, and calls `knot` within fewer levels than are left.
     ///
@@ -53,5 +60,6 @@ pub trait DecodeInside<K: Spelled>: DecodeKnot<K> {
         knot: &F,
     ) -> Result<Self, DecodeError>
         requires { ReadsInside F.Fn knot.now (K.tree K.CONSTRAINTS) K.IsValue decoder.old.levels }
-        ensures { Decodes (Self.tree Self.CONSTRAINTS) Self.IsValue decoder.old result decoder.new };
+        ensures law { Decodes (Self.tree Self.CONSTRAINTS) Self.IsValue decoder.old result decoder.new }
+        ensures answered { Self.answering.Answered (FnReturnsAtMut F.Fn knot.now) decoder.old result decoder.new };
 }

@@ -82,6 +82,8 @@ impl<K: Decode> Takes for BranchComponents<K> {
 }
 
 impl<K: Spelled> TakesKnot<K> for BranchComponents<K> {
+    ghost refusing = { ⟦<BranchRow<K> as ReadsKnot<K>>⟧.refusing };
+
     fn take_knot<F: Fn(&mut Decoder<'_>) -> Result<K, DecodeError>>(
         alloc: Global,
         decoder: &mut Decoder<'_>,
@@ -198,9 +200,9 @@ impl Knot<BranchContent<Branch>> for Branch {
 }
 
 impl Decode for Branch {
-    ghost use Rattle.std.specs.Prelude.{⊤};
+    ghost use Rattle.rasn_oer.specs.Answering.{KnotAnswers};
 
-    ghost Answered = { λ c s r t. ⊤ };
+    ghost Answered = { λ c s r t. KnotAnswers ⟦<Branch as Knot<BranchContent<Branch>>>⟧.content ⟦<BranchContent<Branch> as DecodeKnot<Branch>>⟧.answering s r t };
 
     fn decode_with_tag_and_constraints(
         alloc: Global,

@@ -1,9 +1,10 @@
 //! A set with a list of itself.
-ghost use Rattle.std.specs.Prelude.{OnOk, IfErr, refl, ⊤, []};
+ghost use Rattle.std.specs.Prelude.{OnOk, IfErr, refl, []};
 ghost use Rattle.oer_write.specs.Written.{Encodes, Refused};
 ghost use Rattle.asn1_core.specs.declared.constraints.TheConstants.Constraints.{NONE};
 ghost use Rattle.rasn_oer.specs.Values.{both};
 ghost use Rattle.asn1_core.specs.declared.tag.TheConstants.Tag.{SET};
+ghost use Rattle.rasn_oer.specs.Answering.{KnotAnswers};
 ghost use Rattle.rasn_oer.specs.Knots.{knot_tree, IsKnot, knot_typed, knot, knot_layers, layer, knot_layered};
 
 use rasn_oer::prelude::*;
@@ -72,6 +73,8 @@ impl<K: Decode> Takes for BushComponents<K> {
 }
 
 impl<K: Spelled> TakesKnot<K> for BushComponents<K> {
+    ghost refusing = { ⟦<BushRow<K> as ReadsKnot<K>>⟧.refusing };
+
     fn take_knot<F: Fn(&mut Decoder<'_>) -> Result<K, DecodeError>>(
         alloc: Global,
         decoder: &mut Decoder<'_>,
@@ -193,7 +196,7 @@ impl Knot<BushContent<Bush>> for Bush {
 }
 
 impl Decode for Bush {
-    ghost Answered = { λ c s r t. ⊤ };
+    ghost Answered = { λ c s r t. KnotAnswers ⟦<Bush as Knot<BushContent<Bush>>>⟧.content ⟦<BushContent<Bush> as DecodeKnot<Bush>>⟧.answering s r t };
 
     fn decode_with_tag_and_constraints(
         alloc: Global,

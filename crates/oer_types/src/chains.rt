@@ -73,6 +73,8 @@ impl<K: Decode> Takes for ChainComponents<K> {
 }
 
 impl<K: Spelled> TakesKnot<K> for ChainComponents<K> {
+    ghost refusing = { ⟦<ChainRow<K> as ReadsKnot<K>>⟧.refusing };
+
     fn take_knot<F: Fn(&mut Decoder<'_>) -> Result<K, DecodeError>>(
         alloc: Global,
         decoder: &mut Decoder<'_>,
@@ -189,9 +191,9 @@ impl Knot<ChainContent<Chain>> for Chain {
 }
 
 impl Decode for Chain {
-    ghost use Rattle.std.specs.Prelude.{⊤};
+    ghost use Rattle.rasn_oer.specs.Answering.{KnotAnswers};
 
-    ghost Answered = { λ c s r t. ⊤ };
+    ghost Answered = { λ c s r t. KnotAnswers ⟦<Chain as Knot<ChainContent<Chain>>>⟧.content ⟦<ChainContent<Chain> as DecodeKnot<Chain>>⟧.answering s r t };
 
     fn decode_with_tag_and_constraints(
         alloc: Global,

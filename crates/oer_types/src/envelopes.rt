@@ -76,6 +76,8 @@ impl<K: Encode + Decode> Takes for EnvelopeComponents<K> {
 }
 
 impl<K: Encode> TakesKnot<K> for EnvelopeComponents<K> {
+    ghost refusing = { ⟦<EnvelopeRow<K> as ReadsKnot<K>>⟧.refusing };
+
     fn take_knot<F: Fn(&mut Decoder<'_>) -> Result<K, DecodeError>>(
         alloc: Global,
         decoder: &mut Decoder<'_>,
@@ -201,6 +203,8 @@ impl<K: Encode + Decode> TakesAlternative for BodyAlternatives<K> {
 }
 
 impl<K: Encode> TakesKnotAlternative<K> for BodyAlternatives<K> {
+    ghost refusing = { ⟦<BodyRow<K> as ReadsKnotAlternatives<K>>⟧.refusing };
+
     fn take_knot<D: Choice, F: Fn(&mut Decoder<'_>) -> Result<K, DecodeError>>(
         alloc: Global,
         decoder: &mut Decoder<'_>,
@@ -291,9 +295,9 @@ impl Knot<EnvelopeContent<Envelope>> for Envelope {
 }
 
 impl Decode for Envelope {
-    ghost use Rattle.std.specs.Prelude.{⊤};
+    ghost use Rattle.rasn_oer.specs.Answering.{KnotAnswers};
 
-    ghost Answered = { λ c s r t. ⊤ };
+    ghost Answered = { λ c s r t. KnotAnswers ⟦<Envelope as Knot<EnvelopeContent<Envelope>>>⟧.content ⟦<EnvelopeContent<Envelope> as DecodeKnot<Envelope>>⟧.answering s r t };
 
     fn decode_with_tag_and_constraints(
         alloc: Global,

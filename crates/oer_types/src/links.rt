@@ -1,10 +1,11 @@
 //! Two types that contain each other.
-ghost use Rattle.std.specs.Prelude.{OnOk, IfErr, refl, ⊤};
+ghost use Rattle.std.specs.Prelude.{OnOk, IfErr, refl};
 ghost use Rattle.oer_write.specs.Written.{Encodes, Refused};
 ghost use Rattle.asn1_core.specs.declared.constraints.TheConstants.Constraints.{NONE};
 ghost use Rattle.rasn_oer.specs.Values.{both};
 ghost use Rattle.rasn_oer.specs.Alternative.{First, Rest};
 ghost use Rattle.asn1_core.specs.declared.tag.TheConstants.Tag.{SEQUENCE};
+ghost use Rattle.rasn_oer.specs.Answering.{KnotAnswers};
 ghost use Rattle.rasn_oer.specs.Knots.{knot_tree, IsKnot, knot_typed, knot, knot_layers, layer, knot_layered};
 
 use rasn_oer::prelude::*;
@@ -73,6 +74,8 @@ impl<K: Encode + Decode> Takes for LinkComponents<K> {
 }
 
 impl<K: Encode> TakesKnot<K> for LinkComponents<K> {
+    ghost refusing = { ⟦<LinkRow<K> as ReadsKnot<K>>⟧.refusing };
+
     fn take_knot<F: Fn(&mut Decoder<'_>) -> Result<K, DecodeError>>(
         alloc: Global,
         decoder: &mut Decoder<'_>,
@@ -187,6 +190,8 @@ impl<K: Encode + Decode> TakesAlternative for LinkAlternatives<K> {
 }
 
 impl<K: Encode> TakesKnotAlternative<K> for LinkAlternatives<K> {
+    ghost refusing = { ⟦<LinkChoiceRow<K> as ReadsKnotAlternatives<K>>⟧.refusing };
+
     fn take_knot<D: Choice, F: Fn(&mut Decoder<'_>) -> Result<K, DecodeError>>(
         alloc: Global,
         decoder: &mut Decoder<'_>,
@@ -272,7 +277,7 @@ impl Knot<LinkContent<Link>> for Link {
 }
 
 impl Decode for Link {
-    ghost Answered = { λ c s r t. ⊤ };
+    ghost Answered = { λ c s r t. KnotAnswers ⟦<Link as Knot<LinkContent<Link>>>⟧.content ⟦<LinkContent<Link> as DecodeKnot<Link>>⟧.answering s r t };
 
     fn decode_with_tag_and_constraints(
         alloc: Global,

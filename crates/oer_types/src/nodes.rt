@@ -76,6 +76,8 @@ impl<K: Decode> Takes for NodeComponents<K> {
 }
 
 impl<K: Spelled> TakesKnot<K> for NodeComponents<K> {
+    ghost refusing = { ⟦<NodeRow<K> as ReadsKnot<K>>⟧.refusing };
+
     fn take_knot<F: Fn(&mut Decoder<'_>) -> Result<K, DecodeError>>(
         alloc: Global,
         decoder: &mut Decoder<'_>,
@@ -190,9 +192,9 @@ impl Knot<NodeContent<Node>> for Node {
 }
 
 impl Decode for Node {
-    ghost use Rattle.std.specs.Prelude.{⊤};
+    ghost use Rattle.rasn_oer.specs.Answering.{KnotAnswers};
 
-    ghost Answered = { λ c s r t. ⊤ };
+    ghost Answered = { λ c s r t. KnotAnswers ⟦<Node as Knot<NodeContent<Node>>>⟧.content ⟦<NodeContent<Node> as DecodeKnot<Node>>⟧.answering s r t };
 
     fn decode_with_tag_and_constraints(
         alloc: Global,

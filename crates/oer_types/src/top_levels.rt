@@ -1,11 +1,12 @@
 //! A sequence and the choice in it, which may hold such a sequence.
-ghost use Rattle.std.specs.Prelude.{OnOk, IfErr, None, Some, false, pos, refl, ⊤};
+ghost use Rattle.std.specs.Prelude.{OnOk, IfErr, None, Some, false, pos, refl};
 ghost use Rattle.oer_write.specs.Written.{Encodes, Refused};
 ghost use Rattle.asn1_core.specs.declared.constraints.TheConstants.Constraints.{NONE};
 ghost use Rattle.rasn_oer.specs.Bounded.{Range};
 ghost use Rattle.rasn_oer.specs.Values.{both};
 ghost use Rattle.rasn_oer.specs.Alternative.{First, Rest};
 ghost use Rattle.asn1_core.specs.declared.tag.TheConstants.Tag.{SEQUENCE};
+ghost use Rattle.rasn_oer.specs.Answering.{KnotAnswers};
 ghost use Rattle.rasn_oer.specs.Knots.{knot_tree, IsKnot, knot_typed, knot, knot_layers, layer, knot_layered};
 
 use rasn_oer::prelude::*;
@@ -98,6 +99,8 @@ impl<K: Encode + Decode> Takes for TopLevelComponents<K> {
 }
 
 impl<K: Encode> TakesKnot<K> for TopLevelComponents<K> {
+    ghost refusing = { ⟦<TopRow<K> as ReadsKnot<K>>⟧.refusing };
+
     fn take_knot<F: Fn(&mut Decoder<'_>) -> Result<K, DecodeError>>(
         alloc: Global,
         decoder: &mut Decoder<'_>,
@@ -213,6 +216,8 @@ impl<K: Encode + Decode> TakesAlternative for TestAlternatives<K> {
 }
 
 impl<K: Encode> TakesKnotAlternative<K> for TestAlternatives<K> {
+    ghost refusing = { ⟦<TestRow<K> as ReadsKnotAlternatives<K>>⟧.refusing };
+
     fn take_knot<D: Choice, F: Fn(&mut Decoder<'_>) -> Result<K, DecodeError>>(
         alloc: Global,
         decoder: &mut Decoder<'_>,
@@ -296,7 +301,7 @@ impl Knot<TopLevelContent<TopLevel>> for TopLevel {
 }
 
 impl Decode for TopLevel {
-    ghost Answered = { λ c s r t. ⊤ };
+    ghost Answered = { λ c s r t. KnotAnswers ⟦<TopLevel as Knot<TopLevelContent<TopLevel>>>⟧.content ⟦<TopLevelContent<TopLevel> as DecodeKnot<TopLevel>>⟧.answering s r t };
 
     fn decode_with_tag_and_constraints(
         alloc: Global,

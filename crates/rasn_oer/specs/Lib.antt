@@ -6,6 +6,7 @@ pub use Rattle.oer_choices.specs.declared.alternatives.Either.TheVariants as Alt
 pub use Rattle.asn1_core.specs.declared.constraints.Bounded.TheVariants as Bounded
 -- what a type that contains itself names
 pub use Rattle.oer_knots.specs.Knots as Knots
+pub use Rattle.oer_knots.specs.Answering as Answering
 pub use Rattle.oer_knots.specs.Ties as Ties
 pub use Rattle.oer_knots.specs.Choices as KnotChoices
 -- what a default of octets or bits names

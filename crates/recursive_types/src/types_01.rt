@@ -44,6 +44,8 @@ impl<K> KnotRowed<K> for NodeComponents<K> {
 }
 
 impl<K: Encode> TakesKnot<K> for NodeComponents<K> {
+    ghost refusing = { ⟦<NodeRow<K> as ReadsKnot<K>>⟧.refusing };
+
     fn take_knot<F: Fn(&mut Decoder<'_>) -> Result<K, DecodeError>>(
         alloc: Global,
         decoder: &mut Decoder<'_>,
@@ -202,9 +204,9 @@ impl Knot<NodeContent<Node>> for Node {
 }
 
 impl Decode for Node {
-    ghost use Rattle.std.specs.Prelude.{⊤};
+    ghost use Rattle.rasn_oer.specs.Answering.{KnotAnswers};
 
-    ghost Answered = { λ c s r t. ⊤ };
+    ghost Answered = { λ c s r t. KnotAnswers ⟦<Node as Knot<NodeContent<Node>>>⟧.content ⟦<NodeContent<Node> as DecodeKnot<Node>>⟧.answering s r t };
 
     fn decode_with_tag_and_constraints(
         alloc: Global,
@@ -285,6 +287,8 @@ impl<K> KnotAlternating<K> for BodyAlternatives<K> {
 }
 
 impl<K: Encode> TakesKnotAlternative<K> for BodyAlternatives<K> {
+    ghost refusing = { ⟦<BodyRow<K> as ReadsKnotAlternatives<K>>⟧.refusing };
+
     fn take_knot<D: Choice, F: Fn(&mut Decoder<'_>) -> Result<K, DecodeError>>(
         alloc: Global,
         decoder: &mut Decoder<'_>,
@@ -385,6 +389,8 @@ impl<K> KnotRowed<K> for EnvelopeComponents<K> {
 }
 
 impl<K: Encode> TakesKnot<K> for EnvelopeComponents<K> {
+    ghost refusing = { ⟦<EnvelopeRow<K> as ReadsKnot<K>>⟧.refusing };
+
     fn take_knot<F: Fn(&mut Decoder<'_>) -> Result<K, DecodeError>>(
         alloc: Global,
         decoder: &mut Decoder<'_>,
@@ -548,9 +554,9 @@ impl Knot<EnvelopeContent<Envelope>> for Envelope {
 }
 
 impl Decode for Envelope {
-    ghost use Rattle.std.specs.Prelude.{⊤};
+    ghost use Rattle.rasn_oer.specs.Answering.{KnotAnswers};
 
-    ghost Answered = { λ c s r t. ⊤ };
+    ghost Answered = { λ c s r t. KnotAnswers ⟦<Envelope as Knot<EnvelopeContent<Envelope>>>⟧.content ⟦<EnvelopeContent<Envelope> as DecodeKnot<Envelope>>⟧.answering s r t };
 
     fn decode_with_tag_and_constraints(
         alloc: Global,

@@ -51,6 +51,8 @@ impl<K> KnotRowed<K> for TreeComponents<K> {
 }
 
 impl<K: Encode> TakesKnot<K> for TreeComponents<K> {
+    ghost refusing = { ⟦<TreeRow<K> as ReadsKnot<K>>⟧.refusing };
+
     fn take_knot<F: Fn(&mut Decoder<'_>) -> Result<K, DecodeError>>(
         alloc: Global,
         decoder: &mut Decoder<'_>,
@@ -209,9 +211,9 @@ impl Knot<TreeContent<Tree>> for Tree {
 }
 
 impl Decode for Tree {
-    ghost use Rattle.std.specs.Prelude.{⊤};
+    ghost use Rattle.rasn_oer.specs.Answering.{KnotAnswers};
 
-    ghost Answered = { λ c s r t. ⊤ };
+    ghost Answered = { λ c s r t. KnotAnswers ⟦<Tree as Knot<TreeContent<Tree>>>⟧.content ⟦<TreeContent<Tree> as DecodeKnot<Tree>>⟧.answering s r t };
 
     fn decode_with_tag_and_constraints(
         alloc: Global,

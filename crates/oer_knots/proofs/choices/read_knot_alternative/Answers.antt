@@ -5,8 +5,8 @@ use Rattle.oer_knots.proofs.choices.read_knot_alternative.Goals as goal
 pub read_knots-requires-clause-distinct : goal.read_knots-requires-clause-distinct
 read_knots-requires-clause-distinct g c = distinct_tags _ c.requires.apart
 
-pub returns-in-Ok : goal.returns-in-Ok
-returns-in-Ok g c = row_read g.R.Alternatives.choices g.T.Alternating.alternative _ c.requires.apart _ _ _ _ c.from_alternative.ensures c.in-Ok.ensures
+pub returns-in-Ok-clause-law : goal.returns-in-Ok-clause-law
+returns-in-Ok-clause-law g c = row_read g.R.Alternatives.choices g.T.Alternating.alternative _ c.requires.apart _ _ _ _ c.from_alternative.ensures c.in-Ok.ensures.law
 
-pub returns-in-Err : goal.returns-in-Err
-returns-in-Err g c = row_stops g.R.Alternatives.choices g.T.Alternating.alternative _ c.requires.apart _ _ _ c.in-Err.ensures
+pub returns-in-Err-clause-law : goal.returns-in-Err-clause-law
+returns-in-Err-clause-law g c = row_stops g.R.Alternatives.choices g.T.Alternating.alternative _ c.requires.apart _ _ _ c.in-Err.ensures.law

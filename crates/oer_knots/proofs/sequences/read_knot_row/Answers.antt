@@ -9,4 +9,5 @@ returns g c =
     record {
       read = made_read g.R.Components.schema g.T.Rowed.components _ _ read.0 _ same read.2;
       value = made_value g.R.Components.schema g.T.Rowed.components read.0 _ same (read.3, read.4);
+      refused = tt;
     }
