@@ -51,6 +51,7 @@ fn pick<F: FnOnce(&mut Encoder<'_>) -> Result<Tag, EncodeError>>(
 }
 
 /// Lends an encoder with no scope open, over an output.
+#[inline(always)]
 fn pick_into<F: FnOnce(&mut Encoder<'_>) -> Result<Tag, EncodeError>>(
     alloc: Global,
     is_inside: bool,
