@@ -3,9 +3,10 @@
 
 usage: stack.py [CRATES [NAME..]]
 
-CRATES is the folder with crates/oer_vectors and crates/oer_speed, whose binaries lie in out/ once `rt run` or `rt ci` built them; NAME
-is a row of TYPES, all if unset. A figure is the least KiB of `ulimit -s`, to STEP, with which the program ends with status 0 and
-answers (a program of `rt try` takes several times as much). "Decoded" is the octets less their last, which are refused at the innermost level; "both ways" the octets decoded and encoded.
+CRATES is the folder with oer_vectors and oer_speed, whose binaries lie in out/ once `rt run` or `rt ci` built them; NAME is a row of
+TYPES, all if unset. A figure is the least KiB of `ulimit -s`, to STEP, with which the program ends with status 0 and answers.
+"Decoded" is the octets less their last, which are refused at the innermost level; "both ways" the octets decoded and encoded. A
+program that `rt try` made takes several times as much.
 """
 import pathlib
 import re
