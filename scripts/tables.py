@@ -1,10 +1,11 @@
 #!/usr/bin/env python3
 """Makes of what `oergen --list` prints the table for walks through octets: words, names, types, and names of values.
 
-usage: oergen --list MODULE.asn.. | tables.py [--lines] > TABLE
+usage: oergen --list MODULE.asn.. | tables.py [--lines] [MODULE.asn..] > TABLE
 
-It is JSON, as the Python package takes it; with --lines a line for the words and one for each name, as oershow does. docs/WALKS.md
-says what the words are. Names of components are as oergen prints them. The types that modules name come first.
+It is JSON, as the Python package takes it; with --lines a line for the words and one for each name, as oershow does. docs/WALKS.md says
+what the words are. Names of components are as oergen prints them. The types that modules name come first. With the modules the table has
+the names of bits and of numbers too, where a type of its own has them.
 """
 import json
 import re
@@ -16,6 +17,9 @@ TEXTS = {"OCTET": 0, "UTF8String": 1, "NumericString": 2, "PrintableString": 3, 
          "GraphicString": 7, "TeletexString": 8, "BMPString": 9, "OBJECT": 20, "UTCTime": 21, "GeneralizedTime": 22, "DATE": 23, "open": 24}
 HEAD = re.compile(r"(\S+) of [^:]+: (.*)")
 PART = re.compile(r"(\S+) (?:\[(?:(\w+) )?(\d+)\]|no tag)([^:]*): (.*)")
+# the bits or numbers that a type of a module names, and one of them
+NAMED = re.compile(r"([A-Z][\w-]*)\s*::=\s*(?:BIT\s+STRING|INTEGER)\s*\{([^}]*)\}")
+NUMBERED = re.compile(r"([a-z][\w-]*)\s*\(\s*(-?\d+)\s*\)")
 SCOPES = ("SEQUENCE", "SET", "CHOICE", "ENUMERATED")
 
 
@@ -39,6 +43,13 @@ class Tables:
         self.known = {name: self.new(name) for name, _, _ in rows}
         for name, layout, lines in rows:
             self.describe(self.known[name], layout, lines)
+
+    def put_names(self, module):
+        """Takes the names of bits and of numbers from a module's text, without its comments."""
+        for name, body in NAMED.findall(re.sub(r"--.*?(--|$)", "", module, flags=re.M)):
+            for it in self.types:
+                if it.name == name:
+                    it.values = [(int(number), word) for word, number in NUMBERED.findall(body)]
 
     def new(self, name):
         self.types.append(Type(name))
@@ -158,5 +169,10 @@ def lines(table):
 
 
 if __name__ == "__main__":
-    made = Tables(sys.stdin.read()).table()
-    print("\n".join(lines(made)) if sys.argv[1:] == ["--lines"] else json.dumps(made))
+    words = sys.argv[1:]
+    tables = Tables(sys.stdin.read())
+    for module in (it for it in words if it != "--lines"):
+        with open(module, encoding="utf-8") as file:
+            tables.put_names(file.read())
+    made = tables.table()
+    print("\n".join(lines(made)) if "--lines" in words else json.dumps(made))
