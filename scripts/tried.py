@@ -32,12 +32,19 @@ def files_of(top, crate):
                 yield os.path.join(folder, name)
 
 
+def body(octets):
+    """A file without the comment at its head, which no check reads."""
+    lines = octets.splitlines(keepends=True)
+    first = next((n for n, it in enumerate(lines) if it.strip() and not it.startswith((b"//!", b"--"))), len(lines))
+    return b"".join(lines[first:])
+
+
 def sum_of(top, files, root):
     """The sum of files' paths below a folder and their octets."""
     found = hashlib.sha256()
     for file in files:
         with open(file, "rb") as it:
-            octets = it.read()
+            octets = body(it.read())
         found.update(f"{os.path.relpath(file, root)} {len(octets)}\n".encode() + octets)
     return found.hexdigest()
 
