@@ -12,6 +12,8 @@ mod lent;
 #[cfg(test)]
 mod messages;
 #[cfg(test)]
+mod octets;
+#[cfg(test)]
 mod own_closures;
 #[cfg(test)]
 mod own_types;
