@@ -93,10 +93,11 @@ fn peeled<'m>(start: &'m Type) -> (usize, &'m Type) {
 
 /// Whether a type needs a Rust type of its own.
 fn has_parts(of: &Type) -> bool {
-    matches!(
-        of.body,
-        Body::Sequence(_) | Body::Set(_) | Body::Choice(_) | Body::Enumerated(_, _)
-    )
+    match &of.body {
+        Body::Sequence(_) | Body::Set(_) | Body::Choice(_) | Body::Enumerated(_, _) => true,
+        Body::Simple(_) | Body::Integer(_) | Body::BitString(_) | Body::Reference(_) => false,
+        Body::SequenceOf(_) | Body::SetOf(_) => false,
+    }
 }
 
 /// A part, by the type where it is written. A type with parts inside it gets the name of the type around it and its own.

@@ -271,6 +271,18 @@ fn choice_depth<'m>(
     Ok(row.depth())
 }
 
+/// The depth of a name for a type, for a list or for a type without parts.
+fn named_depth<'m>(
+    scope: Scope<'m, '_>,
+    depths: &[Depth],
+    parts: &[Part<'m>],
+) -> Result<Depth, Refusal> {
+    match parts.first() {
+        Some(part) => Ok(Depth::of(part_depth(scope, depths, part)?)),
+        None => Ok(Depth::of(0)),
+    }
+}
+
 /// The depth of a type, by those of the types that it uses.
 fn depth_of<'m>(
     scope: Scope<'m, '_>,
@@ -278,12 +290,17 @@ fn depth_of<'m>(
     definition: &Definition<'m>,
 ) -> Result<Depth, Refusal> {
     let parts = definition.parts.as_slice();
-    match (&definition.of.body, parts.first()) {
-        (Body::Sequence(_), _) => sequence_depth(scope, depths, parts, false),
-        (Body::Set(_), _) => sequence_depth(scope, depths, parts, true),
-        (Body::Choice(_), _) => choice_depth(scope, depths, parts),
-        (Body::Enumerated(_, _), _) | (_, None) => Ok(Depth::of(2)),
-        (_, Some(part)) => Ok(Depth::of(part_depth(scope, depths, part)?)),
+    match &definition.of.body {
+        Body::Sequence(_) => sequence_depth(scope, depths, parts, false),
+        Body::Set(_) => sequence_depth(scope, depths, parts, true),
+        Body::Choice(_) => choice_depth(scope, depths, parts),
+        Body::Enumerated(_, _) => Ok(Depth::of(2)),
+        Body::Simple(_) | Body::Integer(_) | Body::BitString(_) => named_depth(
+            scope, depths, parts,
+        ),
+        Body::SequenceOf(_) | Body::SetOf(_) | Body::Reference(_) => {
+            named_depth(scope, depths, parts)
+        }
     }
 }
 
