@@ -8,9 +8,10 @@ const FENCE: &str = "-*/=#~_ ";
 /// What a line of a comment says, without the signs of the comment: nothing of a line that is drawn.
 fn words_of(line: &str) -> &str {
     let line = line.trim();
+    let opened = line.strip_prefix("/**").or(line.strip_prefix("/*"));
     let behind = line
         .strip_prefix("--")
-        .or(line.strip_prefix("/*"))
+        .or(opened)
         .or(line.strip_prefix('*'));
     let words = behind.unwrap_or(line);
     let front = words.strip_suffix("--").or(words.strip_suffix("*/"));
