@@ -118,7 +118,8 @@ fn leaf_depth<'m>(scope: Scope<'m, '_>, link: &'m Type, base: &'m Type) -> Resul
         }
         Body::BitString(_) => (BITS, sizes_of(scope, link)?.0),
         Body::Simple(simple) => (simple_depth(*simple), sizes_of(scope, link)?.0),
-        _ => (0, false),
+        Body::Sequence(_) | Body::Set(_) | Body::Choice(_) | Body::Enumerated(_, _) => (0, false),
+        Body::SequenceOf(_) | Body::SetOf(_) | Body::Reference(_) => (0, false),
     };
     Ok(if has_limits {
         own.max(1).saturating_add(1)
@@ -146,7 +147,7 @@ fn part_depth<'m>(
         Tie::Member(at) => Some(at),
         Tie::Plain => part.target,
     };
-    if part.lists != 0 {
+    if part.lists != 0 || part.is_held {
         return Ok(APART);
     }
     let base = scope.base_of(part.inner)?;
@@ -154,7 +155,10 @@ fn part_depth<'m>(
         Body::Integer(_) | Body::BitString(_) | Body::Simple(_) => {
             leaf_depth(scope, part.inner, base)
         }
-        _ => Ok(own_at(depths, at)),
+        Body::Sequence(_) | Body::Set(_) | Body::Choice(_) | Body::Enumerated(_, _) => Ok(own_at(
+            depths, at,
+        )),
+        Body::SequenceOf(_) | Body::SetOf(_) | Body::Reference(_) => Ok(own_at(depths, at)),
     }
 }
 
@@ -236,7 +240,7 @@ fn with_additions<'m>(
                 counted = number;
                 row = with_group(scope, depths, parts, number, row)?;
             }
-            _ => {}
+            Some(Position::Root | Position::Group(_)) | None => {}
         }
     }
     Ok(row)
