@@ -1,5 +1,6 @@
 //! Constants: numbers and booleans that modules assign to names, and the numbers and bits that types have names for.
 
+use crate::lines::laid_out;
 use crate::notes::push_noted;
 use crate::shapes::constant_type;
 use crate::text::Text;
@@ -212,5 +213,5 @@ pub fn constants_of<'m>(
             push_named(scope, &mut out, definition.rust_name.as_str(), part)?;
         }
     }
-    out.text.end()
+    laid_out(scope.alloc, &out.text)
 }
