@@ -1,5 +1,5 @@
 -- How many octets an INTEGER has by its bounds, and whether they are signed (X.696, 10.2 to 10.4).
-use Rattle.std.specs.Prelude.{ℕ, ◌-◌, ◌*◌, ◌^◌, ℤ, pos, negsuc, int_le, Bool, true, false, not, cond, ◌&&◌, Option, Some, None}
+use Rattle.std.specs.Prelude.{ℕ, ◌-◌, ◌*◌, ◌^◌, ℤ, pos, negsuc, int_le, int_lt, Bool, true, false, cond, ◌&&◌, Option, Some, None}
 
 -- the first of 1, 2, 4 and 8 octets that hold the numbers
 abbrev pub first_width : (ℕ → Bool) → Option ℕ
@@ -17,5 +17,5 @@ signed_octets low high = first_width (λ n. int_le (negsuc (2 ^ (8 * n - 1) - 1)
 abbrev pub width_of : Option ℤ → Option ℤ → Bool → Option ℕ × Bool
 width_of low high true = (None, true)
 width_of None high false = (None, true)
-width_of (Some l) None false = (None, not (int_le (pos 0) l))
+width_of (Some l) None false = (None, int_lt l (pos 0))
 width_of (Some l) (Some h) false = cond (int_le (pos 0) l) (unsigned_octets h, false) (signed_octets l h, true)
