@@ -117,7 +117,7 @@ NAMES = (
 )
 
 
-# comments, constants and parts of large types, and lines of what is printed of each
+# comments, constants, what newer versions have, and parts of large types; and lines of what is printed of each
 NOTED = """-- What lamps do.
 --
 -- ====
@@ -138,6 +138,8 @@ Row ::= SEQUENCE {
    -- its state
    state State, bits BIT STRING { a(3) } (SIZE(4)) }"""
 SIZED = " ".join(sequences(1) + ["T ::= SEQUENCE { %s } C ::= CHOICE { a T, b NULL, c T }" % ", ".join(f"s{at} S0" for at in range(20))])
+OPENED = """C ::= CHOICE { a NULL, ..., b BOOLEAN } D ::= CHOICE { a NULL } E ::= ENUMERATED { one, ... } F ::= ENUMERATED { one }
+S ::= SEQUENCE { e E DEFAULT one, f F DEFAULT one } R ::= CHOICE { a SEQUENCE OF R, ... }"""
 LINES = (
     (
         (),
@@ -160,6 +162,21 @@ LINES = (
         ),
     ),
     ((), SIZED, ("    A(Held<T>),", "    B(()),", "    C(Held<T>),", "    pub s0: S0,")),
+    (
+        ("--keep-unknown",),
+        OPENED,
+        (
+            "pub type C = KeptChoice<CAlternatives>;",
+            "pub type D = OneOf<DAlternatives>;",
+            "pub type E = KeptEnumeration<EValues>;",
+            "pub type F = Enumeration<FValues>;",
+            "        Ok(KeptEnumeration::Known(EValues::One))",
+            "        Ok(Enumeration(FValues::One))",
+            "pub type RContent<K> = OneOf<RAlternatives<K>>;",
+            "made: rasn_oer oer_write asn1_core oer_kept",
+        ),
+    ),
+    ((), OPENED, ("pub type C = OneOf<CAlternatives>;", "pub type E = Enumeration<EValues>;", "made: rasn_oer oer_write asn1_core")),
 )
 
 

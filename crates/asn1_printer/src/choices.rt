@@ -2,6 +2,7 @@
 
 use crate::cells::{Cell, alternative_name, alternative_of};
 use crate::chains::{Chain, push_row};
+use crate::kept::KEPT_CHOICE;
 use crate::knot_rows::{push_knot_alternating, push_knot_enum, put_tag_names};
 use crate::knots::{knot_name, put_parameter};
 use crate::templates::{CHOICE, CHOICE_IMPLS, TAGS};
@@ -63,6 +64,14 @@ pub fn push_variants(out: &mut Text, cells: &[Cell]) {
 fn push_enum(alloc: Global, out: &mut Text, doc: &str, of: Chain<'_>) {
     let mut words = Words::new(alloc);
     words.put("DOC", doc);
+    words.put(
+        "HOLDER",
+        if of.keeps_unknown {
+            KEPT_CHOICE
+        } else {
+            "OneOf"
+        },
+    );
     words.put("NAME", of.owner);
     push_variants(words.begin("VARIANTS"), of.cells);
     out.fill(CHOICE, &words);
@@ -215,6 +224,7 @@ pub fn push_choice<'m>(
         is_extensible: is_extensible(definition.of),
         is_choice: true,
         knot: knot_name(all, definition),
+        keeps_unknown: definition.keeps_unknown,
         in_text: &[],
         places: &[],
     };

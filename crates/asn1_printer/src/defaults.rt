@@ -413,14 +413,36 @@ fn push_held<'m>(
     Ok(push_words(scope.alloc, out, name, is_limited, &words))
 }
 
-/// The Rust name of the definition of a type; none where it has none.
-fn definition_of<'d>(all: &'d [Definition<'_>], base: &Type) -> &'d str {
+/// The Rust name of the definition of a type, and whether that keeps unknown values; no name where it has none.
+fn definition_of<'d>(all: &'d [Definition<'_>], base: &Type) -> (&'d str, bool) {
     for definition in all.iter() {
         if definition.of.first.index == base.first.index {
-            return definition.rust_name.as_str();
+            return (definition.rust_name.as_str(), definition.keeps_unknown);
         }
     }
-    ""
+    ("", false)
+}
+
+/// Appends the definitions that an enumerated value takes, and the value as definitions name it.
+fn put_enumerated(words: &mut Words, owner: &str, variant: &str, is_kept: bool) {
+    const KEPT: &str =
+        "\n    ghost use Rattle.oer_kept.specs.declared.enumerations.KeptEnumeration.TheVariants.{Known};";
+    let uses = words.begin("USES");
+    uses.push_all(&["ghost use Rattle.@HOME:", owner, "Values@.", owner]);
+    uses.push_all(&[
+        "Values.TheVariants.{",
+        variant,
+        "};",
+        if is_kept { KEPT } else { "" },
+    ]);
+    let around = if is_kept {
+        ("Known ", "")
+    } else {
+        ("record { 0 = ", " }")
+    };
+    words
+        .begin("GHOST")
+        .push_all(&[around.0, variant, around.1]);
 }
 
 /// The words of an enumerated value, by the names of the value, of its enum's owner and of its variant.
@@ -428,22 +450,25 @@ fn enumerated_words(
     alloc: Global,
     named: (&str, &str),
     text: &str,
-    owner: &str,
+    owner: (&str, bool),
     variant: &str,
 ) -> Words {
     let (name, rust) = named;
+    let (owner, is_kept) = owner;
+    let holder = if is_kept {
+        "KeptEnumeration::Known("
+    } else {
+        "Enumeration("
+    };
     let mut words = words_of(alloc, name, rust, false);
     words.put("TEXT", text);
-    let uses = words.begin("USES");
-    uses.push_all(&["ghost use Rattle.@HOME:", owner, "Values@.", owner]);
-    uses.push_all(&["Values.TheVariants.{", variant, "};"]);
-    words
-        .begin("GHOST")
-        .push_all(&["record { 0 = ", variant, " }"]);
+    put_enumerated(&mut words, owner, variant, is_kept);
     words
         .begin("CODE")
-        .push_all(&["Ok(Enumeration(", owner, "Values::", variant, "))"]);
-    words.begin("TEST").push_all(&["*other == Enumeration(", owner, "Values::", variant, ")"]);
+        .push_all(&["Ok(", holder, owner, "Values::", variant, "))"]);
+    words
+        .begin("TEST")
+        .push_all(&["*other == ", holder, owner, "Values::", variant, ")"]);
     words.put("ADMITTED", "tt");
     words
 }

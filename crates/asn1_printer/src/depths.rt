@@ -27,6 +27,9 @@ const INTEGER: usize = 5;
 /// The depth of a bit string.
 const BITS: usize = 4;
 
+/// The depth of octets of an alternative that isn't known, less that of the enum that a CHOICE has.
+const KEPT: usize = 7;
+
 /// What stands around a component where a row is written: the reference to all of them, and its own.
 const VIEW: usize = 2;
 
@@ -263,8 +266,12 @@ fn choice_depth<'m>(
     scope: Scope<'m, '_>,
     depths: &[Depth],
     parts: &[Part<'m>],
+    keeps_unknown: bool,
 ) -> Result<Depth, Refusal> {
     let mut row = Row::empty();
+    if keeps_unknown {
+        row.own = KEPT;
+    }
     for part in parts.iter() {
         row = row.with(field_depth(scope, depths, part)?);
     }
@@ -281,7 +288,7 @@ fn depth_of<'m>(
     match (&definition.of.body, parts.first()) {
         (Body::Sequence(_), _) => sequence_depth(scope, depths, parts, false),
         (Body::Set(_), _) => sequence_depth(scope, depths, parts, true),
-        (Body::Choice(_), _) => choice_depth(scope, depths, parts),
+        (Body::Choice(_), _) => choice_depth(scope, depths, parts, definition.keeps_unknown),
         (Body::Enumerated(_, _), _) | (_, None) => Ok(Depth::of(2)),
         (_, Some(part)) => Ok(Depth::of(part_depth(scope, depths, part)?)),
     }

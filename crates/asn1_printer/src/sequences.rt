@@ -235,6 +235,7 @@ fn push_group_type<'c>(
         is_extensible: false,
         is_choice: false,
         knot: None,
+        keeps_unknown: false,
         in_text: &[],
         places: &[],
     };
@@ -368,6 +369,7 @@ pub fn push_sequence<'m>(
         is_extensible: is_extensible(definition.of),
         is_choice: false,
         knot: knot_name(all, definition),
+        keeps_unknown: false,
         in_text: in_text.as_slice(),
         places: text_places.as_slice(),
     };

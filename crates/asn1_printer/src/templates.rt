@@ -149,7 +149,7 @@ pub const ALIAS: &str = r#"@DOC@pub type @NAME@ = @TYPE@;
 "#;
 
 /// A CHOICE, and the enum of its alternatives.
-pub const CHOICE: &str = r#"@DOC@pub type @NAME@ = OneOf<@NAME@Alternatives>;
+pub const CHOICE: &str = r#"@DOC@pub type @NAME@ = @HOLDER@<@NAME@Alternatives>;
 
 /// The alternatives of `@NAME@`.
 #[derive(Debug, PartialEq, Eq, Drop)]
@@ -217,7 +217,7 @@ pub const TAGS: &str = r#"const @TABLE@: &'static [Tag] = @TAGS@;
 "#;
 
 /// An ENUMERATED, and the enum of its values.
-pub const ENUMERATED: &str = r#"@DOC@pub type @NAME@ = Enumeration<@NAME@Values>;
+pub const ENUMERATED: &str = r#"@DOC@pub type @NAME@ = @HOLDER@<@NAME@Values>;
 
 /// The values of `@NAME@`.
 #[derive(Debug, Clone, Copy, PartialEq, Eq)]

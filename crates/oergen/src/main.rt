@@ -18,7 +18,7 @@ use writing::writes_files;
 
 /// How the program is called.
 const USAGE: &str = "oergen --list MODULE.asn..
-       oergen --out FOLDER --name NAME [--leave-out] MODULE.asn..";
+       oergen --out FOLDER --name NAME [--leave-out] [--keep-unknown] MODULE.asn..";
 
 /// What the program does, and what it answers.
 const ABOUT: &str =
@@ -59,6 +59,7 @@ fn command<'a>(alloc: Global) -> Result<Command<'a>, AllocError> {
     let out = "writes crates of the types below this folder, and prints their lines for crates.txt";
     let name = "what the crate is called, or with _1, _2 and so on behind it the crates";
     let leave_out = "leaves out what can't be read or printed, with a line that says why";
+    let keep_unknown = "keeps alternatives and enumerated values of newer versions";
     Command::new(alloc, "oergen")
         .about(ABOUT)
         .after_help(STATUS)
@@ -67,6 +68,7 @@ fn command<'a>(alloc: Global) -> Result<Command<'a>, AllocError> {
         .arg(option(alloc, "out", "FOLDER", out))?
         .arg(option(alloc, "name", "NAME", name))?
         .arg(flag(alloc, "leave-out", leave_out))?
+        .arg(flag(alloc, "keep-unknown", keep_unknown))?
         .arg(files(alloc))
 }
 
@@ -155,7 +157,14 @@ fn output_of(alloc: Global, texts: &[String], wish: Wish<'_>) -> Result<Output, 
 }
 
 /// Names that a crate can't have: libraries that each printed crate may use.
-const LIBRARIES: [&str; 5] = ["std", "core", "rasn_oer", "oer_write", "asn1_core"];
+const LIBRARIES: [&str; 6] = [
+    "std",
+    "core",
+    "rasn_oer",
+    "oer_write",
+    "asn1_core",
+    "oer_kept",
+];
 
 /// Whether it can be the name of a crate.
 fn is_name(name: &str) -> bool {
@@ -214,11 +223,11 @@ fn run<R: Files + Print + Eprint + AllocGlobal + Clone + Drop>(
     match (matches.get_str("FOLDER"), matches.get_str("NAME")) {
         (None, None) if lists => list_files(rt, files),
         (Some(folder), Some(name)) if is_name(name) && !lists => {
-            let leaves_out = matches.get_flag("leave-out");
             let wish = Wish {
                 name,
                 files,
-                leaves_out,
+                leaves_out: matches.get_flag("leave-out"),
+                keeps_unknown: matches.get_flag("keep-unknown"),
             };
             write_crates(rt, folder, wish)
         }
