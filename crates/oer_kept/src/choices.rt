@@ -2,11 +2,14 @@
 ghost use Rattle.std.specs.Prelude.{◌≡◌, true, false};
 ghost use Rattle.oer_kept.specs.Kept.{IsOther, known, known_tree, other_tree};
 
-use asn1_core::{AsnType, Constraints, EncodeError, EncodeErrorKind, Tag};
-use oer_choices::{Alternating, OneOf};
+use asn1_core::{AsnType, Constraints, DecodeError, EncodeError, EncodeErrorKind, Tag};
+use oer_choices::{Alternating, OneOf, TakesAlternative};
+use oer_leaf_read::read_tag;
+use oer_read::{Decode, Decoder};
 use oer_rows::Octets;
 use oer_spec::{Spelled, is_among};
 use oer_write::{Encode, Encoder};
+use std::alloc::Global;
 
 /// The CHOICE (X.680, clause 29) of the alternatives of `T`, and of those that newer versions of it have (X.696, 20.3).
 #[derive(Debug, PartialEq, Eq, Drop)]
@@ -90,6 +93,32 @@ impl<T: Alternating> Encode for KeptChoice<T> {
         match self {
             KeptChoice::Known(value) => value.put::<OneOf<T>>(encoder),
             KeptChoice::Other(tag, octets) => put_other::<T>(encoder, *tag, octets),
+        }
+    }
+}
+
+impl<T: TakesAlternative> Decode for KeptChoice<T> {
+    ghost use Rattle.std.specs.Prelude.{⊤};
+
+    ghost Answered = { λ c s r t. ⊤ };
+
+    fn decode_with_tag_and_constraints(
+        alloc: Global,
+        decoder: &mut Decoder<'_>,
+        _tag: Tag,
+        constraints: Constraints,
+    ) -> Result<KeptChoice<T>, DecodeError> {
+        match read_tag(decoder.codec(), decoder.remaining()) {
+            Ok((tag, rest)) if decoder.levels() != 0 && !is_known::<T>(tag) => {
+                let mut inner = Decoder::apart(rest, decoder.codec(), decoder.levels() - 1);
+                let octets = Octets::decode(alloc, &mut inner)?;
+                decoder.set_remaining(inner.remaining());
+                Ok(KeptChoice::Other(tag, octets))
+            }
+            _ => match decoder.decode_choice::<OneOf<T>>(alloc, constraints) {
+                Ok(OneOf(value)) => Ok(KeptChoice::Known(value)),
+                Err(e) => Err(e),
+            },
         }
     }
 }
