@@ -1,6 +1,7 @@
 //! Types by a word, under constraints: those without a word of the program, and behind them those with one.
 use crate::known::{OnType, with_type};
-use asn1_core::{AsnType, Bounded, Constraints, SetOf};
+use crate::tables::HasTables;
+use asn1_core::{AsnType, Bounded, Choice, Constraints, SetOf};
 use asn1_ints::Integer;
 use asn1_strings::{
     Any, BitString, BmpString, GeneralString, GraphicString, Ia5String, NumericString, OctetString,
@@ -15,13 +16,29 @@ use rasn_oer::Decode;
 use std::fmt::Debug;
 
 /// What is done with a type under constraints.
-pub trait UnderConstraints {
+pub trait UnderConstraints: Sized {
     type Output;
 
     fn under<T: Decode + Encode + Debug + PartialEq>(
         self,
         constraints: Constraints,
     ) -> Self::Output;
+
+    /// The same with a sequence or set, whose tables can be had.
+    fn under_scope<T: Decode + Encode + Debug + PartialEq + HasTables>(
+        self,
+        constraints: Constraints,
+    ) -> Self::Output {
+        self.under::<T>(constraints)
+    }
+
+    /// The same with a choice, whose tags can be had.
+    fn under_choice<T: Decode + Encode + Debug + PartialEq + Choice>(
+        self,
+        constraints: Constraints,
+    ) -> Self::Output {
+        self.under::<T>(constraints)
+    }
 }
 
 /// The same under the type's own constraints.
@@ -35,6 +52,14 @@ impl<W: UnderConstraints> OnType for Own<W> {
 
     fn on<T: Decode + Encode + Debug + PartialEq>(self) -> W::Output {
         self.work.under::<T>(T::CONSTRAINTS)
+    }
+
+    fn on_scope<T: Decode + Encode + Debug + PartialEq + HasTables>(self) -> W::Output {
+        self.work.under_scope::<T>(T::CONSTRAINTS)
+    }
+
+    fn on_choice<T: Decode + Encode + Debug + PartialEq + Choice>(self) -> W::Output {
+        self.work.under_choice::<T>(T::CONSTRAINTS)
     }
 }
 
@@ -114,26 +139,26 @@ fn with_scope<W: UnderConstraints + Drop>(word: &str, work: W) -> Option<W::Outp
     match word {
         "null" => Some(work.under::<()>(Constraints::NONE)),
         "Boxed" => Some(work.under::<Box<bool>>(Constraints::NONE)),
-        "Pair" => Some(work.under::<Pair>(Constraints::NONE)),
-        "Nested" => Some(work.under::<Nested>(Constraints::NONE)),
+        "Pair" => Some(work.under_scope::<Pair>(Constraints::NONE)),
+        "Nested" => Some(work.under_scope::<Nested>(Constraints::NONE)),
         _ => with_options(word, work),
     }
 }
 
 fn with_options<W: UnderConstraints + Drop>(word: &str, work: W) -> Option<W::Output> {
     match word {
-        "AllOptional" => Some(work.under::<AllOptional>(Constraints::NONE)),
-        "AllDefault" => Some(work.under::<AllDefault>(Constraints::NONE)),
-        "ConstrainedOptions" => Some(work.under::<ConstrainedOptions>(Constraints::NONE)),
-        "AddDef" => Some(work.under::<AddDef>(Constraints::NONE)),
+        "AllOptional" => Some(work.under_scope::<AllOptional>(Constraints::NONE)),
+        "AllDefault" => Some(work.under_scope::<AllDefault>(Constraints::NONE)),
+        "ConstrainedOptions" => Some(work.under_scope::<ConstrainedOptions>(Constraints::NONE)),
+        "AddDef" => Some(work.under_scope::<AddDef>(Constraints::NONE)),
         _ => with_other_scope(word, work),
     }
 }
 
 fn with_other_scope<W: UnderConstraints + Drop>(word: &str, work: W) -> Option<W::Output> {
     match word {
-        "BoolChoice" => Some(work.under::<BoolChoice>(Constraints::NONE)),
-        "MixedSet" => Some(work.under::<MixedSet>(Constraints::NONE)),
+        "BoolChoice" => Some(work.under_choice::<BoolChoice>(Constraints::NONE)),
+        "MixedSet" => Some(work.under_scope::<MixedSet>(Constraints::NONE)),
         "SetOfOctets" => Some(work.under::<SetOf<OctetString>>(Constraints::NONE)),
         _ => with_recursive(word, work),
     }

@@ -3,6 +3,8 @@
 mod leaves;
 mod scopes;
 
+use crate::tables::HasTables;
+use asn1_core::Choice;
 use leaves::with_leaf;
 use oer_write::Encode;
 use rasn_oer::Decode;
@@ -10,10 +12,20 @@ use scopes::{with_list_or_choice, with_sequence};
 use std::fmt::Debug;
 
 /// What is done with the type that a word names.
-pub trait OnType {
+pub trait OnType: Sized {
     type Output;
 
     fn on<T: Decode + Encode + Debug + PartialEq>(self) -> Self::Output;
+
+    /// The same with a sequence or set, whose tables can be had.
+    fn on_scope<T: Decode + Encode + Debug + PartialEq + HasTables>(self) -> Self::Output {
+        self.on::<T>()
+    }
+
+    /// The same with a choice, whose tags can be had.
+    fn on_choice<T: Decode + Encode + Debug + PartialEq + Choice>(self) -> Self::Output {
+        self.on::<T>()
+    }
 }
 
 /// Does it with the type of that word; none where no type has it.
