@@ -174,6 +174,50 @@ static void of_types(void) {
     free(in.octets);
 }
 
+/* The header's numbers of kinds are those of the library, by their names. */
+static void of_kinds(void) {
+    static const char *const read[] = {
+        [JILGOMT_INCOMPLETE] = "Incomplete",
+        [JILGOMT_ZERO_LENGTH_OF_LENGTH] = "ZeroLengthOfLength",
+        [JILGOMT_LENGTH_EXCEEDS_PLATFORM_WIDTH] = "LengthExceedsPlatformWidth",
+        [JILGOMT_INVALID_BOOL] = "InvalidBool",
+        [JILGOMT_INTEGER_OVERFLOW] = "IntegerOverflow",
+        [JILGOMT_EMPTY_INTEGER] = "EmptyInteger",
+        [JILGOMT_VALUE_CONSTRAINT_NOT_SATISFIED] = "ValueConstraintNotSatisfied",
+        [JILGOMT_SIZE_CONSTRAINT_NOT_SATISFIED] = "SizeConstraintNotSatisfied",
+        [JILGOMT_DISCRIMINANT_VALUE_NOT_FOUND] = "DiscriminantValueNotFound",
+        [JILGOMT_INVALID_TAG_NUMBER_ON_CHOICE] = "InvalidTagNumberOnChoice",
+        [JILGOMT_INVALID_TAG_VARIANT_ON_CHOICE] = "InvalidTagVariantOnChoice",
+        [JILGOMT_INVALID_BIT_STRING] = "InvalidBitString",
+        [JILGOMT_PERMITTED_ALPHABET_ERROR] = "PermittedAlphabetError",
+        [JILGOMT_STRING_CONVERSION_FAILED] = "StringConversionFailed",
+        [JILGOMT_INVALID_OBJECT_IDENTIFIER] = "InvalidObjectIdentifier",
+        [JILGOMT_INVALID_TIME] = "InvalidTime",
+        [JILGOMT_INVALID_PREAMBLE] = "InvalidPreamble",
+        [JILGOMT_INVALID_EXTENSION_HEADER] = "InvalidExtensionHeader",
+        [JILGOMT_REQUIRED_EXTENSION_NOT_PRESENT] = "RequiredExtensionNotPresent",
+        [JILGOMT_TYPE_NOT_EXTENSIBLE] = "TypeNotExtensible",
+        [JILGOMT_MISSING_COMPONENT] = "MissingTagClassOrValueInSequenceOrSet",
+        [JILGOMT_EXCEEDS_MAX_PARSE_DEPTH] = "ExceedsMaxParseDepth",
+        [JILGOMT_NOT_VALID_CANONICAL_ENCODING] = "NotValidCanonicalEncoding",
+        [JILGOMT_TOO_MANY_EMPTY_ELEMENTS] = "TooManyEmptyElements",
+        [JILGOMT_OUT_OF_MEMORY] = "OutOfMemory",
+    };
+    static const char *const write[] = {
+        [JILGOMT_WRITE_VALUE_CONSTRAINT_NOT_SATISFIED] = "ValueConstraintNotSatisfied",
+        [JILGOMT_WRITE_SIZE_CONSTRAINT_NOT_SATISFIED] = "SizeConstraintNotSatisfied",
+        [JILGOMT_WRITE_INVALID_OBJECT_IDENTIFIER] = "InvalidObjectIdentifier",
+        [JILGOMT_WRITE_TIME_NOT_REPRESENTABLE] = "TimeNotRepresentable",
+        [JILGOMT_WRITE_TOO_MANY_EMPTY_ELEMENTS] = "TooManyEmptyElements",
+        [JILGOMT_WRITE_LENGTH_EXCEEDS_PLATFORM_SIZE] = "LengthExceedsPlatformSize",
+        [JILGOMT_WRITE_OUT_OF_MEMORY] = "OutOfMemory",
+    };
+    for (uint32_t kind = 1; kind < sizeof read / sizeof *read; kind++)
+        WANT(strcmp(name_of((jilgomt_answer){.status = JILGOMT_UNREAD_AS_OTHER, .kind = kind}), read[kind]) == 0);
+    for (uint32_t kind = 1; kind < sizeof write / sizeof *write; kind++)
+        WANT(strcmp(name_of((jilgomt_answer){.status = JILGOMT_UNWRITTEN_AS_OTHER, .kind = kind}), write[kind]) == 0);
+}
+
 static void of_names(void) {
     uint8_t text[8];
     WANT(jilgomt_kind_name(JILGOMT_UNREAD, JILGOMT_OUT_OF_MEMORY, text, 0) == 11);
@@ -211,6 +255,7 @@ int main(void) {
     of_checks();
     of_versions();
     of_types();
+    of_kinds();
     of_names();
     of_walks();
     pthread_t threads[4];

@@ -1,4 +1,4 @@
-"""Values as Python sees them: a walk of octets by a module's table, which `oergen --table` writes."""
+"""Values as Python sees them: a walk of octets by a module's table, which scripts/tables.py writes."""
 from __future__ import annotations
 
 import ctypes
@@ -42,7 +42,7 @@ class Module:
 
     @classmethod
     def load(cls, file: str) -> Module:
-        """The types in a file that `oergen --table` wrote."""
+        """The types in a file that scripts/tables.py wrote."""
         with open(file, encoding="utf-8") as text:
             return cls(json.load(text))
 

@@ -1,40 +1,22 @@
 //! The library for C. include/jilgomt.h declares these functions, and docs/CALLING.md says what a caller owes.
 #![tactic(auto)]
 
-ghost use Rattle.std.specs.Prelude.{◌≡◌, length, min};
+ghost use Rattle.std.specs.Prelude.{◌≡◌, codes, length, min};
+ghost use Rattle.jilgomt.specs.Walks.{IsWalkAnswer, walk_answer};
+ghost use Rattle.oer_calls.specs.Answers.{IsAnsweredByWord, IsCheckedByWord, options_for};
+ghost use Rattle.oer_calls.specs.Names.{IsTold, name_for};
 ghost use Rattle.oer_walk.specs.Parts.{ArePlaced};
 
 mod types;
 mod words;
 
 use oer_calls::answer::Answer;
-use oer_calls::names::kind_name;
-use oer_calls::numbers::options_of;
-use oer_walk::{Node, walk};
-use rasn_oer::DecoderOptions;
+use oer_calls::names::{kind_name, told};
+use oer_walk::{Node, Walked, walk};
 use std::alloc::Global;
 use words::{canonicalise_by_word, check_by_word, convert_by_words};
 
 const VERSION: &str = "0.1.0";
-
-fn answered(answer: Answer, to: &mut Answer) -> u32
-    ensures answer { to.new ≡ answer }
-    ensures status { result ≡ answer.status }
-{
-    *to = answer;
-    answer.status
-}
-
-/// A word and options as C hands them in, or what is answered where they are none.
-fn known(word: &[u8], mode: u32, levels: usize) -> Result<(&str, DecoderOptions), Answer> {
-    let Some(options) = options_of(mode, levels) else {
-        return Err(Answer::no_options());
-    };
-    match std::str::from_utf8(word) {
-        Ok(word) => Ok((word, options)),
-        Err(_) => Err(Answer::no_type()),
-    }
-}
 
 /// The canonical octets of the word's type, of the value whose encoding begins the input.
 #[unsafe(no_mangle)]
@@ -47,16 +29,11 @@ pub extern "C" fn jilgomt_canonicalise(
     out: &mut [u8],
     answer: &mut Answer,
 ) -> u32
-    ensures { result ≡ answer.new.status }
+    ensures status { result ≡ answer.new.status }
+    ensures answered { IsAnsweredByWord (options_for mode levels) out.old answer.new out.new }
 {
-    let (word, options) = match known(word, mode, levels) {
-        Ok(known) => known,
-        Err(none) => return answered(none, answer),
-    };
-    match canonicalise_by_word(alloc, word, options, input, out) {
-        Some(outcome) => answered(Answer::of_outcome(outcome), answer),
-        None => answered(Answer::no_type(), answer),
-    }
+    *answer = canonicalise_by_word(alloc, word, mode, levels, input, out);
+    answer.status
 }
 
 /// Whether an encoding of the word's type begins the input, and a canonical one.
@@ -69,16 +46,11 @@ pub extern "C" fn jilgomt_check(
     input: &[u8],
     answer: &mut Answer,
 ) -> u32
-    ensures { result ≡ answer.new.status }
+    ensures status { result ≡ answer.new.status }
+    ensures answered { IsCheckedByWord (options_for mode levels) answer.new }
 {
-    let (word, options) = match known(word, mode, levels) {
-        Ok(known) => known,
-        Err(none) => return answered(none, answer),
-    };
-    match check_by_word(alloc, word, options, input) {
-        Some(checked) => answered(Answer::of_checked(checked), answer),
-        None => answered(Answer::no_type(), answer),
-    }
+    *answer = check_by_word(alloc, word, mode, levels, input);
+    answer.status
 }
 
 /// The canonical octets of the second word's type, of a value of the first word's type whose encoding begins the input.
@@ -93,18 +65,21 @@ pub extern "C" fn jilgomt_convert(
     out: &mut [u8],
     answer: &mut Answer,
 ) -> u32
-    ensures { result ≡ answer.new.status }
+    ensures status { result ≡ answer.new.status }
+    ensures answered { IsAnsweredByWord (options_for mode levels) out.old answer.new out.new }
 {
-    let (from, options) = match known(from, mode, levels) {
-        Ok(known) => known,
-        Err(none) => return answered(none, answer),
-    };
-    let Ok(to) = std::str::from_utf8(to) else {
-        return answered(Answer::no_type(), answer);
-    };
-    match convert_by_words(alloc, (from, to), options, input, out) {
-        Some(outcome) => answered(Answer::of_outcome(outcome), answer),
-        None => answered(Answer::no_type(), answer),
+    *answer = convert_by_words(alloc, (from, to), mode, levels, input, out);
+    answer.status
+}
+
+/// The answer of a walk with room for so many nodes.
+fn answer_of_walk(room: usize, walked: Walked) -> Answer
+    ensures { result ≡ walk_answer room walked }
+{
+    match walked.refusal {
+        Some(kind) => Answer::stopped(kind, walked.consumed, walked.nodes),
+        None if room < walked.nodes => Answer::no_room(walked.consumed, walked.nodes),
+        None => Answer::done(walked.consumed, walked.nodes),
     }
 }
 
@@ -120,34 +95,26 @@ pub extern "C" fn jilgomt_walk(
     answer: &mut Answer,
 ) -> u32
     ensures status { result ≡ answer.new.status }
+    ensures answered { IsWalkAnswer (length nodes.old) answer.new }
     ensures placed { ArePlaced (length input.now) (min answer.new.written (length nodes.new)) nodes.new }
 {
     let room = nodes.len();
-    let walked = walk(table, type_number, levels, input, nodes);
-    let known = match walked.refusal {
-        None if room < walked.nodes => Answer::no_room(walked.consumed, walked.nodes),
-        None => Answer::done(walked.consumed, walked.nodes),
-        Some(kind) => Answer::stopped(kind, walked.consumed, walked.nodes),
-    };
-    answered(known, answer)
-}
-
-/// Puts as much of a text as there is room for at the front of the caller's octets, and answers how long it is.
-fn told(text: &str, out: &mut [u8]) -> usize {
-    let octets = text.as_bytes();
-    let count = octets.len().min(out.len());
-    out[..count].copy_from_slice(&octets[..count]);
-    octets.len()
+    *answer = answer_of_walk(room, walk(table, type_number, levels, input, nodes));
+    answer.status
 }
 
 /// The name of a kind of refusal, cut off where there is no room; answers how long it is: 0 if there is no such kind.
 #[unsafe(no_mangle)]
-pub extern "C" fn jilgomt_kind_name(status: u32, kind: u32, out: &mut [u8]) -> usize {
+pub extern "C" fn jilgomt_kind_name(status: u32, kind: u32, out: &mut [u8]) -> usize
+    ensures { IsTold (name_for status kind) out.old result out.new }
+{
     told(kind_name(status, kind), out)
 }
 
 /// The library's version, cut off where there is no room; answers how long it is.
 #[unsafe(no_mangle)]
-pub extern "C" fn jilgomt_version(out: &mut [u8]) -> usize {
+pub extern "C" fn jilgomt_version(out: &mut [u8]) -> usize
+    ensures { IsTold (codes "0.1.0") out.old result out.new }
+{
     told(VERSION, out)
 }

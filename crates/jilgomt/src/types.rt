@@ -19,7 +19,7 @@ pub extern "C" fn jilgomt_seq1_canonicalise(
     answer: &mut Answer,
 ) -> u32
     ensures status { result ≡ answer.new.status }
-    ensures answered { IsCanonicalisedBy (⟦<Sequence1 as Spelled>⟧.tree ⟦<Sequence1 as AsnType>⟧.CONSTRAINTS) ⟦<Sequence1 as Spelled>⟧.IsValue (options_for mode levels) input.now out.old answer.new out.new }
+    ensures answered { IsCanonicalisedBy (⟦<Sequence1 as Spelled>⟧.tree ⟦<Sequence1 as AsnType>⟧.CONSTRAINTS) ⟦<Sequence1 as Spelled>⟧.IsValue (⟦<Sequence1 as Decode>⟧.Answered ⟦<Sequence1 as AsnType>⟧.CONSTRAINTS) (options_for mode levels) input.now out.old answer.new out.new }
 {
     *answer = canonicalise_by_numbers::<Sequence1>(alloc, mode, levels, input, out);
     answer.status
@@ -35,7 +35,7 @@ pub extern "C" fn jilgomt_seq1_check(
     answer: &mut Answer,
 ) -> u32
     ensures status { result ≡ answer.new.status }
-    ensures answered { IsCheckedBy (⟦<Sequence1 as Spelled>⟧.tree ⟦<Sequence1 as AsnType>⟧.CONSTRAINTS) ⟦<Sequence1 as Spelled>⟧.IsValue (options_for mode levels) input.now answer.new }
+    ensures answered { IsCheckedBy (⟦<Sequence1 as Spelled>⟧.tree ⟦<Sequence1 as AsnType>⟧.CONSTRAINTS) ⟦<Sequence1 as Spelled>⟧.IsValue (⟦<Sequence1 as Decode>⟧.Answered ⟦<Sequence1 as AsnType>⟧.CONSTRAINTS) (options_for mode levels) input.now answer.new }
 {
     *answer = check_by_numbers::<Sequence1>(alloc, mode, levels, input);
     answer.status
@@ -52,7 +52,7 @@ pub extern "C" fn jilgomt_seq2_canonicalise(
     answer: &mut Answer,
 ) -> u32
     ensures status { result ≡ answer.new.status }
-    ensures answered { IsCanonicalisedBy (⟦<Sequence2 as Spelled>⟧.tree ⟦<Sequence2 as AsnType>⟧.CONSTRAINTS) ⟦<Sequence2 as Spelled>⟧.IsValue (options_for mode levels) input.now out.old answer.new out.new }
+    ensures answered { IsCanonicalisedBy (⟦<Sequence2 as Spelled>⟧.tree ⟦<Sequence2 as AsnType>⟧.CONSTRAINTS) ⟦<Sequence2 as Spelled>⟧.IsValue (⟦<Sequence2 as Decode>⟧.Answered ⟦<Sequence2 as AsnType>⟧.CONSTRAINTS) (options_for mode levels) input.now out.old answer.new out.new }
 {
     *answer = canonicalise_by_numbers::<Sequence2>(alloc, mode, levels, input, out);
     answer.status
@@ -68,7 +68,7 @@ pub extern "C" fn jilgomt_seq2_check(
     answer: &mut Answer,
 ) -> u32
     ensures status { result ≡ answer.new.status }
-    ensures answered { IsCheckedBy (⟦<Sequence2 as Spelled>⟧.tree ⟦<Sequence2 as AsnType>⟧.CONSTRAINTS) ⟦<Sequence2 as Spelled>⟧.IsValue (options_for mode levels) input.now answer.new }
+    ensures answered { IsCheckedBy (⟦<Sequence2 as Spelled>⟧.tree ⟦<Sequence2 as AsnType>⟧.CONSTRAINTS) ⟦<Sequence2 as Spelled>⟧.IsValue (⟦<Sequence2 as Decode>⟧.Answered ⟦<Sequence2 as AsnType>⟧.CONSTRAINTS) (options_for mode levels) input.now answer.new }
 {
     *answer = check_by_numbers::<Sequence2>(alloc, mode, levels, input);
     answer.status
@@ -85,7 +85,7 @@ pub extern "C" fn jilgomt_seq2_to_seq1(
     answer: &mut Answer,
 ) -> u32
     ensures status { result ≡ answer.new.status }
-    ensures answered { IsConvertedBy (⟦<Sequence2 as Spelled>⟧.tree ⟦<Sequence2 as AsnType>⟧.CONSTRAINTS) ⟦<Sequence2 as Spelled>⟧.IsValue (⟦<Sequence1 as Spelled>⟧.tree ⟦<Sequence1 as AsnType>⟧.CONSTRAINTS) ⟦<Sequence1 as Spelled>⟧.IsValue (options_for mode levels) input.now out.old answer.new out.new }
+    ensures answered { IsConvertedBy (⟦<Sequence2 as Spelled>⟧.tree ⟦<Sequence2 as AsnType>⟧.CONSTRAINTS) ⟦<Sequence2 as Spelled>⟧.IsValue (⟦<Sequence2 as Decode>⟧.Answered ⟦<Sequence2 as AsnType>⟧.CONSTRAINTS) (⟦<Sequence1 as Spelled>⟧.tree ⟦<Sequence1 as AsnType>⟧.CONSTRAINTS) ⟦<Sequence1 as Spelled>⟧.IsValue (⟦<Sequence1 as Decode>⟧.Answered ⟦<Sequence1 as AsnType>⟧.CONSTRAINTS) (options_for mode levels) input.now out.old answer.new out.new }
 {
     *answer = convert_by_numbers::<Sequence2, Sequence1>(alloc, mode, levels, input, out);
     answer.status

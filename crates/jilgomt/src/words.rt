@@ -1,7 +1,10 @@
-//! The calls for the type that a word of the program names. Of what they answer only the octets behind the answered ones are
-//! promised; the functions of one type promise all.
+//! The calls for the type that a word of the program names. That the octets are those of the word's type is tested; the functions
+//! of one type promise it.
+ghost use Rattle.oer_calls.specs.Answers.{IsAnsweredByWord, IsCheckedByWord, options_for};
 
-use oer_calls::calls::{Checked, Outcome, Recoded, check, placed, recode};
+use oer_calls::answer::Answer;
+use oer_calls::calls::{Outcome, Recoded, compared, placed, recode};
+use oer_calls::numbers::options_of;
 use oer_words::known::{OnType, with_type};
 use rasn_oer::oer::CodecError;
 use rasn_oer::{Decode, DecoderOptions, Encode};
@@ -24,25 +27,9 @@ impl<'a> OnType for Recoding<'a> {
     }
 }
 
-/// Octets that are read by the options and compared with the canonical ones.
-#[derive(Drop)]
-struct Checking<'a> {
+fn recoded(
     alloc: Global,
-    options: DecoderOptions,
-    input: &'a [u8],
-}
-
-impl<'a> OnType for Checking<'a> {
-    type Output = Result<Checked, CodecError>;
-
-    fn on<T: Decode + Encode + Debug + PartialEq>(self) -> Result<Checked, CodecError> {
-        check::<T>(self.alloc, self.options, self.input)
-    }
-}
-
-fn recoded_by_word(
-    alloc: Global,
-    word: &str,
+    word: &[u8],
     options: DecoderOptions,
     input: &[u8],
 ) -> Option<Result<Recoded, CodecError>> {
@@ -51,53 +38,74 @@ fn recoded_by_word(
         options,
         input,
     };
-    with_type(word, recoding)
-}
-
-/// `canonicalise` of the word's type; `None` if no type has the word.
-pub fn canonicalise_by_word(
-    alloc: Global,
-    word: &str,
-    options: DecoderOptions,
-    input: &[u8],
-    out: &mut [u8],
-) -> Option<Outcome> {
-    match recoded_by_word(alloc, word, options, input)? {
-        Err(e) => Some(Outcome::Refused(e)),
-        Ok(recoded) => Some(placed(recoded.octets.as_slice(), recoded.consumed, out)),
+    match std::str::from_utf8(word) {
+        Ok(word) => with_type(word, recoding),
+        Err(_) => None,
     }
 }
 
-/// `check` of the word's type; `None` if no type has the word.
-pub fn check_by_word(
+/// `canonicalise` of the word's type, by numbers; the answer says so if no type has the word, or there are no such options.
+pub fn canonicalise_by_word(
     alloc: Global,
-    word: &str,
-    options: DecoderOptions,
-    input: &[u8],
-) -> Option<Result<Checked, CodecError>> {
-    let checking = Checking {
-        alloc,
-        options,
-        input,
-    };
-    with_type(word, checking)
-}
-
-/// `convert` from one word's type to another's; `None` if no type has one of the words.
-pub fn convert_by_words(
-    alloc: Global,
-    words: (&str, &str),
-    options: DecoderOptions,
+    word: &[u8],
+    mode: u32,
+    levels: usize,
     input: &[u8],
     out: &mut [u8],
-) -> Option<Outcome> {
-    let (from, to) = words;
-    let sent = match recoded_by_word(alloc, from, options, input)? {
-        Err(e) => return Some(Outcome::Refused(e)),
-        Ok(sent) => sent,
+) -> Answer
+    ensures { IsAnsweredByWord (options_for mode levels) out.old result out.new }
+{
+    let Some(options) = options_of(mode, levels) else {
+        return Answer::no_options();
     };
-    match recoded_by_word(alloc, to, options, sent.octets.as_slice())? {
-        Err(e) => Some(Outcome::NotConverted(e)),
-        Ok(wanted) => Some(placed(wanted.octets.as_slice(), sent.consumed, out)),
+    match recoded(alloc, word, options, input) {
+        None => Answer::no_type(),
+        Some(Err(e)) => Answer::of_outcome(Outcome::Refused(e)),
+        Some(Ok(it)) => Answer::of_outcome(placed(it.octets.as_slice(), it.consumed, out)),
+    }
+}
+
+/// `check` of the word's type, by numbers; the answer says so if no type has the word, or there are no such options.
+pub fn check_by_word(alloc: Global, word: &[u8], mode: u32, levels: usize, input: &[u8]) -> Answer
+    ensures { IsCheckedByWord (options_for mode levels) result }
+{
+    let Some(options) = options_of(mode, levels) else {
+        return Answer::no_options();
+    };
+    match recoded(alloc, word, options, input) {
+        None => Answer::no_type(),
+        Some(Err(e)) => Answer::of_checked(Err(e)),
+        Some(Ok(it)) => {
+            Answer::of_checked(Ok(compared(it.octets.as_slice(), it.consumed, input)))
+        }
+    }
+}
+
+/// `convert` from one word's type to another's, by numbers; the answer says so if no type has one of the words, or there are no
+/// such options.
+pub fn convert_by_words(
+    alloc: Global,
+    words: (&[u8], &[u8]),
+    mode: u32,
+    levels: usize,
+    input: &[u8],
+    out: &mut [u8],
+) -> Answer
+    ensures { IsAnsweredByWord (options_for mode levels) out.old result out.new }
+{
+    let Some(options) = options_of(mode, levels) else {
+        return Answer::no_options();
+    };
+    let sent = match recoded(alloc, words.0, options, input) {
+        None => return Answer::no_type(),
+        Some(Err(e)) => return Answer::of_outcome(Outcome::Refused(e)),
+        Some(Ok(sent)) => sent,
+    };
+    match recoded(alloc, words.1, options, sent.octets.as_slice()) {
+        None => Answer::no_type(),
+        Some(Err(e)) => Answer::of_outcome(Outcome::NotConverted(e)),
+        Some(Ok(wanted)) => {
+            Answer::of_outcome(placed(wanted.octets.as_slice(), sent.consumed, out))
+        }
     }
 }

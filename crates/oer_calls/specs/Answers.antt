@@ -6,15 +6,16 @@ use Rattle.asn1_core.specs.declared.codec.Codec.TheVariants.{Oer, Coer}
 use Rattle.asn1_core.specs.declared.tag.Tag.{Tag}
 use Rattle.asn1_core.specs.declared.tag.Class.{Class}
 use Rattle.asn1_core.specs.declared.tag.Class.TheVariants.{Universal, Application, Context, Private}
+use Rattle.asn1_core.specs.declared.error.DecodeError.{DecodeError}
 use Rattle.asn1_core.specs.declared.error.DecodeErrorKind.{DecodeErrorKind}
 use Rattle.asn1_core.specs.declared.error.DecodeErrorKind.TheVariants as decode
 use Rattle.asn1_core.specs.declared.error.EncodeErrorKind.{EncodeErrorKind}
 use Rattle.asn1_core.specs.declared.error.EncodeErrorKind.TheVariants as encode
-use Rattle.oer_read.specs.State.{Options}
+use Rattle.oer_read.specs.State.{Options, State}
 use Rattle.oer_spec.specs.Tree.{Tree}
 use Rattle.rasn_oer.specs.declared.codec_error.CodecError.{CodecError}
 use Rattle.rasn_oer.specs.declared.codec_error.CodecError.TheVariants.{Decode, Encode}
-use Rattle.oer_calls.specs.Calls.{IsCanonicalised, IsChecked, IsConverted}
+use Rattle.oer_calls.specs.Calls.{IsCanonicalised, IsChecked, IsConverted, IsFramed}
 use Rattle.oer_calls.specs.declared.answer.Answer.{Answer}
 use Rattle.oer_calls.specs.declared.calls.Checked.{Checked}
 use Rattle.oer_calls.specs.declared.calls.Outcome.{Outcome}
@@ -92,6 +93,29 @@ checked_answer (Ok k) = record (counted 0 k.consumed k.canonical) { flag = cond 
 checked_answer (Err (Decode e)) = read_answer 1 e.kind
 checked_answer (Err (Encode x)) = write_answer 2 x.kind
 
+-- What a call by a word answers: of an outcome, of a check; none where no type has the word.
+abbrev pub word_answer : Option Outcome → Answer
+word_answer None = counted 4 0 0
+word_answer (Some x) = answer_of x
+
+abbrev pub word_checked_answer : Option (Result Checked CodecError) → Answer
+word_checked_answer None = counted 4 0 0
+word_checked_answer (Some x) = checked_answer x
+
+abbrev pub IsFramedIfAny : Octets → Option Outcome → Octets → Type 0
+IsFramedIfAny old None new = new ≡ old
+IsFramedIfAny old (Some x) new = IsFramed old x new
+
+-- The answer is an outcome's, by which the caller's octets are as they are; without options, or without such a type, they are
+-- as before. Whose octets they are isn't said.
+abbrev pub IsAnsweredByWord : Option Options → Octets → Answer → Octets → Type 0
+IsAnsweredByWord None old answer new = (answer ≡ counted 5 0 0) × (new ≡ old)
+IsAnsweredByWord (Some o) old answer new = (x : Option Outcome) × (answer ≡ word_answer x) × IsFramedIfAny old x new
+
+abbrev pub IsCheckedByWord : Option Options → Answer → Type 0
+IsCheckedByWord None answer = answer ≡ counted 5 0 0
+IsCheckedByWord (Some o) answer = (x : Option (Result Checked CodecError)) × (answer ≡ word_checked_answer x)
+
 -- within at most 1,024 levels
 abbrev pub within : Codec → ℕ → Option Options
 within m d = cond (nat_lt 1024 d) None (Some (record { codec = m; levels = d }))
@@ -100,17 +124,17 @@ within m d = cond (nat_lt 1024 d) None (Some (record { codec = m; levels = d }))
 abbrev pub options_for : ℕ → ℕ → Option Options
 options_for m d = cond (m == 0) (within Oer d) (cond (m == 1) (within Coer d) None)
 
-module _ {A : Type 0} (tree : A → Tree) (IsValue : A → Type 0) where
+module _ {A : Type 0} (tree : A → Tree) (IsValue : A → Type 0) (Answered : State → Result A DecodeError → State → Type 0) where
   -- the answer is the outcome's, which `canonicalise` promises; without options nothing was done
   abbrev pub IsCanonicalisedBy : Option Options → Octets → Octets → Answer → Octets → Type 0
   IsCanonicalisedBy None input old answer new = (answer ≡ counted 5 0 0) × (new ≡ old)
-  IsCanonicalisedBy (Some o) input old answer new = (x : Outcome) × (answer ≡ answer_of x) × IsCanonicalised tree IsValue o.codec o.levels input old x new
+  IsCanonicalisedBy (Some o) input old answer new = (x : Outcome) × (answer ≡ answer_of x) × IsCanonicalised tree IsValue Answered o.codec o.levels input old x new
 
   abbrev pub IsCheckedBy : Option Options → Octets → Answer → Type 0
   IsCheckedBy None input answer = answer ≡ counted 5 0 0
-  IsCheckedBy (Some o) input answer = (x : Result Checked CodecError) × (answer ≡ checked_answer x) × IsChecked tree IsValue o.codec o.levels input x
+  IsCheckedBy (Some o) input answer = (x : Result Checked CodecError) × (answer ≡ checked_answer x) × IsChecked tree IsValue Answered o.codec o.levels input x
 
-module _ {A B : Type 0} (sent : A → Tree) (IsSent : A → Type 0) (wanted : B → Tree) (IsWanted : B → Type 0) where
+module _ {A B : Type 0} (sent : A → Tree) (IsSent : A → Type 0) (SentAnswered : State → Result A DecodeError → State → Type 0) (wanted : B → Tree) (IsWanted : B → Type 0) (WantedAnswered : State → Result B DecodeError → State → Type 0) where
   abbrev pub IsConvertedBy : Option Options → Octets → Octets → Answer → Octets → Type 0
   IsConvertedBy None input old answer new = (answer ≡ counted 5 0 0) × (new ≡ old)
-  IsConvertedBy (Some o) input old answer new = (x : Outcome) × (answer ≡ answer_of x) × IsConverted sent IsSent wanted IsWanted o.codec o.levels input old x new
+  IsConvertedBy (Some o) input old answer new = (x : Outcome) × (answer ≡ answer_of x) × IsConverted sent IsSent SentAnswered wanted IsWanted WantedAnswered o.codec o.levels input old x new

@@ -1,5 +1,5 @@
--- The names of the kinds of refusal, by number.
-use Rattle.std.specs.Prelude.{ℕ, List, [], codes, ◌==◌, cond}
+-- The names of the kinds of refusal, by number, and how a text comes to a caller's octets.
+use Rattle.std.specs.Prelude.{◌≡◌, ℕ, List, [], ◌++◌, codes, ◌==◌, cond, length, take, drop}
 
 abbrev pub read_name : ℕ → List ℕ
 read_name k =
@@ -44,3 +44,7 @@ write_name k =
 -- beside a status: reading's at 1 and 6, writing's at 2 and 7
 abbrev pub name_for : ℕ → ℕ → List ℕ
 name_for s k = cond (s == 1) (read_name k) (cond (s == 6) (read_name k) (cond (s == 2) (write_name k) (cond (s == 7) (write_name k) [])))
+
+-- As much of the text as there is room for stands at the front, what is behind it is as before, and its length is answered.
+abbrev pub IsTold : List ℕ → List ℕ → ℕ → List ℕ → Type 0
+IsTold text old n new = (n ≡ length text) × (new ≡ take (length old) text ++ drop (length text) old)

@@ -1,6 +1,6 @@
 //! The calls over slices.
 ghost use Rattle.std.specs.Prelude.{◌≤◌, length};
-ghost use Rattle.oer_calls.specs.Calls.{IsRecoded, IsPlaced, IsCanonicalised, IsCompared, IsChecked, IsConverted};
+ghost use Rattle.oer_calls.specs.Calls.{IsRecoded, IsFramed, IsPlaced, IsCanonicalised, IsCompared, IsChecked, IsConverted};
 
 use rasn_oer::oer::CodecError;
 use rasn_oer::{Decode, DecoderOptions, Encode, coer, oer};
@@ -46,7 +46,7 @@ pub fn recode<T: Decode + Encode>(
     options: DecoderOptions,
     input: &[u8],
 ) -> Result<Recoded, CodecError>
-    ensures { IsRecoded (T.tree T.CONSTRAINTS) T.IsValue options.codec options.levels input.now result }
+    ensures { IsRecoded (T.tree T.CONSTRAINTS) T.IsValue (T.Answered T.CONSTRAINTS) options.codec options.levels input.now result }
 {
     let (value, rest) = match oer::decode_with_options::<T>(alloc, options, input) {
         Ok(read) => read,
@@ -62,7 +62,8 @@ pub fn recode<T: Decode + Encode>(
 
 /// Puts octets at the front of the caller's, where they fit; else writes nothing.
 pub fn placed(octets: &[u8], consumed: usize, out: &mut [u8]) -> Outcome
-    ensures { IsPlaced octets.now consumed out.old result out.new }
+    ensures placed { IsPlaced octets.now consumed out.old result out.new }
+    ensures framed { IsFramed out.old result out.new }
 {
     let written = octets.len();
     if out.len() < written {
@@ -85,7 +86,7 @@ pub fn canonicalise<T: Decode + Encode>(
     input: &[u8],
     out: &mut [u8],
 ) -> Outcome
-    ensures { IsCanonicalised (T.tree T.CONSTRAINTS) T.IsValue options.codec options.levels input.now out.old result out.new }
+    ensures { IsCanonicalised (T.tree T.CONSTRAINTS) T.IsValue (T.Answered T.CONSTRAINTS) options.codec options.levels input.now out.old result out.new }
 {
     match recode::<T>(alloc, options, input) {
         Ok(recoded) => placed(recoded.octets.as_slice(), recoded.consumed, out),
@@ -102,7 +103,7 @@ pub fn check<T: Decode + Encode>(
     options: DecoderOptions,
     input: &[u8],
 ) -> Result<Checked, CodecError>
-    ensures { IsChecked (T.tree T.CONSTRAINTS) T.IsValue options.codec options.levels input.now result }
+    ensures { IsChecked (T.tree T.CONSTRAINTS) T.IsValue (T.Answered T.CONSTRAINTS) options.codec options.levels input.now result }
 {
     let recoded = recode::<T>(alloc, options, input)?;
     Ok(compared(recoded.octets.as_slice(), recoded.consumed, input))
@@ -118,7 +119,7 @@ pub fn convert<Sent: Decode + Encode, Wanted: Decode + Encode>(
     input: &[u8],
     out: &mut [u8],
 ) -> Outcome
-    ensures { IsConverted (Sent.tree Sent.CONSTRAINTS) Sent.IsValue (Wanted.tree Wanted.CONSTRAINTS) Wanted.IsValue options.codec options.levels input.now out.old result out.new }
+    ensures { IsConverted (Sent.tree Sent.CONSTRAINTS) Sent.IsValue (Sent.Answered Sent.CONSTRAINTS) (Wanted.tree Wanted.CONSTRAINTS) Wanted.IsValue (Wanted.Answered Wanted.CONSTRAINTS) options.codec options.levels input.now out.old result out.new }
 {
     let sent = match recode::<Sent>(alloc, options, input) {
         Ok(sent) => sent,
@@ -130,15 +131,17 @@ pub fn convert<Sent: Decode + Encode, Wanted: Decode + Encode>(
     }
 }
 
-/// What is said of so many octets at the front of an input, beside the canonical ones.
-fn compared(canonical: &[u8], consumed: usize, input: &[u8]) -> Checked
-    requires { consumed ≤ length input.now }
-    ensures { IsCompared canonical.now consumed input.now result }
+/// What is said of so many octets at the front of an input, beside the canonical ones; where it has fewer, that they aren't these.
+pub fn compared(canonical: &[u8], consumed: usize, input: &[u8]) -> Checked
+    ensures { consumed ≤ length input.now → IsCompared canonical.now consumed input.now result }
 {
-    let taken = &input[..consumed];
+    let is_canonical = match input.get(..consumed) {
+        Some(taken) => taken == canonical,
+        None => false,
+    };
     Checked {
         consumed,
         canonical: canonical.len(),
-        is_canonical: taken == canonical,
+        is_canonical,
     }
 }

@@ -1,6 +1,6 @@
-//! The names of the kinds of refusal, by number.
+//! The names of the kinds of refusal, by number, and how a text comes to a caller's octets.
 ghost use Rattle.std.specs.Prelude.{◌≡◌};
-ghost use Rattle.oer_calls.specs.Names.{read_name, write_name, name_for};
+ghost use Rattle.oer_calls.specs.Names.{IsTold, read_name, write_name, name_for};
 
 /// The name of a kind of refusal of reading; no text if no kind has the number.
 pub fn read_kind_name(kind: u32) -> &'static str
@@ -61,4 +61,14 @@ pub fn kind_name(status: u32, kind: u32) -> &'static str
         2 | 7 => write_kind_name(kind),
         _ => "",
     }
+}
+
+/// Puts as much of a text as there is room for at the front of the caller's octets, and answers how long it is.
+pub fn told(text: &str, out: &mut [u8]) -> usize
+    ensures { IsTold text.now out.old result out.new }
+{
+    let octets = text.as_bytes();
+    let count = octets.len().min(out.len());
+    out[..count].copy_from_slice(&octets[..count]);
+    octets.len()
 }

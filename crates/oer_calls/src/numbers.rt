@@ -26,7 +26,7 @@ pub fn canonicalise_by_numbers<T: Decode + Encode>(
     input: &[u8],
     out: &mut [u8],
 ) -> Answer
-    ensures { IsCanonicalisedBy (T.tree T.CONSTRAINTS) T.IsValue (options_for mode levels) input.now out.old result out.new }
+    ensures { IsCanonicalisedBy (T.tree T.CONSTRAINTS) T.IsValue (T.Answered T.CONSTRAINTS) (options_for mode levels) input.now out.old result out.new }
 {
     match options_of(mode, levels) {
         None => Answer::no_options(),
@@ -41,7 +41,7 @@ pub fn check_by_numbers<T: Decode + Encode>(
     levels: usize,
     input: &[u8],
 ) -> Answer
-    ensures { IsCheckedBy (T.tree T.CONSTRAINTS) T.IsValue (options_for mode levels) input.now result }
+    ensures { IsCheckedBy (T.tree T.CONSTRAINTS) T.IsValue (T.Answered T.CONSTRAINTS) (options_for mode levels) input.now result }
 {
     match options_of(mode, levels) {
         None => Answer::no_options(),
@@ -57,7 +57,7 @@ pub fn convert_by_numbers<Sent: Decode + Encode, Wanted: Decode + Encode>(
     input: &[u8],
     out: &mut [u8],
 ) -> Answer
-    ensures { IsConvertedBy (Sent.tree Sent.CONSTRAINTS) Sent.IsValue (Wanted.tree Wanted.CONSTRAINTS) Wanted.IsValue (options_for mode levels) input.now out.old result out.new }
+    ensures { IsConvertedBy (Sent.tree Sent.CONSTRAINTS) Sent.IsValue (Sent.Answered Sent.CONSTRAINTS) (Wanted.tree Wanted.CONSTRAINTS) Wanted.IsValue (Wanted.Answered Wanted.CONSTRAINTS) (options_for mode levels) input.now out.old result out.new }
 {
     match options_of(mode, levels) {
         None => Answer::no_options(),

@@ -7,7 +7,7 @@ returns-in-Ok-recode g c =
     let k = g.Sent.AsnType in
     let w = g.Wanted.Spelled in
     let j = g.Wanted.AsnType in
-    converted (s.tree k.CONSTRAINTS) s.IsValue (s.is_tree k.CONSTRAINTS k.consistent) (w.tree j.CONSTRAINTS) w.IsValue (w.is_tree j.CONSTRAINTS j.consistent) c.args.options.codec c.args.options.levels c.args.input.now _ c.in-Ok.sent.consumed c.in-Ok.ensures _ c.in-Ok-recode.wanted.consumed c.args.out.now c.placed.result c.placed.new.out
+    converted (s.tree k.CONSTRAINTS) s.IsValue (g.Sent.Decode.Answered k.CONSTRAINTS) (s.is_tree k.CONSTRAINTS k.consistent) (w.tree j.CONSTRAINTS) w.IsValue (g.Wanted.Decode.Answered j.CONSTRAINTS) (w.is_tree j.CONSTRAINTS j.consistent) c.args.options.codec c.args.options.levels c.args.input.now _ c.in-Ok.sent.consumed c.in-Ok.ensures _ c.in-Ok-recode.wanted.consumed c.args.out.now c.placed.result c.placed.new.out
     (rw c.as_slice.ensures.value at c.in-Ok-recode.ensures)
     (rw c.as_slice-in-Ok-recode.ensures.value at c.placed.ensures)
 
@@ -17,5 +17,5 @@ returns g c =
     let k = g.Sent.AsnType in
     let w = g.Wanted.Spelled in
     let j = g.Wanted.AsnType in
-    not_converted (s.tree k.CONSTRAINTS) s.IsValue (s.is_tree k.CONSTRAINTS k.consistent) (w.tree j.CONSTRAINTS) w.IsValue (w.is_tree j.CONSTRAINTS j.consistent) c.args.options.codec c.args.options.levels c.args.input.now _ c.in-Ok.sent.consumed c.in-Ok.ensures c.in-Err-recode.e c.args.out.now
+    not_converted (s.tree k.CONSTRAINTS) s.IsValue (g.Sent.Decode.Answered k.CONSTRAINTS) (s.is_tree k.CONSTRAINTS k.consistent) (w.tree j.CONSTRAINTS) w.IsValue (g.Wanted.Decode.Answered j.CONSTRAINTS) (w.is_tree j.CONSTRAINTS j.consistent) c.args.options.codec c.args.options.levels c.args.input.now _ c.in-Ok.sent.consumed c.in-Ok.ensures c.in-Err-recode.e c.args.out.now
     (rw c.as_slice.ensures.value at c.in-Err-recode.ensures)
