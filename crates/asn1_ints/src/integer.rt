@@ -258,7 +258,6 @@ impl IntegerType for Integer {
         Integer::to_i128(self)
     }
 
-    #[inline(always)]
     fn is_negative(&self) -> bool {
         match &self.number {
             Number::Small(n) => *n < 0,
