@@ -1,5 +1,5 @@
 #!/usr/bin/env python3
-"""Says which code of README.md isn't that of crates/call_tests/src/readme.rt, and which of docs/OWN_TYPE.md and docs/OWN_CLOSURES.md
+"""Says which code of README.md isn't that of crates/call_tests/src/readme.rt, and which of docs/OWN_TYPE.md
 isn't in the files that it names. The gate proves these crates and runs their tests."""
 import pathlib
 import re
@@ -52,7 +52,7 @@ if said != code and set(said) == set(code):
     print("README.md shows the code of crates/call_tests in another order, or twice")
 
 differs = said != code
-for page in ["docs/OWN_TYPE.md", "docs/OWN_CLOSURES.md"]:
+for page in ["docs/OWN_TYPE.md"]:
     # A page shows pieces of files: a line with the file's name alone, an empty line, and in a fence whole lines of the file.
     text = (top / page).read_text().split("\n")
     fences = [i for i, it in enumerate(text) if it.lstrip().startswith(("```", "~~~"))]

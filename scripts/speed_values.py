@@ -3,7 +3,20 @@
 
 usage: speed_values.py VALUE COUNT, for example: scripts/speed_values.py ints 1000 | crates/oer_speed/out/oer_speed ints encode 10000
 
-VALUE is a word of VALUES, with the word of the value's type, by which oer_speed reads it; docs/PERFORMANCE.md says what each is.
+VALUE is a word of VALUES, with the word of the value's type, by which oer_speed reads it:
+- ints, times, colors: a list of COUNT integers (COUNT - 1 down to 0), UTCTimes, enumerated values
+- intset, mixed: the same integers as a SET OF; a SET OF of COUNT integers below 1,000,003, in no order
+- octets, text, bits, great: an OCTET STRING, a UTF8String, a BIT STRING, an INTEGER of COUNT octets, letters, bits, octets
+- nest: COUNT lists in one another, around an empty list
+- link: COUNT sequences, each but the last with a choice of the next
+- linked: an INTEGER of COUNT octets within ten sequences, each in a choice of the sequence around it
+- added: an OCTET STRING of COUNT octets as an extension addition
+- additions: COUNT sequences of a BOOLEAN, each but the last with the next as its extension addition
+- seq2, seqs, outer: a sequence of a BOOLEAN with two additions, BOOLEANs, both present; a list of COUNT of these; one as the
+  addition of a sequence of a BOOLEAN
+- extopt: a sequence of an INTEGER, six optional components (four present) and four additions (two present)
+- foo: a set of three optional INTEGERs, two present
+
 The octets are canonical (docs/ENCODING.md), but for the order of the elements of an unordered list, which is one that has to be
 sorted where the list is written. What has one size is the same for each COUNT.
 """

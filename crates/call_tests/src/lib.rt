@@ -1,4 +1,4 @@
-//! The functions of README.md with their tests; tests of the types of docs/OWN_TYPE.md and docs/OWN_CLOSURES.md; and of the calls that
+//! The functions of README.md with their tests; tests of the types of docs/OWN_TYPE.md, and of my_closures; and of the calls that
 //! read and write, by their public paths and by closures of their own. Calls of one value each are rows of oer_memory, octets that
 //! are refused rows of oer_vectors, and versions rows of type_tests.
 //!

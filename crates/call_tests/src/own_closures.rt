@@ -1,4 +1,4 @@
-//! Octets by hand from X.696, of each type of docs/OWN_CLOSURES.md.
+//! Octets by hand from X.696, of each type of my_closures.
 
 use crate::own_types::agrees;
 use my_closures::{Command, Report, Status};

@@ -1,3 +1,4 @@
+-- The definitions that contracts of this crate cite: a module for each type.
 pub mod Reports
 pub mod Statuses
 pub mod Commands

@@ -1,4 +1,10 @@
 //! A choice of a root alternative and an extension addition.
+//!
+//! `encode_choice` writes the tag, and then what its closure writes, an addition as an open type (X.696, 20). The closure's
+//! clause is `WritesAlternative tree tag ..`; `put_alternative` of the prelude has a closure that writes one value.
+//! `decode_choice` reads the tag and calls `from_tag`, which reads the alternative, from inside its open type if it is an
+//! addition. proofs says which alternative has a tag, and answers each exit of `from_tag`. `decode_choice_with` takes a closure
+//! in its place: its law is `choice_law` (`oer_read::proofs::ChoiceLaw`), and `alternative_law` answers each exit.
 ghost use Rattle.std.specs.Prelude.{◌≡◌};
 ghost use Rattle.oer_write.specs.Choices.{WritesAlternative};
 ghost use Rattle.my_closures.specs.Commands.{command_tag, command_child};

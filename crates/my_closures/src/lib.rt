@@ -1,4 +1,4 @@
-//! Types of messages of one's own by closures, as docs/OWN_CLOSURES.md shows them: a sequence, a set and a choice.
+//! Types of messages of one's own by closures (docs/OWN_TYPE.md): a sequence, a set and a choice.
 #![tactic(auto)]
 
 mod commands;

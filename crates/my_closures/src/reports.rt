@@ -1,4 +1,20 @@
 //! A sequence of a component with a default, and an optional one.
+//!
+//! The closure that writes has one clause, `InSequence rows additions ..`; the closure that reads has one,
+//! `ReadsParts parts additions rows ..`. The rows of a value, and the parts (the trees that each component may have), are in
+//! specs. `search (reading, default_is_known)` proves each exit of the closure that reads, up to six or seven components.
+//!
+//! - Required: a row `Required tag tree ..`, a `NeededPart`, written by `put_needed` or the value's own `encode_with_tag`.
+//! - OPTIONAL: `Optional tag slot ..`, an `OptionalPart`, written by `put_optional`. The slot is `slot_of` the tree
+//!   (`oer_rows::specs::Slots`; of integers `Integers` beside it).
+//! - DEFAULT: `Default tag tree slot ..`, a `DefaultPart`, written by `encode_default_with_tag_and_constraints`. The slot is
+//!   absent if `==` says that the value is the default value (`present_unless`). Its lemmas come from a record `IsDefault`
+//!   (`oer_rows::specs::DefaultSlots`): the type admits the default value, and `==` is equality of trees.
+//! - Extension additions have rows and parts of their own, a group's row a SEQUENCE's tag. The closure asks for them behind
+//!   the root, in the table's order. If a required one is absent it answers an error of its own, which loses no value
+//!   (`needed_addition_absent`).
+//! - If a tree depends on constraints that the closure passes on, the exit's answer first rewrites the call's clause by that
+//!   constant's.
 ghost use Rattle.oer_spec.specs.Tree.{NoRows};
 ghost use Rattle.oer_read.specs.Parts.{NoParts, ReadsParts};
 ghost use Rattle.oer_write.specs.Rows.{InSequence};

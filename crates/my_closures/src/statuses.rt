@@ -1,4 +1,17 @@
 //! A set of a required component and an optional one, whose table isn't in the order of their tags.
+//!
+//! Octets have the components in tag order (X.696, 18; X.680, 8.6), here `code` before `ready`. The table, the rows and the
+//! closure that writes (`InSet`) keep the order of the text, and `encode_set` sorts. `decode_set` calls its first closure for
+//! each component that is present, in tag order, with its index in the table, and hands all results to its second closure:
+//! so there is an enum of the components.
+//!
+//! - specs also has a component's index and tree, the slot of each index, and what a list of components makes. proofs also has
+//!   what the loop over the components keeps. That the first closure gets only indexes of the table is the lemma `lent_call`
+//!   (`oer_read::proofs::SetCalls`). `distinct` in `tables` has a `refl` for each root component: no tag occurs twice.
+//! - The law is `set_by_index` (`oer_read::proofs::SetsByIndex`). A set with additions needs a row, or cites `set_law`, which
+//!   takes any additions (`AdditionsRead`).
+//! - What reads a component with a default value promises `ReadsDefault` and calls `refuse_default`. The law of its row also
+//!   has an `IsDefault` (`Law` of `oer_read::proofs::SetLaw`).
 ghost use Rattle.std.specs.Prelude.{◌<◌};
 ghost use Rattle.oer_spec.specs.Tree.{NoRows};
 ghost use Rattle.oer_read.specs.Law.{Decodes};

@@ -1,1 +1,2 @@
+-- The definitions that contracts of this crate cite.
 pub mod OneRow

@@ -241,7 +241,31 @@ impl<'input> Decoder<'input> {
         }
     }
 
-    /// An addition of a type that is read, asked by its tag or, for a group, by its row alone.
+    /// The value of a type in an open type's octets, of which canonically none may be left over.
+    #[inline(always)]
+    fn open_typed<D: Decode>(
+        &self,
+        alloc: Global,
+        content: &'input [u8],
+        tag: Tag,
+        constraints: Constraints,
+    ) -> Result<D, DecodeError>
+        requires { IsConsistent constraints }
+        ensures ok { IfOk result (OpenRead (D.tree constraints) D.IsValue (D.Answered constraints) self.now content.entry.now) }
+        ensures err { IfErr result (OpenRefused (D.tree constraints) D.IsValue (D.Answered constraints) self.now content.entry.now) }
+    {
+        let mut inner: Decoder<'input> = self.inside(content);
+        match D::decode_with_tag_and_constraints(alloc, &mut inner, tag, constraints) {
+            Err(e) => Err(e),
+            Ok(value) => match self.require_whole(inner.remaining()) {
+                Err(e) => Err(e),
+                Ok(()) => Ok(value),
+            },
+        }
+    }
+
+    /// An addition of a type that is read, asked by its tag or, for a group, by its row alone. It calls no closure: one that
+    /// isn't inlined would have the constraints and a decoder in memory.
     #[inline(always)]
     fn addition<D: Decode>(
         &mut self,
@@ -253,15 +277,23 @@ impl<'input> Decoder<'input> {
         requires { IsConsistent constraints }
         ensures { Adds (D.tree constraints) D.IsValue (D.Answered constraints) self.old asked result self.new }
     {
-        self.addition_with::<D, _>(
-            asked,
-            constraints,
-            |inner: &mut Decoder<'_>| -> Result<D, DecodeError>
-                requires { IsConsistent constraints }
-                ensures law { Decodes (D.tree constraints) D.IsValue inner.old result inner.new }
-                ensures answered { D.Answered constraints inner.old result inner.new }
-            { D::decode_with_tag_and_constraints(alloc, inner, tag, constraints) },
-        )
+        let _octets = self.octets();
+        match self.next_addition(asked) {
+            Err(kind) => Err(self.refusal(kind)),
+            Ok(found) => match found.content {
+                None => {
+                    self.pass_place(found.bits, found.rest);
+                    Ok(None)
+                }
+                Some(content) => match self.open_typed::<D>(alloc, content, tag, constraints) {
+                    Err(e) => Err(e),
+                    Ok(value) => {
+                        self.pass_place(found.bits, found.rest);
+                        Ok(Some(value))
+                    }
+                },
+            },
+        }
     }
 }
 

@@ -42,7 +42,7 @@ fn room_for(quantity: usize, there: usize, left: usize) -> usize
 }
 
 /// Puts an element that was read behind the others of a list of so many, and makes room for others at the first. `there` and
-/// `left` are how many octets there were in front of the element and behind it. Refused where memory is.
+/// `left` are how many octets there were in front of the element and behind it. Refused where memory is: then none is put there.
 #[inline(always)]
 pub fn keep<D: Drop>(
     items: &mut Vec<D>,
@@ -51,7 +51,8 @@ pub fn keep<D: Drop>(
     there: usize,
     left: usize,
 ) -> Result<(), AllocError>
-    ensures { OnOk result (items.new.items ≡ items.old.items ++ item ∷ []) }
+    ensures kept { OnOk result (items.new.items ≡ items.old.items ++ item ∷ []) }
+    ensures unchanged { OnErr result (items.new.items ≡ items.old.items) }
 {
     if items.is_empty() {
         items.reserve_exact(room_for(quantity, there, left))?;

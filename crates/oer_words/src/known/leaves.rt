@@ -1,3 +1,4 @@
+//! The program's words for types without parts.
 use crate::known::OnType;
 use asn1_core::Utf8String;
 use asn1_ints::Integer;

@@ -1,3 +1,4 @@
+//! The program's words for sequences, sets, choices and lists.
 use crate::known::OnType;
 use asn1_core::SetOf;
 use asn1_ints::Integer;

@@ -52,7 +52,7 @@ returns-in-Ok-keep-clause-read g t c =
     let read = layer_read _ _ _ _ _ g.met.B.Knot.layered _ _ _ _ c.from_content-element.ensures (layer_read _ _ _ _ _ g.met.K.Knot.layered _ _ _ _ c.from_content.ensures law) in
     record {
       value = c.from_content-element.result;
-      kept = c.in-Ok-keep.ensures;
+      kept = c.in-Ok-keep.ensures.kept;
       read = rw c.remaining-in-Ok-keep.ensures read.read;
     }
 

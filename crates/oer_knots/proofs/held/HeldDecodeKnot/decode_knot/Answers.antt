@@ -17,6 +17,6 @@ returns-in-Ok-clause-answered g c = promise_of _ _ (FnReturnsAtMut g.F.Fn c.args
 pub returns-in-Err-clause-answered : goal.returns-in-Err-clause-answered
 returns-in-Err-clause-answered g c =
     elim c.in-Err.ensures.answered [
-      inl k ↦ inl (k.0, k.1, promise_of _ _ (FnReturnsAtMut g.F.Fn c.args.knot.now) (λ p q r m. m.1) _ _ _ k.2, k.3)
+      | inl k ↦ inl (k.0, k.1, promise_of _ _ (FnReturnsAtMut g.F.Fn c.args.knot.now) (λ p q r m. m.1) _ _ _ k.2, k.3)
       | inr k ↦ inr (promise_of _ _ (FnReturnsAtMut g.F.Fn c.args.knot.now) (λ p q r m. m.1) _ _ _ k)
     ]

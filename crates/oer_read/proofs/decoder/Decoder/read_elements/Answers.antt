@@ -38,8 +38,8 @@ loop-i-preserved g c =
     let n = c.in_ok-empties.ensures.ok in
     let p = RanEach-push (FnReturnsAtMut g.F.Fn c.args.f) c.args.self.now c.args.start.now 0 c.loop-i.items.items c.loop-i.lent.input c.loop-i.empties c.in_ok-item.item k.0 c.loop-i.invariant.ran k.1 in
     record {
-      counted = rw c.in-Ok.ensures (omega (arith, length_push c.loop-i.items.items c.in_ok-item.item, c.loop-i.invariant.counted));
+      counted = rw c.in-Ok.ensures.kept (omega (arith, length_push c.loop-i.items.items c.in_ok-item.item, c.loop-i.invariant.counted));
       lends = rw k.2 refl;
-      ran = rw (c.in-Ok.ensures, n.0, c.remaining-before.ensures, c.remaining-left.ensures, k.2) p;
+      ran = rw (c.in-Ok.ensures.kept, n.0, c.remaining-before.ensures, c.remaining-left.ensures, k.2) p;
       few = n.1;
     }

@@ -21,7 +21,7 @@ pub loop-i-preserved : goal.loop-i-preserved
 loop-i-preserved g c =
     let (os, count, so_far, n, last, lends) = c.loop-i.invariant in
     let k = rw (n, last) at c.in-Ok.ensures.ok in
-    let items = c.in-Ok-keep.ensures in
+    let items = c.in-Ok-keep.ensures.kept in
     let p = push (Promised (g.D.Spelled.tree g.D.AsnType.CONSTRAINTS) g.D.Spelled.IsValue (g.D.Decode.Answered g.D.AsnType.CONSTRAINTS)) c.args.self.now c.args.start.now c.loop-i.items.items os c.loop-i.lent.input c.in-Ok.item c.in-Ok.octets.now c.next_element.new.lent.input c.in-Ok.count so_far k in
     let e = empties_push os c.in-Ok.octets.now in
     let m = k.counted in (
