@@ -1,9 +1,9 @@
 //! The calls for the type that a word of the program names. That the octets are those of the word's type is tested; the functions
 //! of one type promise it.
-ghost use Rattle.oer_calls.specs.Answers.{IsAnsweredByWord, IsCheckedByWord, options_for};
+ghost use Rattle.oer_calls.specs.Answers.{IsAnsweredByWord, IsCheckedByWord, IsFramedIfAny, options_for};
 
 use oer_calls::answer::Answer;
-use oer_calls::calls::{Outcome, Recoded, compared, placed, recode};
+use oer_calls::calls::{Checked, Outcome, Recoded, compared, placed, recode};
 use oer_calls::numbers::options_of;
 use oer_words::known::{OnType, with_type};
 use rasn_oer::oer::CodecError;
@@ -44,7 +44,57 @@ fn recoded(
     }
 }
 
-/// `canonicalise` of the word's type, by numbers; the answer says so if no type has the word, or there are no such options.
+/// `canonicalise` of the word's type; `None` if no type has the word.
+fn canonicalised(
+    alloc: Global,
+    word: &[u8],
+    options: DecoderOptions,
+    input: &[u8],
+    out: &mut [u8],
+) -> Option<Outcome>
+    ensures { IsFramedIfAny out.old result out.new }
+{
+    match recoded(alloc, word, options, input)? {
+        Err(e) => Some(Outcome::Refused(e)),
+        Ok(it) => Some(placed(it.octets.as_slice(), it.consumed, out)),
+    }
+}
+
+/// `check` of the word's type; `None` if no type has the word.
+fn checked(
+    alloc: Global,
+    word: &[u8],
+    options: DecoderOptions,
+    input: &[u8],
+) -> Option<Result<Checked, CodecError>> {
+    match recoded(alloc, word, options, input)? {
+        Err(e) => Some(Err(e)),
+        Ok(it) => Some(Ok(compared(it.octets.as_slice(), it.consumed, input))),
+    }
+}
+
+/// `convert` from one word's type to another's; `None` if no type has one of the words.
+fn converted(
+    alloc: Global,
+    words: (&[u8], &[u8]),
+    options: DecoderOptions,
+    input: &[u8],
+    out: &mut [u8],
+) -> Option<Outcome>
+    ensures { IsFramedIfAny out.old result out.new }
+{
+    let (from, to) = words;
+    let sent = match recoded(alloc, from, options, input)? {
+        Err(e) => return Some(Outcome::Refused(e)),
+        Ok(sent) => sent,
+    };
+    match recoded(alloc, to, options, sent.octets.as_slice())? {
+        Err(e) => Some(Outcome::NotConverted(e)),
+        Ok(wanted) => Some(placed(wanted.octets.as_slice(), sent.consumed, out)),
+    }
+}
+
+/// `canonicalise` of the word's type, by numbers.
 pub fn canonicalise_by_word(
     alloc: Global,
     word: &[u8],
@@ -55,34 +105,23 @@ pub fn canonicalise_by_word(
 ) -> Answer
     ensures { IsAnsweredByWord (options_for mode levels) out.old result out.new }
 {
-    let Some(options) = options_of(mode, levels) else {
-        return Answer::no_options();
-    };
-    match recoded(alloc, word, options, input) {
-        None => Answer::no_type(),
-        Some(Err(e)) => Answer::of_outcome(Outcome::Refused(e)),
-        Some(Ok(it)) => Answer::of_outcome(placed(it.octets.as_slice(), it.consumed, out)),
+    match options_of(mode, levels) {
+        None => Answer::no_options(),
+        Some(options) => Answer::of_word(canonicalised(alloc, word, options, input, out)),
     }
 }
 
-/// `check` of the word's type, by numbers; the answer says so if no type has the word, or there are no such options.
+/// `check` of the word's type, by numbers.
 pub fn check_by_word(alloc: Global, word: &[u8], mode: u32, levels: usize, input: &[u8]) -> Answer
     ensures { IsCheckedByWord (options_for mode levels) result }
 {
-    let Some(options) = options_of(mode, levels) else {
-        return Answer::no_options();
-    };
-    match recoded(alloc, word, options, input) {
-        None => Answer::no_type(),
-        Some(Err(e)) => Answer::of_checked(Err(e)),
-        Some(Ok(it)) => {
-            Answer::of_checked(Ok(compared(it.octets.as_slice(), it.consumed, input)))
-        }
+    match options_of(mode, levels) {
+        None => Answer::no_options(),
+        Some(options) => Answer::of_checked_word(checked(alloc, word, options, input)),
     }
 }
 
-/// `convert` from one word's type to another's, by numbers; the answer says so if no type has one of the words, or there are no
-/// such options.
+/// `convert` from one word's type to another's, by numbers.
 pub fn convert_by_words(
     alloc: Global,
     words: (&[u8], &[u8]),
@@ -93,19 +132,8 @@ pub fn convert_by_words(
 ) -> Answer
     ensures { IsAnsweredByWord (options_for mode levels) out.old result out.new }
 {
-    let Some(options) = options_of(mode, levels) else {
-        return Answer::no_options();
-    };
-    let sent = match recoded(alloc, words.0, options, input) {
-        None => return Answer::no_type(),
-        Some(Err(e)) => return Answer::of_outcome(Outcome::Refused(e)),
-        Some(Ok(sent)) => sent,
-    };
-    match recoded(alloc, words.1, options, sent.octets.as_slice()) {
-        None => Answer::no_type(),
-        Some(Err(e)) => Answer::of_outcome(Outcome::NotConverted(e)),
-        Some(Ok(wanted)) => {
-            Answer::of_outcome(placed(wanted.octets.as_slice(), sent.consumed, out))
-        }
+    match options_of(mode, levels) {
+        None => Answer::no_options(),
+        Some(options) => Answer::of_word(converted(alloc, words, options, input, out)),
     }
 }

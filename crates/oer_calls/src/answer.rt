@@ -2,7 +2,7 @@
 ghost use Rattle.std.specs.Prelude.{◌≡◌};
 ghost use Rattle.asn1_core.specs.Kinds.{decode_kind_name, encode_kind_name};
 ghost use Rattle.oer_calls.specs.Names.{read_name, write_name};
-ghost use Rattle.oer_calls.specs.Answers.{class_number, counted, refused, sized, numbered, tagged, read_answer, write_answer, answer_of, checked_answer};
+ghost use Rattle.oer_calls.specs.Answers.{class_number, counted, refused, sized, numbered, tagged, read_answer, write_answer, answer_of, checked_answer, word_answer, word_checked_answer};
 
 use crate::calls::{Checked, Outcome};
 use asn1_core::{Class, DecodeErrorKind as Kind, EncodeErrorKind, Tag};
@@ -183,6 +183,26 @@ impl Answer {
             }
             Err(CodecError::Decode(e)) => Answer::of_reading(UNREAD, e.kind),
             Err(CodecError::Encode(e)) => Answer::of_writing(UNWRITTEN, e.kind),
+        }
+    }
+
+    /// The answer of a call by a word: `no_type` where no type has it.
+    pub fn of_word(outcome: Option<Outcome>) -> Answer
+        ensures { result ≡ word_answer outcome }
+    {
+        match outcome {
+            None => Answer::no_type(),
+            Some(outcome) => Answer::of_outcome(outcome),
+        }
+    }
+
+    /// The answer of a check by a word: `no_type` where no type has it.
+    pub fn of_checked_word(checked: Option<Result<Checked, CodecError>>) -> Answer
+        ensures { result ≡ word_checked_answer checked }
+    {
+        match checked {
+            None => Answer::no_type(),
+            Some(checked) => Answer::of_checked(checked),
         }
     }
 
