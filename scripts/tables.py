@@ -3,7 +3,8 @@
 
 usage: oergen --list MODULE.asn.. | tables.py [--lines] > TABLE
 
-It is JSON, as the Python package takes it; with --lines a line for the words and one for each name, as oershow does. docs/WALKS.md says what the words are. Names of components are as oergen prints them. The types that modules name come first.
+It is JSON, as the Python package takes it; with --lines a line for the words and one for each name, as oershow does. docs/WALKS.md
+says what the words are. Names of components are as oergen prints them. The types that modules name come first.
 """
 import json
 import re

@@ -225,7 +225,10 @@ impl Knot<@NAME@Content<@NAME@>> for @NAME@ {
 }
 
 impl Decode for @NAME@ {
-@ANSWERED@
+    ghost use Rattle.rasn_oer.specs.Answering.{KnotAnswers};
+
+    ghost Answered = { λ c s r t. KnotAnswers ⟦<@NAME@ as Knot<@NAME@Content<@NAME@>>>⟧.content ⟦<@NAME@Content<@NAME@> as DecodeKnot<@NAME@>>⟧.answering s r t };
+
     fn decode_with_tag_and_constraints(
         alloc: Global,
         decoder: &mut Decoder<'_>,
@@ -236,18 +239,6 @@ impl Decode for @NAME@ {
     }
 }
 
-"#;
-
-/// What a knot promises of its answers.
-pub const ANSWERED: &str = r#"    ghost use Rattle.rasn_oer.specs.Answering.{KnotAnswers};
-
-    ghost Answered = { λ c s r t. KnotAnswers ⟦<@NAME@ as Knot<@NAME@Content<@NAME@>>>⟧.content ⟦<@NAME@Content<@NAME@> as DecodeKnot<@NAME@>>⟧.answering s r t };
-"#;
-
-/// What a knot promises that is a list of itself.
-pub const LIST_ANSWERED: &str = r#"    ghost use Rattle.std.specs.Prelude.{⊤};
-
-    ghost Answered = { λ c s r t. ⊤ };
 "#;
 
 /// What reads a knot by its content.

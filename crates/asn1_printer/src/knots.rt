@@ -2,8 +2,7 @@
 
 use crate::chains::Chain;
 use crate::knot_templates::{
-    ANSWERED, IS_CHOICE, KNOT, KNOT_IMPLS, LIST, LIST_ANSWERED, LIST_READER, MEMBER, OWN_USES,
-    READER, TIED, WEIGHED,
+    IS_CHOICE, KNOT, KNOT_IMPLS, LIST, LIST_READER, MEMBER, OWN_USES, READER, TIED, WEIGHED,
 };
 use crate::text::{Text, Words};
 use asn1_layouts::definitions::{Definition, Tie};
@@ -93,13 +92,11 @@ pub fn push_knot(
     words.begin("TIED").push_text(&tied);
     let weighed = filled(alloc, WEIGHED, &words);
     words.begin("WEIGHED").push_text(&weighed);
-    let (answered, reader) = if is_list_of_itself(definition) {
-        (LIST_ANSWERED, LIST_READER)
+    let reader = if is_list_of_itself(definition) {
+        LIST_READER
     } else {
-        (ANSWERED, READER)
+        READER
     };
-    let answered = filled(alloc, answered, &words);
-    words.begin("ANSWERED").push_text(&answered);
     let reader = filled(alloc, reader, &words);
     words.begin("READER").push_text(&reader);
     out.fill(KNOT_IMPLS, &words);

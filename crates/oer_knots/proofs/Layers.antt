@@ -32,18 +32,6 @@ module _ {K C : Type 0} (content : K → C) (c : Answering K C) (P : Beside K) (
   unfolding within
   layer_refuses s u x k = c.also P (within content c n) h s (Err x) u k
 
--- ---- what holds each value is read where the value is
-
-module _ {K B : Type 0} (tree : B → Tree) (IsValue : B → Type 0) (content : B → K) (inner : K → Tree) (IsInner : K → Type 0) (l : IsLayered tree IsValue content inner IsInner) (holder : K → B) (holds : (v : K) → content (holder v) ≡ v) where
-  only_held : (v : K) → IsInner v → (b : B) × (inner v ≡ tree b) × IsValue b
-  only_held v i = (holder v, sym (l.same (holder v) ∙ ap inner (holds v)), l.back (holder v) (subst IsInner (sym (holds v)) i))
-
-  pub held_read : (s u : State) (b : B) (v : K) → content b ≡ v → Decodes tree IsValue s (Ok b) u → Decodes inner IsInner s (Ok v) u
-  held_read s u b v e d = alternative_made inner IsInner tree IsValue only_held s u b v (subst IsInner e (l.out b d.read.value)) (ap inner (sym e) ∙ sym (l.same b)) d
-
-  pub held_stops : (s u : State) (x : DecodeError) → Decodes tree IsValue s (Err x) u → Decodes inner IsInner s (Err x) u
-  held_stops s u x d = alternative_refused inner IsInner tree IsValue only_held (λ y. y ≡ x) s u x (Err x) d refl (λ y p. p)
-
 -- ---- what was written of a layer was of the value
 
 pub layer_done : (t u : Tree) (r : Result (Unit {0}) EncodeError) (e f : Written) → t ≡ u → OnOk r (Encodes u e f) → OnOk r (Encodes t e f)

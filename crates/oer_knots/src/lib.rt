@@ -23,7 +23,7 @@ pub use choices::{
 };
 pub use held::{Bare, Held};
 pub use knots::{Knot, Layered, decode_knotted, layer_of};
-pub use own_lists::{Element, decode_list_of_itself};
+pub use own_lists::decode_list_of_itself;
 pub use reading::ReadsKnot;
 pub use rows::KnotRow;
 pub use sequences::{KnotRowed, TakesKnot, read_knot_row};

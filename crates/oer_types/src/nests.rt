@@ -1,8 +1,9 @@
 //! A list of itself.
-ghost use Rattle.std.specs.Prelude.{OnOk, IfErr, refl, ⊤};
+ghost use Rattle.std.specs.Prelude.{OnOk, IfErr, refl};
 ghost use Rattle.oer_write.specs.Written.{Encodes, Refused};
 ghost use Rattle.asn1_core.specs.declared.constraints.TheConstants.Constraints.{NONE};
 ghost use Rattle.asn1_core.specs.declared.tag.TheConstants.Tag.{SEQUENCE};
+ghost use Rattle.rasn_oer.specs.Answering.{KnotAnswers};
 ghost use Rattle.rasn_oer.specs.Knots.{knot, knot_layers, layer, knot_layered};
 
 use rasn_oer::prelude::*;
@@ -95,7 +96,7 @@ impl Knot<NestContent<Nest>> for Nest {
 }
 
 impl Decode for Nest {
-    ghost Answered = { λ c s r t. ⊤ };
+    ghost Answered = { λ c s r t. KnotAnswers ⟦<Nest as Knot<NestContent<Nest>>>⟧.content ⟦<NestContent<Nest> as DecodeKnot<Nest>>⟧.answering s r t };
 
     fn decode_with_tag_and_constraints(
         alloc: Global,

@@ -312,9 +312,9 @@ impl Knot<NestContent<Nest>> for Nest {
 }
 
 impl Decode for Nest {
-    ghost use Rattle.std.specs.Prelude.{⊤};
+    ghost use Rattle.rasn_oer.specs.Answering.{KnotAnswers};
 
-    ghost Answered = { λ c s r t. ⊤ };
+    ghost Answered = { λ c s r t. KnotAnswers ⟦<Nest as Knot<NestContent<Nest>>>⟧.content ⟦<NestContent<Nest> as DecodeKnot<Nest>>⟧.answering s r t };
 
     fn decode_with_tag_and_constraints(
         alloc: Global,
