@@ -1,6 +1,5 @@
 -- From what reading and writing promise to the calls over a caller's octets.
-use Rattle.std.proofs.Common.{◌≡◌, ℕ, ◌+◌, ◌-◌, ◌≤◌, ◌++◌, length, take, ap, sym, subst, ◌∙◌, refl, arith, length-append, Result, Ok, Err}
-use Rattle.std.specs.Prelude.{Bool, true, false}
+use Rattle.std.proofs.Common.{◌≡◌, ℕ, ◌+◌, ◌-◌, ◌≤◌, length, take, ap, sym, subst, ◌∙◌, refl, arith, length-append, Result, Ok, Err}
 use Rattle.std.proofs.Math.Seq.{take-append_seam}
 use Rattle.asn1_core.specs.Octets.{Octets}
 use Rattle.asn1_core.specs.declared.codec.Codec.{Codec}
@@ -12,7 +11,7 @@ use Rattle.rasn_oer.proofs.Conversions.{read_as_older, none_is_older, read_as_ne
 use Rattle.rasn_oer.specs.Headline.{started, Decoded, Encoded, SaysAlone}
 use Rattle.rasn_oer.specs.declared.codec_error.CodecError.{CodecError}
 use Rattle.rasn_oer.specs.declared.codec_error.CodecError.TheVariants.{Decode, Encode}
-use Rattle.oer_calls.specs.Calls.{CanonicalOf, ConvertedTo, HasNoOther, HasUnwrittenOther, IsCanonicalised, IsChecked, IsCompared, IsConverted, IsPlaced, IsRefused, IsVerdict}
+use Rattle.oer_calls.specs.Calls.{CanonicalOf, ConvertedTo, IsCanonicalised, IsChecked, IsCompared, IsConverted, IsPlaced, IsRefused, IsVerdict}
 use Rattle.oer_calls.specs.declared.calls.Checked.{Checked}
 use Rattle.oer_calls.specs.declared.calls.Outcome.{Outcome}
 use Rattle.oer_calls.specs.declared.calls.Outcome.TheVariants.{Done, NoRoom, Refused, NotConverted}

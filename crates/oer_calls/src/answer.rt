@@ -6,7 +6,6 @@ ghost use Rattle.oer_calls.specs.Answers.{class_number, counted, refused, sized,
 
 use crate::calls::{Checked, Outcome};
 use asn1_core::{Class, DecodeErrorKind as Kind, EncodeErrorKind, Tag};
-use rasn_oer::DecoderOptions;
 use rasn_oer::oer::CodecError;
 
 /// A call did what it was asked for.
@@ -26,7 +25,7 @@ pub const UNREAD_AS_OTHER: u32 = 6;
 /// Writing as the other version was refused.
 pub const UNWRITTEN_AS_OTHER: u32 = 7;
 
-/// What became of a call, as C has it: `jilgomt_answer` of include/jilgomt.h. What doesn't go with the status is 0.
+/// What became of a call, as C has it. What doesn't go with the status is 0.
 #[repr(C)]
 #[derive(Debug, Clone, Copy, PartialEq, Eq)]
 pub struct Answer {

@@ -1,5 +1,5 @@
 //! Calls over octets that the caller owns: canonical octets, whether octets are canonical, and those of another version.
-//! They stand behind the functions that `jilgomt` exports to C.
+//! They are made to be exported to C.
 #![tactic(auto)]
 
 pub mod answer;
