@@ -1,18 +1,16 @@
 //! The library for C. include/jilgomt.h declares these functions, and docs/CALLING.md says what a caller owes.
 #![tactic(auto)]
 
-ghost use Rattle.std.specs.Prelude.{◌≡◌, codes, length, min};
-ghost use Rattle.jilgomt.specs.Walks.{IsWalkAnswer, walk_answer};
+ghost use Rattle.std.specs.Prelude.{◌≡◌, codes};
 ghost use Rattle.oer_calls.specs.Answers.{IsAnsweredByWord, IsCheckedByWord, options_for};
 ghost use Rattle.oer_calls.specs.Names.{IsTold, name_for};
-ghost use Rattle.oer_walk.specs.Parts.{ArePlaced};
 
 mod types;
+mod walks;
 mod words;
 
 use oer_calls::answer::Answer;
 use oer_calls::names::{kind_name, told};
-use oer_walk::{Node, Walked, walk};
 use std::alloc::Global;
 use words::{canonicalise_by_word, check_by_word, convert_by_words};
 
@@ -69,37 +67,6 @@ pub extern "C" fn jilgomt_convert(
     ensures answered { IsAnsweredByWord (options_for mode levels) out.old answer.new out.new }
 {
     *answer = convert_by_words(alloc, (from, to), mode, levels, input, out);
-    answer.status
-}
-
-/// The answer of a walk with room for so many nodes.
-fn answer_of_walk(room: usize, walked: Walked) -> Answer
-    ensures { result ≡ walk_answer room walked }
-{
-    match walked.refusal {
-        Some(kind) => Answer::stopped(kind, walked.consumed, walked.nodes),
-        None if room < walked.nodes => Answer::no_room(walked.consumed, walked.nodes),
-        None => Answer::done(walked.consumed, walked.nodes),
-    }
-}
-
-/// Where each part of the value at the front of the input lies, by a table of types: as many nodes as there is room for.
-/// `written` counts all of them. If the walk stopped, `consumed` is where the part begins that it stopped in.
-#[unsafe(no_mangle)]
-pub extern "C" fn jilgomt_walk(
-    table: &[u32],
-    type_number: u32,
-    levels: u32,
-    input: &[u8],
-    nodes: &mut [Node],
-    answer: &mut Answer,
-) -> u32
-    ensures status { result ≡ answer.new.status }
-    ensures answered { IsWalkAnswer (length nodes.old) answer.new }
-    ensures placed { ArePlaced (length input.now) (min answer.new.written (length nodes.new)) nodes.new }
-{
-    let room = nodes.len();
-    *answer = answer_of_walk(room, walk(table, type_number, levels, input, nodes));
     answer.status
 }
 
