@@ -1,3 +1,4 @@
+-- All definitions of asn1_core, asn1_strings and asn1_times, which this crate passes on.
 pub use Rattle.asn1_core.specs.Kinds
 pub use Rattle.asn1_core.specs.Tags
 pub use Rattle.asn1_core.specs.Rows

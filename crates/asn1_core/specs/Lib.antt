@@ -1,3 +1,4 @@
+-- The definitions that contracts cite: kinds of refusal, tags, tables, octets, numbers, texts, constraints, and multisets.
 pub mod Kinds
 pub mod Tags
 pub mod Rows

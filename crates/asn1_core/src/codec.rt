@@ -1,3 +1,5 @@
+//! The modes of reading: by the basic and by the canonical octet encoding rules (X.696).
+
 /// The encoding rules that octets are read by.
 ///
 /// Writing is canonical in both.

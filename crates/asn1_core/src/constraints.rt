@@ -1,3 +1,4 @@
+//! Constraints of values and of sizes: what each allows, and a type's own narrowed by others (X.680, clauses 49 to 51).
 ghost use Rattle.std.specs.Option.{option_copied};
 ghost use Rattle.std.specs.Ordering.{partial_le};
 ghost use Rattle.std.specs.Prelude.{◌≡◌};

@@ -1,3 +1,4 @@
+//! The kinds of refusal in reading and in writing, with their names and messages, and the errors that hold them.
 ghost use Rattle.std.specs.Prelude.{◌≡◌};
 ghost use Rattle.asn1_core.specs.Kinds.{decode_kind_name, encode_kind_name};
 

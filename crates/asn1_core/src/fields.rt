@@ -1,3 +1,4 @@
+//! Tables of components: their rows, and iterators over them in tag order and over those that may be absent.
 ghost use Rattle.std.specs.Iterator.{YieldsFirst, item_count};
 ghost use Rattle.std.specs.Option.{option_copied};
 ghost use Rattle.std.specs.Prelude.{◌≡◌, ◌==◌, length, map, not, Option};

@@ -1,3 +1,4 @@
+//! SET OF: a list whose order doesn't count when it is compared.
 ghost use Rattle.std.specs.Prelude.{◌≡◌, ◌==◌, ◌++◌, ◌∷◌, [], IfOk, List, OnErr, OnOk, count_by, length, map};
 ghost use Rattle.std.specs.Slice.Iter.{iter_rest};
 ghost use Rattle.asn1_core.specs.Multisets.{agree_on};

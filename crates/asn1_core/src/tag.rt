@@ -1,3 +1,4 @@
+//! Tags: their classes, numbers and order, and the universal tags (X.680, clause 8).
 ghost use Rattle.std.specs.Prelude.{◌≡◌};
 
 /// The class of a tag (X.680, clause 8), in the order of tags (X.680, 8.6).

@@ -1,3 +1,4 @@
+//! The traits of ASN.1 types: of each type, of ENUMERATED, of CHOICE, and of SEQUENCE, SET and addition groups.
 use crate::constraints::Constraints;
 use crate::fields::{Field, Fields};
 use crate::tag::Tag;

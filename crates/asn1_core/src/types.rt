@@ -1,3 +1,4 @@
+//! The tags and constraints of Rust's own types, such as bool, String, Vec, Box and the integers, and of `SetOf`.
 ghost use Rattle.std.specs.Prelude.{false, refl, pos, negsuc, ◌^◌, ◌-◌};
 ghost use Rattle.asn1_core.specs.Bounds.{values_between};
 ghost use Rattle.asn1_core.specs.declared.constraints.TheConstants.Constraints.{NONE};

@@ -1,3 +1,4 @@
+//! Whole numbers of any size whose type has a range as its constraint.
 ghost use Rattle.std.specs.Prelude.{◌≡◌, ◌&&◌, int_le, cond, Some, None};
 
 use crate::integer::Integer;

@@ -1,3 +1,4 @@
+//! Whole numbers of any size: one of i128 takes no memory, another is kept in its shortest octets.
 ghost use Rattle.std.specs.Prelude.{◌≡◌, ◌==◌, pos, Some, None, IfOk, IsOk, cond, length, int_lt, true};
 ghost use Rattle.asn1_core.specs.Octets.{signed, unsigned};
 ghost use Rattle.asn1_core.specs.Numbers.{in_i128, signed_octets};

@@ -1,3 +1,4 @@
+//! The trait of types that an INTEGER is held in: from the octets of a number, and to its shortest octets (X.696, 10).
 ghost use Rattle.std.specs.Prelude.{◌≡◌, ℤ, pos, Bool, true, false, int_lt};
 ghost use Rattle.asn1_core.specs.Octets.{signed, unsigned};
 ghost use Rattle.asn1_core.specs.Numbers.{signed_octets, unsigned_octets};

@@ -1,3 +1,4 @@
+//! How a whole number of any size is kept, and the equality and the order of such numbers.
 ghost use Rattle.std.specs.Prelude.{◌≡◌, nat_le, slice_index};
 ghost use Rattle.std.specs.Ordering.{int_eq, int_cmp};
 ghost use Rattle.asn1_core.specs.Octets.{signed};

@@ -1,3 +1,4 @@
+//! The octets of numbers, in two's complement and unsigned: their number, the shortest ones, and how they are appended.
 ghost use Rattle.std.specs.Prelude.{◌≡◌, ◌<◌, ◌+◌, ◌*◌, ◌*ℤ◌, ◌+ℤ◌, pos, [], ◌^◌, option_map, length, slice_index, nat_le};
 ghost use Rattle.asn1_core.specs.Octets.{unsigned, signed};
 ghost use Rattle.asn1_core.specs.Numbers.{number_octets, signed_octets, has_superfluous_zero, has_superfluous_sign};

@@ -1,3 +1,4 @@
+//! Rust's integer types as types that an INTEGER is held in: those within i128 by one trait, and u128.
 ghost use Rattle.std.specs.Prelude.{◌≡◌, ℤ, Bool, true, false, cond, Some, None, option_map};
 ghost use Rattle.asn1_core.specs.Numbers.{in_i128};
 

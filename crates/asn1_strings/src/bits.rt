@@ -1,3 +1,4 @@
+//! BIT STRING: bits in whole octets, the first bit highest (X.680, clause 22).
 ghost use Rattle.std.specs.Prelude.{◌≡◌, ◌≢◌, ◌==◌, ◌<◌, ◌≤◌, length, take, if◌then◌else◌, Option, Ok, IfOk, slice_get};
 ghost use Rattle.asn1_core.specs.Octets.{bits_of, octets_for, octet_of, bits8, pack};
 

@@ -1,3 +1,4 @@
+//! BMPString: made of 16-bit units, and copied out as octets.
 ghost use Rattle.std.specs.Prelude.{◌≡◌, IfOk};
 ghost use Rattle.asn1_strings.specs.Characters.{units_octets};
 

@@ -1,3 +1,4 @@
+//! Restricted character string types, each by its tag and the octets that its texts may have (X.680, clause 41).
 use crate::strings::{CharacterSet, RestrictedString};
 use asn1_core::Tag;
 

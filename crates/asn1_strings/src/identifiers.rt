@@ -1,3 +1,4 @@
+//! OBJECT IDENTIFIER: its arcs, and the contents octets that they are written as and read from (X.690, 8.19).
 ghost use Rattle.std.specs.Prelude.{◌≡◌, ◌≤◌, ◌++◌, ◌⊎◌, List, ℕ, true, false, if◌then◌else◌, IfOk, IfErr, OnOk};
 ghost use Rattle.std.specs.Option.{option_map};
 ghost use Rattle.std.specs.List.{flat_map};

@@ -1,3 +1,4 @@
+//! OCTET STRING, and the octets of an open type.
 ghost use Rattle.std.specs.Prelude.{◌≡◌, ◌==◌, length, IfOk};
 ghost use Rattle.asn1_core.specs.Octets.{AreOctets};
 

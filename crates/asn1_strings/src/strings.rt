@@ -1,3 +1,4 @@
+//! Restricted character strings: texts of whole characters of a type's alphabet (X.680, clause 41).
 ghost use Rattle.std.specs.Prelude.{◌≡◌, ◌==◌, ◌/◌, ◌↔◌, length, IfOk, IfErr, IsErrOf, IsTrue};
 ghost use Rattle.std.specs.List.{list_all};
 ghost use Rattle.asn1_core.specs.Octets.{AreOctets};

@@ -1,3 +1,4 @@
+//! Reads the texts of UTCTime, GeneralizedTime and DATE.
 ghost use Rattle.std.specs.Prelude.{◌≡◌, ◌+◌, ◌≤◌, ◌<◌, ◌^◌, ◌++◌, ◌∷◌, [], true, Some, length, take, is_some, IfSome};
 ghost use Rattle.std.specs.List.{list_all};
 ghost use Rattle.asn1_core.specs.Texts.{is_digit, digits_at, is_day, is_clock, full_year, is_fraction, is_ending, is_utc, is_generalized, is_date};

@@ -1,3 +1,4 @@
+//! The text of a time or a day in an array of its own, and how digits are appended to it.
 ghost use Rattle.std.specs.Prelude.{◌≡◌, ◌+◌, ◌≤◌, ◌<◌, ◌∷◌, ◌++◌, [], length};
 ghost use Rattle.asn1_times.specs.Times.{decimal, pairs, without_zeros, fraction};
 

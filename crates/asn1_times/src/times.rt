@@ -1,3 +1,4 @@
+//! UTCTime, GeneralizedTime and DATE: civil values, made of texts and written as texts (X.680, clauses 38, 46 and 47).
 ghost use Rattle.std.specs.Prelude.{◌≡◌, ◌≢◌, ◌<◌, Some, is_ok, IfOk, IfErr, OnErr};
 ghost use Rattle.std.specs.Option.{ok_or};
 ghost use Rattle.asn1_core.specs.Texts.{is_utc, is_generalized, is_date};

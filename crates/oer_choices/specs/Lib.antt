@@ -1,3 +1,4 @@
+-- The definitions that contracts cite: alternatives of choices, how they are written, why they were not read; enumerated types.
 pub mod Choosing
 pub mod Refusals
 pub mod Numbered

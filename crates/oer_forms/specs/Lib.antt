@@ -1,3 +1,4 @@
+-- All definitions of oer_spec, which this crate passes on.
 pub use Rattle.oer_spec.specs.Mode
 pub use Rattle.oer_spec.specs.Orders
 pub use Rattle.oer_spec.specs.Tree

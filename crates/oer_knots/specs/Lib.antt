@@ -1,3 +1,4 @@
+-- The definitions that contracts cite: types that contain themselves, and rows, choices and lists that hold values of them.
 pub mod Additions
 pub mod Answering
 pub mod Choices

@@ -1,3 +1,4 @@
+-- The definitions that contracts cite: values borrowed from the input, the reading of enumerated values, and want of memory.
 pub mod Views
 pub mod ReadingEnumerated
 pub mod ReadingMemory

@@ -1,3 +1,4 @@
+//! Bits in octets of the input, read one by one: those of a preamble or of an extension bitmap.
 ghost use Rattle.std.specs.Prelude.{◌≡◌, ◌<◌, ◌+◌, ◌/◌, length, false, slice_index_or, option_map};
 ghost use Rattle.asn1_core.specs.Octets.{bits_of};
 ghost use Rattle.oer_spec.specs.Bits.{front_bits, first_bit, has_no_bit, any_set};

@@ -1,3 +1,4 @@
+//! Reads a BIT STRING (X.696, 13).
 ghost use Rattle.std.specs.Prelude.{◌≡◌, ◌<◌, ◌≤◌, ◌^◌, length, IfOk, IfErr};
 ghost use Rattle.asn1_core.specs.Octets.{octets_for};
 ghost use Rattle.asn1_core.specs.Bounds.{size_bounds};

@@ -1,3 +1,4 @@
+//! Tests of unused bits: whether one of them is set, and whether they are too many.
 ghost use Rattle.std.specs.Prelude.{◌≡◌, ◌<◌};
 ghost use Rattle.oer_spec.specs.Bits.{has_set_fill};
 ghost use Rattle.oer_spec.specs.ReadingBits.{is_overfull};

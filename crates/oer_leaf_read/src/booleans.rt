@@ -1,3 +1,4 @@
+//! Reads a BOOLEAN (X.696, 9).
 ghost use Rattle.std.specs.Prelude.{IfErr};
 ghost use Rattle.oer_spec.specs.Leaves.{IsLeafEncoding};
 ghost use Rattle.oer_spec.specs.Mode.{mode_of};

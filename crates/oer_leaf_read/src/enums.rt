@@ -1,3 +1,4 @@
+//! Reads the number of an enumerated value (X.696, 11).
 ghost use Rattle.std.specs.Prelude.{◌≡◌, IfErr};
 ghost use Rattle.asn1_core.specs.Octets.{signed};
 ghost use Rattle.oer_spec.specs.Mode.{mode_of};

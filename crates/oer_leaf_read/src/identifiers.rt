@@ -1,3 +1,4 @@
+//! Reads an OBJECT IDENTIFIER (X.696, 21).
 ghost use Rattle.std.specs.Prelude.{◌≡◌, true, None, IfOk};
 ghost use Rattle.asn1_core.specs.Texts.{Identifier};
 ghost use Rattle.asn1_core.specs.declared.error.DecodeErrorKind.TheVariants.{InvalidObjectIdentifier};

@@ -1,3 +1,4 @@
+//! Reads an INTEGER, laid out by its value constraint (X.696, 10).
 ghost use Rattle.std.specs.Prelude.{◌≡◌, pos, false, true, IfErr};
 ghost use Rattle.asn1_core.specs.Bounds.{value_bounds, in_range};
 ghost use Rattle.asn1_core.specs.Octets.{signed, unsigned};

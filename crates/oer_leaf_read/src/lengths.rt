@@ -1,3 +1,4 @@
+//! Reads a length, and the octets behind one (X.696, 8.6).
 ghost use Rattle.std.specs.Prelude.{IfErr};
 ghost use Rattle.oer_spec.specs.Lengths.{IsLength, IsBehindLength};
 ghost use Rattle.oer_spec.specs.Mode.{mode_of};

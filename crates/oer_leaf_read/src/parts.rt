@@ -1,3 +1,4 @@
+//! What readers are made of: octets at the front, the test of canonical reading, and unsigned numbers.
 ghost use Rattle.std.specs.Prelude.{◌≡◌, ◌^◌, IfErr};
 ghost use Rattle.asn1_core.specs.Octets.{unsigned};
 ghost use Rattle.oer_spec.specs.Reading.{Gives, IsNotForMemory, octet_at, octets_at, canonical, begins_with_zero, if_below};

@@ -1,3 +1,4 @@
+//! Reads preambles and extension bitmaps, and skips unknown additions (X.696, 16).
 ghost use Rattle.std.specs.Prelude.{◌≡◌, length, IfErr};
 ghost use Rattle.oer_spec.specs.Lengths.{IsBitmap};
 ghost use Rattle.oer_spec.specs.Mode.{mode_of};

@@ -1,3 +1,4 @@
+//! Reads a quantity: how many elements a list has (X.696, 17.2).
 ghost use Rattle.std.specs.Prelude.{IfErr};
 ghost use Rattle.oer_spec.specs.Lengths.{IsQuantity};
 ghost use Rattle.oer_spec.specs.Mode.{mode_of};

@@ -1,3 +1,4 @@
+//! Reads a tag (X.696, 8.7).
 ghost use Rattle.std.specs.Prelude.{◌≡◌, IfErr};
 ghost use Rattle.oer_spec.specs.Mode.{mode_of};
 ghost use Rattle.oer_spec.specs.Reading.{Gives, seen, ReadsFront, IsNotForMemory, class_of, more_groups_at, groups_at, long_tag_at, tag_at, IsTag32};

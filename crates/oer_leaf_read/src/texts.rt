@@ -1,3 +1,4 @@
+//! Reads octet strings, open types' octets and character strings (X.696, 14, 30 and 27).
 ghost use Rattle.std.specs.Prelude.{IfErr, None};
 ghost use Rattle.asn1_core.specs.Bounds.{size_bounds};
 ghost use Rattle.asn1_core.specs.Texts.{AnyOctets, Utf8, Obeys, unit_of};

@@ -1,3 +1,4 @@
+//! Reads a time or a day by its text (X.696, 29).
 ghost use Rattle.std.specs.Prelude.{List, ℕ, None, IfErr};
 ghost use Rattle.oer_spec.specs.Leaves.{IsLeafEncoding};
 ghost use Rattle.oer_spec.specs.Mode.{mode_of};

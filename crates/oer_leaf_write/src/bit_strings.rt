@@ -1,3 +1,4 @@
+//! Writes a BIT STRING (X.696, 13).
 ghost use Rattle.std.specs.Prelude.{◌≡◌, ◌+◌, ◌≤◌, ◌^◌, ◌<◌, ◌∷◌, length, MatchResult, Some, None};
 ghost use Rattle.asn1_core.specs.Bounds.{size_bounds};
 ghost use Rattle.oer_spec.specs.Failures.{first_failure};

@@ -1,3 +1,4 @@
+//! Writes a BOOLEAN (X.696, 9).
 ghost use Rattle.oer_spec.specs.Tree.{Boolean};
 ghost use Rattle.oer_spec.specs.Writing.{AppendsLeaf};
 

@@ -1,3 +1,4 @@
+//! Writes the number of an enumerated value (X.696, 11).
 ghost use Rattle.std.specs.Prelude.{◌≡◌, ◌+◌, ◌++◌, ◌∷◌, true, length};
 ghost use Rattle.asn1_core.specs.Numbers.{in_isize, signed_octets};
 ghost use Rattle.oer_spec.specs.Tree.{Enum};

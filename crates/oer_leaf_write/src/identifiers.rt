@@ -1,3 +1,4 @@
+//! Writes an OBJECT IDENTIFIER: its contents octets, and then the length in front of them (X.696, 21).
 ghost use Rattle.std.specs.Prelude.{◌≡◌, ◌≤◌, ◌+◌, ◌++◌, take, drop, length, vec_len, true, if◌then◌else◌, MatchResult};
 ghost use Rattle.asn1_core.specs.declared.error.EncodeErrorKind.TheVariants.{InvalidObjectIdentifier, OutOfMemory};
 ghost use Rattle.asn1_strings.specs.Identifiers.{is_identifier, arcs_octets};

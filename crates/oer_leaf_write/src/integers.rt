@@ -1,3 +1,4 @@
+//! Writes an INTEGER, laid out by its value constraint (X.696, 10).
 ghost use Rattle.std.specs.Prelude.{◌≡◌, ◌<◌, ◌≤◌, pos, true, false, length, int_lt};
 ghost use Rattle.asn1_core.specs.Bounds.{value_bounds};
 ghost use Rattle.asn1_core.specs.Numbers.{signed_octets};

@@ -1,3 +1,4 @@
+//! Writes a length, and octets behind one (X.696, 8.6).
 ghost use Rattle.std.specs.Prelude.{◌≡◌, ◌≤◌, length};
 ghost use Rattle.std.specs.Int.Digits.{digits_of};
 ghost use Rattle.asn1_core.specs.Octets.{unsigned};

@@ -1,3 +1,4 @@
+//! Writes preambles and extension bitmaps (X.696, 16).
 ghost use Rattle.std.specs.Prelude.{◌≡◌, ◌*◌, ◌+◌, ◌<◌, ◌^◌, length, drop};
 ghost use Rattle.asn1_core.specs.Octets.{bit_at, octet_of, pack};
 ghost use Rattle.oer_spec.specs.Lengths.{counted_bits};

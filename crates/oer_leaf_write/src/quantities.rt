@@ -1,3 +1,4 @@
+//! Writes a quantity: how many elements a list has (X.696, 17.2).
 ghost use Rattle.std.specs.Prelude.{◌≤◌};
 ghost use Rattle.oer_spec.specs.Lengths.{quantity_octets};
 ghost use Rattle.oer_spec.specs.Writing.{AppendsOrMemory};

@@ -1,3 +1,4 @@
+//! Writes a tag (X.696, 8.7).
 ghost use Rattle.std.specs.Prelude.{◌≡◌, ◌≤◌, ◌+◌, ◌/◌, ◌%◌, ◌++◌, ◌∷◌, [], map};
 ghost use Rattle.std.specs.Int.Digits.{digits_of};
 ghost use Rattle.asn1_core.specs.Tags.{class_number};

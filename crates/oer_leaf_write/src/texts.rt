@@ -1,3 +1,4 @@
+//! Writes octet strings, open types' octets and character strings (X.696, 14, 30 and 27).
 ghost use Rattle.std.specs.Prelude.{◌≡◌, ◌/◌, length, MatchResult, Some, None};
 ghost use Rattle.asn1_core.specs.Bounds.{size_bounds};
 ghost use Rattle.asn1_core.specs.Texts.{Rule, AnyOctets, Utf8};

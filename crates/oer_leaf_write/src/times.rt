@@ -1,3 +1,4 @@
+//! Writes a time or a day by its text (X.696, 29).
 ghost use Rattle.std.specs.Prelude.{List, ℕ, None};
 ghost use Rattle.oer_spec.specs.TimeTexts.{time_content};
 ghost use Rattle.oer_spec.specs.Tree.{Text};

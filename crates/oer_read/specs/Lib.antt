@@ -1,3 +1,4 @@
+-- The definitions that contracts cite: what is seen of a decoder, the law of reading, and what scopes, lists and choices do.
 pub mod State
 pub mod Law
 pub mod Parts

@@ -1,3 +1,4 @@
+-- The definitions of which octets spell which value (X.696), their laws and examples, and what reading and writing answer.
 pub mod Mode
 pub mod Orders
 pub mod Tree

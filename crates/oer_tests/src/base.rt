@@ -1,3 +1,4 @@
+//! Tests of tags, narrowed constraints, tables in tag order, and sets without an order.
 use asn1_base::{Bounded, Class, Constraints, Field, FieldPresence, Fields, SetOf, Tag};
 use std::test::Fail;
 

@@ -1,3 +1,4 @@
+//! Tests of the types that an INTEGER is held in: their octets, their order, and the range of a constrained one.
 use asn1_base::{AsnType, Codec};
 use asn1_ints::{ConstrainedInteger, Integer, IntegerRange, IntegerType};
 use std::alloc::Global;

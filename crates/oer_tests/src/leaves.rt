@@ -1,3 +1,4 @@
+//! Tests of the readers and writers of strings, identifiers, times, preambles and extension bitmaps.
 use crate::numbers::{Input, codec_of, constraints_of, refused, told};
 use asn1_base::{
     BmpCharacters, BmpString, Constraints, Date, EncodeErrorKind, GeneralizedTime, Ia5Characters,

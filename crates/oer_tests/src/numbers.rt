@@ -1,3 +1,4 @@
+//! Tests of readers and writers of lengths, quantities, tags, booleans, enumerated values and integers; helpers for leaves.rt.
 use asn1_base::{Bounded, Codec, Constraints, DecodeErrorKind, EncodeErrorKind};
 use asn1_ints::{Integer, IntegerType};
 use oer_forms::leaf::{

@@ -1,3 +1,4 @@
+//! Tests of the values of object identifiers, bit strings, octets, character strings and times.
 use asn1_base::{
     Any, BitString, BmpString, Codec, Date, GeneralString, GeneralizedTime, GraphicString,
     Ia5String, NumericString, ObjectIdentifier, OctetString, PrintableString, StringError,

@@ -1,3 +1,4 @@
+-- The definitions that contracts cite: what is seen of an encoder, its insertions, and what scopes, lists and choices do.
 pub mod Written
 pub mod Layout
 pub mod Inserted

@@ -1,3 +1,4 @@
+//! The encoding rules that an encoder's options name: basic or canonical (X.696).
 ghost use Rattle.std.specs.Prelude.{◌≡◌, true, false};
 ghost use Rattle.oer_write.specs.Rules.{is_oer, is_coer};
 

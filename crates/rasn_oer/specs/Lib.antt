@@ -1,3 +1,4 @@
+-- What the calls promise, and the definitions of other crates that a type's own contracts name through this one.
 pub mod Headline
 pub mod Conversions
 -- what a type by its row names

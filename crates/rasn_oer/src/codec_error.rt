@@ -1,3 +1,4 @@
+//! The error of a call that reads and writes: what reading refused, or what writing refused.
 use asn1_core::{DecodeError, EncodeError};
 use thiserror::Error;
 

@@ -1,3 +1,4 @@
+//! How many octets bits take, and how many bits of the last octet are unused (X.696, 13).
 ghost use Rattle.std.specs.Prelude.{◌≡◌, ◌<◌};
 ghost use Rattle.asn1_core.specs.Octets.{octets_for};
 ghost use Rattle.oer_spec.specs.ReadingBits.{unused_for};

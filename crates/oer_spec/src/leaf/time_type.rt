@@ -1,3 +1,4 @@
+//! The trait of types of times and of days: the text of a value, and the value of a text (X.696, 29).
 use asn1_times::{Date, GeneralizedTime, TimeText, UtcTime};
 
 /// A type of times or of days, whose values have texts (X.696, 29; the project's own choice of one text each).

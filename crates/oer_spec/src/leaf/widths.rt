@@ -1,3 +1,4 @@
+//! How an INTEGER is laid out under a value constraint, and whether that allows a number (X.696, 10).
 ghost use Rattle.std.specs.Prelude.{◌≡◌};
 ghost use Rattle.asn1_core.specs.Bounds.{in_range, value_bounds};
 ghost use Rattle.oer_spec.specs.Leaves.{width_of, signed_width, unsigned_width};
