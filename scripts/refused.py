@@ -37,7 +37,7 @@ DEEP_LISTS = "2:7: met 'SEQUENCE'; can read at most 40 lists directly inside one
 WIDE = "2:7: met 'SEQUENCE'; can read at most 50 components, and in a group as many: others aren't printed yet"
 
 # how many rows the files have: one that was cut short would pass
-ROWS = (70, 16)
+ROWS = (75, 16)
 
 # what stands in front of a type and behind it, how often at most, and what is said of once more
 DEPTHS = (
