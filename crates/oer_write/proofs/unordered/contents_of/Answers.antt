@@ -14,6 +14,7 @@ loop-x-preserved g c =
     rw (length_push c.loop-x.yielded c.in-Some.x) (record {
       gathered = gathered_more _ _ _ _ _ _ _ _ _ turn.0 turn.1 c.loop-x.invariant.gathered c.in_ok-empty_count.ensures.done;
       whole = c.in_ok-empty_count.ensures.whole;
+      none = c.in_ok-empty_count.ensures.none;
     })
 
 pub returns-in_err-empty_count-clause-refused : goal.returns-in_err-empty_count-clause-refused
