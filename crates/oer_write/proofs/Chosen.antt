@@ -1,5 +1,5 @@
 -- From what the closure of a choice writes to what the choice writes.
-use Rattle.std.proofs.Common.{◌≡◌, ℕ, suc, ◌+◌, ◌^◌, ◌<◌, ◌≤◌, Bool, true, false, not, ◌&&◌, List, ◌++◌, length, take, drop, refl, ap, sym, ◌∙◌, arith, append_assoc, inl, inr}
+use Rattle.std.proofs.Common.{◌≡◌, ℕ, suc, ◌+◌, ◌^◌, ◌<◌, ◌≤◌, Bool, true, false, not, ◌&&◌, List, ◌++◌, length, take, drop, refl, ap, sym, subst, ◌∙◌, arith, append_assoc, inl, inr}
 use Rattle.std.specs.Prelude.{nat_lt}
 use Rattle.std.proofs.lemmas.List.{append_cancel_left}
 use Rattle.asn1_core.specs.Octets.{Octets, usize_max}
@@ -14,8 +14,13 @@ use Rattle.oer_spec.specs.Lengths.{behind_length, tag_octets}
 use Rattle.oer_spec.specs.Places.{choice_octets}
 use Rattle.oer_spec.specs.Tree.{Tree, Choice}
 use Rattle.oer_write.specs.Choices.{Picks, ContentDone, Appended, AppendedOpen, ChoiceDone, ChoiceBroken, alternative_octets, IsKnownToPick}
-use Rattle.oer_write.specs.Written.{Written, append, Encodes, Refused}
+use Rattle.oer_write.specs.Written.{Written, Keeps, append, Encodes, Refused}
 use Rattle.oer_write.proofs.Items.{or_false, or_left}
+use Rattle.oer_write.proofs.Keeping.{keeps_then}
+use Rattle.oer_write.proofs.Nesting.{keeps_append}
+
+true_not_false : true ≡ false → ⊥
+true_not_false h = cc
 
 not_above : (a b : ℕ) → a < suc b → nat_lt b a ≡ false
 not_above a b h = grind arith
@@ -63,4 +68,21 @@ choice_refused picks roots additions tag t old new x known h = record {
   ];
   mode = elim h.reason [ inl m ↦ m.1 | inr c ↦ (known _ _ _ c.opened c.ran).mode ];
   keeps = h.keeps;
+}
+
+-- a root alternative that stands straight behind its tag
+pub root_done : (roots additions : List Tag) (tag : Tag) (t : Tree) (old middle new : Written) → holds roots tag ≡ true → middle ≡ append (tag_octets tag) old → Encodes t middle new → Encodes (Choice roots additions tag t) old new
+root_done roots additions tag t old middle new root put w = record {
+  encodable = choice_encodable roots additions tag t w.encodable (λ no. absurd (true_not_false (sym root ∙ no)));
+  written =
+      w.written ∙ ap (λ (e : Written). append (canonical_octets t) e) put
+      ∙ ap (λ (o : Octets). record old { octets = o }) (append_assoc old.octets (tag_octets tag) (canonical_octets t))
+      ∙ ap (λ (o : Octets). append o old) (subst (λ (b : Bool). tag_octets tag ++ alternative_octets b (canonical_octets t) ≡ canonical_octets (Choice roots additions tag t)) root (choice_octets_are roots additions tag t (canonical_octets t) refl));
+}
+
+pub root_refused : (roots additions : List Tag) (tag : Tag) (t : Tree) (old middle new : Written) (x : EncodeError) → middle ≡ append (tag_octets tag) old → Refused t x middle new → Refused (Choice roots additions tag t) x old new
+root_refused roots additions tag t old middle new x put h = record {
+  reason = elim h.reason [ inl m ↦ inl m | inr f ↦ inr (alternative_fails roots additions tag t x.kind f) ];
+  mode = h.mode;
+  keeps = keeps_then old middle new (keeps_append (tag_octets tag) old middle put) h.keeps;
 }

@@ -1,5 +1,6 @@
 //! Choices: a tag, and the alternative that the closure writes.
-ghost use Rattle.std.specs.Prelude.{◌≡◌, ◌^◌, ◌<◌, ◌++◌, ◌⊎◌, [], Bool, true, false, length, OnOk, OnErr, IfErr};
+ghost use Rattle.std.specs.Prelude.{◌≡◌, ◌^◌, ◌<◌, ◌++◌, ◌⊎◌, [], List, Bool, true, false, length, OnOk, OnErr, IfErr};
+ghost use Rattle.asn1_core.specs.declared.tag.Tag.{Tag as Label};
 ghost use Rattle.std.specs.Fn.{FnOnceTakesAtMut};
 ghost use Rattle.asn1_core.specs.Octets.{Octets};
 ghost use Rattle.asn1_core.specs.Tags.{holds};
@@ -8,14 +9,16 @@ ghost use Rattle.oer_spec.specs.Tree.{Tree, Choice};
 ghost use Rattle.oer_spec.specs.Writing.{BeginsWith};
 ghost use Rattle.oer_write.specs.Held.{Kept};
 ghost use Rattle.oer_write.specs.Layout.{Adds};
-ghost use Rattle.oer_write.specs.Choices.{PromisePick, PicksTag, ContentDone, ContentRefused, Appended, AppendedOpen, alternative_octets, ChoiceDone, ChoiceBroken, IsKnownToPick};
-ghost use Rattle.oer_write.specs.Written.{Written, Keeps, Encodes, Refused, WantsMemory};
+ghost use Rattle.asn1_core.specs.declared.error.EncodeErrorKind.TheVariants.{OutOfMemory};
+ghost use Rattle.oer_write.specs.Choices.{PromisePick, WritesAlternative, PicksTag, ContentDone, ContentRefused, Appended, AppendedOpen, alternative_octets, ChoiceDone, ChoiceBroken, IsKnownToPick};
+ghost use Rattle.oer_write.specs.Written.{Written, Keeps, Encodes, Refused, WantsMemory, append};
 
+use crate::encode::Encode;
 use crate::encoder::Encoder;
 use crate::insertions::Insertions;
 use crate::opens::close_open;
 use crate::scopes::open_scope;
-use asn1_core::{Choice, Constraints, EncodeError, Tag};
+use asn1_core::{Choice, Constraints, EncodeError, EncodeErrorKind, Tag};
 use oer_leaf_write::write_tag;
 use oer_spec::is_among;
 use std::alloc::Global;
@@ -220,5 +223,56 @@ impl<'buffer> Encoder<'buffer> {
         self.insertions = pieces;
         answer?;
         Ok(())
+    }
+
+    #[tactic(auto, using(crate::proofs::Regions::more_around, crate::proofs::Regions::more_within))]
+    #[inline(always)]
+    fn put_tag(&mut self, tag: Tag) -> Result<(), EncodeErrorKind>
+        ensures done { OnOk result (self.new ≡ append (tag_octets tag) self.old) }
+        ensures refused { IfErr result (λ k. (k ≡ OutOfMemory) × Keeps self.old self.new) }
+    {
+        write_tag(tag, &mut *self.output)?;
+        Ok(())
+    }
+
+    /// Writes a CHOICE (X.696, 20) whose alternative with that tag is the value: a root alternative straight behind the tag,
+    /// another as an open type. `Ok` only for an admitted value.
+    ///
+    /// Refused by what the value is refused by, or for want of memory.
+    #[inline(always)]
+    pub fn encode_alternative<E: Choice, T: Encode>(
+        &mut self,
+        tag: Tag,
+        value: &T,
+    ) -> Result<(), EncodeError>
+        ensures done { OnOk result (Encodes (Choice E.root_tags E.addition_tags tag (T.tree T.CONSTRAINTS value.now)) self.old self.new) }
+        ensures value { OnOk result (T.IsValue value.now) }
+        ensures refused { IfErr result (λ x. Refused (Choice E.root_tags E.addition_tags tag (T.tree T.CONSTRAINTS value.now)) x self.old self.new) }
+    {
+        if is_among(E::root_tags(), tag) {
+            return self.root_alternative(tag, value);
+        }
+        self.encode_choice::<E, _>(
+            Constraints::NONE,
+            tag,
+            |encoder: &mut Encoder<'_>| -> Result<Tag, EncodeError>
+                ensures written { WritesAlternative (T.tree T.CONSTRAINTS value.entry.now) tag encoder.old result encoder.new }
+                ensures value { OnOk result (T.IsValue value.entry.now) }
+            {
+                value.encode(encoder)?;
+                Ok(tag)
+            },
+        )
+    }
+
+    /// Writes the tag and the value straight behind it.
+    #[inline(always)]
+    fn root_alternative<T: Encode>(&mut self, tag: Tag, value: &T) -> Result<(), EncodeError>
+        ensures done { (roots additions : List Label) → holds roots tag ≡ true → OnOk result (Encodes (Choice roots additions tag (T.tree T.CONSTRAINTS value.now)) self.old self.new) }
+        ensures value { OnOk result (T.IsValue value.now) }
+        ensures refused { (roots additions : List Label) → IfErr result (λ x. Refused (Choice roots additions tag (T.tree T.CONSTRAINTS value.now)) x self.old self.new) }
+    {
+        self.put_tag(tag)?;
+        value.encode(self)
     }
 }
