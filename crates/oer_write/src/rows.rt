@@ -188,9 +188,10 @@ impl<'buffer> Encoder<'buffer> {
         ensures value { OnOk result (IfSome value.entry (λ x. E.IsValue x.now)) }
         ensures refused { IfErr result (λ x. RowsRefused (optional tag (slot_of (λ x. E.tree E.CONSTRAINTS x.now) value.entry)) NoRows x self.old self.new) }
     {
+        self.mark(value.is_some())?;
         match value {
-            Some(value) => self.write_present(tag, E::CONSTRAINTS, value),
-            None => Ok(self.mark(false)?),
+            Some(value) => value.encode_with_tag(self, tag),
+            None => Ok(()),
         }
     }
 
