@@ -269,11 +269,12 @@ impl<'buffer> Encoder<'buffer> {
         ensures value { E.eq value.now default.now ≡ false → OnOk result (E.IsValue value.now) }
         ensures refused { IfErr result (λ x. RowsRefused NoRows (defaulted tag (E.tree constraints default.now) (present_unless (E.eq value.now default.now) (E.tree constraints value.now))) x self.old self.new) }
     {
-        if *value == *default {
-            self.add::<E, Constraints>(tag, constraints, None)
+        let spelled = if *value == *default {
+            None
         } else {
-            self.add(tag, constraints, Some(value))
-        }
+            Some(value)
+        };
+        self.add(tag, constraints, spelled)
     }
 
     /// Records whether an addition is present, and writes one that is.
