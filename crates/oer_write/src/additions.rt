@@ -89,7 +89,7 @@ fn write_open<E: Encode>(
 
 /// Appends an open type; where it refuses, the octets and the insertions are as before.
 #[inline(always)]
-fn put_open<E: Encode>(
+pub(crate) fn put_open<E: Encode>(
     alloc: Global,
     is_inside: bool,
     tag: Tag,
