@@ -43,6 +43,16 @@ pub(crate) struct Contents {
     sizes: Vec<usize>,
 }
 
+/// No sizes yet, and room for those of so many elements.
+fn sizes_for(alloc: Global, count: usize) -> Result<Vec<usize>, EncodeErrorKind>
+    ensures done { IfOk result (λ sizes. sizes.items ≡ []) }
+    ensures refused { IfErr result (λ k. k ≡ OutOfMemory) }
+{
+    let mut sizes = Vec::new(alloc);
+    sizes.reserve(count)?;
+    Ok(sizes)
+}
+
 /// Records how many octets an element has.
 fn push_size(sizes: &mut Vec<usize>, size: usize) -> Result<(), EncodeErrorKind>
     ensures done { OnOk result (sizes.new.items ≡ sizes.old.items ++ size ∷ []) }
@@ -86,7 +96,7 @@ fn contents_of<E: Encode>(alloc: Global, elements: &SetOf<E>) -> Result<Contents
     ensures first { IfErr result (λ x. IsByFirst (E.tree E.CONSTRAINTS) elements.now x) }
 {
     let mut octets = Vec::new(alloc);
-    let mut sizes = Vec::new(alloc);
+    let mut sizes = sizes_for(alloc, elements.len())?;
     let mut insertions = Insertions::new(alloc);
     let mut empty_count: u32 = 0;
     for x in elements.iter() {
