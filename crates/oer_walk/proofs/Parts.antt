@@ -1,7 +1,7 @@
 -- Nodes that lie within the input, each inside the one around it and behind the one before it.
-use Rattle.std.proofs.Common.{◌≡◌, ℕ, ◌+◌, ◌-◌, ◌^◌, ◌<◌, ◌≤◌, ◌⊎◌, List, length, set, inl, inr, sym, subst, arith}
+use Rattle.std.proofs.Common.{◌≡◌, ℕ, ◌+◌, ◌-◌, ◌^◌, ◌<◌, ◌≤◌, ◌⊎◌, List, length, set, inl, inr, sym, ap, subst, ◌∙◌, arith}
 use Rattle.std.proofs.lemmas.Bool.{cases_lt}
-use Rattle.std.proofs.lemmas.List.{get_or-set_same, get_or-set_other}
+use Rattle.std.proofs.lemmas.List.{get_or-set_same, get_or-set_other, set-get_or}
 use Rattle.oer_walk.specs.declared.nodes.Node.{Node}
 use Rattle.oer_walk.specs.Parts.{IsUnfinished, IsInside, HasPlace, ArePlaced, node_at, blank}
 
@@ -40,3 +40,10 @@ module _ (n : ℕ) (xs : List Node) (k : ℕ) (x : Node) (l : k < length xs) whe
       at : (i < k) ⊎ (k ≤ i) → Fits i (node_at (set xs k x) i)
       at (inl m) = subst (Fits i) (sym (earlier i m)) (still i (omega arith) (node_at xs i) (a i m))
       at (inr m) = new (omega arith)
+
+-- nodes that have their places are left as they are
+pub keep_same : (n k : ℕ) (from xs : List Node) (i : ℕ) (x : Node) → i < k → (ArePlaced n k from → xs ≡ from) → (IsUnfinished (node_at xs i) ⊎ HasPlace n xs i (node_at xs i) → x ≡ node_at xs i) → ArePlaced n k from → set xs i x ≡ from
+keep_same n k from xs i x lt s r h =
+    let e = s h in
+    let u : IsUnfinished (node_at xs i) ⊎ HasPlace n xs i (node_at xs i) = subst (λ (z : List Node). IsUnfinished (node_at z i) ⊎ HasPlace n z i (node_at z i)) (sym e) (h i lt) in
+    ap (set xs i) (r u) ∙ set-get_or xs i blank ∙ e
