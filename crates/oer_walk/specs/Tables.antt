@@ -72,7 +72,7 @@ is_of a t = (a.class == class_number t.class) && (a.number == t.value)
 -- the number of the first alternative with that tag, among k from i on
 abbrev pub alternative_from : List ℕ → Parts → Tag → ℕ → ℕ → Option ℕ
 alternative_from ws p t zero i = None
-alternative_from ws p t (suc k) i = cond (is_of (alternative_at ws p i) t) (Some i) (alternative_from ws p t k (suc i))
+alternative_from ws p t (suc k) i = cond (is_of (alternative_at ws p i) t) (Some i) (alternative_from ws p t k (i + 1))
 
 unfoldable pub alternative_of : List ℕ → Parts → Tag → Option ℕ
 alternative_of ws p t = alternative_from ws p t (p.roots + p.additions) 0
