@@ -34,7 +34,7 @@ pub behind_length_is : (input c rest : Octets) → content_at Oer input ≡ Ok (
 unfolding content_at behind_length_at
 behind_length_is input c rest e =
     let a = bind_ok (length_at Oer input) (λ count. octets_at count.0 count.1) (c, rest) e in
-    (a.0.1, rw (a.1, a.2) refl)
+    (a.0.1, ap (λ (r : Result (ℕ × Octets) DecodeErrorKind). r >>= λ (k : ℕ × Octets). octets_at k.0 k.1 >>= λ (x : Octets × Octets). Ok (x.0, k.1, x.1)) a.1 ∙ ap (λ (r : Result (Octets × Octets) DecodeErrorKind). r >>= λ (x : Octets × Octets). Ok (x.0, a.0.1, x.1)) a.2)
 
 counted_taken : (o c rest : Octets) → IsBehindLength Lenient o c → TakenBy Counted (o ++ rest) rest
 unfolding leaf_at
@@ -74,8 +74,8 @@ text_taken None unit (Civil fields) o rest size h = absurd h
 
 pub leaf_taken : (l : Leaf) (o rest : Octets) → IsLeaf l → IsLeafEncoding Lenient o l → (content : Octets) × (leaf_at (leaf_form l) (o ++ rest) ≡ Ok (content, rest))
 unfolding leaf_at
-leaf_taken (Boolean b) o rest i (fine, (x, e, more)) = fixed_taken 1 o rest (ap length e)
-leaf_taken Null o rest i (fine, e) = fixed_taken 0 o rest (ap length e)
+leaf_taken (Boolean b) o rest i h = fixed_taken 1 o rest (ap length h.1.1)
+leaf_taken Null o rest i h = fixed_taken 0 o rest (ap length h.1)
 leaf_taken (Enum n) o rest i h = (o ++ rest, rw ((enumerated_reads Oer).again o rest n (i, h)) refl)
 leaf_taken (Int r n) o rest i h = width_taken (width_of r) n o rest h.1
 leaf_taken (Bits s b) o rest i h = bits_taken (fixed_size s) b o rest (λ n f. fixed_only s n (length b) f (not_not (size_fits s (length b)) (h.0 BadSize))) h.1

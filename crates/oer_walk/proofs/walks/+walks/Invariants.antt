@@ -1,4 +1,7 @@
-use Rattle.std.proofs.Common.{◌+◌, ◌*◌}
+use Rattle.std.proofs.Common.{◌+◌, ◌-◌, ◌*◌, false, length}
+use Rattle.oer_leaf_read.specs.Views.{bits_left}
+use Rattle.oer_walk.specs.Tables.{nothing}
+use Rattle.oer_walk.specs.Walks.{Resumes, components_by, elements_by, known_by, unknown_by, part_at, inside}
 use Rattle.oer_walk.proofs.walks.+walks.Given as goal
 
 abbrev pub decreases-walk_part : goal.decreases-walk_part
@@ -45,3 +48,18 @@ decreases-walk_unknown l = 16 * l.levels + 7
 
 abbrev pub decreases-walk_if : goal.decreases-walk_if
 decreases-walk_if l = 16 * l.levels + 6
+
+abbrev pub invariant-walk_components-loop-index : goal.invariant-walk_components-loop-index
+invariant-walk_components-loop-index l = Resumes l.initial.count l.initial.room (components_by (part_at l.table.words.now l.levels) l.table.words.now l.parts l.scope l.parts.roots 0 (bits_left l.initial.bits) l.initial.count l.initial.rest) l.count l.room (components_by (part_at l.table.words.now l.levels) l.table.words.now l.parts l.scope (l.parts.roots - l.index) l.index (bits_left l.bits) l.count l.rest)
+
+abbrev pub invariant-walk_elements-loop-index : goal.invariant-walk_elements-loop-index
+invariant-walk_elements-loop-index l = Resumes l.initial.count l.initial.room (elements_by (part_at l.table.words.now l.levels) l.scope (inside l.scope l.element nothing false) l.quantity 0 l.initial.count l.initial.rest) l.count l.room (elements_by (part_at l.table.words.now l.levels) l.scope (inside l.scope l.element nothing false) (l.quantity - l._index) l.empty l.count l.rest)
+
+abbrev pub invariant-walk_known-loop-index : goal.invariant-walk_known-loop-index
+invariant-walk_known-loop-index l = Resumes l.initial.count l.initial.room (known_by (part_at l.table.words.now l.levels) l.table.words.now l.parts l.scope l.parts.additions 0 (bits_left l.initial.bits) l.initial.count l.initial.rest) l.count l.room (known_by (part_at l.table.words.now l.levels) l.table.words.now l.parts l.scope (l.parts.additions - l.index) l.index (bits_left l.bits) l.count l.rest)
+
+abbrev pub invariant-walk_unknown-loop-bit : goal.invariant-walk_unknown-loop-bit
+invariant-walk_unknown-loop-bit l = Resumes l.initial.count l.initial.room (unknown_by (part_at l.table.words.now l.levels) l.fn.scope (bits_left l.initial.bits) l.initial.count l.initial.rest) l.count l.room (unknown_by (part_at l.table.words.now l.levels) l.fn.scope (bits_left l.bits) l.count l.rest)
+
+abbrev pub decreases-walk_unknown-loop-bit : goal.decreases-walk_unknown-loop-bit
+decreases-walk_unknown-loop-bit l = length (bits_left l.bits)
