@@ -1,10 +1,11 @@
 -- Walks taken apart and put together.
+use Rattle.std.proofs.lemmas.Bool.{lt-ltb}
 use Rattle.std.proofs.Common.{◌≡◌, ℕ, zero, suc, ◌+◌, ◌-◌, ◌<◌, ◌≤◌, Bool, true, false, cond, List, [], ◌∷◌, ◌++◌, length, set, Result, Ok, Err, refl, sym, ap, subst, ◌∙◌, arith, length-append}
 use Rattle.asn1_core.specs.Octets.{Octets}
 use Rattle.asn1_core.specs.declared.error.DecodeErrorKind.{DecodeErrorKind}
 use Rattle.asn1_core.specs.declared.error.DecodeErrorKind.TheVariants.{ExceedsMaxParseDepth}
 use Rattle.oer_walk.specs.Tables.{form_of}
-use Rattle.oer_walk.specs.Walks.{Walk, ValueWalk, done, stopped, reads, onto, goes_on, behind, node_of, noded, left_of, left_behind, leaving, from, content_at, overlay, Answers, IsWalk, Resumes, is_leaf, leaf_at, scope_by, value_at, part_at}
+use Rattle.oer_walk.specs.Walks.{Walk, ValueWalk, done, stopped, reads, onto, goes_on, behind, node_of, noded, left_of, left_behind, leaving, from, content_at, overlay, Answers, IsWalk, Resumes, is_leaf, leaf_at, scope_by, value_at, within_by, part_by, part_at}
 use Rattle.oer_walk.specs.declared.nodes.Node.{Node}
 use Rattle.oer_walk.specs.declared.places.Place.{Place}
 use Rattle.oer_walk.specs.declared.places.Scope.{Scope}
@@ -122,3 +123,37 @@ pub value_scope : (ws : List ℕ) (d k : ℕ) (s : Scope) (n : ℕ) (input : Oct
 unfolding value_at
 value_scope ws zero k s n input e z = absurd (omega arith)
 value_scope ws (suc d) k s n input e z = let i : d ≡ k = omega arith in rw e (ap (λ (j : ℕ). scope_by (part_at ws j) ws (form_of ws s.type_number) s n input) i)
+
+-- ---- functions that walk values and parts
+module _ (ws : List ℕ) (d : ℕ) where
+  pub leaf_walked : {X : Type 0} (view : X → ℕ × Octets) (x : X) (s : Scope) (n : ℕ) (a : List Node) (input : Octets) (z : Octets × Octets) → is_leaf (form_of ws s.type_number) ≡ true → leaf_at (form_of ws s.type_number) input ≡ Ok z → view x ≡ (s.end - length z.0, z.1) → IsWalk view (Ok x) n n a a (value_at ws d s n input)
+  leaf_walked view x s n a input z leaf e is =
+      subst (IsWalk view (Ok x) n n a a) (sym (value_leaf ws d s n input leaf))
+      (walk_read view (Ok x) n n a a s.start (leaf_at (form_of ws s.type_number) input) z (λ x. done (s.end - length x.0, x.1)) e (walk_done view x (s.end - length z.0, z.1) n a (sym is)))
+
+  pub leaf_refused : {X : Type 0} (view : X → ℕ × Octets) (stop : Stop) (s : Scope) (n : ℕ) (a : List Node) (input : Octets) (kind : DecodeErrorKind) → is_leaf (form_of ws s.type_number) ≡ true → leaf_at (form_of ws s.type_number) input ≡ Err kind → stop ≡ record { place = s.start; kind = kind } → IsWalk view (Err stop) n n a a (value_at ws d s n input)
+  leaf_refused view stop s n a input kind leaf e is =
+      subst (IsWalk view (Err stop) n n a a) (sym (value_leaf ws d s n input leaf))
+      (walk_refused view stop n a s.start (leaf_at (form_of ws s.type_number) input) kind (λ x. done (s.end - length x.0, x.1)) e is)
+
+  pub too_deep : {X : Type 0} (view : X → ℕ × Octets) (stop : Stop) (s : Scope) (n : ℕ) (a : List Node) (input : Octets) → is_leaf (form_of ws s.type_number) ≡ false → d ≡ 0 → stop ≡ record { place = s.start; kind = ExceedsMaxParseDepth } → IsWalk view (Err stop) n n a a (value_at ws d s n input)
+  too_deep view stop s n a input leaf z is = subst (IsWalk view (Err stop) n n a a) (sym (value_too_deep ws d s n input leaf z)) (walk_stopped view stop s.start ExceedsMaxParseDepth n a is)
+
+  pub scope_walked : {X : Type 0} (view : X → ℕ × Octets) (r : Result X Stop) (k : ℕ) (s : Scope) (n m : ℕ) (a b : List Node) (input : Octets) → is_leaf (form_of ws s.type_number) ≡ false → d ≡ k + 1 → IsWalk view r n m a b (scope_by (part_at ws k) ws (form_of ws s.type_number) s n input) → IsWalk view r n m a b (value_at ws d s n input)
+  scope_walked view r k s n m a b input leaf e g = subst (IsWalk view r n m a b) (sym (value_scope ws d k s n input leaf e)) g
+
+  part_few : (p : Place) (n : ℕ) (input : Octets) → n < p.most → part_at ws d p n input ≡ noded ws p (p.end - length input) (within_by (value_at ws d) ws p n input)
+  unfolding part_by
+  part_few p n input lt = rw (lt-ltb n p.most lt) refl
+
+  pub part_walked : {X Y : Type 0} (view : X → ℕ × Octets) (view' : Y → Octets) (r : Result X Stop) (x : X) (y : Y) (p : Place) (n m o : ℕ) (a b c : List Node) (input : Octets) (node : Node) → n < p.most → o ≡ n → r ≡ Ok x → view' y ≡ (view x).1 → node ≡ node_of ws p (p.end - length input) (Ok (view x)) → c ≡ set b n node → IsWalk view r (n + 1) m a b (within_by (value_at ws d) ws p o input) → IsWalk view' (Ok y) n m a c (part_at ws d p n input)
+  part_walked {X} view view' r x y p n m o a b c input node lt same ok is e f g =
+      subst (IsWalk view' (Ok y) n m a c) (sym (part_few p n input lt))
+      (walk_noded view view' x y ws p n m (p.end - length input) a b c (within_by (value_at ws d) ws p n input) node is e f
+      (subst (λ (z : ℕ). IsWalk view (Ok x) (n + 1) m a b (within_by (value_at ws d) ws p z input)) same (subst (λ (z : Result X Stop). IsWalk view z (n + 1) m a b (within_by (value_at ws d) ws p o input)) ok g)))
+
+  pub part_cut : {X Y : Type 0} (view : X → ℕ × Octets) (view' : Y → Octets) (r : Result X Stop) (stop : Stop) (p : Place) (n m o : ℕ) (a b c : List Node) (input : Octets) (node : Node) → n < p.most → o ≡ n → r ≡ Err stop → node ≡ node_of ws p (p.end - length input) (Err stop) → c ≡ set b n node → IsWalk view r (n + 1) m a b (within_by (value_at ws d) ws p o input) → IsWalk view' (Err stop) n m a c (part_at ws d p n input)
+  part_cut {X} view view' r stop p n m o a b c input node lt same err e f g =
+      subst (IsWalk view' (Err stop) n m a c) (sym (part_few p n input lt))
+      (walk_noded_cut view view' stop ws p n m (p.end - length input) a b c (within_by (value_at ws d) ws p n input) node e f
+      (subst (λ (z : ℕ). IsWalk view (Err stop) (n + 1) m a b (within_by (value_at ws d) ws p z input)) same (subst (λ (z : Result X Stop). IsWalk view z (n + 1) m a b (within_by (value_at ws d) ws p o input)) err g)))
