@@ -1,25 +1,24 @@
 -- What is an encoding of a leaf is taken whole.
-use Rattle.std.proofs.Common.{◌≡◌, ℕ, ◌+◌, ◌*◌, ◌/◌, ◌<◌, ◌≤◌, Bool, true, false, List, [], ◌∷◌, ◌++◌, length, Result, Ok, Err, Option, Some, None, refl, sym, ap, subst, ◌∙◌, arith, inl, inr}
-use Rattle.asn1_core.specs.Bounds.{Size, fixed_size, size_fits}
-use Rattle.asn1_core.specs.Octets.{Octets, octets_for, bits_of}
+use Rattle.std.proofs.Common.{◌≡◌, ℕ, ◌*◌, ◌/◌, Bool, List, [], ◌∷◌, ◌++◌, length, Result, Ok, Option, Some, None, refl, sym, ap, ◌∙◌, arith, inl, inr}
+use Rattle.asn1_core.specs.Bounds.{fixed_size, size_fits}
+use Rattle.asn1_core.specs.Octets.{Octets, octets_for}
 use Rattle.asn1_core.specs.Texts.{Rule, AnyOctets, Utf8, Numeric, Printable, Visible, Ia5, General, Graphic, Teletex, Bmp, Identifier, Utc, Generalized, Date, Obeys}
 use Rattle.asn1_core.specs.declared.codec.Codec.TheVariants.{Oer}
 use Rattle.asn1_core.specs.declared.error.DecodeErrorKind.{DecodeErrorKind}
-use Rattle.oer_leaf_read.specs.ReadingEnumerated.{enumerated_at}
 use Rattle.oer_leaf_read.proofs.ReadEnumerated.{enumerated_reads}
 use Rattle.oer_leaf_read.proofs.ReadLengths.{content_reads}
 use Rattle.oer_leaf_read.proofs.ReadPlaces.{fewest_octets}
 use Rattle.oer_leaf_read.proofs.ReadTexts.{not_not, fixed_only}
 use Rattle.oer_spec.specs.Leaves.{Width, Fixed as FixedWidth, Counted as CountedWidth, BadSize, width_of, unit_of, IsLeaf, IsInteger, IsBitString, IsText, IsLeafEncoding}
 use Rattle.oer_spec.specs.Lengths.{IsBehindLength}
-use Rattle.oer_spec.specs.Mode.{Mode, Lenient}
+use Rattle.oer_spec.specs.Mode.{Lenient}
 use Rattle.oer_spec.specs.Reading.{◌>>=◌, octets_at, length_at, content_at}
 use Rattle.oer_spec.specs.Tree.{Content, InOctets, Civil, Leaf, Boolean, Null, Enum, Int, Bits, Text}
 use Rattle.oer_spec.proofs.Steps.{bind_ok, octets_again}
 use Rattle.oer_walk.specs.Forms.{width_form, bits_form, units_form, leaf_form}
 use Rattle.oer_walk.specs.Walks.{behind_length_at, leaf_at}
 use Rattle.oer_walk.specs.declared.table.Form.{Form}
-use Rattle.oer_walk.specs.declared.table.Form.TheVariants.{Fixed, Counted, Enumerated}
+use Rattle.oer_walk.specs.declared.table.Form.TheVariants.{Fixed, Counted}
 
 -- what is answered, but for what is behind the length
 abbrev TakenBy : Form → Octets → Octets → Type 0

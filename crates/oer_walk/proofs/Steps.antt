@@ -1,11 +1,11 @@
 -- Walks taken apart and put together.
 use Rattle.std.proofs.lemmas.Bool.{lt-ltb}
-use Rattle.std.proofs.Common.{◌≡◌, ℕ, zero, suc, ◌+◌, ◌-◌, ◌<◌, ◌≤◌, Bool, true, false, cond, List, [], ◌∷◌, ◌++◌, length, set, Result, Ok, Err, refl, sym, ap, subst, ◌∙◌, arith, length-append}
+use Rattle.std.proofs.Common.{◌≡◌, ℕ, zero, suc, ◌+◌, ◌-◌, ◌<◌, true, false, List, [], ◌∷◌, ◌++◌, length, set, Result, Ok, Err, refl, sym, ap, subst, ◌∙◌, arith, length-append}
 use Rattle.asn1_core.specs.Octets.{Octets}
 use Rattle.asn1_core.specs.declared.error.DecodeErrorKind.{DecodeErrorKind}
 use Rattle.asn1_core.specs.declared.error.DecodeErrorKind.TheVariants.{ExceedsMaxParseDepth}
 use Rattle.oer_walk.specs.Tables.{form_of}
-use Rattle.oer_walk.specs.Walks.{Walk, ValueWalk, done, stopped, reads, onto, goes_on, behind, node_of, noded, left_of, left_behind, leaving, from, content_at, overlay, Answers, IsWalk, Resumes, is_leaf, leaf_at, scope_by, value_at, within_by, part_by, part_at}
+use Rattle.oer_walk.specs.Walks.{Walk, done, stopped, reads, onto, goes_on, behind, node_of, noded, left_of, left_behind, leaving, from, content_at, overlay, IsWalk, Resumes, is_leaf, leaf_at, scope_by, value_at, within_by, part_by, part_at}
 use Rattle.oer_walk.specs.declared.nodes.Node.{Node}
 use Rattle.oer_walk.specs.declared.places.Place.{Place}
 use Rattle.oer_walk.specs.declared.places.Scope.{Scope}

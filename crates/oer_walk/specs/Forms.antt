@@ -4,7 +4,7 @@ use Rattle.asn1_core.specs.Bounds.{fixed_size}
 use Rattle.asn1_core.specs.Octets.{Octets, octets_for}
 use Rattle.asn1_core.specs.declared.error.DecodeErrorKind.{DecodeErrorKind}
 use Rattle.oer_spec.specs.Leaves.{Width, Fixed as FixedWidth, Counted as CountedWidth, width_of, unit_of, IsLeaf, IsLeafEncoding}
-use Rattle.oer_spec.specs.Mode.{Mode, Lenient}
+use Rattle.oer_spec.specs.Mode.{Lenient}
 use Rattle.oer_spec.specs.Tree.{Leaf, Boolean, Null, Enum, Int, Bits, Text}
 use Rattle.oer_walk.specs.declared.table.Form.{Form}
 use Rattle.oer_walk.specs.declared.table.Form.TheVariants.{Fixed, Counted, Enumerated}

@@ -1,5 +1,5 @@
 -- What the words of a table say.
-use Rattle.std.specs.Prelude.{ℕ, zero, suc, ◌+◌, ◌-◌, ◌*◌, ◌/◌, ◌^◌, Bool, true, false, cond, not, ◌&&◌, ◌==◌, nat_lt, List, length, min, Option, Some, None, slice_index_or}
+use Rattle.std.specs.Prelude.{ℕ, zero, suc, ◌+◌, ◌-◌, ◌*◌, ◌/◌, ◌^◌, Bool, cond, not, ◌&&◌, ◌==◌, nat_lt, List, length, Option, Some, None, slice_index_or}
 use Rattle.asn1_core.specs.Tags.{class_number}
 use Rattle.asn1_core.specs.declared.tag.Tag.{Tag}
 use Rattle.oer_walk.specs.declared.table.Form.{Form}

@@ -1,4 +1,4 @@
-use Rattle.std.proofs.Common.{◌≡◌, ◌+◌, ◌<◌, false, sym, ◌∙◌, arith}
+use Rattle.std.proofs.Common.{◌≡◌, ◌+◌, false, sym, ◌∙◌, arith}
 use Rattle.oer_walk.specs.Tables.{alternative_at, is_of}
 use Rattle.oer_walk.proofs.Tags.{alternative_later}
 use Rattle.oer_walk.proofs.table.Table.alternative_of.Goals as goal
