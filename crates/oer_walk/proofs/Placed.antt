@@ -129,6 +129,24 @@ module _ (xs : List Node) (most : ℕ) where
   pub claim_behind : (end n a : ℕ) (input : Octets) (w : Walk Octets) (f : ℕ → Octets → Walk Octets) → Claim end n a input w → ((m : ℕ) (rest : Octets) → Claim end m a rest (f m rest)) → Claim end n a input (behind n w f)
   claim_behind end n a input w f h k = claim_on end n a input w.nodes w.answer f h k
 
+  -- what is read in front of parts
+  claim_rear : (end n a : ℕ) (input mid : Octets) (w : Walk Octets) → (AreOctets input → IsRear input mid) → Claim end n a mid w → Claim end n a input w
+  claim_rear end n a input mid w rear c = record { left = left; good = good }
+    where
+      base : Base end n input w.nodes → Base end n mid w.nodes
+      base b =
+          let r = rear b.octets in
+          let i = rear_length input mid r in
+          record { octets = rear_are input mid b.octets r; fits = let f = b.fits in omega arith; stand = b.stand; before = before_later n n (end - length input) (end - length mid) refl (omega arith) b.before }
+      left : Base end n input w.nodes → Left end (n + length w.nodes) input w.answer
+      left b = left_then end (n + length w.nodes) (n + length w.nodes) input mid w.answer refl (rear b.octets) (c.left (base b))
+      good : Base end n input w.nodes → end ≤ most → IsAround end (end - length input) (node_at xs a) w.answer → Good n (n + length w.nodes)
+      good b l p = let i = rear_length input mid (rear b.octets) in let q = p.begins in c.good (base b) l (record { begins = omega arith; ends = p.ends })
+
+  pub claim_read : {A : Type 0} (end n a at : ℕ) (input : Octets) (read : Result A DecodeErrorKind) (mid : A → Octets) (body : A → Walk Octets) → ((x : A) → read ≡ Ok x → AreOctets input → IsRear input (mid x)) → ((x : A) → Claim end n a (mid x) (body x)) → Claim end n a input (reads at read body)
+  claim_read end n a at input (Ok x) mid body rear c = claim_rear end n a input (mid x) (body x) (rear x refl) (c x)
+  claim_read end n a at input (Err kind) mid body rear c = claim_stopped end n a at kind input
+
   -- ---- values
   pub record ValueBase (s : Scope) (n : ℕ) (input : Octets) (ns : List Node) : Type 0 where
     pub octets : AreOctets input
@@ -152,6 +170,10 @@ module _ (xs : List Node) (most : ℕ) where
 
   pub value_stopped : (s : Scope) (n at : ℕ) (kind : DecodeErrorKind) (input : Octets) → ValueClaim s n input (stopped at kind)
   value_stopped s n at kind input = record { left = λ b. tt; good = λ b w p. good_none n (n + 0) (omega arith) }
+
+  pub value_read : {A : Type 0} (s : Scope) (n : ℕ) (input : Octets) (read : Result A DecodeErrorKind) (body : A → Walk (ℕ × Octets)) → ((x : A) → read ≡ Ok x → ValueClaim s n input (body x)) → ValueClaim s n input (reads s.start read body)
+  value_read s n input (Ok x) body c = c x refl
+  value_read s n input (Err kind) body c = value_stopped s n s.start kind input
 
   pub value_done : (s : Scope) (n : ℕ) (input content rest : Octets) → (AreOctets input → IsRear input content × IsRear content rest) → ValueClaim s n input (done (s.end - length content, rest))
   value_done s n input content rest h = record {
@@ -284,6 +306,9 @@ module _ (xs : List Node) (most : ℕ) where
             subst (λ (k : ℕ). Good n k) total (good_join n (n + 1) ((n + 1) + length w.nodes)
             (good_one n (part_placed p n ((n + 1) + length w.nodes) input w.answer b.stand.0 (c.left (base b)) b.before l a))
             (c.good (base b) l (subst (λ (z : Node). IsOwn s z w.answer) (sym b.stand.0) (own_node p n input w.answer))))
+
+    pub part_stopped : (p : Place) (n at : ℕ) (kind : DecodeErrorKind) (input : Octets) → PartClaim p n input (stopped at kind)
+    part_stopped p n at kind input = record { left = λ b. tt; good = λ b w a. good_none n (n + 0) (omega arith) }
 
     pub claim_of_part : (p : Place) (n : ℕ) (input : Octets) (w : Walk Octets) → PartClaim p n input w → Claim p.end n p.around input w
     claim_of_part p n input w c = record { left = c.left; good = λ b l a. c.good b l (λ lt. a) }
