@@ -187,17 +187,13 @@ room_placed most room ns k a b g i lt = at (g i (omega arith) (omega arith))
       behind = λ m. subst (λ (z : Node). z.start ≤ (node_at ns i).start) (sym (shown_at room ns (i - 1) (omega arith) (omega arith))) (p.behind m);
     }))
 
-pub walk_placed : (ws : List ℕ) (type_number levels : ℕ) (input : Octets) (room : List Node) (k : ℕ) → AreOctets input → k ≤ length room → k ≤ length (walk_of ws type_number levels input).nodes → ArePlaced (length input) k (overlay room 0 (walk_of ws type_number levels input).nodes)
-unfolding walk_of
-walk_placed ws type_number levels input room k a l m = room_placed (length input) room ns k l m good
+pub walk_placed : (ws : List ℕ) (levels : ℕ) (p : Place) (input : Octets) (room : List Node) (k : ℕ) → p.end ≡ length input → AreOctets input → k ≤ length room → k ≤ length (part_at ws levels p 0 input).nodes → ArePlaced p.end k (overlay room 0 (part_at ws levels p 0 input).nodes)
+walk_placed ws levels p input room k e a l m = room_placed p.end room ns k l m good
   where
-    p : Place
-    p = outermost type_number (length input)
-
     ns : List Node
-    ns = (part_at ws levels (outermost type_number (length input)) 0 input).nodes
+    ns = (part_at ws levels p 0 input).nodes
 
-    good : Good ns (length input) 0 (0 + length ns)
-    good = (node_claim ns (length input) ws (value_at ws levels) (value_claim ns (length input) ws levels) p 0 input).good
-        (record { octets = a; fits = omega arith; stand = stand_all ns (length input) 0 ns (λ j lt. let e : 0 + j ≡ j = omega arith in ap (node_at ns) e); before = λ lt. absurd (omega arith) })
+    good : Good ns p.end 0 (0 + length ns)
+    good = (node_claim ns p.end ws (value_at ws levels) (value_claim ns p.end ws levels) p 0 input).good
+        (record { octets = a; fits = omega (arith, e); stand = stand_all ns p.end 0 ns (λ j lt. let i : 0 + j ≡ j = omega arith in ap (node_at ns) i); before = λ lt. absurd (omega arith) })
         (omega arith) (λ lt. absurd (omega arith))

@@ -1,9 +1,9 @@
 //! The walk.
-ghost use Rattle.std.specs.Prelude.{◌≡◌, ◌<◌, ◌≤◌, ◌-◌, ◌^◌, ◌&&◌, false, ◌⊎◌, ◌↔◌, IsTrue, IfOk, Ok, Err, length, drop, get_or, min};
+ghost use Rattle.std.specs.Prelude.{◌≡◌, ◌<◌, ◌≤◌, ◌-◌, ◌^◌, ◌&&◌, false, IfOk, Ok, Err, length, drop, get_or, min};
 ghost use Rattle.oer_leaf_read.specs.Views.{bits_left};
 ghost use Rattle.oer_spec.specs.Reading.{Gives};
 ghost use Rattle.oer_walk.specs.Forms.{TakesLeaves};
-ghost use Rattle.oer_walk.specs.Parts.{ArePlaced, HasPlace, IsUnfinished, node_at};
+ghost use Rattle.oer_walk.specs.Parts.{ArePlaced};
 ghost use Rattle.oer_walk.specs.Tables.{nothing};
 ghost use Rattle.oer_walk.specs.Walks.{IsWalk, IsAnswer, overlay, walk_of, most_of, inside, node_of, part_if, part_at, within_by, behind_length_at, open_by, leaf_at, value_at, scope_by, list_by, elements_by, tagged_at, choice_by, sequence_by, body_by, components_by, additions_by, known_by, unknown_by, with_empty, extension_count, is_present, later_bits};
 ghost use Rattle.oer_walk.specs.declared.places.Stop.{Stop};
@@ -35,29 +35,12 @@ pub struct Walked {
 ///
 /// Refused where octets lack, or their form is none of the type's; it doesn't judge what values are. Past 65,536 nodes and 16
 /// for each octet it is refused as `TooManyEmptyElements`.
-pub fn walk(table: &[u32], type_number: u32, levels: u32, input: &[u8], room: &mut [Node]) -> Walked
-    ensures shown { result.shown ≡ min result.nodes (length room.new) }
-    ensures parts { ArePlaced (length input.now) result.shown room.new }
-    ensures answer { IsAnswer (length input.now) (walk_of table.now type_number levels input.now) result }
-    ensures nodes { let nodes = overlay room.old 0 (walk_of table.now type_number levels input.now).nodes in ArePlaced (length input.now) result.shown nodes → room.new ≡ nodes }
-{
-    let walked = walked_into(table, type_number, levels, input, &mut *room);
-    keep_placed(&mut *room, walked.shown, input.len());
-    walked
-}
-
-/// Nodes as they are walked.
 #[tactic(auto, unfolding(crate::specs::Walks::walk_of))]
-fn walked_into(
-    table: &[u32],
-    type_number: u32,
-    levels: u32,
-    input: &[u8],
-    room: &mut [Node],
-) -> Walked
-    ensures shown { result.shown ≡ min result.nodes (length room.old) }
+pub fn walk(table: &[u32], type_number: u32, levels: u32, input: &[u8], room: &mut [Node]) -> Walked
     ensures answer { IsAnswer (length input.now) (walk_of table.now type_number levels input.now) result }
     ensures nodes { room.new ≡ overlay room.old 0 (walk_of table.now type_number levels input.now).nodes }
+    ensures shown { result.shown ≡ min result.nodes (length room.new) }
+    ensures parts { ArePlaced (length input.now) result.shown room.new }
 {
     let size = room.len();
     let place = Place {
@@ -100,53 +83,6 @@ fn most_nodes(octets: usize) -> usize
     ensures { result ≡ most_of octets }
 {
     octets.saturating_mul(16).saturating_add(65_536)
-}
-
-/// Whether a node lies within so many octets, inside the node around it and behind the one before it.
-#[tactic(auto, using(crate::proofs::Parts::place_of))]
-fn has_place(nodes: &[Node], place: usize, node: Node, count: usize) -> bool
-    requires { place < length nodes.now }
-    ensures { IsTrue result ↔ HasPlace count nodes.now place node }
-{
-    if node.content < node.start || node.end < node.content || count < node.end {
-        return false;
-    }
-    if place > 0 && node.start < nodes[place - 1].start {
-        return false;
-    }
-    if node.around >= place {
-        return true;
-    }
-    let around = nodes[node.around];
-    around.content <= node.start && (around.end == usize::MAX || node.end <= around.end)
-}
-
-/// The node at a place; with no end if it has no place: a walk's always has, and this shows it.
-#[tactic(auto, using(crate::proofs::Parts::lost, crate::proofs::Parts::kept))]
-fn as_placed(nodes: &[Node], place: usize, count: usize) -> Node
-    requires { place < length nodes.now }
-    ensures placed { IsUnfinished result ⊎ HasPlace count nodes.now place result }
-    ensures same { IsUnfinished (node_at nodes.now place) ⊎ HasPlace count nodes.now place (node_at nodes.now place) → result ≡ node_at nodes.now place }
-{
-    let mut node = nodes[place];
-    if has_place(nodes, place, node, count) {
-        return node;
-    }
-    node.end = usize::MAX;
-    node
-}
-
-/// So many nodes, each with its place in so many octets.
-#[tactic(auto, using(crate::proofs::Parts::put_placed))]
-fn keep_placed(nodes: &mut [Node], shown: usize, count: usize)
-    requires { shown ≤ length nodes.old }
-    ensures placed { ArePlaced count shown nodes.new }
-    ensures same { ArePlaced count shown nodes.old → nodes.new ≡ nodes.old }
-{
-    for place in 0..shown {
-        let node = as_placed(nodes, place, count);
-        nodes[place] = node;
-    }
 }
 
 /// The next bit and those behind it; past the last a zero bit.
