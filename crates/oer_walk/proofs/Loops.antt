@@ -2,6 +2,8 @@
 use Rattle.std.proofs.Common.{◌≡◌, ℕ, zero, suc, ◌+◌, ◌-◌, ◌<◌, ◌≤◌, Bool, true, false, cond, List, [], ◌∷◌, length, drop, get_or, Option, Some, None, Result, Ok, Err, refl, sym, ap, subst, ◌∙◌, arith}
 use Rattle.std.specs.Prelude.{◌&&◌, ◌==◌}
 use Rattle.std.specs.Borrow.{Bor}
+use Rattle.std.specs.Result.{IsErrAnd}
+use Rattle.std.proofs.lemmas.Result.{err_from_is_err_and}
 use Rattle.asn1_core.specs.Octets.{Octets}
 use Rattle.asn1_core.specs.declared.error.DecodeErrorKind.TheVariants.{TooManyEmptyElements}
 use Rattle.oer_spec.specs.Bits.{first_bit}
@@ -15,19 +17,23 @@ use Rattle.oer_walk.specs.declared.table.Component.{Component}
 use Rattle.oer_walk.specs.declared.table.Parts.{Parts}
 use Rattle.oer_walk.proofs.Steps.{walk_behind, walk_cut, walk_done, walk_stopped, resumes_step, resumes_end}
 
--- One more part was walked, and the function goes on or stops. The part is the next of what is left.
+-- One more part was walked, which is the next of what is left, and the function goes on.
 pub after_part : (r : Result (Bor Octets) Stop) (x : Bor Octets) (i n m : ℕ) (a b c : List Node) (whole left w v : Walk Octets) (f : ℕ → Octets → Walk Octets) → Resumes i a whole n b left → left ≡ behind n w f → v ≡ w → r ≡ Ok x → IsWalk (λ x. x.now) r n m b c v → Resumes i a whole m c (f m x.now)
 after_part r x i n m a b c whole left w v f from next same ok g =
     resumes_step (λ (z : Bor Octets). z.now) x i n m a b c whole left w f from next
     (subst (λ (z : Result (Bor Octets) Stop). IsWalk (λ x. x.now) z n m b c w) ok (subst (IsWalk (λ x. x.now) r n m b c) same g))
 
-pub cut_part : (r q : Result (Bor Octets) Stop) (e d : Stop) (i n m : ℕ) (a b c : List Node) (whole left w v : Walk Octets) (f : ℕ → Octets → Walk Octets) → Resumes i a whole n b left → left ≡ behind n w f → v ≡ w → r ≡ Err e → q ≡ Err d → d ≡ e → IsWalk (λ x. x.now) r n m b c v → IsWalk (λ x. x.now) q i m a c whole
-cut_part r q e d i n m a b c whole left w v f from next same err out is g =
-    let k : q ≡ Err e = out ∙ ap (λ (z : Stop). Err z) is in
+-- what the exit of a `?` returns
+pub residual : (q : Result (Bor Octets) Stop) (e : Stop) → IsErrAnd q (λ d. d ≡ e) → q ≡ Err e
+residual q e h = let p = err_from_is_err_and q h in p.1 ∙ ap (λ (z : Stop). Err z) p.2
+
+-- One more part was walked, and the function stops.
+pub cut_part : (r q : Result (Bor Octets) Stop) (e : Stop) (i n m : ℕ) (a b c : List Node) (whole left w v : Walk Octets) (f : ℕ → Octets → Walk Octets) → Resumes i a whole n b left → left ≡ behind n w f → v ≡ w → r ≡ Err e → q ≡ Err e → IsWalk (λ x. x.now) r n m b c v → IsWalk (λ x. x.now) q i m a c whole
+cut_part r q e i n m a b c whole left w v f from next same err out g =
     let h = subst (λ (z : Result (Bor Octets) Stop). IsWalk (λ x. x.now) z n m b c w) err (subst (IsWalk (λ x. x.now) r n m b c) same g) in
     let l = walk_cut (λ (z : Bor Octets). z.now) (λ (z : Bor Octets). z.now) e n m b c w f h in
     let o = subst (IsWalk (λ x. x.now) (Err e) n m b c) (sym next) l in
-    subst (λ (z : Result (Bor Octets) Stop). IsWalk (λ x. x.now) z i m a c whole) (sym k) (resumes_end (λ (z : Bor Octets). z.now) (Err e) i n m a b c whole left from o)
+    subst (λ (z : Result (Bor Octets) Stop). IsWalk (λ x. x.now) z i m a c whole) (sym out) (resumes_end (λ (z : Bor Octets). z.now) (Err e) i n m a b c whole left from o)
 
 -- nothing is left
 pub at_end : (x : Bor Octets) (i n : ℕ) (a b : List Node) (whole left : Walk Octets) → Resumes i a whole n b left → left ≡ done x.now → IsWalk (λ x. x.now) (Ok x) i n a b whole
@@ -78,9 +84,9 @@ module _ (part : PartWalk) (s : Scope) (p : Place) where
       no_more (k - (i + 1)) m x.now (with_empty (length x.now == length rest) empty) o a c whole stop few at
       (after_part r x o n m a b c whole (elements_by part s p (k - i) empty n rest) (part p n rest) (part q n rest) (λ m rest'. if_few s.start (with_empty (length rest' == length rest) empty) (λ e. elements_by part s p (k - (i + 1)) e m rest')) from (element_next k i empty n rest lt) (ap (λ (z : Place). part z n rest) is) ok g)
 
-  pub element_cut : (r q : Result (Bor Octets) Stop) (e d : Stop) (at : Place) (o k i empty n m : ℕ) (rest : Octets) (a b c : List Node) (whole : Walk Octets) → Resumes o a whole n b (elements_by part s p (k - i) empty n rest) → i < k → at ≡ p → r ≡ Err e → q ≡ Err d → d ≡ e → IsWalk (λ x. x.now) r n m b c (part at n rest) → IsWalk (λ x. x.now) q o m a c whole
-  element_cut r q e d at o k i empty n m rest a b c whole from lt is err out same g =
-      cut_part r q e d o n m a b c whole (elements_by part s p (k - i) empty n rest) (part p n rest) (part at n rest) (λ m rest'. if_few s.start (with_empty (length rest' == length rest) empty) (λ e. elements_by part s p (k - (i + 1)) e m rest')) from (element_next k i empty n rest lt) (ap (λ (z : Place). part z n rest) is) err out same g
+  pub element_cut : (r q : Result (Bor Octets) Stop) (e : Stop) (at : Place) (o k i empty n m : ℕ) (rest : Octets) (a b c : List Node) (whole : Walk Octets) → Resumes o a whole n b (elements_by part s p (k - i) empty n rest) → i < k → at ≡ p → r ≡ Err e → q ≡ Err e → IsWalk (λ x. x.now) r n m b c (part at n rest) → IsWalk (λ x. x.now) q o m a c whole
+  element_cut r q e at o k i empty n m rest a b c whole from lt is err out g =
+      cut_part r q e o n m a b c whole (elements_by part s p (k - i) empty n rest) (part p n rest) (part at n rest) (λ m rest'. if_few s.start (with_empty (length rest' == length rest) empty) (λ e. elements_by part s p (k - (i + 1)) e m rest')) from (element_next k i empty n rest lt) (ap (λ (z : Place). part z n rest) is) err out g
 
 -- ---- components and additions
 module _ (part : PartWalk) (ws : List ℕ) (ps : Parts) (s : Scope) where
@@ -132,18 +138,18 @@ module _ (part : PartWalk) (ws : List ℕ) (ps : Parts) (s : Scope) where
       subst (λ (z : List Bool). Resumes o a whole m c (components_by part ws ps s (k - (i + 1)) (i + 1) z m x.now)) (sym (l ∙ ap (λ (z : Component). later_bits z bits) is))
       (after_part r x o n m a b c whole (components_by part ws ps s (k - i) i bits n rest) (part_if (is_present (component_of ws ps i) bits) part (root_place i) n rest) (part_if there part p n rest) (λ m rest. components_by part ws ps s (k - (i + 1)) (i + 1) (later_bits (component_of ws ps i) bits) m rest) from (component_next k i bits n rest lt) (same_part there (is_present (component_of ws ps i) bits) p (root_place i) n rest (present_is there comp bits i is t) (root_is p comp i is at)) ok g)
 
-  pub component_cut : (r q : Result (Bor Octets) Stop) (e d : Stop) (p : Place) (there : Bool) (comp : Component) (o k i n m : ℕ) (bits : List Bool) (rest : Octets) (a b c : List Node) (whole : Walk Octets) → Resumes o a whole n b (components_by part ws ps s (k - i) i bits n rest) → i < k → comp ≡ component_of ws ps i → there ≡ is_present comp bits → p ≡ inside s comp.type_number comp.name false → r ≡ Err e → q ≡ Err d → d ≡ e → IsWalk (λ x. x.now) r n m b c (part_if there part p n rest) → IsWalk (λ x. x.now) q o m a c whole
-  component_cut r q e d p there comp o k i n m bits rest a b c whole from lt is t at err out same g =
-      cut_part r q e d o n m a b c whole (components_by part ws ps s (k - i) i bits n rest) (part_if (is_present (component_of ws ps i) bits) part (root_place i) n rest) (part_if there part p n rest) (λ m rest. components_by part ws ps s (k - (i + 1)) (i + 1) (later_bits (component_of ws ps i) bits) m rest) from (component_next k i bits n rest lt) (same_part there (is_present (component_of ws ps i) bits) p (root_place i) n rest (present_is there comp bits i is t) (root_is p comp i is at)) err out same g
+  pub component_cut : (r q : Result (Bor Octets) Stop) (e : Stop) (p : Place) (there : Bool) (comp : Component) (o k i n m : ℕ) (bits : List Bool) (rest : Octets) (a b c : List Node) (whole : Walk Octets) → Resumes o a whole n b (components_by part ws ps s (k - i) i bits n rest) → i < k → comp ≡ component_of ws ps i → there ≡ is_present comp bits → p ≡ inside s comp.type_number comp.name false → r ≡ Err e → q ≡ Err e → IsWalk (λ x. x.now) r n m b c (part_if there part p n rest) → IsWalk (λ x. x.now) q o m a c whole
+  component_cut r q e p there comp o k i n m bits rest a b c whole from lt is t at err out g =
+      cut_part r q e o n m a b c whole (components_by part ws ps s (k - i) i bits n rest) (part_if (is_present (component_of ws ps i) bits) part (root_place i) n rest) (part_if there part p n rest) (λ m rest. components_by part ws ps s (k - (i + 1)) (i + 1) (later_bits (component_of ws ps i) bits) m rest) from (component_next k i bits n rest lt) (same_part there (is_present (component_of ws ps i) bits) p (root_place i) n rest (present_is there comp bits i is t) (root_is p comp i is at)) err out g
 
   pub addition_step : (r : Result (Bor Octets) Stop) (x : Bor Octets) (p : Place) (there : Bool) (later : List Bool) (comp : Component) (o k i n m : ℕ) (bits : List Bool) (rest : Octets) (a b c : List Node) (whole : Walk Octets) → Resumes o a whole n b (known_by part ws ps s (k - i) i bits n rest) → i < k → comp ≡ component_of ws ps (ps.roots + i) → there ≡ get_or bits 0 false → later ≡ drop 1 bits → p ≡ inside s comp.type_number comp.name true → r ≡ Ok x → IsWalk (λ x. x.now) r n m b c (part_if there part p n rest) → Resumes o a whole m c (known_by part ws ps s (k - (i + 1)) (i + 1) later m x.now)
   addition_step r x p there later comp o k i n m bits rest a b c whole from lt is t l at ok g =
       subst (λ (z : List Bool). Resumes o a whole m c (known_by part ws ps s (k - (i + 1)) (i + 1) z m x.now)) (sym l)
       (after_part r x o n m a b c whole (known_by part ws ps s (k - i) i bits n rest) (part_if (get_or bits 0 false) part (addition_place i) n rest) (part_if there part p n rest) (λ m rest. known_by part ws ps s (k - (i + 1)) (i + 1) (drop 1 bits) m rest) from (addition_next k i bits n rest lt) (same_part there (get_or bits 0 false) p (addition_place i) n rest t (addition_is p comp i is at)) ok g)
 
-  pub addition_cut : (r q : Result (Bor Octets) Stop) (e d : Stop) (p : Place) (there : Bool) (comp : Component) (o k i n m : ℕ) (bits : List Bool) (rest : Octets) (a b c : List Node) (whole : Walk Octets) → Resumes o a whole n b (known_by part ws ps s (k - i) i bits n rest) → i < k → comp ≡ component_of ws ps (ps.roots + i) → there ≡ get_or bits 0 false → p ≡ inside s comp.type_number comp.name true → r ≡ Err e → q ≡ Err d → d ≡ e → IsWalk (λ x. x.now) r n m b c (part_if there part p n rest) → IsWalk (λ x. x.now) q o m a c whole
-  addition_cut r q e d p there comp o k i n m bits rest a b c whole from lt is t at err out same g =
-      cut_part r q e d o n m a b c whole (known_by part ws ps s (k - i) i bits n rest) (part_if (get_or bits 0 false) part (addition_place i) n rest) (part_if there part p n rest) (λ m rest. known_by part ws ps s (k - (i + 1)) (i + 1) (drop 1 bits) m rest) from (addition_next k i bits n rest lt) (same_part there (get_or bits 0 false) p (addition_place i) n rest t (addition_is p comp i is at)) err out same g
+  pub addition_cut : (r q : Result (Bor Octets) Stop) (e : Stop) (p : Place) (there : Bool) (comp : Component) (o k i n m : ℕ) (bits : List Bool) (rest : Octets) (a b c : List Node) (whole : Walk Octets) → Resumes o a whole n b (known_by part ws ps s (k - i) i bits n rest) → i < k → comp ≡ component_of ws ps (ps.roots + i) → there ≡ get_or bits 0 false → p ≡ inside s comp.type_number comp.name true → r ≡ Err e → q ≡ Err e → IsWalk (λ x. x.now) r n m b c (part_if there part p n rest) → IsWalk (λ x. x.now) q o m a c whole
+  addition_cut r q e p there comp o k i n m bits rest a b c whole from lt is t at err out g =
+      cut_part r q e o n m a b c whole (known_by part ws ps s (k - i) i bits n rest) (part_if (get_or bits 0 false) part (addition_place i) n rest) (part_if there part p n rest) (λ m rest. known_by part ws ps s (k - (i + 1)) (i + 1) (drop 1 bits) m rest) from (addition_next k i bits n rest lt) (same_part there (get_or bits 0 false) p (addition_place i) n rest t (addition_is p comp i is at)) err out g
 
   pub additions_last : (r : Result (Bor Octets) Stop) (o k i n m : ℕ) (bits : List Bool) (rest : Octets) (a b c : List Node) (whole : Walk Octets) → Resumes o a whole n b (known_by part ws ps s (k - i) i bits n rest) → k ≤ i → IsWalk (λ x. x.now) r n m b c (unknown_by part s bits n rest) → IsWalk (λ x. x.now) r o m a c whole
   additions_last r o k i n m bits rest a b c whole from le g = resumes_end (λ (z : Bor Octets). z.now) r o n m a b c whole (known_by part ws ps s (k - i) i bits n rest) from (subst (IsWalk (λ x. x.now) r n m b c) (sym (additions_end k i bits n rest le)) g)
@@ -162,6 +168,6 @@ module _ (part : PartWalk) (s : Scope) where
   unknown_step r x p bit later bits o n m rest a b c whole from is at ok g =
       after_part r x o n m a b c whole (unknown_by part s bits n rest) (part_if bit part (inside s nothing nothing true) n rest) (part_if bit part p n rest) (λ m rest. unknown_by part s later m rest) from (unknown_next bits later bit n rest is) (ap (λ (z : Place). part_if bit part z n rest) at) ok g
 
-  pub unknown_cut : (r q : Result (Bor Octets) Stop) (e d : Stop) (p : Place) (bit : Bool) (later bits : List Bool) (o n m : ℕ) (rest : Octets) (a b c : List Node) (whole : Walk Octets) → Resumes o a whole n b (unknown_by part s bits n rest) → bits ≡ bit ∷ later → p ≡ inside s nothing nothing true → r ≡ Err e → q ≡ Err d → d ≡ e → IsWalk (λ x. x.now) r n m b c (part_if bit part p n rest) → IsWalk (λ x. x.now) q o m a c whole
-  unknown_cut r q e d p bit later bits o n m rest a b c whole from is at err out same g =
-      cut_part r q e d o n m a b c whole (unknown_by part s bits n rest) (part_if bit part (inside s nothing nothing true) n rest) (part_if bit part p n rest) (λ m rest. unknown_by part s later m rest) from (unknown_next bits later bit n rest is) (ap (λ (z : Place). part_if bit part z n rest) at) err out same g
+  pub unknown_cut : (r q : Result (Bor Octets) Stop) (e : Stop) (p : Place) (bit : Bool) (later bits : List Bool) (o n m : ℕ) (rest : Octets) (a b c : List Node) (whole : Walk Octets) → Resumes o a whole n b (unknown_by part s bits n rest) → bits ≡ bit ∷ later → p ≡ inside s nothing nothing true → r ≡ Err e → q ≡ Err e → IsWalk (λ x. x.now) r n m b c (part_if bit part p n rest) → IsWalk (λ x. x.now) q o m a c whole
+  unknown_cut r q e p bit later bits o n m rest a b c whole from is at err out g =
+      cut_part r q e o n m a b c whole (unknown_by part s bits n rest) (part_if bit part (inside s nothing nothing true) n rest) (part_if bit part p n rest) (λ m rest. unknown_by part s later m rest) from (unknown_next bits later bit n rest is) (ap (λ (z : Place). part_if bit part z n rest) at) err out g

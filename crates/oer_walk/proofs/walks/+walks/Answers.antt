@@ -1,11 +1,10 @@
 use Rattle.std.proofs.Common.{ℕ, ◌+◌, ◌-◌, List, Ok, Err, false, refl, sym, ap, subst, ◌∙◌, arith}
-use Rattle.std.proofs.lemmas.Result.{err_from_is_err_and}
 use Rattle.std.specs.Borrow.{Bor}
 use Rattle.oer_leaf_read.specs.Views.{bits_left}
 use Rattle.oer_walk.specs.Tables.{nothing}
 use Rattle.oer_walk.specs.Walks.{IsWalk, inside, node_of, is_leaf, leaf_at, scope_by, part_at}
 use Rattle.oer_walk.specs.declared.table.Form.{Form}
-use Rattle.oer_walk.proofs.Loops.{at_end, bits_are, bits_gone, element_step, element_full, element_cut, elements_end, component_step, component_cut, components_end, addition_step, addition_cut, additions_last, unknown_step, unknown_cut, unknown_end, body_extended}
+use Rattle.oer_walk.proofs.Loops.{at_end, residual, bits_are, bits_gone, element_step, element_full, element_cut, elements_end, component_step, component_cut, components_end, addition_step, addition_cut, additions_last, unknown_step, unknown_cut, unknown_end, body_extended}
 use Rattle.oer_walk.proofs.Steps.{leaf_walked, leaf_refused, too_deep, scope_walked, part_walked, part_cut}
 use Rattle.oer_walk.proofs.walks.+walks.Goals as goal
 
@@ -16,9 +15,8 @@ walk_body-returns-then-is_extended t c =
 
 pub walk_components-returns-in_err-rest : goal.walk_components-returns-in_err-rest
 walk_components-returns-in_err-rest t c =
-    let p = err_from_is_err_and c.from_residual.result c.from_residual.ensures.1 in
-    component_cut (part_at c.args.table.words.now c.args.levels) c.args.table.words.now c.args.parts c.args.scope c.walk_if.result c.from_residual.result c.in_err-rest.field-0.0 p.0 c.inside-place.result c.presence-is_there.result.0 c.component-component.result _ c.args.parts.roots c.loop-index.index _ _ (bits_left c.loop-index.bits) c.loop-index.rest.now _ _ _ _
-    c.loop-index.invariant (omega arith) c.component-component.ensures c.presence-is_there.ensures.first c.inside-place.ensures c.in_err-rest.was p.1 p.2 c.walk_if.ensures
+    component_cut (part_at c.args.table.words.now c.args.levels) c.args.table.words.now c.args.parts c.args.scope c.walk_if.result c.from_residual.result c.in_err-rest.field-0.0 c.inside-place.result c.presence-is_there.result.0 c.component-component.result _ c.args.parts.roots c.loop-index.index _ _ (bits_left c.loop-index.bits) c.loop-index.rest.now _ _ _ _
+    c.loop-index.invariant (omega arith) c.component-component.ensures c.presence-is_there.ensures.first c.inside-place.ensures c.in_err-rest.was (residual c.from_residual.result c.in_err-rest.field-0.0 c.from_residual.ensures.1) c.walk_if.ensures
 
 pub walk_components-loop-index-preserved : goal.walk_components-loop-index-preserved
 walk_components-loop-index-preserved t c =
@@ -30,9 +28,8 @@ walk_components-returns t c = at_end c.loop-index.rest _ _ _ _ _ _ c.loop-index.
 
 pub walk_elements-returns-in_err-after : goal.walk_elements-returns-in_err-after
 walk_elements-returns-in_err-after t c =
-    let p = err_from_is_err_and c.from_residual.result c.from_residual.ensures.1 in
-    element_cut (part_at c.args.table.words.now c.args.levels) c.args.scope (inside c.args.scope c.args.element nothing false) c.walk_part.result c.from_residual.result c.in_err-after.field-0.0 p.0 c.inside-place.result _ c.args.quantity c.loop-index._index c.loop-index.empty _ _ c.loop-index.rest.now _ _ _ _
-    c.loop-index.invariant (omega arith) c.inside-place.ensures c.in_err-after.was p.1 p.2 c.walk_part.ensures
+    element_cut (part_at c.args.table.words.now c.args.levels) c.args.scope (inside c.args.scope c.args.element nothing false) c.walk_part.result c.from_residual.result c.in_err-after.field-0.0 c.inside-place.result _ c.args.quantity c.loop-index._index c.loop-index.empty _ _ c.loop-index.rest.now _ _ _ _
+    c.loop-index.invariant (omega arith) c.inside-place.ensures c.in_err-after.was (residual c.from_residual.result c.in_err-after.field-0.0 c.from_residual.ensures.1) c.walk_part.ensures
 
 pub walk_elements-returns-in-None : goal.walk_elements-returns-in-None
 walk_elements-returns-in-None t c =
@@ -49,9 +46,8 @@ walk_elements-returns t c = at_end c.loop-index.rest _ _ _ _ _ _ c.loop-index.in
 
 pub walk_known-returns-in_err-rest : goal.walk_known-returns-in_err-rest
 walk_known-returns-in_err-rest t c =
-    let p = err_from_is_err_and c.from_residual.result c.from_residual.ensures.1 in
-    addition_cut (part_at c.args.table.words.now c.args.levels) c.args.table.words.now c.args.parts c.args.scope c.walk_if.result c.from_residual.result c.in_err-rest.field-0.0 p.0 c.inside-place.result c.next_bit-bit.result.0 c.component-component.result _ c.args.parts.additions c.loop-index.index _ _ (bits_left c.loop-index.bits) c.loop-index.rest.now _ _ _ _
-    c.loop-index.invariant (omega arith) c.component-component.ensures c.next_bit-bit.ensures.first c.inside-place.ensures c.in_err-rest.was p.1 p.2 c.walk_if.ensures
+    addition_cut (part_at c.args.table.words.now c.args.levels) c.args.table.words.now c.args.parts c.args.scope c.walk_if.result c.from_residual.result c.in_err-rest.field-0.0 c.inside-place.result c.next_bit-bit.result.0 c.component-component.result _ c.args.parts.additions c.loop-index.index _ _ (bits_left c.loop-index.bits) c.loop-index.rest.now _ _ _ _
+    c.loop-index.invariant (omega arith) c.component-component.ensures c.next_bit-bit.ensures.first c.inside-place.ensures c.in_err-rest.was (residual c.from_residual.result c.in_err-rest.field-0.0 c.from_residual.ensures.1) c.walk_if.ensures
 
 pub walk_known-loop-index-preserved : goal.walk_known-loop-index-preserved
 walk_known-loop-index-preserved t c =
@@ -75,9 +71,8 @@ walk_part-returns-in-Err t c =
 
 pub walk_unknown-returns-in_err-rest : goal.walk_unknown-returns-in_err-rest
 walk_unknown-returns-in_err-rest t c =
-    let p = err_from_is_err_and c.from_residual.result c.from_residual.ensures.1 in
-    unknown_cut (part_at c.args.table.words.now c.args.levels) c.args.scope c.walk_if.result c.from_residual.result c.in_err-rest.field-0.0 p.0 c.inside-place.result c.in-Some.bit (bits_left c.in-Some.later) (bits_left c.loop-bit.bits) _ _ _ c.loop-bit.rest.now _ _ _ _
-    c.loop-bit.invariant (bits_are (bits_left c.loop-bit.bits) (bits_left c.in-Some.later) c.in-Some.bit c.in-Some.ensures) c.inside-place.ensures c.in_err-rest.was p.1 p.2 c.walk_if.ensures
+    unknown_cut (part_at c.args.table.words.now c.args.levels) c.args.scope c.walk_if.result c.from_residual.result c.in_err-rest.field-0.0 c.inside-place.result c.in-Some.bit (bits_left c.in-Some.later) (bits_left c.loop-bit.bits) _ _ _ c.loop-bit.rest.now _ _ _ _
+    c.loop-bit.invariant (bits_are (bits_left c.loop-bit.bits) (bits_left c.in-Some.later) c.in-Some.bit c.in-Some.ensures) c.inside-place.ensures c.in_err-rest.was (residual c.from_residual.result c.in_err-rest.field-0.0 c.from_residual.ensures.1) c.walk_if.ensures
 
 pub walk_unknown-loop-bit-preserved : goal.walk_unknown-loop-bit-preserved
 walk_unknown-loop-bit-preserved t c =
