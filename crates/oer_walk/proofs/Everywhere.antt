@@ -1,5 +1,5 @@
 -- Each part of a walk has its place, whatever the table and the octets.
-use Rattle.std.proofs.Common.{◌≡◌, ℕ, zero, suc, ◌+◌, ◌-◌, ◌<◌, ◌≤◌, ◌⊎◌, Bool, true, false, cond, List, [], ◌∷◌, length, get_or, drop, set, Option, Some, None, Result, Ok, Err, inl, inr, refl, sym, ap, subst, ◌∙◌, arith}
+use Rattle.std.proofs.Common.{◌≡◌, ℕ, zero, suc, ◌+◌, ◌-◌, ◌<◌, ◌≤◌, ◌⊎◌, Bool, true, false, cond, List, [], ◌∷◌, length, get_or, drop, set, Option, Some, None, Ok, inl, inr, refl, sym, ap, subst, ◌∙◌, arith}
 use Rattle.std.specs.Prelude.{nat_lt, nat_le, ◌==◌, ◌&&◌}
 use Rattle.std.proofs.lemmas.List.{get_or-set_same, get_or-set_other, length-set}
 use Rattle.asn1_core.specs.Octets.{Octets, AreOctets}
@@ -11,7 +11,7 @@ use Rattle.oer_spec.specs.Reading.{quantity_at}
 use Rattle.oer_spec.specs.ReadingBits.{preamble_at, bitmap_at}
 use Rattle.oer_walk.specs.Parts.{IsUnfinished, IsInside, HasPlace, ArePlaced, node_at, blank}
 use Rattle.oer_walk.specs.Tables.{nothing, form_of, component_of, alternative_at, optionals}
-use Rattle.oer_walk.specs.Walks.{Walk, PartWalk, ValueWalk, done, stopped, reads, behind, scope_of, inside, noded, is_nothing, leaving, open_content, open_by, within_by, part_by, part_if, with_empty, if_few, elements_by, extension_count, is_present, later_bits, components_by, unknown_by, known_by, additions_by, body_by, sequence_by, tagged_at, chosen, choice_by, list_by, is_leaf, leaf_at, scope_by, value_by, value_at, part_at, behind_length_at, outermost, walk_of, overlay}
+use Rattle.oer_walk.specs.Walks.{Walk, PartWalk, ValueWalk, done, stopped, reads, scope_of, inside, noded, is_nothing, leaving, open_content, open_by, within_by, part_by, part_if, with_empty, if_few, elements_by, extension_count, is_present, later_bits, components_by, unknown_by, known_by, additions_by, body_by, sequence_by, tagged_at, chosen, choice_by, list_by, is_leaf, leaf_at, scope_by, value_by, value_at, part_at, behind_length_at, overlay}
 use Rattle.oer_walk.specs.declared.nodes.Node.{Node}
 use Rattle.oer_walk.specs.declared.places.Place.{Place}
 use Rattle.oer_walk.specs.declared.places.Scope.{Scope}

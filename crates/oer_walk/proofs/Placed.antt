@@ -1,12 +1,11 @@
 -- The parts that a walk shows lie within the octets, each inside the one around it and behind the one before it.
-use Rattle.std.proofs.Common.{◌≡◌, ℕ, zero, suc, ◌+◌, ◌-◌, ◌^◌, ◌<◌, ◌≤◌, ◌⊎◌, Bool, true, false, cond, List, [], ◌∷◌, ◌++◌, length, get_or, drop, Option, Some, None, Result, Ok, Err, inl, inr, refl, sym, ap, subst, ◌∙◌, arith, length-append}
-use Rattle.std.specs.Prelude.{nat_lt, ◌==◌}
+use Rattle.std.proofs.Common.{◌≡◌, ℕ, suc, ◌+◌, ◌-◌, ◌<◌, ◌≤◌, ◌⊎◌, List, [], ◌∷◌, ◌++◌, length, Result, Ok, Err, inl, inr, refl, sym, ap, subst, ◌∙◌, arith, length-append}
 use Rattle.std.proofs.lemmas.Bool.{cases_lt}
 use Rattle.asn1_core.specs.Octets.{Octets, AreOctets}
 use Rattle.asn1_core.specs.declared.error.DecodeErrorKind.{DecodeErrorKind}
 use Rattle.oer_spec.proofs.Steps.{front_octets}
-use Rattle.oer_walk.specs.Parts.{IsUnfinished, IsInside, HasPlace, node_at}
-use Rattle.oer_walk.specs.Walks.{Walk, PartWalk, ValueWalk, done, stopped, reads, onto, goes_on, behind, scope_of, node_of, left_of, noded, left_behind, leaving, content_at, from}
+use Rattle.oer_walk.specs.Parts.{IsUnfinished, HasPlace, node_at}
+use Rattle.oer_walk.specs.Walks.{Walk, done, stopped, reads, goes_on, behind, scope_of, node_of, left_of, noded, left_behind, leaving, content_at, from}
 use Rattle.oer_walk.specs.declared.nodes.Node.{Node}
 use Rattle.oer_walk.specs.declared.places.Place.{Place}
 use Rattle.oer_walk.specs.declared.places.Scope.{Scope}
@@ -29,9 +28,10 @@ module _ (xs : List Node) (most : ℕ) where
 
   pub stand_all : (n : ℕ) (ns : List Node) → ((j : ℕ) → j < length ns → node_at xs (n + j) ≡ node_at ns j) → Stand n ns
   stand_all n [] h = tt
-  stand_all n (x ∷ ns) h =
-      (let e : n ≡ n + 0 = omega arith in ap (node_at xs) e ∙ h 0 (omega arith),
-      stand_all (n + 1) ns (λ j lt. let e : (n + 1) + j ≡ n + suc j = omega arith in ap (node_at xs) e ∙ h (suc j) (omega (arith, lt))))
+  stand_all n (x ∷ ns) h = (
+    let e : n ≡ n + 0 = omega arith in ap (node_at xs) e ∙ h 0 (omega arith),
+    stand_all (n + 1) ns (λ j lt. let e : (n + 1) + j ≡ n + suc j = omega arith in ap (node_at xs) e ∙ h (suc j) (omega (arith, lt))),
+  )
 
   -- from one place on, before another
   abbrev pub Good : ℕ → ℕ → Type 0
@@ -83,9 +83,9 @@ module _ (xs : List Node) (most : ℕ) where
 
   pub claim_done : (end n a : ℕ) (input : Octets) → Claim end n a input (done input)
   claim_done end n a input = record {
-      left = λ b. (rear_same input, let e : n ≡ n + 0 = omega arith in before_later n (n + 0) (end - length input) (end - length input) e (omega arith) b.before);
-      good = λ b w p. good_none n (n + 0) (omega arith);
-    }
+    left = λ b. (rear_same input, let e : n ≡ n + 0 = omega arith in before_later n (n + 0) (end - length input) (end - length input) e (omega arith) b.before);
+    good = λ b w p. good_none n (n + 0) (omega arith);
+  }
 
   pub claim_stopped : (end n a at : ℕ) (kind : DecodeErrorKind) (input : Octets) → Claim end n a input (stopped at kind)
   claim_stopped end n a at kind input = record { left = λ b. tt; good = λ b w p. good_none n (n + 0) (omega arith) }
@@ -105,19 +105,25 @@ module _ (xs : List Node) (most : ℕ) where
     where
       m : ℕ
       m = n + length ns
+
       v : Walk Octets
       v = f m mid
+
       total : m + length v.nodes ≡ n + length (ns ++ v.nodes)
       total = omega (arith, length-append ns v.nodes)
+
       first : Base end n input (ns ++ v.nodes) → Base end n input ns
       first b = record { octets = b.octets; fits = b.fits; stand = stand_front n ns v.nodes b.stand; before = b.before }
+
       second : Base end n input (ns ++ v.nodes) → Base end m mid v.nodes
       second b =
           let l = h.left (first b) in
           let s = rear_length input mid l.0 in
           record { octets = rear_are input mid b.octets l.0; fits = let f = b.fits in omega arith; stand = stand_rear n m ns v.nodes refl b.stand; before = l.1 }
+
       left : Base end n input (ns ++ v.nodes) → Left end (n + length (ns ++ v.nodes)) input v.answer
       left b = left_then end (m + length v.nodes) (n + length (ns ++ v.nodes)) input mid v.answer total (h.left (first b)).0 ((k m mid).left (second b))
+
       good : Base end n input (ns ++ v.nodes) → end ≤ most → IsAround end (end - length input) (node_at xs a) v.answer → Good n (n + length (ns ++ v.nodes))
       good b w p =
           let l = (k m mid).left (second b) in
@@ -138,8 +144,10 @@ module _ (xs : List Node) (most : ℕ) where
           let r = rear b.octets in
           let i = rear_length input mid r in
           record { octets = rear_are input mid b.octets r; fits = let f = b.fits in omega arith; stand = b.stand; before = before_later n n (end - length input) (end - length mid) refl (omega arith) b.before }
+
       left : Base end n input w.nodes → Left end (n + length w.nodes) input w.answer
       left b = left_then end (n + length w.nodes) (n + length w.nodes) input mid w.answer refl (rear b.octets) (c.left (base b))
+
       good : Base end n input w.nodes → end ≤ most → IsAround end (end - length input) (node_at xs a) w.answer → Good n (n + length w.nodes)
       good b l p = let i = rear_length input mid (rear b.octets) in let q = p.begins in c.good (base b) l (record { begins = omega arith; ends = p.ends })
 
@@ -177,14 +185,14 @@ module _ (xs : List Node) (most : ℕ) where
 
   pub value_done : (s : Scope) (n : ℕ) (input content rest : Octets) → (AreOctets input → IsRear input content × IsRear content rest) → ValueClaim s n input (done (s.end - length content, rest))
   value_done s n input content rest h = record {
-      left = λ b.
+    left = λ b.
         let p = h b.octets in
         let i = rear_length input content p.0 in
         let j = rear_length content rest p.1 in
         let e : n ≡ n + 0 = omega arith in
         (rear_of_rear input content rest p.0 p.1, before_later n (n + 0) (s.end - length input) (s.end - length rest) e (omega arith) b.before, omega arith, omega arith);
-      good = λ b w p. good_none n (n + 0) (omega arith);
-    }
+    good = λ b w p. good_none n (n + 0) (omega arith);
+  }
 
   from_left : (s : Scope) (m : ℕ) (input mid : Octets) (r : Result Octets Stop) → IsRear input mid → Left s.end m mid r → ValueLeft s m input (content_at (s.end - length mid) r)
   from_left s m input mid (Ok rest) h l = let i = rear_length input mid h in let j = rear_length mid rest l.0 in (rear_of_rear input mid rest h l.0, l.1, omega arith, omega arith)
@@ -202,8 +210,10 @@ module _ (xs : List Node) (most : ℕ) where
           let r = rear b.octets in
           let i = rear_length input mid r in
           record { octets = rear_are input mid b.octets r; fits = let f = b.fits in omega arith; stand = b.stand; before = before_later n n (s.end - length input) (s.end - length mid) refl (omega arith) b.before }
+
       left : ValueBase s n input w.nodes → ValueLeft s (n + length w.nodes) input (content_at (s.end - length mid) w.answer)
       left b = from_left s (n + length w.nodes) input mid w.answer (rear b.octets) (c.left (base b))
+
       good : ValueBase s n input w.nodes → s.end ≤ most → IsOwn s (node_at xs s.node) (content_at (s.end - length mid) w.answer) → Good n (n + length w.nodes)
       good b l p =
           let i = rear_length input mid (rear b.octets) in
@@ -233,6 +243,7 @@ module _ (xs : List Node) (most : ℕ) where
     where
       short : AreOctets input → length octets + length after ≤ length input
       short a = let p = split a in let i = rear_length input mid p.0 in omega (arith, ap length p.1, length-append octets after)
+
       base : ValueBase s n input w.nodes → ValueBase (record s { end = s.end - length after }) n octets w.nodes
       base b =
           let p = split b.octets in
@@ -246,11 +257,13 @@ module _ (xs : List Node) (most : ℕ) where
             before = before_later n n (s.end - length input) ((s.end - length after) - length octets) refl (omega arith) b.before;
             begins = omega arith;
           }
+
       left : ValueBase s n input w.nodes → ValueLeft s (n + length w.nodes) input (left_behind after w.answer)
       left b =
           let p = split b.octets in
           let r : IsRear mid after = (octets, p.1) in
           leaving_left s (n + length w.nodes) input octets after w.answer (rear_of_rear input mid after p.0 r) (short b.octets) b.fits (c.left (base b))
+
       good : ValueBase s n input w.nodes → s.end ≤ most → IsOwn s (node_at xs s.node) (left_behind after w.answer) → Good n (n + length w.nodes)
       good b l p = c.good (base b) (omega arith) (leaving_own s after (node_at xs s.node) w.answer p)
 
@@ -285,22 +298,28 @@ module _ (xs : List Node) (most : ℕ) where
       where
         start : ℕ
         start = p.end - length input
+
         s : Scope
         s = scope_of p n start
+
         own : Node
         own = node_of ws p start w.answer
+
         total : (n + 1) + length w.nodes ≡ n + length (own ∷ w.nodes)
         total = omega arith
+
         base : Base p.end n input (own ∷ w.nodes) → ValueBase s (n + 1) input w.nodes
         base b = record {
-            octets = b.octets;
-            fits = b.fits;
-            stand = b.stand.1;
-            before = λ l. let e : n + 1 - 1 ≡ n = omega arith in let i : (node_at xs (n + 1 - 1)).start ≡ start = ap (λ (k : ℕ). (node_at xs k).start) e ∙ ap (λ (z : Node). z.start) b.stand.0 ∙ starts p start w.answer in omega (arith, i);
-            begins = omega arith;
-          }
+          octets = b.octets;
+          fits = b.fits;
+          stand = b.stand.1;
+          before = λ l. let e : n + 1 - 1 ≡ n = omega arith in let i : (node_at xs (n + 1 - 1)).start ≡ start = ap (λ (k : ℕ). (node_at xs k).start) e ∙ ap (λ (z : Node). z.start) b.stand.0 ∙ starts p start w.answer in omega (arith, i);
+          begins = omega arith;
+        }
+
         left : Base p.end n input (own ∷ w.nodes) → Left p.end (n + length (own ∷ w.nodes)) input (left_of w.answer)
         left b = subst (λ (k : ℕ). Left p.end k input (left_of w.answer)) total (part_left p n ((n + 1) + length w.nodes) input w.answer (c.left (base b)))
+
         good : Base p.end n input (own ∷ w.nodes) → p.end ≤ most → (p.around < n → IsAround p.end (p.end - length input) (node_at xs p.around) (left_of w.answer)) → Good n (n + length (own ∷ w.nodes))
         good b l a =
             subst (λ (k : ℕ). Good n k) total (good_join n (n + 1) ((n + 1) + length w.nodes)
