@@ -2,6 +2,7 @@
 #![tactic(auto)]
 
 mod nodes;
+mod places;
 mod table;
 mod walks;
 

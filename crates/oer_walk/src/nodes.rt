@@ -1,4 +1,5 @@
 //! Nodes in the caller's room.
+ghost use Rattle.std.specs.Prelude.{◌≡◌, slice_set};
 
 /// A part of a value, and where it lies in the octets: `jilgomt_node` of include/jilgomt.h.
 #[repr(C)]
@@ -23,58 +24,12 @@ pub struct Node {
     pub end: usize,
 }
 
-/// Nodes as they come, counted further where there is no room for more.
-#[derive(Drop)]
-pub struct Nodes<'n> {
-    room: &'n mut [Node],
-    count: usize,
-    stopped: Option<usize>,
-}
-
-impl<'n> Nodes<'n> {
-    /// No nodes yet.
-    pub fn new(room: &'n mut [Node]) -> Nodes<'n> {
-        Nodes {
-            room,
-            count: 0,
-            stopped: None,
-        }
-    }
-
-    /// How many nodes there are.
-    pub fn count(&self) -> usize {
-        self.count
-    }
-
-    /// Where the innermost part begins that the walk stopped in; 0 if it stopped in none.
-    pub fn stopped(&self) -> usize {
-        self.stopped.unwrap_or(0)
-    }
-
-    /// Says that the walk stopped in the part that begins there, unless it stopped in one inside it.
-    pub fn stop(&mut self, start: usize) {
-        if self.stopped.is_none() {
-            self.stopped = Some(start);
-        }
-    }
-
-    /// Begins a part, and answers its place.
-    pub fn begin(&mut self, node: Node) -> usize {
-        let place = self.count;
-        if place < self.room.len() {
-            self.room[place] = node;
-        }
-        self.count = place.saturating_add(1);
-        place
-    }
-
-    /// Ends the part at a place.
-    pub fn end(&mut self, place: usize, content: usize, end: usize) {
-        if place < self.room.len() {
-            let mut node = self.room[place];
-            node.content = content;
-            node.end = end;
-            self.room[place] = node;
-        }
+/// Puts a node at its place, if there is room for it.
+#[tactic(auto, using(std::proofs::lemmas::List::set_past))]
+pub fn put(room: &mut [Node], place: usize, node: Node)
+    ensures { room.new ≡ slice_set room.old place node }
+{
+    if place < room.len() {
+        room[place] = node;
     }
 }

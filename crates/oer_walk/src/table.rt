@@ -1,8 +1,14 @@
-//! Tables of types in words, as `oergen --table` writes them.
+//! Tables of types in words, as `scripts/tables.py` makes them.
 //!
 //! The first word is the number of types. One word a type follows: the place in the table where the type's kind stands, with
 //! what goes with the kind behind it. A kind is a number of [`Form`]'s comments. Any words are a table: what isn't there is
 //! read as `u32::MAX`.
+ghost use Rattle.std.specs.Prelude.{◌≡◌, ◌<◌, ◌^◌, IfSome};
+ghost use Rattle.asn1_core.specs.Tags.{class_number};
+ghost use Rattle.oer_walk.specs.Walks.{is_leaf, is_nothing};
+ghost use Rattle.oer_walk.specs.Tables.{word, place_of, kind_of, count_at, form_at, form_of, parts_at, component_of, alternative_at, is_of, alternative_of, optionals};
+
+use asn1_core::{Class, Tag};
 
 /// A table.
 #[derive(Clone, Copy)]
@@ -30,17 +36,37 @@ pub enum Form {
     Nothing,
 }
 
-/// The components of a sequence or the alternatives of a choice.
+impl Form {
+    /// Whether a part of this form has no parts.
+    pub fn is_leaf(self) -> bool
+        ensures { result ≡ is_leaf self }
+    {
+        match self {
+            Form::Fixed(_) | Form::Counted | Form::Enumerated | Form::Nothing => true,
+            Form::List(_) | Form::Sequence(_) | Form::Choice(_) => false,
+        }
+    }
+
+    /// Whether it is no form.
+    pub fn is_nothing(self) -> bool
+        ensures { result ≡ is_nothing self }
+    {
+        matches!(self, Form::Nothing)
+    }
+}
+
+/// The components of a sequence or the alternatives of a choice, no more in the root and none more past it than the table
+/// has words.
 #[derive(Debug, Clone, Copy, PartialEq, Eq)]
 pub struct Parts {
     /// Whether more may follow in a newer version.
     pub is_extensible: bool,
     /// How many are in the root.
-    pub roots: usize,
+    pub roots: u32,
     /// How many are extension additions.
-    pub additions: usize,
-    /// The place in the table where they stand.
-    pub place: usize,
+    pub additions: u32,
+    /// The place in the table of the type's kind.
+    pub place: u32,
 }
 
 /// A component.
@@ -67,82 +93,178 @@ pub struct Alternative {
     pub type_number: u32,
 }
 
+fn number_of_class(class: Class) -> u32
+    ensures { result ≡ class_number class }
+{
+    match class {
+        Class::Universal => 0,
+        Class::Application => 1,
+        Class::Context => 2,
+        Class::Private => 3,
+    }
+}
+
+impl Alternative {
+    /// Whether it has that tag.
+    fn is_of(self, tag: Tag) -> bool
+        ensures { result ≡ is_of self tag }
+    {
+        self.class == number_of_class(tag.class) && self.number == tag.value
+    }
+}
+
 impl<'t> Table<'t> {
     /// The table of these words.
-    pub fn new(words: &'t [u32]) -> Table<'t> {
+    pub fn new(words: &'t [u32]) -> Table<'t>
+        ensures { result.words.now ≡ words.now }
+    {
         Table { words }
     }
 
-    fn word(self, at: usize) -> u32 {
+    fn word(self, at: usize) -> u32
+        ensures { result ≡ word self.entry.words.now at }
+    {
         match self.words.get(at) {
             Some(word) => *word,
             None => u32::MAX,
         }
     }
 
-    fn place_of(self, type_number: u32) -> usize {
-        if type_number >= self.word(0) {
-            return self.words.len();
+    /// The place where a type's kind stands, if the table has the type.
+    #[tactic(auto, unfolding(crate::specs::Tables::place_of))]
+    fn place_of(self, type_number: u32) -> Option<u32>
+        ensures { result ≡ place_of self.entry.words.now type_number }
+    {
+        if type_number < self.word(0) {
+            Some(self.word(type_number as usize + 1))
+        } else {
+            None
         }
-        self.word((type_number as usize).saturating_add(1)) as usize
     }
 
     /// The number of a type's kind; `u32::MAX` if the table has no such type.
-    pub fn kind_of(self, type_number: u32) -> u32 {
-        self.word(self.place_of(type_number))
+    #[tactic(auto, unfolding(crate::specs::Tables::kind_of))]
+    pub fn kind_of(self, type_number: u32) -> u32
+        ensures { result ≡ kind_of self.entry.words.now type_number }
+    {
+        match self.place_of(type_number) {
+            Some(at) => self.word(at as usize),
+            None => u32::MAX,
+        }
     }
 
     /// How a type lies in octets.
-    pub fn form_of(self, type_number: u32) -> Form {
-        let at = self.place_of(type_number);
-        let first = self.word(at.saturating_add(1));
-        match self.word(at) {
+    #[tactic(auto, unfolding(crate::specs::Tables::form_of))]
+    pub fn form_of(self, type_number: u32) -> Form
+        ensures { result ≡ form_of self.entry.words.now type_number }
+    {
+        match self.place_of(type_number) {
+            Some(at) => self.form_at(at),
+            None => Form::Nothing,
+        }
+    }
+
+    #[tactic(auto, unfolding(crate::specs::Tables::form_at))]
+    fn form_at(self, at: u32) -> Form
+        ensures { result ≡ form_at self.entry.words.now at }
+    {
+        let kind = self.word(at as usize);
+        let first = self.word(at as usize + 1) as usize;
+        match kind {
             0 => Form::Fixed(1),
             1 => Form::Fixed(0),
-            2 => Form::Fixed(first as usize),
-            3 | 6 | 8 => Form::Counted,
+            2 => Form::Fixed(first),
+            3 => Form::Counted,
             4 => Form::Enumerated,
-            5 => Form::Fixed((first as usize).saturating_add(7) / 8),
-            7 => Form::Fixed(first as usize),
-            10 => Form::List(self.word(at.saturating_add(2))),
+            5 => Form::Fixed((first + 7) / 8),
+            6 => Form::Counted,
+            7 => Form::Fixed(first),
+            8 => Form::Counted,
+            10 => Form::List(self.word(at as usize + 2)),
             11 => Form::Sequence(self.parts_at(at)),
             12 => Form::Choice(self.parts_at(at)),
             _ => Form::Nothing,
         }
     }
 
-    fn parts_at(self, at: usize) -> Parts {
+    /// A word that counts parts of the table, which are no more than its words.
+    fn count(self, at: usize) -> u32
+        ensures { result ≡ count_at self.entry.words.now at }
+    {
+        let count = self.word(at);
+        if (count as usize) < self.words.len() {
+            count
+        } else {
+            self.words.len() as u32
+        }
+    }
+
+    #[tactic(auto, unfolding(crate::specs::Tables::parts_at))]
+    fn parts_at(self, at: u32) -> Parts
+        ensures { result ≡ parts_at self.entry.words.now at }
+    {
         Parts {
-            is_extensible: self.word(at.saturating_add(1)) == 1,
-            roots: self.word(at.saturating_add(2)) as usize,
-            additions: self.word(at.saturating_add(3)) as usize,
-            place: at.saturating_add(4),
+            is_extensible: self.word(at as usize + 1) == 1,
+            roots: self.count(at as usize + 2),
+            additions: self.count(at as usize + 3),
+            place: at,
         }
     }
 
     /// The component with that number among all of a sequence.
-    pub fn component(self, parts: Parts, index: usize) -> Component {
-        let at = parts.place.saturating_add(index.saturating_mul(3));
+    #[tactic(auto, unfolding(crate::specs::Tables::component_of))]
+    pub fn component(self, parts: Parts, index: usize) -> Component
+        requires { index < 2 ^ 33 }
+        ensures { result ≡ component_of self.entry.words.now parts index }
+    {
+        let at = parts.place as usize + 3 * index + 4;
         Component {
             name: self.word(at),
-            may_be_absent: self.word(at.saturating_add(1)) != 0,
-            type_number: self.word(at.saturating_add(2)),
+            may_be_absent: self.word(at + 1) != 0,
+            type_number: self.word(at + 2),
         }
     }
 
     /// The alternative with that number among all of a choice.
-    pub fn alternative(self, parts: Parts, index: usize) -> Alternative {
-        let at = parts.place.saturating_add(index.saturating_mul(4));
+    #[tactic(auto, unfolding(crate::specs::Tables::alternative_at))]
+    pub fn alternative(self, parts: Parts, index: usize) -> Alternative
+        requires { index < 2 ^ 33 }
+        ensures { result ≡ alternative_at self.entry.words.now parts index }
+    {
+        let at = parts.place as usize + 4 * index + 4;
         Alternative {
             name: self.word(at),
-            class: self.word(at.saturating_add(1)),
-            number: self.word(at.saturating_add(2)),
-            type_number: self.word(at.saturating_add(3)),
+            class: self.word(at + 1),
+            number: self.word(at + 2),
+            type_number: self.word(at + 3),
         }
     }
 
-    /// No type has more components or alternatives than this.
-    pub fn most_parts(self) -> usize {
-        self.words.len()
+    /// The number of the first alternative with a tag.
+    #[tactic(auto, unfolding(crate::specs::Tables::alternative_of))]
+    pub fn alternative_of(self, parts: Parts, tag: Tag) -> Option<usize>
+        ensures value { result ≡ alternative_of self.entry.words.now parts tag }
+        ensures near { IfSome result (λ index. index < 2 ^ 33) }
+    {
+        for index in 0..parts.roots as usize + parts.additions as usize {
+            if self.alternative(parts, index).is_of(tag) {
+                return Some(index);
+            }
+        }
+        None
+    }
+
+    /// How many root components of a sequence may be absent.
+    pub fn optionals(self, parts: Parts) -> usize
+        ensures value { result ≡ optionals self.entry.words.now parts parts.roots }
+        ensures few { result < 2 ^ 32 }
+    {
+        let mut count: usize = 0;
+        for index in 0..parts.roots as usize {
+            if self.component(parts, index).may_be_absent {
+                count += 1;
+            }
+        }
+        count
     }
 }

@@ -1,11 +1,21 @@
 //! The walk.
-ghost use Rattle.std.specs.Prelude.{◌≡◌, ◌<◌, ◌≤◌, ◌⊎◌, IsTrue, length, min};
-ghost use Rattle.oer_walk.specs.Parts.{ArePlaced, HasPlace, IsUnfinished};
+ghost use Rattle.std.specs.Prelude.{◌≡◌, ◌<◌, ◌≤◌, ◌-◌, ◌^◌, ◌&&◌, false, IfOk, Ok, Err, length, drop, get_or, min};
+ghost use Rattle.oer_leaf_read.specs.Views.{bits_left};
+ghost use Rattle.oer_spec.specs.Reading.{Gives};
+ghost use Rattle.oer_walk.specs.Forms.{TakesLeaves};
+ghost use Rattle.oer_walk.specs.Parts.{ArePlaced};
+ghost use Rattle.oer_walk.specs.Tables.{nothing};
+ghost use Rattle.oer_walk.specs.Walks.{IsWalk, IsAnswer, overlay, walk_of, most_of, inside, node_of, part_if, part_at, within_by, behind_length_at, open_by, leaf_at, value_at, scope_by, list_by, elements_by, tagged_at, choice_by, sequence_by, body_by, components_by, additions_by, known_by, unknown_by, with_empty, extension_count, is_present, later_bits};
+ghost use Rattle.oer_walk.specs.declared.places.Stop.{Stop};
 
-use crate::nodes::{Node, Nodes};
-use crate::table::{Form, Parts, Table};
-use asn1_core::{Class, Codec, DecodeErrorKind, Tag};
-use oer_leaf_read::{read_length, read_octet, read_octets, read_quantity, read_tag};
+use crate::nodes::{Node, put};
+use crate::places::{Place, Scope, Stop};
+use crate::table::{Component, Form, Parts, Table};
+use asn1_core::{Codec, DecodeErrorKind};
+use oer_leaf_read::{
+    BitSlice, read_bitmap, read_enumerated, read_length, read_octets, read_preamble, read_quantity,
+    read_tag,
+};
 
 /// What a walk came to.
 #[derive(Debug, PartialEq, Eq, Drop)]
@@ -20,45 +30,19 @@ pub struct Walked {
     pub refusal: Option<DecodeErrorKind>,
 }
 
-/// What goes with each part of a walk.
-#[derive(Clone, Copy)]
-struct Place {
-    name: u32,
-    type_number: u32,
-    level: u32,
-    /// The place of the node around it; of a scope, its own node's, which is around what is inside.
-    around: usize,
-    /// Whether it stands in an open type, behind a length.
-    is_open: bool,
-    /// Where the octets end that are walked.
-    end: usize,
-}
-
 /// Walks the value of the type with that number at the front of the input, as lenient reading takes it, within that many
 /// levels. Nodes stand in the order of the octets, each behind the node around it. Takes no memory.
 ///
-/// Refused where octets lack, or their form is none of the type's; it doesn't judge what values are.
+/// Refused where octets lack, or their form is none of the type's; it doesn't judge what values are. Past 65,536 nodes and 16
+/// for each octet it is refused as `TooManyEmptyElements`.
+#[tactic(auto, unfolding(crate::specs::Walks::walk_of))]
 pub fn walk(table: &[u32], type_number: u32, levels: u32, input: &[u8], room: &mut [Node]) -> Walked
+    ensures answer { IsAnswer (length input.now) (walk_of table.now type_number levels input.now) result }
+    ensures nodes { room.new ≡ overlay room.old 0 (walk_of table.now type_number levels input.now).nodes }
     ensures shown { result.shown ≡ min result.nodes (length room.new) }
     ensures parts { ArePlaced (length input.now) result.shown room.new }
 {
-    let walked = walked_into(table, type_number, levels, input, &mut *room);
-    keep_placed(&mut *room, walked.shown, input.len());
-    walked
-}
-
-/// Nodes as they are walked.
-fn walked_into(
-    table: &[u32],
-    type_number: u32,
-    levels: u32,
-    input: &[u8],
-    room: &mut [Node],
-) -> Walked
-    ensures { result.shown ≡ min result.nodes (length room.old) }
-{
     let size = room.len();
-    let mut nodes = Nodes::new(room);
     let place = Place {
         name: u32::MAX,
         type_number,
@@ -66,112 +50,73 @@ fn walked_into(
         around: usize::MAX,
         is_open: false,
         end: input.len(),
+        most: most_nodes(input.len()),
     };
-    let (consumed, refusal) = match walk_type(Table::new(table), place, levels, input, &mut nodes) {
-        Ok(rest) => (input.len().saturating_sub(rest.len()), None),
-        Err(refusal) => (nodes.stopped(), Some(refusal)),
-    };
-    let count = nodes.count();
-    Walked {
-        nodes: count,
-        shown: count.min(size),
-        consumed,
-        refusal,
-    }
-}
-
-/// Whether a node lies within so many octets, inside the node around it and behind the one before it.
-#[tactic(auto, using(crate::proofs::Parts::place_of))]
-fn has_place(nodes: &[Node], place: usize, node: Node, count: usize) -> bool
-    requires { place < length nodes.now }
-    ensures { IsTrue result → HasPlace count nodes.now place node }
-{
-    if node.content < node.start || node.end < node.content || count < node.end {
-        return false;
-    }
-    if place > 0 && node.start < nodes[place - 1].start {
-        return false;
-    }
-    if node.around >= place {
-        return true;
-    }
-    let around = nodes[node.around];
-    around.content <= node.start && (around.end == usize::MAX || node.end <= around.end)
-}
-
-/// The node at a place; with no end if it has no place: a walk's always has, and this shows it.
-#[tactic(auto, using(crate::proofs::Parts::lost, crate::proofs::Parts::kept))]
-fn as_placed(nodes: &[Node], place: usize, count: usize) -> Node
-    requires { place < length nodes.now }
-    ensures { IsUnfinished result ⊎ HasPlace count nodes.now place result }
-{
-    let mut node = nodes[place];
-    if has_place(nodes, place, node, count) {
-        return node;
-    }
-    node.end = usize::MAX;
-    node
-}
-
-/// So many nodes, each with its place in so many octets.
-#[tactic(auto, using(crate::proofs::Parts::put_placed))]
-fn keep_placed(nodes: &mut [Node], shown: usize, count: usize)
-    requires { shown ≤ length nodes.old }
-    ensures { ArePlaced count shown nodes.new }
-{
-    for place in 0..shown {
-        let node = as_placed(nodes, place, count);
-        nodes[place] = node;
-    }
-}
-
-fn number_of_class(class: Class) -> u32 {
-    match class {
-        Class::Universal => 0,
-        Class::Application => 1,
-        Class::Context => 2,
-        Class::Private => 3,
-    }
-}
-
-/// Whether a bit is set, counted from the highest of the first octet.
-fn is_set(octets: &[u8], bit: usize) -> bool {
-    match octets.get(bit / 8) {
-        Some(octet) => match bit % 8 {
-            0 => *octet & 128 != 0,
-            1 => *octet & 64 != 0,
-            2 => *octet & 32 != 0,
-            3 => *octet & 16 != 0,
-            4 => *octet & 8 != 0,
-            5 => *octet & 4 != 0,
-            6 => *octet & 2 != 0,
-            _ => *octet & 1 != 0,
+    let mut count: usize = 0;
+    let walked = walk_part(
+        Table::new(table),
+        place,
+        levels,
+        input,
+        &mut count,
+        &mut *room,
+    );
+    let shown = count.min(size);
+    match walked {
+        Ok(rest) => Walked {
+            nodes: count,
+            shown,
+            consumed: input.len().saturating_sub(rest.len()),
+            refusal: None,
         },
-        None => false,
+        Err(stop) => Walked {
+            nodes: count,
+            shown,
+            consumed: stop.place,
+            refusal: Some(stop.kind),
+        },
     }
 }
 
-/// The octets behind an octet below 128, or behind a count and so many.
-fn past_enumerated(rest: &[u8]) -> Result<&[u8], DecodeErrorKind> {
-    let (first, rest) = read_octet(rest)?;
-    if first < 128 {
-        return Ok(rest);
-    }
-    let (_number, rest) = read_octets(usize::from(first - 128), rest)?;
-    Ok(rest)
+/// The most nodes of so many octets: what is past them takes no octets, and may be without end by the table.
+fn most_nodes(octets: usize) -> usize
+    ensures { result ≡ most_of octets }
+{
+    octets.saturating_mul(16).saturating_add(65_536)
 }
 
-/// A part of a value, of any type: answers what is behind it.
-#[cycle(walks)]
-fn walk_type<'a>(
-    table: Table<'_>,
-    place: Place,
-    levels: u32,
-    rest: &'a [u8],
-    nodes: &mut Nodes<'_>,
-) -> Result<&'a [u8], DecodeErrorKind> {
-    let start = place.end.saturating_sub(rest.len());
-    let node = nodes.begin(Node {
+/// The next bit and those behind it; past the last a zero bit.
+fn next_bit(bits: BitSlice<'_>) -> (bool, BitSlice<'_>)
+    ensures first { result.0 ≡ get_or (bits_left bits.entry) 0 false }
+    ensures rest { bits_left result.1 ≡ drop 1 (bits_left bits.entry) }
+{
+    match bits.split_first() {
+        Some((bit, later)) => (bit, later),
+        None => (false, bits),
+    }
+}
+
+/// The node of a part that ends there.
+fn whole_node(table: Table<'_>, place: Place, start: usize, content: usize, left: &[u8]) -> Node
+    ensures { result ≡ node_of table.entry.words.now place start (Ok (content, left.now)) }
+{
+    Node {
+        name: place.name,
+        type_number: place.type_number,
+        kind: table.kind_of(place.type_number),
+        level: place.level,
+        around: place.around,
+        start,
+        content,
+        end: place.end.saturating_sub(left.len()),
+    }
+}
+
+/// The node of a part in which the walk stopped.
+fn cut_node(table: Table<'_>, place: Place, start: usize) -> Node
+    ensures { (stop : Stop) → result ≡ node_of table.entry.words.now place start (Err stop) }
+{
+    Node {
         name: place.name,
         type_number: place.type_number,
         kind: table.kind_of(place.type_number),
@@ -180,271 +125,568 @@ fn walk_type<'a>(
         start,
         content: start,
         end: usize::MAX,
-    });
-    let mut scope = place;
-    scope.around = node;
-    let walked = if place.is_open {
-        walk_open(table, scope, levels, rest, &mut *nodes)
-    } else {
-        walk_bare(table, scope, levels, rest, &mut *nodes)
-    };
-    match walked {
+    }
+}
+
+/// A part of a value, of any type: answers what is behind it.
+#[cycle(walks)]
+#[tactic(auto, unfolding(crate::specs::Walks::part_by))]
+fn walk_part<'a>(
+    table: Table<'_>,
+    place: Place,
+    levels: u32,
+    rest: &'a [u8],
+    count: &mut usize,
+    room: &mut [Node],
+) -> Result<&'a [u8], Stop>
+    ensures { IsWalk (λ x. x.now) result count.old count.new room.old room.new (part_at table.entry.words.now levels place count.old rest.now) }
+{
+    let start = place.end.saturating_sub(rest.len());
+    let node = *count;
+    if node >= place.most {
+        return Err(Stop {
+            place: start,
+            kind: DecodeErrorKind::TooManyEmptyElements,
+        });
+    }
+    *count = node + 1;
+    match walk_within(table, place, levels, rest, &mut *count, &mut *room) {
         Ok((content, after)) => {
-            nodes.end(node, content, place.end.saturating_sub(after.len()));
+            put(
+                &mut *room,
+                node,
+                whole_node(table, place, start, content, after),
+            );
             Ok(after)
         }
-        Err(refusal) => {
-            nodes.stop(start);
-            Err(refusal)
+        Err(stop) => {
+            put(&mut *room, node, cut_node(table, place, start));
+            Err(stop)
         }
     }
 }
 
-/// An open type: a length, and a value in so many octets (X.696, 30). Answers where the value's content begins, and what is
-/// behind the open type.
+/// What is in a part whose node is the one before these: where its content begins, and what is behind it.
 #[cycle(walks)]
-fn walk_open<'a>(
+#[tactic(auto, unfolding(crate::specs::Walks::within_by))]
+fn walk_within<'a>(
     table: Table<'_>,
-    scope: Place,
+    place: Place,
     levels: u32,
     rest: &'a [u8],
-    nodes: &mut Nodes<'_>,
-) -> Result<(usize, &'a [u8]), DecodeErrorKind> {
+    count: &mut usize,
+    room: &mut [Node],
+) -> Result<(usize, &'a [u8]), Stop>
+    requires { 0 < count.old }
+    ensures { IsWalk (λ x. (x.0, x.1.now)) result count.old count.new room.old room.new (within_by (value_at table.entry.words.now levels) table.entry.words.now place (count.old - 1) rest.now) }
+{
+    let scope = place.scope(*count - 1, place.end.saturating_sub(rest.len()));
+    if place.is_open {
+        walk_open(table, scope, levels, rest, &mut *count, &mut *room)
+    } else {
+        walk_value(table, scope, levels, rest, &mut *count, &mut *room)
+    }
+}
+
+/// The octets behind a length at the front; what is behind the length; and what is behind the octets.
+#[tactic(auto, unfolding(crate::specs::Walks::behind_length_at))]
+fn read_open(rest: &[u8]) -> Result<(&[u8], &[u8], &[u8]), DecodeErrorKind>
+    ensures { Gives (λ x. (x.0.now, x.1.now, x.2.now)) result (behind_length_at rest.now) }
+{
     let (count, behind) = read_length(Codec::Oer, rest)?;
     let (octets, after) = read_octets(count, behind)?;
-    let mut inner = scope;
-    inner.end = scope.end.saturating_sub(after.len());
-    let (content, _left) = walk_bare(table, inner, levels, octets, &mut *nodes)?;
-    Ok((content, after))
+    Ok((octets, behind, after))
+}
+
+/// An open type: a length, and a value in so many octets (X.696, 30); octets if the table doesn't have its type. Answers where
+/// the value's content begins, and what is behind the open type.
+#[cycle(walks)]
+#[tactic(auto, unfolding(crate::specs::Walks::open_by, crate::specs::Walks::open_content))]
+fn walk_open<'a>(
+    table: Table<'_>,
+    scope: Scope,
+    levels: u32,
+    rest: &'a [u8],
+    count: &mut usize,
+    room: &mut [Node],
+) -> Result<(usize, &'a [u8]), Stop>
+    ensures { IsWalk (λ x. (x.0, x.1.now)) result count.old count.new room.old room.new (open_by (value_at table.entry.words.now levels) table.entry.words.now scope count.old rest.now) }
+{
+    match read_open(rest) {
+        Ok((octets, behind, after)) => {
+            if table.form_of(scope.type_number).is_nothing() {
+                return Ok((scope.end.saturating_sub(behind.len()), after));
+            }
+            let inner = scope.up_to(scope.end.saturating_sub(after.len()));
+            let (content, _left) = walk_value(
+                table,
+                inner,
+                levels,
+                octets,
+                &mut *count,
+                &mut *room,
+            )?;
+            Ok((content, after))
+        }
+        Err(kind) => Err(scope.stop(kind)),
+    }
 }
 
 /// A value without what stands around it: answers where its content begins, and what is behind it.
 #[cycle(walks)]
-fn walk_bare<'a>(
+fn walk_value<'a>(
     table: Table<'_>,
-    scope: Place,
+    scope: Scope,
     levels: u32,
     rest: &'a [u8],
-    nodes: &mut Nodes<'_>,
-) -> Result<(usize, &'a [u8]), DecodeErrorKind> {
-    let start = scope.end.saturating_sub(rest.len());
-    match table.form_of(scope.type_number) {
-        Form::Fixed(count) => {
-            let (_octets, after) = read_octets(count, rest)?;
-            Ok((start, after))
-        }
-        Form::Counted => {
-            let (count, behind) = read_length(Codec::Oer, rest)?;
-            let (_octets, after) = read_octets(count, behind)?;
-            Ok((scope.end.saturating_sub(behind.len()), after))
-        }
-        Form::Enumerated => Ok((start, past_enumerated(rest)?)),
-        Form::Nothing => Err(DecodeErrorKind::TypeNotExtensible),
-        Form::List(_) | Form::Sequence(..) | Form::Choice(..) => {
-            let Some(levels) = levels.checked_sub(1) else {
-                return Err(DecodeErrorKind::ExceedsMaxParseDepth);
-            };
-            walk_scope(table, scope, levels, rest, &mut *nodes)
-        }
+    count: &mut usize,
+    room: &mut [Node],
+) -> Result<(usize, &'a [u8]), Stop>
+    ensures { IsWalk (λ x. (x.0, x.1.now)) result count.old count.new room.old room.new (value_at table.entry.words.now levels scope count.old rest.now) }
+{
+    let form = table.form_of(scope.type_number);
+    if form.is_leaf() {
+        return match read_leaf(form, rest) {
+            Ok((behind, after)) => Ok((scope.end.saturating_sub(behind.len()), after)),
+            Err(kind) => Err(scope.stop(kind)),
+        };
     }
+    if levels == 0 {
+        return Err(scope.stop(DecodeErrorKind::ExceedsMaxParseDepth));
+    }
+    walk_scope(
+        table,
+        scope,
+        form,
+        levels - 1,
+        rest,
+        &mut *count,
+        &mut *room,
+    )
 }
 
-/// What is inside a list, a sequence or a choice: where its content begins, and what is behind it.
-#[cycle(walks)]
-fn walk_scope<'a>(
-    table: Table<'_>,
-    scope: Place,
-    levels: u32,
-    rest: &'a [u8],
-    nodes: &mut Nodes<'_>,
-) -> Result<(usize, &'a [u8]), DecodeErrorKind> {
-    match table.form_of(scope.type_number) {
-        Form::List(element) => {
-            let (count, behind) = read_quantity(Codec::Oer, rest)?;
-            let inner = inside(scope, element, u32::MAX, false);
-            let after = walk_elements(table, inner, levels, count, behind, &mut *nodes)?;
-            Ok((scope.end.saturating_sub(behind.len()), after))
+/// What is behind a leaf: what is behind the length in front of it, and what is behind it all. Of each leaf's encodings, in
+/// lenient reading, it takes exactly these.
+fn read_leaf(form: Form, rest: &[u8]) -> Result<(&[u8], &[u8]), DecodeErrorKind>
+    ensures function { Gives (λ x. (x.0.now, x.1.now)) result (leaf_at form rest.now) }
+    ensures takes { TakesLeaves form rest.now (leaf_at form rest.now) }
+{
+    leaf_end(form, rest)
+}
+
+/// What is behind a leaf: what is behind the length in front of it, and what is behind it all.
+#[tactic(auto, unfolding(crate::specs::Walks::leaf_at))]
+fn leaf_end(form: Form, rest: &[u8]) -> Result<(&[u8], &[u8]), DecodeErrorKind>
+    ensures { Gives (λ x. (x.0.now, x.1.now)) result (leaf_at form rest.now) }
+{
+    match form {
+        Form::Fixed(size) => {
+            let (_octets, after) = read_octets(size, rest)?;
+            Ok((rest, after))
         }
-        Form::Sequence(parts) => walk_sequence(table, scope, levels, parts, rest, &mut *nodes),
-        Form::Choice(parts) => {
-            let (tag, behind) = read_tag(Codec::Oer, rest)?;
-            let index = alternative_of(table, parts, tag)?;
-            let alternative = table.alternative(parts, index);
-            let is_open = index >= parts.roots;
-            let inner = inside(scope, alternative.type_number, alternative.name, is_open);
-            let after = walk_type(table, inner, levels, behind, &mut *nodes)?;
-            Ok((scope.end.saturating_sub(behind.len()), after))
+        Form::Counted => {
+            let (_octets, behind, after) = read_open(rest)?;
+            Ok((behind, after))
+        }
+        Form::Enumerated => {
+            let (_number, after) = read_enumerated(Codec::Oer, rest)?;
+            Ok((rest, after))
         }
         _ => Err(DecodeErrorKind::TypeNotExtensible),
     }
 }
 
-/// The place of a part of a scope.
-fn inside(scope: Place, type_number: u32, name: u32, is_open: bool) -> Place {
-    Place {
-        name,
-        type_number,
-        level: scope.level.saturating_add(1),
-        around: scope.around,
-        is_open,
-        end: scope.end,
+/// What is inside a list, a sequence or a choice: where its content begins, and what is behind it.
+#[cycle(walks)]
+#[tactic(auto, unfolding(crate::specs::Walks::scope_by))]
+fn walk_scope<'a>(
+    table: Table<'_>,
+    scope: Scope,
+    form: Form,
+    levels: u32,
+    rest: &'a [u8],
+    count: &mut usize,
+    room: &mut [Node],
+) -> Result<(usize, &'a [u8]), Stop>
+    ensures { IsWalk (λ x. (x.0, x.1.now)) result count.old count.new room.old room.new (scope_by (part_at table.entry.words.now levels) table.entry.words.now form scope count.old rest.now) }
+{
+    match form {
+        Form::List(element) => walk_list(
+            table,
+            scope,
+            element,
+            levels,
+            rest,
+            &mut *count,
+            &mut *room,
+        ),
+        Form::Sequence(parts) => walk_sequence(
+            table,
+            scope,
+            parts,
+            levels,
+            rest,
+            &mut *count,
+            &mut *room,
+        ),
+        Form::Choice(parts) => walk_choice(
+            table,
+            scope,
+            parts,
+            levels,
+            rest,
+            &mut *count,
+            &mut *room,
+        ),
+        _ => Err(scope.stop(DecodeErrorKind::TypeNotExtensible)),
     }
 }
 
-/// The place of the alternative with a tag.
-fn alternative_of(table: Table<'_>, parts: Parts, tag: Tag) -> Result<usize, DecodeErrorKind> {
-    let count = parts.roots.saturating_add(parts.additions);
-    for index in 0..count.min(table.most_parts()) {
-        let alternative = table.alternative(parts, index);
-        if alternative.class == number_of_class(tag.class) && alternative.number == tag.value {
-            return Ok(index);
+/// A list: a quantity, and the elements (X.696, 17).
+#[cycle(walks)]
+#[tactic(auto, unfolding(crate::specs::Walks::list_by))]
+fn walk_list<'a>(
+    table: Table<'_>,
+    scope: Scope,
+    element: u32,
+    levels: u32,
+    rest: &'a [u8],
+    count: &mut usize,
+    room: &mut [Node],
+) -> Result<(usize, &'a [u8]), Stop>
+    ensures { IsWalk (λ x. (x.0, x.1.now)) result count.old count.new room.old room.new (list_by (part_at table.entry.words.now levels) element scope count.old rest.now) }
+{
+    match read_quantity(Codec::Oer, rest) {
+        Ok((quantity, behind)) => {
+            let after = walk_elements(
+                table,
+                scope,
+                element,
+                levels,
+                quantity,
+                behind,
+                &mut *count,
+                &mut *room,
+            )?;
+            Ok((scope.end.saturating_sub(behind.len()), after))
         }
+        Err(kind) => Err(scope.stop(kind)),
     }
-    Err(DecodeErrorKind::InvalidTagVariantOnChoice {
-        value: tag,
-        is_extensible: parts.is_extensible,
-    })
 }
 
 /// The elements of a list.
 #[cycle(walks)]
 fn walk_elements<'a>(
     table: Table<'_>,
-    place: Place,
+    scope: Scope,
+    element: u32,
     levels: u32,
-    count: usize,
+    quantity: usize,
     rest: &'a [u8],
-    nodes: &mut Nodes<'_>,
-) -> Result<&'a [u8], DecodeErrorKind> {
+    count: &mut usize,
+    room: &mut [Node],
+) -> Result<&'a [u8], Stop>
+    ensures { IsWalk (λ x. x.now) result count.old count.new room.old room.new (elements_by (part_at table.entry.words.now levels) scope (inside scope element nothing false) quantity 0 count.old rest.now) }
+{
+    let place = scope.inside(element, u32::MAX, false);
     let mut rest = rest;
     let mut empty: u32 = 0;
-    for _ in 0..count {
-        let after = walk_type(table, place, levels, rest, &mut *nodes)?;
-        if after.len() == rest.len() {
-            if empty >= 65_536 {
-                return Err(DecodeErrorKind::TooManyEmptyElements);
-            }
-            empty += 1;
+    for _index in 0..quantity {
+        let after = walk_part(table, place, levels, rest, &mut *count, &mut *room)?;
+        match with_empty(after.len() == rest.len(), empty) {
+            Some(more) => empty = more,
+            None => return Err(scope.stop(DecodeErrorKind::TooManyEmptyElements)),
         }
         rest = after;
     }
     Ok(rest)
 }
 
-/// How many root components may be absent.
-fn presence_bits(table: Table<'_>, parts: Parts) -> usize {
-    let mut bits: usize = 0;
-    for index in 0..parts.roots.min(table.most_parts()) {
-        if table.component(parts, index).may_be_absent {
-            bits = bits.saturating_add(1);
-        }
+/// How many elements without octets there are with one more, of which no more than 65,536 are read.
+fn with_empty(is_empty: bool, empty: u32) -> Option<u32>
+    ensures { result ≡ with_empty is_empty empty }
+{
+    if !is_empty {
+        return Some(empty);
     }
-    bits
+    if empty < 65_536 {
+        Some(empty + 1)
+    } else {
+        None
+    }
 }
 
-/// The components of a sequence.
+/// A choice: a tag, and the alternative, past the root in an open type (X.696, 20).
 #[cycle(walks)]
+#[tactic(auto, unfolding(crate::specs::Walks::choice_by))]
+fn walk_choice<'a>(
+    table: Table<'_>,
+    scope: Scope,
+    parts: Parts,
+    levels: u32,
+    rest: &'a [u8],
+    count: &mut usize,
+    room: &mut [Node],
+) -> Result<(usize, &'a [u8]), Stop>
+    ensures { IsWalk (λ x. (x.0, x.1.now)) result count.old count.new room.old room.new (choice_by (part_at table.entry.words.now levels) table.entry.words.now parts scope count.old rest.now) }
+{
+    match read_alternative(table, parts, rest) {
+        Ok((index, behind)) => {
+            let alternative = table.alternative(parts, index);
+            let is_open = parts.roots as usize <= index;
+            let place = scope.inside(alternative.type_number, alternative.name, is_open);
+            let after = walk_part(table, place, levels, behind, &mut *count, &mut *room)?;
+            Ok((scope.end.saturating_sub(behind.len()), after))
+        }
+        Err(kind) => Err(scope.stop(kind)),
+    }
+}
+
+/// The number of the alternative whose tag is at the front, and what is behind the tag.
+#[tactic(auto, unfolding(crate::specs::Walks::tagged_at))]
+fn read_alternative<'a>(
+    table: Table<'_>,
+    parts: Parts,
+    rest: &'a [u8],
+) -> Result<(usize, &'a [u8]), DecodeErrorKind>
+    ensures function { Gives (λ x. (x.0, x.1.now)) result (tagged_at table.entry.words.now parts rest.now) }
+    ensures near { IfOk result (λ x. x.0 < 2 ^ 33) }
+{
+    let (tag, behind) = read_tag(Codec::Oer, rest)?;
+    match table.alternative_of(parts, tag) {
+        Some(index) => Ok((index, behind)),
+        None => Err(DecodeErrorKind::InvalidTagVariantOnChoice {
+            value: tag,
+            is_extensible: parts.is_extensible,
+        }),
+    }
+}
+
+/// A sequence: a preamble, the components of the root, and additions (X.696, 16).
+#[cycle(walks)]
+#[tactic(auto, unfolding(crate::specs::Walks::sequence_by))]
 fn walk_sequence<'a>(
     table: Table<'_>,
-    scope: Place,
-    levels: u32,
+    scope: Scope,
     parts: Parts,
+    levels: u32,
     rest: &'a [u8],
-    nodes: &mut Nodes<'_>,
-) -> Result<(usize, &'a [u8]), DecodeErrorKind> {
-    let mut bit: usize = if parts.is_extensible { 1 } else { 0 };
-    let bits = presence_bits(table, parts).saturating_add(bit);
-    let (preamble, behind) = read_octets(bits.saturating_add(7) / 8, rest)?;
-    let content = scope.end.saturating_sub(behind.len());
-    let mut rest = behind;
-    for index in 0..parts.roots.min(table.most_parts()) {
-        let component = table.component(parts, index);
-        let is_there = if component.may_be_absent {
-            let is_there = is_set(preamble, bit);
-            bit = bit.saturating_add(1);
-            is_there
-        } else {
-            true
-        };
-        if is_there {
-            let inner = inside(scope, component.type_number, component.name, false);
-            rest = walk_type(table, inner, levels, rest, &mut *nodes)?;
+    count: &mut usize,
+    room: &mut [Node],
+) -> Result<(usize, &'a [u8]), Stop>
+    ensures { IsWalk (λ x. (x.0, x.1.now)) result count.old count.new room.old room.new (sequence_by (part_at table.entry.words.now levels) table.entry.words.now parts scope count.old rest.now) }
+{
+    match read_preamble(extension_count(parts) + table.optionals(parts), rest) {
+        Ok((bits, behind)) => {
+            let after = walk_body(
+                table,
+                scope,
+                parts,
+                levels,
+                bits,
+                behind,
+                &mut *count,
+                &mut *room,
+            )?;
+            Ok((scope.end.saturating_sub(behind.len()), after))
         }
+        Err(kind) => Err(scope.stop(kind)),
     }
-    if parts.is_extensible && is_set(preamble, 0) {
-        rest = walk_additions(table, scope, levels, parts, rest, &mut *nodes)?;
-    }
-    Ok((content, rest))
 }
 
-/// The additions of a sequence: a bitmap, and open types.
+/// How many extension bits a preamble has.
+fn extension_count(parts: Parts) -> usize
+    ensures value { result ≡ extension_count parts }
+    ensures few { result ≤ 1 }
+{
+    if parts.is_extensible { 1 } else { 0 }
+}
+
+/// Whether additions follow, and the presence bits.
+fn split_extension(parts: Parts, bits: BitSlice<'_>) -> (bool, BitSlice<'_>)
+    ensures first { result.0 ≡ (parts.is_extensible && get_or (bits_left bits.entry) 0 false) }
+    ensures rest { bits_left result.1 ≡ drop (extension_count parts) (bits_left bits.entry) }
+{
+    if parts.is_extensible {
+        next_bit(bits)
+    } else {
+        (false, bits)
+    }
+}
+
+/// Whether a component is there, and the bits behind its own.
+fn presence(component: Component, bits: BitSlice<'_>) -> (bool, BitSlice<'_>)
+    ensures first { result.0 ≡ is_present component (bits_left bits.entry) }
+    ensures rest { bits_left result.1 ≡ later_bits component (bits_left bits.entry) }
+{
+    if component.may_be_absent {
+        next_bit(bits)
+    } else {
+        (true, bits)
+    }
+}
+
+/// What follows a preamble with these bits.
 #[cycle(walks)]
-fn walk_additions<'a>(
+#[tactic(auto, unfolding(crate::specs::Walks::body_by))]
+fn walk_body<'a>(
     table: Table<'_>,
-    scope: Place,
-    levels: u32,
+    scope: Scope,
     parts: Parts,
+    levels: u32,
+    bits: BitSlice<'_>,
     rest: &'a [u8],
-    nodes: &mut Nodes<'_>,
-) -> Result<&'a [u8], DecodeErrorKind> {
-    let (count, behind) = read_length(Codec::Oer, rest)?;
-    let (bitmap, behind) = read_octets(count, behind)?;
-    let [unused, bitmap @ ..] = bitmap else {
-        return Err(DecodeErrorKind::InvalidExtensionHeader);
-    };
-    let bits = bitmap
-        .len()
-        .saturating_mul(8)
-        .saturating_sub(usize::from(*unused));
-    let mut rest = behind;
-    for index in 0..bits {
-        if is_set(bitmap, index) {
-            if index < parts.additions {
-                let at = parts.roots.saturating_add(index);
-                let component = table.component(parts, at);
-                let inner = inside(scope, component.type_number, component.name, true);
-                rest = walk_type(table, inner, levels, rest, &mut *nodes)?;
-            } else {
-                rest = past_unknown(scope, rest, &mut *nodes)?;
-            }
-        }
+    count: &mut usize,
+    room: &mut [Node],
+) -> Result<&'a [u8], Stop>
+    ensures { IsWalk (λ x. x.now) result count.old count.new room.old room.new (body_by (part_at table.entry.words.now levels) table.entry.words.now parts scope (bits_left bits.entry) count.old rest.now) }
+{
+    let (is_extended, bits) = split_extension(parts, bits);
+    let rest = walk_components(
+        table,
+        scope,
+        parts,
+        levels,
+        bits,
+        rest,
+        &mut *count,
+        &mut *room,
+    )?;
+    if is_extended {
+        walk_additions(table, scope, parts, levels, rest, &mut *count, &mut *room)
+    } else {
+        Ok(rest)
+    }
+}
+
+/// The components of the root, by their presence bits.
+#[cycle(walks)]
+fn walk_components<'a>(
+    table: Table<'_>,
+    scope: Scope,
+    parts: Parts,
+    levels: u32,
+    bits: BitSlice<'_>,
+    rest: &'a [u8],
+    count: &mut usize,
+    room: &mut [Node],
+) -> Result<&'a [u8], Stop>
+    ensures { IsWalk (λ x. x.now) result count.old count.new room.old room.new (components_by (part_at table.entry.words.now levels) table.entry.words.now parts scope parts.roots 0 (bits_left bits.entry) count.old rest.now) }
+{
+    let mut rest = rest;
+    let mut bits = bits;
+    for index in 0..parts.roots as usize {
+        let component = table.component(parts, index);
+        let (is_there, later) = presence(component, bits);
+        bits = later;
+        let place = scope.inside(component.type_number, component.name, false);
+        rest = walk_if(
+            table,
+            is_there,
+            place,
+            levels,
+            rest,
+            &mut *count,
+            &mut *room,
+        )?;
     }
     Ok(rest)
 }
 
-/// What is behind a length, and behind so many octets after it.
-fn past_open(rest: &[u8]) -> Result<(&[u8], &[u8]), DecodeErrorKind> {
-    let (count, behind) = read_length(Codec::Oer, rest)?;
-    let (_octets, after) = read_octets(count, behind)?;
-    Ok((behind, after))
+/// A part, if it is there.
+#[cycle(walks)]
+fn walk_if<'a>(
+    table: Table<'_>,
+    is_there: bool,
+    place: Place,
+    levels: u32,
+    rest: &'a [u8],
+    count: &mut usize,
+    room: &mut [Node],
+) -> Result<&'a [u8], Stop>
+    ensures { IsWalk (λ x. x.now) result count.old count.new room.old room.new (part_if is_there (part_at table.entry.words.now levels) place count.old rest.now) }
+{
+    if is_there {
+        walk_part(table, place, levels, rest, &mut *count, &mut *room)
+    } else {
+        Ok(rest)
+    }
 }
 
-/// An addition that the table doesn't have: a node without a name.
-fn past_unknown<'a>(
-    scope: Place,
+/// The additions of a sequence: a bitmap, and open types.
+#[cycle(walks)]
+#[tactic(auto, unfolding(crate::specs::Walks::additions_by))]
+fn walk_additions<'a>(
+    table: Table<'_>,
+    scope: Scope,
+    parts: Parts,
+    levels: u32,
     rest: &'a [u8],
-    nodes: &mut Nodes<'_>,
-) -> Result<&'a [u8], DecodeErrorKind> {
-    let start = scope.end.saturating_sub(rest.len());
-    let node = nodes.begin(Node {
-        name: u32::MAX,
-        type_number: u32::MAX,
-        kind: u32::MAX,
-        level: scope.level.saturating_add(1),
-        around: scope.around,
-        start,
-        content: start,
-        end: usize::MAX,
-    });
-    match past_open(rest) {
-        Ok((behind, after)) => {
-            let content = scope.end.saturating_sub(behind.len());
-            nodes.end(node, content, scope.end.saturating_sub(after.len()));
-            Ok(after)
-        }
-        Err(refusal) => {
-            nodes.stop(start);
-            Err(refusal)
-        }
+    count: &mut usize,
+    room: &mut [Node],
+) -> Result<&'a [u8], Stop>
+    ensures { IsWalk (λ x. x.now) result count.old count.new room.old room.new (additions_by (part_at table.entry.words.now levels) table.entry.words.now parts scope count.old rest.now) }
+{
+    match read_bitmap(Codec::Oer, rest) {
+        Ok((bits, behind)) => walk_known(
+            table,
+            scope,
+            parts,
+            levels,
+            bits,
+            behind,
+            &mut *count,
+            &mut *room,
+        ),
+        Err(kind) => Err(scope.stop(kind)),
     }
+}
+
+/// The additions whose bits are set: those of the table, and those behind them.
+#[cycle(walks)]
+fn walk_known<'a>(
+    table: Table<'_>,
+    scope: Scope,
+    parts: Parts,
+    levels: u32,
+    bits: BitSlice<'_>,
+    rest: &'a [u8],
+    count: &mut usize,
+    room: &mut [Node],
+) -> Result<&'a [u8], Stop>
+    ensures { IsWalk (λ x. x.now) result count.old count.new room.old room.new (known_by (part_at table.entry.words.now levels) table.entry.words.now parts scope parts.additions 0 (bits_left bits.entry) count.old rest.now) }
+{
+    let mut rest = rest;
+    let mut bits = bits;
+    for index in 0..parts.additions as usize {
+        let component = table.component(parts, parts.roots as usize + index);
+        let (bit, later) = next_bit(bits);
+        bits = later;
+        let place = scope.inside(component.type_number, component.name, true);
+        rest = walk_if(table, bit, place, levels, rest, &mut *count, &mut *room)?;
+    }
+    walk_unknown(table, scope, levels, bits, rest, &mut *count, &mut *room)
+}
+
+/// The additions that the table doesn't have: nodes without names.
+#[cycle(walks)]
+fn walk_unknown<'a>(
+    table: Table<'_>,
+    scope: Scope,
+    levels: u32,
+    bits: BitSlice<'_>,
+    rest: &'a [u8],
+    count: &mut usize,
+    room: &mut [Node],
+) -> Result<&'a [u8], Stop>
+    ensures { IsWalk (λ x. x.now) result count.old count.new room.old room.new (unknown_by (part_at table.entry.words.now levels) scope (bits_left bits.entry) count.old rest.now) }
+{
+    let place = scope.inside(u32::MAX, u32::MAX, true);
+    let mut rest = rest;
+    let mut bits = bits;
+    while let Some((bit, later)) = bits.split_first() {
+        rest = walk_if(table, bit, place, levels, rest, &mut *count, &mut *room)?;
+        bits = later;
+    }
+    Ok(rest)
 }

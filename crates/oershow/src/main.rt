@@ -2,67 +2,39 @@
 #![tactic(auto)]
 
 mod messages;
+mod page;
 mod tables;
 mod values;
+mod words;
 
 use anyhow::{Error, Result};
 use base64::engine::general_purpose::STANDARD;
-use messages::read_message;
+use messages::{Colours, PLAIN, TERMINAL, is_whole, read_message};
+use page::Page;
 use std::alloc::Global;
-use std::io::{BufRead, BufReader, Read};
+use std::io::{BufRead, BufReader, IsTerminal, Read};
 use std::process::ExitCode;
-use std::{env, fs};
+use std::{env, fs, io};
 use tables::Tables;
+use words::{Output, USAGE, Wish, asked, wish_of};
 
-const USAGE: &str = "usage: oershow [--json] [--base64] TABLE TYPE [OCTETS..]
-       oershow [--json] --binary TABLE TYPE [FILE..]
-OCTETS are in hexadecimal, or in base64; without them each line of standard input is a message. With `-` for TYPE each line has
-its type in front, and may have --json and --base64 before it. --binary takes each file, or standard input, as one message.
-scripts/tables.py --lines writes TABLE.";
-
-/// What the words ask for.
+/// What has been done of a wish.
 #[derive(Drop)]
-struct Wish<'w> {
-    is_json: bool,
-    is_base64: bool,
-    is_binary: bool,
-    table: &'w str,
-    type_name: &'w str,
-    messages: &'w [String],
+struct Done {
+    alloc: Global,
+    colours: Colours,
+    page: Page,
+    /// How many messages there were, and how many of them were whole.
+    messages: u64,
+    whole: u64,
 }
 
-/// The wish that words say, without the program's own; nothing where they are of another form.
-fn wish_of<'w>(words: &'w [String]) -> Option<Wish<'w>> {
-    let (mut is_json, mut is_base64, mut is_binary) = (false, false, false);
-    let mut rest = words;
-    for _ in 0..words.len() {
-        match rest {
-            [first, behind @ ..] if first.as_str() == "--json" => {
-                is_json = true;
-                rest = behind;
-            }
-            [first, behind @ ..] if first.as_str() == "--base64" => {
-                is_base64 = true;
-                rest = behind;
-            }
-            [first, behind @ ..] if first.as_str() == "--binary" => {
-                is_binary = true;
-                rest = behind;
-            }
-            _ => break,
-        }
-    }
-    match rest {
-        [table, type_name, messages @ ..] => Some(Wish {
-            is_json,
-            is_base64,
-            is_binary,
-            table: table.as_str(),
-            type_name: type_name.as_str(),
-            messages,
-        }),
-        _ => None,
-    }
+/// A message that was read from a line: its type, its octets, and whether it is to be shown as JSON.
+#[derive(Drop)]
+struct Line<'l> {
+    type_name: &'l str,
+    octets: Vec<u8>,
+    output: Output,
 }
 
 /// The octets of a text in hexadecimal, with or without blanks and colons, or in base64.
@@ -70,131 +42,200 @@ fn octets_of(alloc: Global, text: &str, is_base64: bool) -> Result<Vec<u8>> {
     if is_base64 {
         return match STANDARD.decode(alloc, text.trim().as_bytes()) {
             Ok(octets) => Ok(octets),
-            Err(_) => Err(Error::msg("a message is no base64")),
+            Err(_) => Err(Error::msg("NoBase64: a message is no base64")),
         };
     }
     let mut digits = String::new(alloc);
-    for character in text.chars() {
+    for character in text.trim().chars() {
         if character != ' ' && character != ':' {
             digits.push(character)?;
         }
     }
     match hex::decode(alloc, digits.as_str()) {
         Ok(octets) => Ok(octets),
-        Err(_) => Err(Error::msg("a message is no hexadecimal")),
+        Err(_) => Err(Error::msg("NoHexadecimal: a message is no hexadecimal")),
     }
 }
 
-/// What is shown of a message.
-fn text_of(
-    alloc: Global,
-    tables: &Tables,
-    is_json: bool,
-    type_name: &str,
-    octets: &[u8],
-) -> Result<String> {
-    let Some(type_number) = tables.type_of(type_name) else {
-        return Err(Error::msg("the table has no such type"));
-    };
-    let message = read_message(alloc, tables, type_number, octets)?;
-    if is_json {
-        message.json()
-    } else {
-        message.tree()
-    }
-}
-
-/// What is shown of a message in text. With `-` for the type it stands in front, behind words for this message alone.
-fn text_of_line(alloc: Global, tables: &Tables, wish: &Wish<'_>, line: &str) -> Result<String> {
+/// What a line says. With `-` for the type it stands in front, behind words for this message alone.
+fn line_of<'l>(alloc: Global, wish: &Wish<'l>, line: &'l str) -> Result<Line<'l>> {
     if wish.type_name != "-" {
-        let octets = octets_of(alloc, line, wish.is_base64)?;
-        return text_of(
-            alloc,
-            tables,
-            wish.is_json,
-            wish.type_name,
-            octets.as_slice(),
-        );
+        return Ok(Line {
+            type_name: wish.type_name,
+            octets: octets_of(alloc, line, wish.is_base64)?,
+            output: wish.output,
+        });
     }
     let (is_json, line) = asked(line, "--json ");
     let (is_base64, line) = asked(line, "--base64 ");
     let (type_name, text) = line.split_once(" ").unwrap_or((line, ""));
-    let octets = octets_of(alloc, text, wish.is_base64 || is_base64)?;
-    text_of(
-        alloc,
-        tables,
-        wish.is_json || is_json,
+    Ok(Line {
         type_name,
-        octets.as_slice(),
-    )
+        octets: octets_of(alloc, text, wish.is_base64 || is_base64)?,
+        output: if is_json { Output::Json } else { wish.output },
+    })
 }
 
-/// Whether a word begins a line, and the line without it.
-fn asked<'l>(line: &'l str, word: &str) -> (bool, &'l str) {
-    match line.strip_prefix(word) {
-        Some(rest) => (true, rest),
-        None => (false, line),
+/// What the system says of a file, under a name of its own.
+fn at_file<T: Drop>(alloc: Global, name: &str, file: &str, answer: io::Result<T>) -> Result<T> {
+    match answer {
+        Ok(it) => Ok(it),
+        Err(error) => {
+            let message = format!(in alloc; "{name}: {file}: {error}")?;
+            Err(Error::msg(message))
+        }
     }
 }
 
-/// Shows the messages of the words, or of the lines of standard input.
-fn show_texts(rt: &HostRuntime, tables: &Tables, wish: &Wish<'_>) -> Result<()> {
-    for text in wish.messages.iter() {
-        let shown = text_of_line(rt.alloc(), tables, wish, text.as_str())?;
-        print!(rt; "{shown}")?;
+/// The number of the type of that name.
+fn type_of(tables: &Tables, name: &str) -> Result<u32> {
+    match tables.type_of(name) {
+        Some(number) => Ok(number),
+        None => Err(Error::msg("NoSuchType: the table has no such type")),
     }
-    if wish.messages.is_empty() {
-        show_lines(rt, tables, wish)?;
-    }
-    Ok(())
 }
 
-/// Shows a message for each line of standard input.
-fn show_lines(rt: &HostRuntime, tables: &Tables, wish: &Wish<'_>) -> Result<()> {
-    for line in BufReader::new(rt.alloc(), rt.reader())?.lines(rt.alloc()) {
-        let shown = text_of_line(rt.alloc(), tables, wish, line?.as_str())?;
-        print!(rt; "{shown}")?;
+impl Done {
+    /// What is written of a message.
+    fn text_of(
+        &mut self,
+        tables: &Tables,
+        output: Output,
+        type_name: &str,
+        octets: &[u8],
+    ) -> Result<String> {
+        let type_number = type_of(tables, type_name)?;
+        if output == Output::Check && is_whole(tables, type_number, octets) {
+            self.whole = self.whole.saturating_add(1);
+            return Ok(String::new(self.alloc));
+        }
+        let message = read_message(self.alloc, tables, type_number, octets)?;
+        match output {
+            Output::Tree => message.tree(self.colours),
+            Output::Json => message.json(),
+            Output::Check => self.complaint(message.end()?.as_str()),
+            Output::Page => {
+                self.page.push(&message)?;
+                Ok(String::new(self.alloc))
+            }
+        }
     }
-    Ok(())
+
+    /// The line of a message that isn't whole.
+    fn complaint(&self, what: &str) -> Result<String> {
+        let number = self.messages;
+        Ok(format!(in self.alloc; "message {number}: {what}\n")?)
+    }
+
+    /// What is written of a line.
+    fn text_of_line(&mut self, tables: &Tables, wish: &Wish<'_>, line: &str) -> Result<String> {
+        self.messages = self.messages.saturating_add(1);
+        let text = match line_of(self.alloc, wish, line) {
+            Ok(it) => self.text_of(tables, it.output, it.type_name, it.octets.as_slice()),
+            Err(e) => Err(e),
+        };
+        match text {
+            Err(e) if wish.output == Output::Check => {
+                let what = format!(in self.alloc; "{e}")?;
+                self.complaint(what.as_str())
+            }
+            text => text,
+        }
+    }
+
+    /// What is written of the octets of a file.
+    fn text_of_file(&mut self, tables: &Tables, wish: &Wish<'_>, octets: &[u8]) -> Result<String> {
+        self.messages = self.messages.saturating_add(1);
+        self.text_of(tables, wish.output, wish.type_name, octets)
+    }
+
+    /// Shows the messages of the words, or of the lines of standard input.
+    fn show_texts(&mut self, rt: &HostRuntime, tables: &Tables, wish: &Wish<'_>) -> Result<()> {
+        for text in wish.messages.iter() {
+            let shown = self.text_of_line(tables, wish, text.as_str())?;
+            print!(rt; "{shown}")?;
+        }
+        if wish.messages.is_empty() {
+            self.show_lines(rt, tables, wish)?;
+        }
+        Ok(())
+    }
+
+    /// Shows a message for each line of standard input.
+    fn show_lines(&mut self, rt: &HostRuntime, tables: &Tables, wish: &Wish<'_>) -> Result<()> {
+        for line in BufReader::new(self.alloc, rt.reader())?.lines(self.alloc) {
+            let shown = self.text_of_line(tables, wish, line?.as_str())?;
+            print!(rt; "{shown}")?;
+        }
+        Ok(())
+    }
+
+    /// Shows each file as a message, or standard input.
+    fn show_binaries(&mut self, rt: &HostRuntime, tables: &Tables, wish: &Wish<'_>) -> Result<()> {
+        for file in wish.messages.iter() {
+            let octets = at_file(
+                self.alloc,
+                "NoFile",
+                file.as_str(),
+                fs::read(rt, file.as_str()),
+            )?;
+            let shown = self.text_of_file(tables, wish, octets.as_slice())?;
+            print!(rt; "{shown}")?;
+        }
+        if wish.messages.is_empty() {
+            let mut octets = Vec::new(self.alloc);
+            rt.reader().read_to_end(&mut octets)?;
+            let shown = self.text_of_file(tables, wish, octets.as_slice())?;
+            print!(rt; "{shown}")?;
+        }
+        Ok(())
+    }
+
+    /// Writes what comes at the end; whether all is well.
+    fn end(&mut self, rt: &HostRuntime, wish: &Wish<'_>) -> Result<bool> {
+        match wish.output {
+            Output::Tree | Output::Json => Ok(true),
+            Output::Page => {
+                let alloc = self.alloc;
+                let written = fs::write(rt, wish.file, self.page.end()?);
+                at_file(alloc, "NoPage", wish.file, written)?;
+                Ok(true)
+            }
+            Output::Check => {
+                let (messages, whole) = (self.messages, self.whole);
+                println!(rt; "{messages} messages, {whole} whole")?;
+                Ok(messages == whole)
+            }
+        }
+    }
 }
 
-/// Shows each file as a message, or standard input.
-fn show_binaries(rt: &HostRuntime, tables: &Tables, wish: &Wish<'_>) -> Result<()> {
-    for file in wish.messages.iter() {
-        let octets = fs::read(rt, file.as_str())?;
-        let shown = text_of(
-            rt.alloc(),
-            tables,
-            wish.is_json,
-            wish.type_name,
-            octets.as_slice(),
-        )?;
-        print!(rt; "{shown}")?;
-    }
-    if wish.messages.is_empty() {
-        let mut octets = Vec::new(rt.alloc());
-        rt.reader().read_to_end(&mut octets)?;
-        let shown = text_of(
-            rt.alloc(),
-            tables,
-            wish.is_json,
-            wish.type_name,
-            octets.as_slice(),
-        )?;
-        print!(rt; "{shown}")?;
-    }
-    Ok(())
-}
-
-/// Does what the words ask for.
-fn run(rt: &HostRuntime, wish: &Wish<'_>) -> Result<()> {
-    let text = fs::read_to_string(rt, wish.table)?;
+/// Does what the words ask for; whether all is well.
+fn run(rt: &HostRuntime, wish: &Wish<'_>) -> Result<bool> {
+    let text = at_file(
+        rt.alloc(),
+        "NoTable",
+        wish.table,
+        fs::read_to_string(rt, wish.table),
+    )?;
     let tables = Tables::of_lines(rt.alloc(), text.as_str())?;
+    let mut done = Done {
+        alloc: rt.alloc(),
+        colours: if rt.stdout().is_terminal() {
+            TERMINAL
+        } else {
+            PLAIN
+        },
+        page: Page::new(rt.alloc())?,
+        messages: 0,
+        whole: 0,
+    };
     if wish.is_binary {
-        show_binaries(rt, &tables, wish)
+        done.show_binaries(rt, &tables, wish)?;
     } else {
-        show_texts(rt, &tables, wish)
+        done.show_texts(rt, &tables, wish)?;
     }
+    done.end(rt, wish)
 }
 
 fn main(rt: HostRuntime) -> Result<ExitCode> {
@@ -209,7 +250,8 @@ fn main(rt: HostRuntime) -> Result<ExitCode> {
         return Ok(ExitCode::from(2));
     };
     match run(&rt, &wish) {
-        Ok(()) => Ok(ExitCode::SUCCESS),
+        Ok(true) => Ok(ExitCode::SUCCESS),
+        Ok(false) => Ok(ExitCode::from(1)),
         Err(e) => {
             eprintln!(rt; "oershow: {e}")?;
             Ok(ExitCode::from(1))

@@ -1,7 +1,7 @@
 //! What is shown of a message: a tree, or JSON.
 
 use crate::tables::Tables;
-use crate::values::{leaf_of, push_quoted};
+use crate::values::{hex_of, leaf_of, push_quoted};
 use anyhow::{Error, Result};
 use oer_walk::{Node, Walked, walk};
 use std::alloc::Global;
@@ -16,6 +16,10 @@ const LEVELS: u32 = 1024;
 const LIST: u32 = 10;
 /// The last of them.
 const CHOICE: u32 = 12;
+/// No line of a tree is further to the right than a part so deep.
+const MOST_INDENT: u32 = 60;
+/// The type of a group of extension additions, which is no part of its own in JSON (X.697).
+const GROUP: &str = "group";
 
 const BLANK: Node = Node {
     name: 0,
@@ -28,11 +32,56 @@ const BLANK: Node = Node {
     end: 0,
 };
 
+/// How a tree's line is coloured: where a part lies, its name, its type, its value, and a refusal.
+#[derive(Clone, Copy)]
+pub struct Colours {
+    pub place: &'static str,
+    pub name: &'static str,
+    pub type_name: &'static str,
+    pub value: &'static str,
+    pub refused: &'static str,
+    pub end: &'static str,
+}
+
+/// No colours.
+pub const PLAIN: Colours = Colours {
+    place: "",
+    name: "",
+    type_name: "",
+    value: "",
+    refused: "",
+    end: "",
+};
+
+/// Those of a terminal.
+pub const TERMINAL: Colours = Colours {
+    place: "\u{1b}[2m",
+    name: "\u{1b}[1m",
+    type_name: "\u{1b}[36m",
+    value: "\u{1b}[32m",
+    refused: "\u{1b}[1;31m",
+    end: "\u{1b}[0m",
+};
+
+/// A part as a page shows it.
+#[derive(Drop)]
+pub struct Part {
+    pub name: String,
+    pub type_name: String,
+    pub level: u32,
+    pub start: usize,
+    pub content: usize,
+    /// Its end, or `null`.
+    pub end: String,
+    pub value: String,
+}
+
 /// A message, its nodes, and what the walk came to.
 #[derive(Drop)]
 pub struct Message<'m> {
     alloc: Global,
     tables: &'m Tables,
+    type_number: u32,
     octets: &'m [u8],
     nodes: Vec<Node>,
     walked: Walked,
@@ -41,6 +90,18 @@ pub struct Message<'m> {
 /// Whether a part has parts.
 fn is_scope(node: Node) -> bool {
     node.kind >= LIST && node.kind <= CHOICE
+}
+
+/// Whether octets are all of one value of the type with that number.
+pub fn is_whole(tables: &Tables, type_number: u32, octets: &[u8]) -> bool {
+    let walked = walk(
+        tables.words.as_slice(),
+        type_number,
+        LEVELS,
+        octets,
+        &mut [],
+    );
+    walked.refusal.is_none() && walked.consumed == octets.len()
 }
 
 /// Walks a message of the type with that number.
@@ -54,7 +115,7 @@ pub fn read_message<'m>(
     let mut nodes = Vec::from_elem(alloc, BLANK, FIRST_NODES)?;
     let mut walked = walk(words, type_number, LEVELS, octets, nodes.as_mut_slice());
     if walked.nodes > MOST_NODES {
-        return Err(Error::msg("the message has too many parts"));
+        return Err(Error::msg("TooManyParts: a message has more than 1,048,576 parts"));
     }
     if walked.nodes > FIRST_NODES {
         nodes = Vec::from_elem(alloc, BLANK, walked.nodes)?;
@@ -64,6 +125,7 @@ pub fn read_message<'m>(
     Ok(Message {
         alloc,
         tables,
+        type_number,
         octets,
         nodes,
         walked,
@@ -134,33 +196,53 @@ impl<'m> Message<'m> {
         }
     }
 
+    /// The value of a part, as a tree shows it; nothing of one that has parts or isn't whole.
+    fn value_of(&self, node: Node) -> Result<String> {
+        let mut text = String::new(self.alloc);
+        if !is_scope(node) && node.end != usize::MAX {
+            leaf_of(self.alloc, self.tables, node, self.content(node))?.push_text(
+                self.alloc, &mut text,
+            )?;
+        }
+        Ok(text)
+    }
+
     /// The line of a part: where it begins, of how many octets it is, its name, its type, and its value if it has no parts.
-    fn line(&self, node: Node) -> Result<String> {
+    fn line(&self, node: Node, colours: Colours) -> Result<String> {
         let start = node.start;
-        let mut line = match node.end {
+        let mut line = String::from_str(self.alloc, colours.place)?;
+        let place = match node.end {
             usize::MAX => format!(in self.alloc; "{start:6}      ? ")?,
             end => {
                 let count = end.saturating_sub(start);
                 format!(in self.alloc; "{start:6} {count:6} ")?
             }
         };
-        for _ in 0..node.level {
+        line.push_str(place.as_str())?;
+        line.push_str(colours.end)?;
+        for _ in 0..node.level.min(MOST_INDENT) {
             line.push_str("  ")?;
         }
-        line.push_str(self.name_of(node))?;
+        self.push_painted(&mut line, colours.name, colours.end, self.name_of(node))?;
         line.push_str(": ")?;
-        line.push_str(self.tables.type_name(node.type_number))?;
-        if !is_scope(node) && node.end != usize::MAX {
+        let type_name = self.tables.type_name(node.type_number);
+        self.push_painted(&mut line, colours.type_name, colours.end, type_name)?;
+        let value = self.value_of(node)?;
+        if !value.is_empty() {
             line.push(' ')?;
-            leaf_of(self.alloc, self.tables, node, self.content(node))?.push_text(
-                self.alloc, &mut line,
-            )?;
+            self.push_painted(&mut line, colours.value, colours.end, value.as_str())?;
         }
         Ok(line)
     }
 
+    fn push_painted(&self, line: &mut String, colour: &str, end: &str, text: &str) -> Result<()> {
+        line.push_str(colour)?;
+        line.push_str(text)?;
+        Ok(line.push_str(end)?)
+    }
+
     /// How it ended: of how many octets the value is, or where and why the message is refused.
-    fn end(&self) -> Result<String> {
+    pub fn end(&self) -> Result<String> {
         let consumed = self.walked.consumed;
         match &self.walked.refusal {
             None => {
@@ -179,29 +261,75 @@ impl<'m> Message<'m> {
     }
 
     /// The tree: a line for each part, and one that says how it ended.
-    pub fn tree(&self) -> Result<String> {
+    pub fn tree(&self, colours: Colours) -> Result<String> {
         let mut tree = String::new(self.alloc);
         for node in self.nodes.iter() {
-            tree.push_str(self.line(*node)?.as_str())?;
+            tree.push_str(self.line(*node, colours)?.as_str())?;
             tree.push('\n')?;
         }
-        tree.push_str(self.end()?.as_str())?;
+        let end = self.end()?;
+        if self.walked.refusal.is_some() {
+            self.push_painted(&mut tree, colours.refused, colours.end, end.as_str())?;
+        } else {
+            tree.push_str(end.as_str())?;
+        }
         tree.push('\n')?;
         Ok(tree)
     }
 
-    /// Puts the name of a part in front of its value, inside a sequence or a choice.
-    fn push_name(
-        &self,
-        out: &mut String,
-        node: Node,
-        around: Option<char>,
-        is_first: bool,
-    ) -> Result<()> {
-        if !is_first {
+    /// The name of its type.
+    pub fn type_name(&self) -> &str {
+        self.tables.type_name(self.type_number)
+    }
+
+    /// Its octets in hexadecimal.
+    pub fn digits(&self) -> Result<String> {
+        hex_of(self.alloc, self.octets)
+    }
+
+    /// The octet at which it is refused, or `null`.
+    pub fn refused_at(&self) -> Result<String> {
+        let consumed = self.walked.consumed;
+        match &self.walked.refusal {
+            Some(_) => Ok(format!(in self.alloc; "{consumed}")?),
+            None => Ok(String::from_str(self.alloc, "null")?),
+        }
+    }
+
+    /// How many parts it has.
+    pub fn count(&self) -> usize {
+        self.nodes.len()
+    }
+
+    /// The part with that number; one without a name past the last.
+    pub fn part(&self, at: usize) -> Result<Part> {
+        let node = self.nodes.get(at).copied().unwrap_or(BLANK);
+        let end = node.end;
+        Ok(Part {
+            name: String::from_str(self.alloc, self.name_of(node))?,
+            type_name: String::from_str(self.alloc, self.tables.type_name(node.type_number))?,
+            level: node.level,
+            start: node.start,
+            content: node.content,
+            end: match end {
+                usize::MAX => String::from_str(self.alloc, "null")?,
+                _ => format!(in self.alloc; "{end}")?,
+            },
+            value: self.value_of(node)?,
+        })
+    }
+
+    /// Whether a part is a group of extension additions.
+    fn is_group(&self, node: Node) -> bool {
+        is_scope(node) && self.tables.type_name(node.type_number) == GROUP
+    }
+
+    /// Puts a comma behind what stands in front of a part, and the part's name inside a sequence or a choice.
+    fn push_name(&self, out: &mut String, node: Node, around: Option<char>) -> Result<()> {
+        if !(out.is_empty() || out.as_str().ends_with("{") || out.as_str().ends_with("[")) {
             out.push(',')?;
         }
-        if around == Some('}') {
+        if around == Some('}') || around == Some(' ') {
             push_quoted(self.alloc, &mut *out, self.name_of(node))?;
             out.push(':')?;
         }
@@ -212,25 +340,29 @@ impl<'m> Message<'m> {
     fn value(&self) -> Result<String> {
         let mut out = String::new(self.alloc);
         let mut ends: Vec<char> = Vec::new(self.alloc);
-        let mut is_first = true;
         for node in self.nodes.iter() {
-            if ends.len() > node.level as usize {
-                is_first = false;
-            }
             push_ends(&mut out, &mut ends, node.level as usize)?;
-            self.push_name(&mut out, *node, ends.last().copied(), is_first)?;
-            is_first = is_scope(*node);
-            if is_scope(*node) {
-                out.push(if node.kind == LIST { '[' } else { '{' })?;
-                ends.push(if node.kind == LIST { ']' } else { '}' })?;
+            if self.is_group(*node) {
+                ends.push(' ')?;
             } else {
-                leaf_of(self.alloc, self.tables, *node, self.content(*node))?.push_json(
-                    self.alloc, &mut out,
-                )?;
+                self.push_name(&mut out, *node, ends.last().copied())?;
+                self.push_value(&mut out, &mut ends, *node)?;
             }
         }
         push_ends(&mut out, &mut ends, 0)?;
         Ok(out)
+    }
+
+    /// What a part begins with, or all of it if it has no parts.
+    fn push_value(&self, out: &mut String, ends: &mut Vec<char>, node: Node) -> Result<()> {
+        if !is_scope(node) {
+            return leaf_of(self.alloc, self.tables, node, self.content(node))?.push_json(
+                self.alloc, &mut *out,
+            );
+        }
+        let is_list = node.kind == LIST;
+        out.push(if is_list { '[' } else { '{' })?;
+        Ok(ends.push(if is_list { ']' } else { '}' })?)
     }
 
     /// One line of JSON: the value and of how many octets it is, or where and why the message is refused.
@@ -258,8 +390,9 @@ impl<'m> Message<'m> {
 /// Puts the ends of the scopes that are past a level.
 fn push_ends(out: &mut String, ends: &mut Vec<char>, level: usize) -> Result<()> {
     for _ in level..ends.len() {
-        if let Some(end) = ends.pop() {
-            out.push(end)?;
+        match ends.pop() {
+            Some(end) if end != ' ' => out.push(end)?,
+            _ => (),
         }
     }
     Ok(())

@@ -24,7 +24,7 @@ fn push_words(words: &mut Vec<u32>, text: &str) -> Result<()> {
     for word in text.split(' ') {
         match word.parse::<u32>() {
             Ok(word) => words.push(word)?,
-            Err(_) => return Err(Error::msg("a word of the table is no number")),
+            Err(_) => return Err(Error::msg("NoWord: a word of the table is no number")),
         }
     }
     Ok(())
@@ -37,7 +37,7 @@ fn value_name(alloc: Global, text: &str) -> Result<ValueName> {
         None => None,
     };
     let Some((type_number, (number, name))) = parts else {
-        return Err(Error::msg("a name of a number lacks a part"));
+        return Err(Error::msg("NoName: a name of a number lacks a part"));
     };
     match (type_number.parse::<u32>(), number.parse::<i128>()) {
         (Ok(type_number), Ok(number)) => Ok(ValueName {
@@ -45,7 +45,7 @@ fn value_name(alloc: Global, text: &str) -> Result<ValueName> {
             number,
             name: String::from_str(alloc, name)?,
         }),
-        _ => Err(Error::msg("a name of a number lacks its number")),
+        _ => Err(Error::msg("NoNumber: a name of a number lacks its number")),
     }
 }
 
@@ -56,7 +56,7 @@ impl Tables {
             Some(("name", text)) => Ok(self.names.push(String::from_str(alloc, text)?)?),
             Some(("type", text)) => Ok(self.types.push(String::from_str(alloc, text)?)?),
             Some(("value", text)) => Ok(self.values.push(value_name(alloc, text)?)?),
-            _ => Err(Error::msg("a line of the table is none")),
+            _ => Err(Error::msg("NoLine: a line of the table is none")),
         }
     }
 

@@ -11,15 +11,22 @@ pub enum Leaf {
     Truth(bool),
     Nothing,
     Number(i128),
-    /// A name of an enumerated value or of a number.
+    /// An enumerated value by its name.
     Name(String),
-    /// So many bits, in hexadecimal, and whether the type has no other size.
-    Bits(usize, bool, String),
+    /// An integer that has a name.
+    NamedNumber(i128, String),
+    /// Bits of a type that has no other size, in hexadecimal, their count, and the names of those that are set.
+    FixedBits(usize, String, String),
+    /// The same of a type that may have other sizes.
+    Bits(usize, String, String),
     Text(String),
     /// A dotted number.
     Identifier(String),
     Hex(String),
 }
+
+/// The kind of enumerated types.
+const ENUMERATED: u32 = 4;
 
 /// The number that octets are, big end first; nothing past 128 bits.
 fn number_of(octets: &[u8], is_signed: bool) -> Option<i128> {
@@ -31,7 +38,8 @@ fn number_of(octets: &[u8], is_signed: bool) -> Option<i128> {
     Some(number)
 }
 
-fn hex_of(alloc: Global, octets: &[u8]) -> Result<String> {
+/// Octets in hexadecimal.
+pub fn hex_of(alloc: Global, octets: &[u8]) -> Result<String> {
     Ok(hex::encode_upper(alloc, octets)?)
 }
 
@@ -47,7 +55,8 @@ fn number_leaf(
         return Ok(Leaf::Hex(hex_of(alloc, octets)?));
     };
     match tables.value_name(node.type_number, number) {
-        Some(name) => Ok(Leaf::Name(String::from_str(alloc, name)?)),
+        Some(name) if node.kind == ENUMERATED => Ok(Leaf::Name(String::from_str(alloc, name)?)),
+        Some(name) => Ok(Leaf::NamedNumber(number, String::from_str(alloc, name)?)),
         None => Ok(Leaf::Number(number)),
     }
 }
@@ -61,15 +70,39 @@ fn enumerated_leaf(alloc: Global, tables: &Tables, node: Node, octets: &[u8]) ->
 }
 
 /// The bits behind a count of unused ones (X.696, 13).
-fn bits_leaf(alloc: Global, octets: &[u8]) -> Result<Leaf> {
+fn bits_leaf(alloc: Global, tables: &Tables, node: Node, octets: &[u8]) -> Result<Leaf> {
     let [unused, rest @ ..] = octets else {
-        return Ok(Leaf::Bits(0, false, String::new(alloc)));
+        return Ok(Leaf::Bits(0, String::new(alloc), String::new(alloc)));
     };
     let count = rest
         .len()
         .saturating_mul(8)
         .saturating_sub(usize::from(*unused));
-    Ok(Leaf::Bits(count, false, hex_of(alloc, rest)?))
+    let names = names_of(alloc, tables, node, rest)?;
+    Ok(Leaf::Bits(count, hex_of(alloc, rest)?, names))
+}
+
+/// Whether a bit is set, counted from the highest of the first octet.
+fn is_set(octets: &[u8], bit: usize) -> bool {
+    match octets.get(bit / 8) {
+        Some(octet) => (*octet >> (7 - bit % 8)) % 2 == 1,
+        None => false,
+    }
+}
+
+/// The names of the bits that are set, with commas between them.
+fn names_of(alloc: Global, tables: &Tables, node: Node, octets: &[u8]) -> Result<String> {
+    let mut names = String::new(alloc);
+    for it in tables.values.iter() {
+        let bit = usize::try_from(it.number).unwrap_or(usize::MAX);
+        if it.type_number == node.type_number && is_set(octets, bit) {
+            if !names.is_empty() {
+                names.push_str(", ")?;
+            }
+            names.push_str(it.name.as_str())?;
+        }
+    }
+    Ok(names)
 }
 
 /// The next arc of an object identifier, and the octets behind it (X.690, 8.19).
@@ -113,12 +146,36 @@ fn identifier_of(alloc: Global, octets: &[u8]) -> Result<Option<String>> {
     Ok(Some(text))
 }
 
+/// The text of characters of two octets each (X.680, 41.15); nothing where a character lacks an octet or is none.
+fn wide_text(alloc: Global, octets: &[u8]) -> Result<Option<String>> {
+    let mut text = String::new(alloc);
+    let mut rest = octets;
+    for _ in 0..octets.len() {
+        match rest {
+            [high, low, behind @ ..] => {
+                let code = u32::from(*high) * 256 + u32::from(*low);
+                let Some(character) = char::from_u32(code) else {
+                    return Ok(None);
+                };
+                text.push(character)?;
+                rest = behind;
+            }
+            _ => break,
+        }
+    }
+    Ok(if rest.is_empty() { Some(text) } else { None })
+}
+
 /// Octets, as what the table says that they are.
 fn octets_leaf(alloc: Global, octets: &[u8], text: u32) -> Result<Leaf> {
     match text {
         1..=8 | 21..=23 => match std::str::from_utf8(octets) {
             Ok(text) => Ok(Leaf::Text(String::from_str(alloc, text)?)),
             Err(_) => Ok(Leaf::Hex(hex_of(alloc, octets)?)),
+        },
+        9 => match wide_text(alloc, octets)? {
+            Some(text) => Ok(Leaf::Text(text)),
+            None => Ok(Leaf::Hex(hex_of(alloc, octets)?)),
         },
         20 => match identifier_of(alloc, octets)? {
             Some(text) => Ok(Leaf::Identifier(text)),
@@ -137,8 +194,12 @@ pub fn leaf_of(alloc: Global, tables: &Tables, node: Node, octets: &[u8]) -> Res
         2 => number_leaf(alloc, tables, node, octets, word(1) == 1),
         3 => number_leaf(alloc, tables, node, octets, word(0) == 1),
         4 => enumerated_leaf(alloc, tables, node, octets),
-        5 => Ok(Leaf::Bits(word(0) as usize, true, hex_of(alloc, octets)?)),
-        6 => bits_leaf(alloc, octets),
+        5 => {
+            let names = names_of(alloc, tables, node, octets)?;
+            let digits = hex_of(alloc, octets)?;
+            Ok(Leaf::FixedBits(word(0) as usize, digits, names))
+        }
+        6 => bits_leaf(alloc, tables, node, octets),
         7 => octets_leaf(alloc, octets, word(1)),
         8 => octets_leaf(alloc, octets, word(0)),
         _ => Ok(Leaf::Hex(hex_of(alloc, octets)?)),
@@ -152,7 +213,7 @@ pub fn push_quoted(alloc: Global, out: &mut String, text: &str) -> Result<()> {
         match character {
             '"' => out.push_str("\\\"")?,
             '\\' => out.push_str("\\\\")?,
-            _ if (character as u32) < 32 => {
+            _ if (character as u32) < 32 || character as u32 == 127 => {
                 let code = character as u32;
                 let escaped = format!(in alloc; "\\u{code:04x}")?;
                 out.push_str(escaped.as_str())?;
@@ -163,20 +224,40 @@ pub fn push_quoted(alloc: Global, out: &mut String, text: &str) -> Result<()> {
     Ok(out.push('"')?)
 }
 
+/// Bits in hexadecimal, how many they are, and the names of those that are set.
+fn push_bits(
+    alloc: Global,
+    out: &mut String,
+    count: usize,
+    digits: &str,
+    names: &str,
+) -> Result<()> {
+    let text = format!(in alloc; "'{digits}'H, {count} bits")?;
+    out.push_str(text.as_str())?;
+    if !names.is_empty() {
+        let text = format!(in alloc; " {{{names}}}")?;
+        out.push_str(text.as_str())?;
+    }
+    Ok(())
+}
+
 impl Leaf {
     /// Puts it behind a line of a tree.
     pub fn push_text(&self, alloc: Global, out: &mut String) -> Result<()> {
         match self {
             Leaf::Truth(is_true) => Ok(out.push_str(if *is_true { "TRUE" } else { "FALSE" })?),
             Leaf::Nothing => Ok(out.push_str("NULL")?),
-            Leaf::Bits(count, _, digits) => {
-                let digits = digits.as_str();
-                let text = format!(in alloc; "'{digits}'H, {count} bits")?;
-                Ok(out.push_str(text.as_str())?)
+            Leaf::FixedBits(count, digits, names) | Leaf::Bits(count, digits, names) => {
+                push_bits(alloc, &mut *out, *count, digits.as_str(), names.as_str())
             }
             Leaf::Text(text) => push_quoted(alloc, &mut *out, text.as_str()),
             Leaf::Number(number) => {
                 let text = format!(in alloc; "{number}")?;
+                Ok(out.push_str(text.as_str())?)
+            }
+            Leaf::NamedNumber(number, name) => {
+                let name = name.as_str();
+                let text = format!(in alloc; "{name} ({number})")?;
                 Ok(out.push_str(text.as_str())?)
             }
             Leaf::Hex(digits) => {
@@ -193,16 +274,16 @@ impl Leaf {
         match self {
             Leaf::Truth(is_true) => Ok(out.push_str(if *is_true { "true" } else { "false" })?),
             Leaf::Nothing => Ok(out.push_str("null")?),
-            Leaf::Number(number) => {
+            Leaf::Number(number) | Leaf::NamedNumber(number, _) => {
                 let text = format!(in alloc; "{number}")?;
                 Ok(out.push_str(text.as_str())?)
             }
-            Leaf::Bits(count, false, digits) => {
+            Leaf::Bits(count, digits, _) => {
                 let digits = digits.as_str();
                 let text = format!(in alloc; "{{\"value\":\"{digits}\",\"length\":{count}}}")?;
                 Ok(out.push_str(text.as_str())?)
             }
-            Leaf::Bits(_, true, text)
+            Leaf::FixedBits(_, text, _)
             | Leaf::Text(text)
             | Leaf::Name(text)
             | Leaf::Identifier(text)

@@ -1,0 +1,93 @@
+-- What is an encoding of a leaf is taken whole.
+use Rattle.std.proofs.Common.{◌≡◌, ℕ, ◌*◌, ◌/◌, Bool, List, [], ◌∷◌, ◌++◌, length, Result, Ok, Option, Some, None, refl, sym, ap, ◌∙◌, arith, inl, inr}
+use Rattle.asn1_core.specs.Bounds.{fixed_size, size_fits}
+use Rattle.asn1_core.specs.Octets.{Octets, octets_for}
+use Rattle.asn1_core.specs.Texts.{Rule, AnyOctets, Utf8, Numeric, Printable, Visible, Ia5, General, Graphic, Teletex, Bmp, Identifier, Utc, Generalized, Date, Obeys}
+use Rattle.asn1_core.specs.declared.codec.Codec.TheVariants.{Oer}
+use Rattle.asn1_core.specs.declared.error.DecodeErrorKind.{DecodeErrorKind}
+use Rattle.oer_leaf_read.proofs.ReadEnumerated.{enumerated_reads}
+use Rattle.oer_leaf_read.proofs.ReadLengths.{content_reads}
+use Rattle.oer_leaf_read.proofs.ReadPlaces.{fewest_octets}
+use Rattle.oer_leaf_read.proofs.ReadTexts.{not_not, fixed_only}
+use Rattle.oer_spec.specs.Leaves.{Width, Fixed as FixedWidth, Counted as CountedWidth, BadSize, width_of, unit_of, IsLeaf, IsInteger, IsBitString, IsText, IsLeafEncoding}
+use Rattle.oer_spec.specs.Lengths.{IsBehindLength}
+use Rattle.oer_spec.specs.Mode.{Lenient}
+use Rattle.oer_spec.specs.Reading.{◌>>=◌, octets_at, length_at, content_at}
+use Rattle.oer_spec.specs.Tree.{Content, InOctets, Civil, Leaf, Boolean, Null, Enum, Int, Bits, Text}
+use Rattle.oer_spec.proofs.Steps.{bind_ok, octets_again}
+use Rattle.oer_walk.specs.Forms.{width_form, bits_form, units_form, leaf_form}
+use Rattle.oer_walk.specs.Walks.{behind_length_at, leaf_at}
+use Rattle.oer_walk.specs.declared.table.Form.{Form}
+use Rattle.oer_walk.specs.declared.table.Form.TheVariants.{Fixed, Counted}
+
+-- what is answered, but for what is behind the length
+abbrev TakenBy : Form → Octets → Octets → Type 0
+TakenBy form input rest = (content : Octets) × (leaf_at form input ≡ Ok (content, rest))
+
+fixed_taken : (k : ℕ) (o rest : Octets) → length o ≡ k → TakenBy (Fixed k) (o ++ rest) rest
+unfolding leaf_at
+fixed_taken k o rest e = (o ++ rest, rw (octets_again o rest k e) refl)
+
+-- octets behind a length, with what is behind the length
+pub behind_length_is : (input c rest : Octets) → content_at Oer input ≡ Ok (c, rest) → (b : Octets) × (behind_length_at input ≡ Ok (c, b, rest))
+unfolding content_at behind_length_at
+behind_length_is input c rest e =
+    let a = bind_ok (length_at Oer input) (λ count. octets_at count.0 count.1) (c, rest) e in
+    (a.0.1, ap (λ (r : Result (ℕ × Octets) DecodeErrorKind). r >>= λ (k : ℕ × Octets). octets_at k.0 k.1 >>= λ (x : Octets × Octets). Ok (x.0, k.1, x.1)) a.1 ∙ ap (λ (r : Result (Octets × Octets) DecodeErrorKind). r >>= λ (x : Octets × Octets). Ok (x.0, a.0.1, x.1)) a.2)
+
+counted_taken : (o c rest : Octets) → IsBehindLength Lenient o c → TakenBy Counted (o ++ rest) rest
+unfolding leaf_at
+counted_taken o c rest h = let b = behind_length_is (o ++ rest) c rest ((content_reads Oer).again o rest c h) in (b.0, rw b.1 refl)
+
+width_taken : (w : Width) (n : _) (o rest : Octets) → IsInteger Lenient o w n → TakenBy (width_form w) (o ++ rest) rest
+width_taken (FixedWidth sign k) n o rest h = fixed_taken k o rest h.0
+width_taken (CountedWidth sign) n o rest h = counted_taken o h.0 rest h.1
+
+bits_taken : (f : Option ℕ) (b : List Bool) (o rest : Octets) → ((n : ℕ) → f ≡ Some n → length b ≡ n) → IsBitString Lenient o f b → TakenBy (bits_form f) (o ++ rest) rest
+bits_taken (Some n) b o rest size (octets, unused, few, split, strict) = fixed_taken (octets_for n) o rest ((fewest_octets o b unused few split).0 ∙ ap octets_for (size n refl))
+bits_taken None b o rest size (inl (unused, (c, behind, few, split), strict)) = counted_taken o (length unused ∷ c) rest behind
+bits_taken None b o rest size (inr (lenient, behind, none)) = counted_taken o [] rest behind
+
+-- so many units are so many octets
+units : (r : Rule) (c : Octets) (n : ℕ) → Obeys r c → length c / unit_of r ≡ n → length c ≡ n * unit_of r
+units AnyOctets c n o e = omega (arith, e)
+units Utf8 c n o e = omega (arith, e)
+units Numeric c n o e = omega (arith, e)
+units Printable c n o e = omega (arith, e)
+units Visible c n o e = omega (arith, e)
+units Ia5 c n o e = omega (arith, e)
+units General c n o e = omega (arith, e)
+units Graphic c n o e = omega (arith, e)
+units Teletex c n o e = omega (arith, e)
+units Bmp c n (k, even) e = omega (arith, even, e)
+units Identifier c n o e = omega (arith, e)
+units Utc c n o e = omega (arith, e)
+units Generalized c n o e = omega (arith, e)
+units Date c n o e = omega (arith, e)
+
+text_taken : (f : Option ℕ) (unit : ℕ) (c : Content) (o rest : Octets) → ((n : ℕ) (d : Octets) → f ≡ Some n → c ≡ InOctets d → length d ≡ n * unit) → IsText Lenient o f c → TakenBy (units_form unit f) (o ++ rest) rest
+text_taken (Some n) unit (InOctets c) o rest size h = fixed_taken (n * unit) o rest (ap length h.0 ∙ size n c refl refl)
+text_taken None unit (InOctets c) o rest size h = counted_taken o c rest h
+text_taken (Some n) unit (Civil fields) o rest size h = absurd h
+text_taken None unit (Civil fields) o rest size h = absurd h
+
+pub leaf_taken : (l : Leaf) (o rest : Octets) → IsLeaf l → IsLeafEncoding Lenient o l → (content : Octets) × (leaf_at (leaf_form l) (o ++ rest) ≡ Ok (content, rest))
+unfolding leaf_at
+leaf_taken (Boolean b) o rest i h = fixed_taken 1 o rest (ap length h.1.1)
+leaf_taken Null o rest i h = fixed_taken 0 o rest (ap length h.1)
+leaf_taken (Enum n) o rest i h = (o ++ rest, rw ((enumerated_reads Oer).again o rest n (i, h)) refl)
+leaf_taken (Int r n) o rest i h = width_taken (width_of r) n o rest h.1
+leaf_taken (Bits s b) o rest i h = bits_taken (fixed_size s) b o rest (λ n f. fixed_only s n (length b) f (not_not (size_fits s (length b)) (h.0 BadSize))) h.1
+leaf_taken (Text r s (InOctets c)) o rest i h =
+    text_taken (fixed_size s) (unit_of r) (InOctets c) o rest (λ n d f same. let e : c ≡ d = cc same in ap length (sym e) ∙ units r c n i.1 (fixed_only s n (length c / unit_of r) f (not_not (size_fits s (length c / unit_of r)) (h.0 BadSize)))) h.1
+leaf_taken (Text r s (Civil fields)) o rest i h = absurd (no_civil (fixed_size s) h.1)
+  where
+    no_civil : (f : Option ℕ) → IsText Lenient o f (Civil fields) → ⊥
+    no_civil (Some n) e = e
+    no_civil None e = e
+
+-- for a function that answers what the reading gives
+pub takes_leaf : (form : Form) (input : Octets) (r : Result (Octets × Octets) DecodeErrorKind) → r ≡ leaf_at form input → (l : Leaf) (o rest : Octets) → form ≡ leaf_form l → IsLeaf l → IsLeafEncoding Lenient o l → input ≡ o ++ rest → (content : Octets) × (r ≡ Ok (content, rest))
+takes_leaf form input r g l o rest f i h e =
+    let t = leaf_taken l o rest i h in
+    (t.0, g ∙ ap (λ (z : Form). leaf_at z input) f ∙ ap (leaf_at (leaf_form l)) e ∙ t.1)
