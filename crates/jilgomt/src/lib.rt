@@ -2,7 +2,7 @@
 #![tactic(auto)]
 
 ghost use Rattle.std.specs.Prelude.{◌≡◌, codes};
-ghost use Rattle.oer_calls.specs.Answers.{IsAnsweredByWord, IsCheckedByWord, options_for};
+ghost use Rattle.oer_calls.specs.Answers.{IsAnsweredByWord, IsCanonicalisedBy, IsCheckedBy, IsCheckedByWord, IsConvertedBy, options_for};
 ghost use Rattle.oer_calls.specs.Names.{IsTold, name_for};
 
 mod types;
@@ -11,6 +11,8 @@ mod words;
 
 use oer_calls::answer::Answer;
 use oer_calls::names::{kind_name, told};
+use oer_types::{Sequence1, Sequence2};
+use rasn_oer::prelude::*;
 use std::alloc::Global;
 use words::{canonicalise_by_word, check_by_word, convert_by_words};
 
@@ -29,6 +31,8 @@ pub extern "C" fn jilgomt_canonicalise(
 ) -> u32
     ensures status { result ≡ answer.new.status }
     ensures answered { IsAnsweredByWord (options_for mode levels) out.old answer.new out.new }
+    ensures seq1 { word.now ≡ codes "seq1" → IsCanonicalisedBy (⟦<Sequence1 as Spelled>⟧.tree ⟦<Sequence1 as AsnType>⟧.CONSTRAINTS) ⟦<Sequence1 as Spelled>⟧.IsValue (⟦<Sequence1 as Decode>⟧.Answered ⟦<Sequence1 as AsnType>⟧.CONSTRAINTS) (options_for mode levels) input.now out.old answer.new out.new }
+    ensures seq2 { word.now ≡ codes "seq2" → IsCanonicalisedBy (⟦<Sequence2 as Spelled>⟧.tree ⟦<Sequence2 as AsnType>⟧.CONSTRAINTS) ⟦<Sequence2 as Spelled>⟧.IsValue (⟦<Sequence2 as Decode>⟧.Answered ⟦<Sequence2 as AsnType>⟧.CONSTRAINTS) (options_for mode levels) input.now out.old answer.new out.new }
 {
     *answer = canonicalise_by_word(alloc, word, mode, levels, input, out);
     answer.status
@@ -46,6 +50,8 @@ pub extern "C" fn jilgomt_check(
 ) -> u32
     ensures status { result ≡ answer.new.status }
     ensures answered { IsCheckedByWord (options_for mode levels) answer.new }
+    ensures seq1 { word.now ≡ codes "seq1" → IsCheckedBy (⟦<Sequence1 as Spelled>⟧.tree ⟦<Sequence1 as AsnType>⟧.CONSTRAINTS) ⟦<Sequence1 as Spelled>⟧.IsValue (⟦<Sequence1 as Decode>⟧.Answered ⟦<Sequence1 as AsnType>⟧.CONSTRAINTS) (options_for mode levels) input.now answer.new }
+    ensures seq2 { word.now ≡ codes "seq2" → IsCheckedBy (⟦<Sequence2 as Spelled>⟧.tree ⟦<Sequence2 as AsnType>⟧.CONSTRAINTS) ⟦<Sequence2 as Spelled>⟧.IsValue (⟦<Sequence2 as Decode>⟧.Answered ⟦<Sequence2 as AsnType>⟧.CONSTRAINTS) (options_for mode levels) input.now answer.new }
 {
     *answer = check_by_word(alloc, word, mode, levels, input);
     answer.status
@@ -65,8 +71,9 @@ pub extern "C" fn jilgomt_convert(
 ) -> u32
     ensures status { result ≡ answer.new.status }
     ensures answered { IsAnsweredByWord (options_for mode levels) out.old answer.new out.new }
+    ensures seq2_to_seq1 { from.now ≡ codes "seq2" → to.now ≡ codes "seq1" → IsConvertedBy (⟦<Sequence2 as Spelled>⟧.tree ⟦<Sequence2 as AsnType>⟧.CONSTRAINTS) ⟦<Sequence2 as Spelled>⟧.IsValue (⟦<Sequence2 as Decode>⟧.Answered ⟦<Sequence2 as AsnType>⟧.CONSTRAINTS) (⟦<Sequence1 as Spelled>⟧.tree ⟦<Sequence1 as AsnType>⟧.CONSTRAINTS) ⟦<Sequence1 as Spelled>⟧.IsValue (⟦<Sequence1 as Decode>⟧.Answered ⟦<Sequence1 as AsnType>⟧.CONSTRAINTS) (options_for mode levels) input.now out.old answer.new out.new }
 {
-    *answer = convert_by_words(alloc, (from, to), mode, levels, input, out);
+    *answer = convert_by_words(alloc, from, to, mode, levels, input, out);
     answer.status
 }
 

@@ -1,13 +1,17 @@
-//! The calls for the type that a word of the program names. That the octets are those of the word's type is tested; the functions
-//! of one type promise it.
-ghost use Rattle.oer_calls.specs.Answers.{IsAnsweredByWord, IsCheckedByWord, IsFramedIfAny, options_for};
+//! The calls for the type that a word of the program names. That the octets are those of the word's type is promised of the types
+//! that have functions of their own, and tested of the others.
+ghost use Rattle.std.specs.Prelude.{◌≡◌, codes};
+ghost use Rattle.oer_calls.specs.Answers.{IsAnsweredByWord, IsCanonicalisedBy, IsCheckedBy, IsCheckedByWord, IsConvertedBy, IsFramedIfAny, options_for};
 
 use oer_calls::answer::Answer;
 use oer_calls::calls::{Checked, Outcome, Recoded, compared, placed, recode};
-use oer_calls::numbers::options_of;
+use oer_calls::numbers::{
+    canonicalise_by_numbers, check_by_numbers, convert_by_numbers, options_of,
+};
+use oer_types::{Sequence1, Sequence2};
 use oer_words::known::{OnType, with_type};
 use rasn_oer::oer::CodecError;
-use rasn_oer::{Decode, DecoderOptions, Encode};
+use rasn_oer::prelude::*;
 use std::alloc::Global;
 use std::fmt::Debug;
 
@@ -94,7 +98,8 @@ fn converted(
     }
 }
 
-/// `canonicalise` of the word's type, by numbers.
+/// `canonicalise` of the word's type, by numbers. Of a word of `types.rt` it promises what that type's function does.
+#[tactic(auto, using(crate::proofs::Promises::is_answered))]
 pub fn canonicalise_by_word(
     alloc: Global,
     word: &[u8],
@@ -103,37 +108,60 @@ pub fn canonicalise_by_word(
     input: &[u8],
     out: &mut [u8],
 ) -> Answer
-    ensures { IsAnsweredByWord (options_for mode levels) out.old result out.new }
+    ensures answered { IsAnsweredByWord (options_for mode levels) out.old result out.new }
+    ensures seq1 { word.now ≡ codes "seq1" → IsCanonicalisedBy (⟦<Sequence1 as Spelled>⟧.tree ⟦<Sequence1 as AsnType>⟧.CONSTRAINTS) ⟦<Sequence1 as Spelled>⟧.IsValue (⟦<Sequence1 as Decode>⟧.Answered ⟦<Sequence1 as AsnType>⟧.CONSTRAINTS) (options_for mode levels) input.now out.old result out.new }
+    ensures seq2 { word.now ≡ codes "seq2" → IsCanonicalisedBy (⟦<Sequence2 as Spelled>⟧.tree ⟦<Sequence2 as AsnType>⟧.CONSTRAINTS) ⟦<Sequence2 as Spelled>⟧.IsValue (⟦<Sequence2 as Decode>⟧.Answered ⟦<Sequence2 as AsnType>⟧.CONSTRAINTS) (options_for mode levels) input.now out.old result out.new }
 {
+    if word == b"seq1".as_slice() {
+        return canonicalise_by_numbers::<Sequence1>(alloc, mode, levels, input, out);
+    }
+    if word == b"seq2".as_slice() {
+        return canonicalise_by_numbers::<Sequence2>(alloc, mode, levels, input, out);
+    }
     match options_of(mode, levels) {
         None => Answer::no_options(),
         Some(options) => Answer::of_word(canonicalised(alloc, word, options, input, out)),
     }
 }
 
-/// `check` of the word's type, by numbers.
+/// `check` of the word's type, by numbers. Of a word of `types.rt` it promises what that type's function does.
+#[tactic(auto, using(crate::proofs::Promises::is_checked))]
 pub fn check_by_word(alloc: Global, word: &[u8], mode: u32, levels: usize, input: &[u8]) -> Answer
-    ensures { IsCheckedByWord (options_for mode levels) result }
+    ensures answered { IsCheckedByWord (options_for mode levels) result }
+    ensures seq1 { word.now ≡ codes "seq1" → IsCheckedBy (⟦<Sequence1 as Spelled>⟧.tree ⟦<Sequence1 as AsnType>⟧.CONSTRAINTS) ⟦<Sequence1 as Spelled>⟧.IsValue (⟦<Sequence1 as Decode>⟧.Answered ⟦<Sequence1 as AsnType>⟧.CONSTRAINTS) (options_for mode levels) input.now result }
+    ensures seq2 { word.now ≡ codes "seq2" → IsCheckedBy (⟦<Sequence2 as Spelled>⟧.tree ⟦<Sequence2 as AsnType>⟧.CONSTRAINTS) ⟦<Sequence2 as Spelled>⟧.IsValue (⟦<Sequence2 as Decode>⟧.Answered ⟦<Sequence2 as AsnType>⟧.CONSTRAINTS) (options_for mode levels) input.now result }
 {
+    if word == b"seq1".as_slice() {
+        return check_by_numbers::<Sequence1>(alloc, mode, levels, input);
+    }
+    if word == b"seq2".as_slice() {
+        return check_by_numbers::<Sequence2>(alloc, mode, levels, input);
+    }
     match options_of(mode, levels) {
         None => Answer::no_options(),
         Some(options) => Answer::of_checked_word(checked(alloc, word, options, input)),
     }
 }
 
-/// `convert` from one word's type to another's, by numbers.
+/// `convert` from one word's type to another's, by numbers. Of words of `types.rt` it promises what that function does.
+#[tactic(auto, using(crate::proofs::Promises::is_converted))]
 pub fn convert_by_words(
     alloc: Global,
-    words: (&[u8], &[u8]),
+    from: &[u8],
+    to: &[u8],
     mode: u32,
     levels: usize,
     input: &[u8],
     out: &mut [u8],
 ) -> Answer
-    ensures { IsAnsweredByWord (options_for mode levels) out.old result out.new }
+    ensures answered { IsAnsweredByWord (options_for mode levels) out.old result out.new }
+    ensures seq2_to_seq1 { from.now ≡ codes "seq2" → to.now ≡ codes "seq1" → IsConvertedBy (⟦<Sequence2 as Spelled>⟧.tree ⟦<Sequence2 as AsnType>⟧.CONSTRAINTS) ⟦<Sequence2 as Spelled>⟧.IsValue (⟦<Sequence2 as Decode>⟧.Answered ⟦<Sequence2 as AsnType>⟧.CONSTRAINTS) (⟦<Sequence1 as Spelled>⟧.tree ⟦<Sequence1 as AsnType>⟧.CONSTRAINTS) ⟦<Sequence1 as Spelled>⟧.IsValue (⟦<Sequence1 as Decode>⟧.Answered ⟦<Sequence1 as AsnType>⟧.CONSTRAINTS) (options_for mode levels) input.now out.old result out.new }
 {
+    if from == b"seq2".as_slice() && to == b"seq1".as_slice() {
+        return convert_by_numbers::<Sequence2, Sequence1>(alloc, mode, levels, input, out);
+    }
     match options_of(mode, levels) {
         None => Answer::no_options(),
-        Some(options) => Answer::of_word(converted(alloc, words, options, input, out)),
+        Some(options) => Answer::of_word(converted(alloc, (from, to), options, input, out)),
     }
 }
