@@ -14,7 +14,7 @@ HEAD = "# Written by scripts/edits: of each crate, how many edits, and the sum o
 def crates_with_edits(top):
     """The crates that have edits outside the gate, in the order of crates.txt."""
     lines = (top / "crates.txt").read_text(encoding="utf-8").splitlines()
-    listed = [line.partition(":")[0] for line in lines if ":" in line and not line.startswith("#")]
+    listed = [line.partition(":")[0].split()[0] for line in lines if ":" in line and not line.startswith("#")]
     found = {it.name for it in (top / "edits").iterdir() if it.is_dir()}
     return [it for it in listed if it in found] + sorted(found - set(listed))
 

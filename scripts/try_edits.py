@@ -123,13 +123,12 @@ def below(top, crate):
     """The crate's line in crates.txt and those of the crates below it, lowest first."""
     lines = {}
     for line in (top / "crates.txt").read_text(encoding="utf-8").splitlines():
-        name, colon, uses = line.partition(":")
-        if colon and not line.startswith("#"):
-            lines[name] = uses.split()
+        if ":" in line and not line.startswith("#"):
+            lines[line.partition(":")[0].split()[0]] = line
     wanted = [crate]
     for it in wanted:
-        wanted += [use for use in lines[it] if use in lines and use not in wanted]
-    return {it: uses for it, uses in lines.items() if it in wanted}
+        wanted += [use for use in lines[it].partition(":")[2].split() if use in lines and use not in wanted]
+    return {it: line for it, line in lines.items() if it in wanted}
 
 
 def link(one, other):
@@ -177,10 +176,10 @@ class Room:
     def __init__(self, top, crate, text, folder):
         self.crate, self.folder = crate, tempfile.TemporaryDirectory(prefix=f"{crate}-", dir=folder)
         root = pathlib.Path(self.folder.name)
-        uses = below(top, crate)
-        (root / "crates.txt").write_text("".join(f"{it}: {' '.join(libraries)}\n" for it, libraries in uses.items()), encoding="utf-8")
+        lines = below(top, crate)
+        (root / "crates.txt").write_text("".join(f"{it}\n" for it in lines.values()), encoding="utf-8")
         shutil.copyfile(top / "HANDLES", root / "HANDLES")
-        for it in uses:
+        for it in lines:
             shutil.copytree(top / "crates" / it, root / "crates" / it, ignore=shutil.ignore_patterns("out", "must-fail"))
             kept = "out/incremental" if it == crate else "out/rlib"
             shutil.copytree(top / "crates" / it / kept, root / "crates" / it / kept, copy_function=link, symlinks=True)
@@ -384,7 +383,7 @@ class Work:
 def tried_order(top):
     """All crates, lowest first."""
     lines = (top / "crates.txt").read_text(encoding="utf-8").splitlines()
-    return [line.partition(":")[0] for line in lines if ":" in line and not line.startswith("#")]
+    return [line.partition(":")[0].split()[0] for line in lines if ":" in line and not line.startswith("#")]
 
 
 def main(top, names, is_alone, is_anew, jobs):

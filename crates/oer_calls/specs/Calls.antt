@@ -40,6 +40,10 @@ IsVerdict false taken canonical = taken ≡ canonical → ⊥
 abbrev pub IsCompared : Octets → ℕ → Octets → Checked → Type 0
 IsCompared canonical consumed input k = (k.consumed ≡ consumed) × (k.canonical ≡ length canonical) × IsVerdict k.is_canonical (take consumed input) canonical
 
+-- so many octets that aren't the canonical ones
+abbrev pub other_than : Octets → ℕ → Checked
+other_than canonical consumed = record { consumed = consumed; canonical = length canonical; is_canonical = false }
+
 module _ {A : Type 0} (tree : A → Tree) (IsValue : A → Type 0) (Answered : State → Result A DecodeError → State → Type 0) where
   -- A value was read of the front of the input, of so many octets, and these are its canonical ones.
   pub record CanonicalOf (m : Codec) (d : ℕ) (input octets : Octets) (consumed : ℕ) : Type 0 where

@@ -1,6 +1,6 @@
 //! The calls over slices.
-ghost use Rattle.std.specs.Prelude.{◌≤◌, length};
-ghost use Rattle.oer_calls.specs.Calls.{IsRecoded, IsFramed, IsPlaced, IsCanonicalised, IsCompared, IsChecked, IsConverted};
+ghost use Rattle.std.specs.Prelude.{◌≡◌, ◌<◌, ◌≤◌, length};
+ghost use Rattle.oer_calls.specs.Calls.{IsRecoded, IsFramed, IsPlaced, IsCanonicalised, IsCompared, IsChecked, IsConverted, other_than};
 
 use rasn_oer::oer::CodecError;
 use rasn_oer::{Decode, DecoderOptions, Encode, coer, oer};
@@ -133,7 +133,8 @@ pub fn convert<Sent: Decode + Encode, Wanted: Decode + Encode>(
 
 /// What is said of so many octets at the front of an input, beside the canonical ones; where it has fewer, that they aren't these.
 pub fn compared(canonical: &[u8], consumed: usize, input: &[u8]) -> Checked
-    ensures { consumed ≤ length input.now → IsCompared canonical.now consumed input.now result }
+    ensures compared { consumed ≤ length input.now → IsCompared canonical.now consumed input.now result }
+    ensures beyond { length input.now < consumed → result ≡ other_than canonical.now consumed }
 {
     let is_canonical = match input.get(..consumed) {
         Some(taken) => taken == canonical,
