@@ -2,6 +2,7 @@
 ghost use Rattle.std.specs.Prelude.{◌≡◌, ◌<◌, ◌≤◌, ◌-◌, ◌^◌, ◌&&◌, false, IfOk, Ok, Err, length, drop, get_or, min};
 ghost use Rattle.oer_leaf_read.specs.Views.{bits_left};
 ghost use Rattle.oer_spec.specs.Reading.{Gives};
+ghost use Rattle.oer_walk.specs.Described.{TakesEncodings};
 ghost use Rattle.oer_walk.specs.Forms.{TakesLeaves};
 ghost use Rattle.oer_walk.specs.Parts.{ArePlaced};
 ghost use Rattle.oer_walk.specs.Tables.{nothing};
@@ -41,6 +42,7 @@ pub fn walk(table: &[u32], type_number: u32, levels: u32, input: &[u8], room: &m
     ensures nodes { room.new ≡ overlay room.old 0 (walk_of table.now type_number levels input.now).nodes }
     ensures shown { result.shown ≡ min result.nodes (length room.new) }
     ensures parts { ArePlaced (length input.now) result.shown room.new }
+    ensures takes { TakesEncodings table.now type_number levels input.now result }
 {
     let size = room.len();
     let place = Place {
