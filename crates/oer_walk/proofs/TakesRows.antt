@@ -1,5 +1,6 @@
 -- A walk takes the parts of sequences and lists, where it takes each of them.
 use Rattle.std.proofs.Common.{◌≡◌, ℕ, zero, suc, ◌+◌, ◌-◌, ◌<◌, ◌≤◌, Bool, true, false, cond, List, [], ◌∷◌, ◌++◌, length, drop, get_or, Some, None, Option, Ok, refl, sym, ap, subst, ◌∙◌, arith, inl, inr, append_assoc, length-append}
+use Rattle.std.specs.List.{AllByRecursion}
 use Rattle.std.specs.Prelude.{nat_lt, not, ◌||◌, ◌==◌}
 use Rattle.std.proofs.lemmas.Bool.{lt-ltb, eq-eqb, ne_eqb}
 use Rattle.asn1_core.specs.Octets.{Octets, joined}
@@ -30,8 +31,7 @@ module _ (ws : List ℕ) (d : ℕ) where
 
   -- ---- elements
   abbrev pub AllTaken : ℕ → List Octets → Type 0
-  AllTaken m [] = Unit {0}
-  AllTaken m (o ∷ os) = ((rest : Octets) → Takes ws d m (o ++ rest) rest) × AllTaken m os
+  AllTaken m os = AllByRecursion (λ (o : Octets). (rest : Octets) → Takes ws d m (o ++ rest) rest) os
 
   few_taken : (at : ℕ) (o : Option ℕ) (e : ℕ) (f : ℕ → Walk Octets) (rest : Octets) → o ≡ Some e → TakesPart (f e) rest → TakesPart (if_few at o f) rest
   few_taken at o e f rest same h = subst (λ (z : Option ℕ). TakesPart (if_few at z f) rest) (sym same) h

@@ -15,11 +15,13 @@ use Rattle.oer_spec.specs.Encoding.{IsTree, AreRows, AreSlot, AreTrees, IsEncodi
 use Rattle.oer_spec.specs.Leaves.{Width, Fixed as FixedWidth, Counted as CountedWidth, Failure, TooManyEmpty, width_of, unit_of, IsLeaf, IsLeafEncoding}
 use Rattle.oer_spec.specs.Lengths.{IsQuantity, IsTag}
 use Rattle.oer_spec.specs.Mode.{Lenient, InLenient}
+use Rattle.oer_spec.specs.Orders.{Stands, Reorders}
 use Rattle.oer_spec.specs.Places.{Item, needed, present, absent, presence, bodies, extension_bit, IsExtension, AreAdditions, SpellsStruct, IsInOrder, SpellsList, SpellsChoice, IsAlternative}
 use Rattle.oer_spec.specs.Reading.{◌>>=◌, quantity_at, tag_at}
 use Rattle.oer_spec.specs.ReadingBits.{preamble_at, bitmap_at}
 use Rattle.oer_spec.specs.Same.{EachTree, OnSlot}
 use Rattle.oer_spec.specs.Tree.{Leaf, Boolean, Null, Enum, Int, Bits, Text, Tree, Primitive, Struct, ListOf, Choice as ChoiceTree, Rows, NoRows, Required, Optional, Default, Slot, Absent, Present, Trees, NoTrees, More}
+use Rattle.oer_spec.proofs.Lists.{Reorders-refl, Reorders-length, Reorders-all}
 use Rattle.oer_spec.proofs.Nil.{nil_alike}
 use Rattle.oer_spec.proofs.Skips.{is_nil}
 use Rattle.oer_spec.proofs.Trees.{EachRow, by_parts}
@@ -73,6 +75,27 @@ same_empties d (o ∷ os) (More t ts) i h =
     ∙ ap (λ (b : Bool). cond b (suc (empties (canonical_elements ts))) (empties (canonical_elements ts))) (sym (nil_alike t Lenient d o i.0 h.0))
     ∙ ap (λ (z : ℕ). cond (is_nil o) (suc z) z) (same_empties d os ts i.1 h.1)
     ∙ sym (empty_of o os)
+
+-- in whatever order
+taken_empties : (os : List Octets) (o : Octets) (rest : List Octets) → Stands os o rest → empties os ≡ empties (o ∷ rest)
+taken_empties [] o rest s = absurd s
+taken_empties (p ∷ os) o rest (inl (e, f)) = ap (λ (z : Octets). empties (z ∷ os)) e ∙ ap (λ (zs : List Octets). empties (o ∷ zs)) f
+taken_empties ([] ∷ os) [] rest (inr (rs, e, s)) = ap suc (taken_empties os [] rs s) ∙ ap (λ (z : List Octets). empties ([] ∷ z)) (sym e)
+taken_empties ([] ∷ os) (y ∷ o) rest (inr (rs, e, s)) = ap suc (taken_empties os (y ∷ o) rs s) ∙ ap (λ (z : List Octets). empties z) (sym e)
+taken_empties ((x ∷ p) ∷ os) [] rest (inr (rs, e, s)) = taken_empties os [] rs s ∙ ap (λ (z : List Octets). empties ([] ∷ z)) (sym e)
+taken_empties ((x ∷ p) ∷ os) (y ∷ o) rest (inr (rs, e, s)) = taken_empties os (y ∷ o) rs s ∙ ap (λ (z : List Octets). empties z) (sym e)
+
+same_more : (o : Octets) (ps qs : List Octets) → empties ps ≡ empties qs → empties (o ∷ ps) ≡ empties (o ∷ qs)
+same_more [] ps qs e = ap suc e
+same_more (x ∷ o) ps qs e = e
+
+reordered_empties : (read os : List Octets) → Reorders read os → empties read ≡ empties os
+reordered_empties [] os r = ap empties (sym r)
+reordered_empties (o ∷ read) os (rest, s, r) = same_more o read rest (reordered_empties read rest r) ∙ sym (taken_empties os o rest s)
+
+reordered : (ordered : Bool) (read own : List Octets) → IsInOrder Lenient ordered read own → Reorders read own
+reordered true read own e = subst (Reorders read) e (Reorders-refl read)
+reordered false read own (r, strict) = r
 
 module _ (ws : List ℕ) (none : form_of ws nothing ≡ Nothing) where
   abbrev Taken : Tree → Type 0
@@ -244,13 +267,15 @@ module _ (ws : List ℕ) (none : form_of ws nothing ≡ Nothing) where
 
   items : (ordered : Bool) (ts : Trees) → EachTree Taken ts → Taken (ListOf ordered ts)
   unfolding Rattle.oer_spec.specs.Encoding.IsTree Rattle.oer_spec.specs.Encoding.IsEncoding Rattle.oer_walk.specs.Described.Describes scope_by
-  items ordered ts p d m o rest i (element, form, is_ordered, each) (deep, fine, own, elements, (q, read, whole, many, order)) =
-      let same : read ≡ own = subst (λ (b : Bool). IsInOrder Lenient b read own) is_ordered order in
-      let regrouped : o ++ rest ≡ q ++ (joined own ++ rest) = ap (λ (z : Octets). z ++ rest) (whole ∙ ap (λ (z : List Octets). q ++ joined z) same) ∙ append_assoc q (joined own) rest in
+  items ordered ts p d m o rest i (element, form, each) (deep, fine, own, elements, (q, read, whole, many, order)) =
+      let mixed = reordered ordered read own order in
+      let regrouped : o ++ rest ≡ q ++ (joined read ++ rest) = ap (λ (z : Octets). z ++ rest) whole ∙ append_assoc q (joined read) rest in
       let few = ltb-false 65536 (empties (canonical_elements ts)) (fine TooManyEmpty) in
       let as_many = same_empties (d - 1) own ts i elements in
+      let again = reordered_empties read own mixed in
+      let all : AllTaken ws (d - 1) element read = Reorders-all (λ (o : Octets). (rest : Octets) → Takes ws (d - 1) element (o ++ rest) rest) read own mixed (each_taken ts (d - 1) element own p i each elements) in
       scope_taken d m (ListForm element) (o ++ rest) rest form refl deep (λ s n. subst (λ (z : Octets). TakesValue (list_by (part_at ws (d - 1)) element s n z) rest) (sym regrouped)
-      (list_taken (d - 1) element q own rest s n many (each_taken ts (d - 1) element own p i each elements) (omega arith)))
+      (list_taken (d - 1) element q read rest s n (subst (IsQuantity Lenient q) (sym (Reorders-length read own mixed)) many) all (omega arith)))
 
   choice : (roots additions : List Tag) (g : Tag) (t : Tree) → Taken t → Taken (ChoiceTree roots additions g t)
   unfolding Rattle.oer_spec.specs.Encoding.IsTree Rattle.oer_spec.specs.Encoding.IsEncoding Rattle.oer_walk.specs.Described.Describes scope_by

@@ -20,7 +20,7 @@ unfoldable mutual
   Describes ws n (Primitive l) = form_of ws n ≡ leaf_form l
   Describes ws n (Struct set extensible r a) =
       (ps : Parts) × (form_of ws n ≡ Sequence ps) × (set ≡ false) × (ps.is_extensible ≡ extensible) × DescribesRoots ws ps 0 ps.roots r × DescribesAdditions ws ps 0 ps.additions a
-  Describes ws n (ListOf ordered ts) = (element : ℕ) × (form_of ws n ≡ ListForm element) × (ordered ≡ true) × DescribesTrees ws element ts
+  Describes ws n (ListOf ordered ts) = (element : ℕ) × (form_of ws n ≡ ListForm element) × DescribesTrees ws element ts
   Describes ws n (ChoiceTree roots additions g t) =
       (ps : Parts) × (i : ℕ) × (form_of ws n ≡ Choice ps) × (g.value < 2 ^ 32) × (alternative_of ws ps g ≡ Some i) × (nat_lt i ps.roots ≡ holds roots g) × Describes ws (alternative_at ws ps i).type_number t
 
