@@ -1,33 +1,22 @@
 -- A walk takes the encodings of the trees that its table describes.
-use Rattle.std.proofs.Common.{◌≡◌, ℕ, zero, suc, ◌+◌, ◌-◌, ◌^◌, ◌<◌, ◌≤◌, Bool, true, false, cond, List, [], ◌∷◌, ◌++◌, length, drop, get_or, Option, Some, None, Result, Ok, Err, refl, sym, ap, subst, ◌∙◌, arith, inl, inr, ◌⊎◌, append_assoc, length-append}
-use Rattle.std.specs.Prelude.{nat_lt, nat_le, not, ◌||◌, ◌&&◌, ◌==◌, max}
+use Rattle.std.proofs.Common.{◌≡◌, ℕ, ◌+◌, ◌-◌, Bool, true, false, cond, List, [], ◌∷◌, ◌++◌, length, Result, Ok, Err, refl, sym, ap, subst, ◌∙◌, inl, inr, ◌⊎◌, append_assoc}
+use Rattle.std.specs.Prelude.{nat_lt}
 use Rattle.asn1_core.specs.Octets.{Octets}
-use Rattle.asn1_core.specs.Tags.{holds}
 use Rattle.asn1_core.specs.declared.codec.Codec.TheVariants.{Oer}
 use Rattle.asn1_core.specs.declared.error.DecodeErrorKind.{DecodeErrorKind}
 use Rattle.asn1_core.specs.declared.error.DecodeErrorKind.TheVariants.{TooManyEmptyElements}
 use Rattle.oer_leaf_read.proofs.ReadLengths.{content_reads}
-use Rattle.oer_leaf_read.proofs.ReadPlaces.{preamble_reads, bitmap_reads}
-use Rattle.oer_leaf_read.proofs.ReadQuantities.{quantity_reads}
-use Rattle.oer_leaf_read.proofs.ReadTags.{tag_reads}
-use Rattle.oer_spec.specs.Encoding.{IsTree, AreRows, AreSlot, AreTrees, IsEncoding, AreItems, IsItem, AreElements}
-use Rattle.oer_spec.specs.Leaves.{IsLeaf}
-use Rattle.oer_spec.specs.Lengths.{IsBehindLength, IsOpenType, IsBitmap}
-use Rattle.oer_spec.specs.Mode.{Mode, Lenient}
-use Rattle.oer_spec.specs.Places.{Item, needed, present, absent, presence, bodies, extension_bit, AreSkipped, IsAddition, AreAdditions, IsExtension, SpellsStruct, SpellsList, SpellsChoice, in_writing_order}
-use Rattle.oer_spec.specs.Tree.{Leaf, Boolean, Null, Enum, Int, Bits, Text, Tree, Primitive, Struct, ListOf, Choice as ChoiceTree, Rows, NoRows, Required, Optional, Default, Slot, Absent, Present, Trees, NoTrees, More}
-use Rattle.oer_walk.specs.Described.{Describes, DescribesRoots, DescribesAdditions, DescribesSlot, DescribesTrees}
-use Rattle.oer_walk.specs.Forms.{leaf_form}
-use Rattle.oer_walk.specs.Tables.{nothing, form_of, component_of, alternative_at, alternative_of, optionals}
-use Rattle.oer_walk.specs.Walks.{Walk, ValueWalk, PartWalk, done, stopped, reads, onto, goes_on, behind, node_of, noded, left_of, left_behind, leaving, from, content_at, is_nothing, open_content, open_by, within_by, part_by, scope_of, inside, part_if, with_empty, if_few, elements_by, components_by, is_present, later_bits, unknown_by, known_by, additions_by, extension_count, body_by, sequence_by, choice_by, chosen, list_by, behind_length_at, is_leaf, leaf_at, scope_by, value_at, part_at}
+use Rattle.oer_spec.specs.Lengths.{IsBehindLength}
+use Rattle.oer_spec.specs.Mode.{Lenient}
+use Rattle.oer_spec.specs.Places.{AreSkipped}
+use Rattle.oer_walk.specs.Tables.{nothing, form_of}
+use Rattle.oer_walk.specs.Walks.{Walk, done, stopped, reads, behind, noded, left_of, left_behind, leaving, from, content_at, is_nothing, open_content, open_by, within_by, part_by, scope_of, inside, unknown_by, behind_length_at, value_at, part_at}
 use Rattle.oer_walk.specs.declared.places.Place.{Place}
 use Rattle.oer_walk.specs.declared.places.Scope.{Scope}
 use Rattle.oer_walk.specs.declared.places.Stop.{Stop}
-use Rattle.oer_walk.specs.declared.table.Form.{Form}
-use Rattle.oer_walk.specs.declared.table.Form.TheVariants.{Fixed, Counted, Enumerated, List as ListForm, Sequence, Choice, Nothing}
-use Rattle.oer_walk.specs.declared.table.Parts.{Parts}
-use Rattle.oer_walk.proofs.Leaves.{leaf_taken, behind_length_is}
-use Rattle.oer_walk.proofs.Steps.{behind_ok, behind_err, value_leaf, value_scope}
+use Rattle.oer_walk.specs.declared.table.Form.TheVariants.{Nothing}
+use Rattle.oer_walk.proofs.Leaves.{behind_length_is}
+use Rattle.oer_walk.proofs.Steps.{behind_ok, behind_err}
 
 -- there are too many parts
 abbrev pub IsFull : {A : Type 0} → Result A Stop → Type 0

@@ -1,14 +1,14 @@
 -- A walk takes the parts of sequences and lists, where it takes each of them.
-use Rattle.std.proofs.Common.{◌≡◌, ℕ, zero, suc, ◌+◌, ◌-◌, ◌<◌, ◌≤◌, Bool, true, false, cond, List, [], ◌∷◌, ◌++◌, length, drop, get_or, Some, None, Option, Ok, refl, sym, ap, subst, ◌∙◌, arith, inl, inr, append_assoc, length-append}
+use Rattle.std.proofs.Common.{◌≡◌, ℕ, zero, suc, ◌+◌, ◌<◌, ◌≤◌, Bool, true, false, cond, List, [], ◌∷◌, ◌++◌, length, drop, get_or, Some, None, Option, Ok, refl, sym, ap, subst, ◌∙◌, arith, inl, append_assoc, length-append}
 use Rattle.std.specs.List.{AllByRecursion}
-use Rattle.std.specs.Prelude.{nat_lt, not, ◌||◌, ◌==◌}
+use Rattle.std.specs.Prelude.{not, ◌||◌, ◌==◌}
 use Rattle.std.proofs.lemmas.Bool.{lt-ltb, eq-eqb, ne_eqb}
 use Rattle.asn1_core.specs.Octets.{Octets, joined}
 use Rattle.oer_spec.specs.Encoding.{empties}
 use Rattle.oer_spec.specs.Mode.{Lenient}
-use Rattle.oer_spec.specs.Places.{Item, presence, bodies, AreSkipped, IsAddition, AreAdditions}
+use Rattle.oer_spec.specs.Places.{Item, presence, bodies, IsAddition, AreAdditions}
 use Rattle.oer_walk.specs.Tables.{nothing, form_of, component_of, optionals}
-use Rattle.oer_walk.specs.Walks.{Walk, done, behind, inside, part_if, with_empty, if_few, elements_by, components_by, is_present, later_bits, unknown_by, known_by, part_at}
+use Rattle.oer_walk.specs.Walks.{Walk, inside, part_if, with_empty, if_few, elements_by, components_by, is_present, later_bits, known_by, part_at}
 use Rattle.oer_walk.specs.declared.places.Place.{Place}
 use Rattle.oer_walk.specs.declared.places.Scope.{Scope}
 use Rattle.oer_walk.specs.declared.table.Component.{Component}

@@ -12,12 +12,12 @@ use Rattle.oer_leaf_read.proofs.ReadPlaces.{preamble_reads, bitmap_reads}
 use Rattle.oer_leaf_read.proofs.ReadQuantities.{quantity_reads}
 use Rattle.oer_leaf_read.proofs.ReadTags.{tag_reads}
 use Rattle.oer_spec.specs.Encoding.{IsTree, AreRows, AreSlot, AreTrees, IsEncoding, AreItems, IsItem, AreElements, canonical_octets, canonical_elements, list_fails, empties}
-use Rattle.oer_spec.specs.Leaves.{Width, Fixed as FixedWidth, Counted as CountedWidth, Failure, TooManyEmpty, width_of, unit_of, IsLeaf, IsLeafEncoding}
+use Rattle.oer_spec.specs.Leaves.{Width, Fixed as FixedWidth, Counted as CountedWidth, TooManyEmpty, width_of, unit_of}
 use Rattle.oer_spec.specs.Lengths.{IsQuantity, IsTag}
-use Rattle.oer_spec.specs.Mode.{Lenient, InLenient}
+use Rattle.oer_spec.specs.Mode.{Lenient}
 use Rattle.oer_spec.specs.Orders.{Stands, Reorders}
-use Rattle.oer_spec.specs.Places.{Item, needed, present, absent, presence, bodies, extension_bit, IsExtension, AreAdditions, SpellsStruct, IsInOrder, SpellsList, SpellsChoice, IsAlternative}
-use Rattle.oer_spec.specs.Reading.{◌>>=◌, quantity_at, tag_at}
+use Rattle.oer_spec.specs.Places.{Item, present, presence, bodies, extension_bit, IsExtension, SpellsStruct, IsInOrder, IsAlternative}
+use Rattle.oer_spec.specs.Reading.{◌>>=◌, quantity_at}
 use Rattle.oer_spec.specs.ReadingBits.{preamble_at, bitmap_at}
 use Rattle.oer_spec.specs.Same.{EachTree, OnSlot}
 use Rattle.oer_spec.specs.Tree.{Leaf, Boolean, Null, Enum, Int, Bits, Text, Tree, Primitive, Struct, ListOf, Choice as ChoiceTree, Rows, NoRows, Required, Optional, Default, Slot, Absent, Present, Trees, NoTrees, More}
@@ -28,17 +28,17 @@ use Rattle.oer_spec.proofs.Trees.{EachRow, by_parts}
 use Rattle.oer_walk.specs.Described.{Describes, DescribesRoots, DescribesAdditions, DescribesSlot, DescribesTrees}
 use Rattle.oer_walk.specs.Forms.{width_form, bits_form, units_form, leaf_form}
 use Rattle.oer_walk.specs.Tables.{nothing, word, place_of, form_if, form_of, component_of, alternative_at, alternative_of, optionals}
-use Rattle.oer_walk.specs.Walks.{Walk, done, reads, from, behind, inside, elements_by, components_by, known_by, additions_by, extension_count, body_by, sequence_by, found, tagged_at, chosen, choice_by, list_by, is_leaf, leaf_at, scope_by, value_at, part_at}
+use Rattle.oer_walk.specs.Walks.{Walk, done, from, inside, elements_by, components_by, known_by, additions_by, extension_count, body_by, sequence_by, found, tagged_at, chosen, choice_by, list_by, is_leaf, leaf_at, scope_by, part_at}
 use Rattle.oer_walk.specs.declared.places.Place.{Place}
 use Rattle.oer_walk.specs.declared.places.Scope.{Scope}
 use Rattle.oer_walk.specs.declared.places.Stop.{Stop}
 use Rattle.oer_walk.specs.declared.table.Form.{Form}
-use Rattle.oer_walk.specs.declared.table.Form.TheVariants.{Fixed, Counted, Enumerated, List as ListForm, Sequence, Choice, Nothing}
+use Rattle.oer_walk.specs.declared.table.Form.TheVariants.{List as ListForm, Sequence, Choice, Nothing}
 use Rattle.oer_walk.specs.declared.table.Parts.{Parts}
 use Rattle.oer_walk.proofs.Leaves.{leaf_taken}
 use Rattle.oer_walk.proofs.Steps.{value_leaf, value_scope}
 use Rattle.oer_walk.proofs.Takes.{TakesPart, TakesValue, Takes, takes_behind, takes_read, takes_read_part, takes_from, takes_closed, takes_open}
-use Rattle.oer_walk.proofs.TakesRows.{BodyTaken, AllTaken, elements_taken, RootTaken, RootsTaken, roots_counted, roots_taken, AdditionsTaken, additions_taken}
+use Rattle.oer_walk.proofs.TakesRows.{BodyTaken, AllTaken, elements_taken, RootsTaken, roots_counted, roots_taken, AdditionsTaken, additions_taken}
 
 -- ---- leaves
 width_is : (w : Width) → is_leaf (width_form w) ≡ true
@@ -154,12 +154,14 @@ module _ (ws : List ℕ) (none : form_of ws nothing ≡ Nothing) where
   roots_are NoRows d i k ps is p a f h = subst (RootsTaken ws d ps i k) (sym h) f
   roots_are (Required g t r) d i zero ps is p a f h = absurd f
   roots_are (Required g t r) d i (suc k) ps [] p a f h = absurd h
-  roots_are (Required g t r) d i (suc k) ps (x ∷ is) p a f h =
-      (record {
-        marked = f.0 ∙ sym (ap (λ (z : Item). z.marked) h.0);
-        there = λ e. ap (λ (z : Item). z.bit) h.0;
-        body = item_body d (component_of ws ps i).type_number g x true (ap (λ (z : Item). z.bit) h.0) (λ rest. p.0 d (component_of ws ps i).type_number x.octets rest a.0 f.1 h.1);
-      }, roots_are r d (i + 1) k ps is p.1 a.1 f.2 h.2)
+  roots_are (Required g t r) d i (suc k) ps (x ∷ is) p a f h = (
+    record {
+      marked = f.0 ∙ sym (ap (λ (z : Item). z.marked) h.0);
+      there = λ e. ap (λ (z : Item). z.bit) h.0;
+      body = item_body d (component_of ws ps i).type_number g x true (ap (λ (z : Item). z.bit) h.0) (λ rest. p.0 d (component_of ws ps i).type_number x.octets rest a.0 f.1 h.1);
+    },
+    roots_are r d (i + 1) k ps is p.1 a.1 f.2 h.2,
+  )
   roots_are (Optional g s r) d i zero ps is p a f h = absurd f
   roots_are (Optional g s r) d i (suc k) ps [] p a f h = absurd h
   roots_are (Optional g s r) d i (suc k) ps (x ∷ is) p a f h =

@@ -8,7 +8,6 @@ use Rattle.oer_spec.specs.Mode.{Lenient}
 use Rattle.oer_spec.specs.Tree.{Tree, Primitive, Struct, ListOf, Choice as ChoiceTree, Rows, NoRows, Required, Optional, Default, Slot, Absent, Present, Trees, NoTrees, More}
 use Rattle.oer_walk.specs.Forms.{leaf_form}
 use Rattle.oer_walk.specs.Tables.{form_of, component_of, alternative_at, alternative_of}
-use Rattle.oer_walk.specs.declared.table.Form.{Form}
 use Rattle.oer_walk.specs.declared.table.Form.TheVariants.{List as ListForm, Sequence, Choice}
 use Rattle.oer_walk.specs.declared.table.Parts.{Parts}
 use Rattle.oer_walk.specs.declared.walks.Walked.{Walked}

@@ -3,7 +3,6 @@ ghost use Rattle.std.specs.Prelude.{◌≡◌, ◌<◌, ◌≤◌, ◌-◌, ◌^
 ghost use Rattle.oer_leaf_read.specs.Views.{bits_left};
 ghost use Rattle.oer_spec.specs.Reading.{Gives};
 ghost use Rattle.oer_walk.specs.Described.{TakesEncodings};
-ghost use Rattle.oer_walk.specs.Forms.{TakesLeaves};
 ghost use Rattle.oer_walk.specs.Parts.{ArePlaced};
 ghost use Rattle.oer_walk.specs.Tables.{nothing};
 ghost use Rattle.oer_walk.specs.Walks.{IsWalk, IsAnswer, overlay, walk_of, most_of, inside, node_of, part_if, part_at, within_by, behind_length_at, open_by, leaf_at, value_at, scope_by, list_by, elements_by, tagged_at, choice_by, sequence_by, body_by, components_by, additions_by, known_by, unknown_by, with_empty, extension_count, is_present, later_bits};
@@ -267,18 +266,9 @@ fn walk_value<'a>(
     )
 }
 
-/// What is behind a leaf: what is behind the length in front of it, and what is behind it all. Of each leaf's encodings, in
-/// lenient reading, it takes exactly these.
-fn read_leaf(form: Form, rest: &[u8]) -> Result<(&[u8], &[u8]), DecodeErrorKind>
-    ensures function { Gives (λ x. (x.0.now, x.1.now)) result (leaf_at form rest.now) }
-    ensures takes { TakesLeaves form rest.now (leaf_at form rest.now) }
-{
-    leaf_end(form, rest)
-}
-
 /// What is behind a leaf: what is behind the length in front of it, and what is behind it all.
 #[tactic(auto, unfolding(crate::specs::Walks::leaf_at))]
-fn leaf_end(form: Form, rest: &[u8]) -> Result<(&[u8], &[u8]), DecodeErrorKind>
+fn read_leaf(form: Form, rest: &[u8]) -> Result<(&[u8], &[u8]), DecodeErrorKind>
     ensures { Gives (λ x. (x.0.now, x.1.now)) result (leaf_at form rest.now) }
 {
     match form {
