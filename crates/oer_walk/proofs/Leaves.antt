@@ -85,9 +85,3 @@ leaf_taken (Text r s (Civil fields)) o rest i h = absurd (no_civil (fixed_size s
     no_civil : (f : Option ℕ) → IsText Lenient o f (Civil fields) → ⊥
     no_civil (Some n) e = e
     no_civil None e = e
-
--- for a function that answers what the reading gives
-pub takes_leaf : (form : Form) (input : Octets) (r : Result (Octets × Octets) DecodeErrorKind) → r ≡ leaf_at form input → (l : Leaf) (o rest : Octets) → form ≡ leaf_form l → IsLeaf l → IsLeafEncoding Lenient o l → input ≡ o ++ rest → (content : Octets) × (r ≡ Ok (content, rest))
-takes_leaf form input r g l o rest f i h e =
-    let t = leaf_taken l o rest i h in
-    (t.0, g ∙ ap (λ (z : Form). leaf_at z input) f ∙ ap (leaf_at (leaf_form l)) e ∙ t.1)

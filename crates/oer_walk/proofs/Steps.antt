@@ -39,10 +39,10 @@ walk_read {X} {A} view r n m a b at read x f e w = subst (λ (z : Result A Decod
 pub walk_refused : {X A B : Type 0} (view : X → B) (s : Stop) (n : ℕ) (a : List Node) (at : ℕ) (read : Result A DecodeErrorKind) (kind : DecodeErrorKind) (f : A → Walk B) → read ≡ Err kind → s ≡ record { place = at; kind = kind } → IsWalk view (Err s) n n a a (reads at read f)
 walk_refused {X} {A} view s n a at read kind f e is = subst (λ (z : Result A DecodeErrorKind). IsWalk view (Err s) n n a a (reads at z f)) (sym e) (walk_stopped view s at kind n a is)
 
-behind_ok : {A B : Type 0} (w : Walk A) (x : A) (n m : ℕ) (f : ℕ → A → Walk B) → w.answer ≡ Ok x → m ≡ n + length w.nodes → behind n w f ≡ onto w.nodes (f m x)
+pub behind_ok : {A B : Type 0} (w : Walk A) (x : A) (n m : ℕ) (f : ℕ → A → Walk B) → w.answer ≡ Ok x → m ≡ n + length w.nodes → behind n w f ≡ onto w.nodes (f m x)
 behind_ok {A} w x n m f e c = ap (λ (z : Result A Stop). goes_on w.nodes z n f) e ∙ ap (λ (k : ℕ). onto w.nodes (f k x)) (sym c)
 
-behind_err : {A B : Type 0} (w : Walk A) (s : Stop) (n : ℕ) (f : ℕ → A → Walk B) → w.answer ≡ Err s → behind n w f ≡ record { nodes = w.nodes; answer = Err s }
+pub behind_err : {A B : Type 0} (w : Walk A) (s : Stop) (n : ℕ) (f : ℕ → A → Walk B) → w.answer ≡ Err s → behind n w f ≡ record { nodes = w.nodes; answer = Err s }
 behind_err {A} w s n f e = ap (λ (z : Result A Stop). goes_on w.nodes z n f) e
 
 -- a function that goes on behind one

@@ -1,10 +1,8 @@
--- How leaves lie in octets, and what a walk takes of their encodings.
-use Rattle.std.specs.Prelude.{◌≡◌, ℕ, ◌*◌, ◌++◌, Option, Some, None, Result, Ok}
+-- How leaves lie in octets.
+use Rattle.std.specs.Prelude.{ℕ, ◌*◌, Option, Some, None}
 use Rattle.asn1_core.specs.Bounds.{fixed_size}
-use Rattle.asn1_core.specs.Octets.{Octets, octets_for}
-use Rattle.asn1_core.specs.declared.error.DecodeErrorKind.{DecodeErrorKind}
-use Rattle.oer_spec.specs.Leaves.{Width, Fixed as FixedWidth, Counted as CountedWidth, width_of, unit_of, IsLeaf, IsLeafEncoding}
-use Rattle.oer_spec.specs.Mode.{Lenient}
+use Rattle.asn1_core.specs.Octets.{octets_for}
+use Rattle.oer_spec.specs.Leaves.{Width, Fixed as FixedWidth, Counted as CountedWidth, width_of, unit_of}
 use Rattle.oer_spec.specs.Tree.{Leaf, Boolean, Null, Enum, Int, Bits, Text}
 use Rattle.oer_walk.specs.declared.table.Form.{Form}
 use Rattle.oer_walk.specs.declared.table.Form.TheVariants.{Fixed, Counted, Enumerated}
@@ -29,7 +27,3 @@ leaf_form (Enum n) = Enumerated
 leaf_form (Int r n) = width_form (width_of r)
 leaf_form (Bits s b) = bits_form (fixed_size s)
 leaf_form (Text r s c) = units_form (unit_of r) (fixed_size s)
-
--- A reading takes of a leaf's encodings, in lenient reading, exactly these.
-abbrev pub TakesLeaves : Form → Octets → Result (Octets × Octets) DecodeErrorKind → Type 0
-TakesLeaves form input r = (l : Leaf) (o rest : Octets) → form ≡ leaf_form l → IsLeaf l → IsLeafEncoding Lenient o l → input ≡ o ++ rest → (content : Octets) × (r ≡ Ok (content, rest))

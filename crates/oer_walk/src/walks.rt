@@ -2,7 +2,7 @@
 ghost use Rattle.std.specs.Prelude.{◌≡◌, ◌<◌, ◌≤◌, ◌-◌, ◌^◌, ◌&&◌, false, IfOk, Ok, Err, length, drop, get_or, min};
 ghost use Rattle.oer_leaf_read.specs.Views.{bits_left};
 ghost use Rattle.oer_spec.specs.Reading.{Gives};
-ghost use Rattle.oer_walk.specs.Forms.{TakesLeaves};
+ghost use Rattle.oer_walk.specs.Described.{TakesEncodings};
 ghost use Rattle.oer_walk.specs.Parts.{ArePlaced};
 ghost use Rattle.oer_walk.specs.Tables.{nothing};
 ghost use Rattle.oer_walk.specs.Walks.{IsWalk, IsAnswer, overlay, walk_of, most_of, inside, node_of, part_if, part_at, within_by, behind_length_at, open_by, leaf_at, value_at, scope_by, list_by, elements_by, tagged_at, choice_by, sequence_by, body_by, components_by, additions_by, known_by, unknown_by, with_empty, extension_count, is_present, later_bits};
@@ -41,6 +41,7 @@ pub fn walk(table: &[u32], type_number: u32, levels: u32, input: &[u8], room: &m
     ensures nodes { room.new ≡ overlay room.old 0 (walk_of table.now type_number levels input.now).nodes }
     ensures shown { result.shown ≡ min result.nodes (length room.new) }
     ensures parts { ArePlaced (length input.now) result.shown room.new }
+    ensures takes { TakesEncodings table.now type_number levels input.now result }
 {
     let size = room.len();
     let place = Place {
@@ -265,18 +266,9 @@ fn walk_value<'a>(
     )
 }
 
-/// What is behind a leaf: what is behind the length in front of it, and what is behind it all. Of each leaf's encodings, in
-/// lenient reading, it takes exactly these.
-fn read_leaf(form: Form, rest: &[u8]) -> Result<(&[u8], &[u8]), DecodeErrorKind>
-    ensures function { Gives (λ x. (x.0.now, x.1.now)) result (leaf_at form rest.now) }
-    ensures takes { TakesLeaves form rest.now (leaf_at form rest.now) }
-{
-    leaf_end(form, rest)
-}
-
 /// What is behind a leaf: what is behind the length in front of it, and what is behind it all.
 #[tactic(auto, unfolding(crate::specs::Walks::leaf_at))]
-fn leaf_end(form: Form, rest: &[u8]) -> Result<(&[u8], &[u8]), DecodeErrorKind>
+fn read_leaf(form: Form, rest: &[u8]) -> Result<(&[u8], &[u8]), DecodeErrorKind>
     ensures { Gives (λ x. (x.0.now, x.1.now)) result (leaf_at form rest.now) }
 {
     match form {

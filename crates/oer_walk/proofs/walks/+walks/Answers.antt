@@ -85,12 +85,12 @@ walk_unknown-returns t c = at_end c.loop-bit.rest _ _ _ _ _ _ c.loop-bit.invaria
 pub walk_value-returns-in-Ok : goal.walk_value-returns-in-Ok
 walk_value-returns-in-Ok t c =
     leaf_walked c.args.table.words.now c.args.levels (λ (x : ℕ × Bor (List ℕ)). (x.0, x.1.now)) (c.saturating_sub.result, c.in-Ok.after) c.args.scope c.args.count.now c.args.room.now c.args.rest.now (c.in-Ok.behind.now, c.in-Ok.after.now)
-    (ap is_leaf (sym c.form_of-form.ensures) ∙ sym c.is_leaf.ensures ∙ c.if-is_leaf.true) (ap (λ (z : Form). leaf_at z c.args.rest.now) (sym c.form_of-form.ensures) ∙ c.in-Ok.ensures.function) (ap (λ (z : ℕ). (z, c.in-Ok.after.now)) c.saturating_sub.ensures)
+    (ap is_leaf (sym c.form_of-form.ensures) ∙ sym c.is_leaf.ensures ∙ c.if-is_leaf.true) (ap (λ (z : Form). leaf_at z c.args.rest.now) (sym c.form_of-form.ensures) ∙ c.in-Ok.ensures) (ap (λ (z : ℕ). (z, c.in-Ok.after.now)) c.saturating_sub.ensures)
 
 pub walk_value-returns-in-Err : goal.walk_value-returns-in-Err
 walk_value-returns-in-Err t c =
     leaf_refused c.args.table.words.now c.args.levels (λ (x : ℕ × Bor (List ℕ)). (x.0, x.1.now)) c.stop.result c.args.scope c.args.count.now c.args.room.now c.args.rest.now c.in-Err.kind
-    (ap is_leaf (sym c.form_of-form.ensures) ∙ sym c.is_leaf.ensures ∙ c.if-is_leaf.true) (ap (λ (z : Form). leaf_at z c.args.rest.now) (sym c.form_of-form.ensures) ∙ c.in-Err.ensures.function) c.stop.ensures
+    (ap is_leaf (sym c.form_of-form.ensures) ∙ sym c.is_leaf.ensures ∙ c.if-is_leaf.true) (ap (λ (z : Form). leaf_at z c.args.rest.now) (sym c.form_of-form.ensures) ∙ c.in-Err.ensures) c.stop.ensures
 
 pub walk_value-returns-then-levels-eq0 : goal.walk_value-returns-then-levels-eq0
 walk_value-returns-then-levels-eq0 t c =

@@ -1,0 +1,316 @@
+-- A walk takes the encodings of the trees that its table describes, by induction on the tree.
+use Rattle.std.proofs.Common.{◌≡◌, ℕ, zero, suc, ◌+◌, ◌-◌, ◌^◌, ◌<◌, ◌≤◌, Bool, true, false, cond, List, [], ◌∷◌, ◌++◌, length, drop, get_or, Some, None, Option, Result, Ok, Err, refl, sym, ap, subst, ◌∙◌, arith, inl, inr, ◌⊎◌, append_assoc, length-append, append-nil, Fits, w32}
+use Rattle.std.specs.Prelude.{nat_lt, nat_le, not, ◌&&◌}
+use Rattle.std.proofs.lemmas.Bool.{lt-leb, le-leb, le-ltb, ltb-true, ltb-false}
+use Rattle.asn1_core.specs.Octets.{Octets, joined}
+use Rattle.asn1_core.specs.Tags.{holds}
+use Rattle.asn1_core.specs.declared.codec.Codec.TheVariants.{Oer}
+use Rattle.asn1_core.specs.declared.error.DecodeErrorKind.{DecodeErrorKind}
+use Rattle.asn1_core.specs.declared.error.DecodeErrorKind.TheVariants.{TooManyEmptyElements}
+use Rattle.asn1_core.specs.declared.tag.Tag.{Tag}
+use Rattle.oer_leaf_read.proofs.ReadPlaces.{preamble_reads, bitmap_reads}
+use Rattle.oer_leaf_read.proofs.ReadQuantities.{quantity_reads}
+use Rattle.oer_leaf_read.proofs.ReadTags.{tag_reads}
+use Rattle.oer_spec.specs.Encoding.{IsTree, AreRows, AreSlot, AreTrees, IsEncoding, AreItems, IsItem, AreElements, canonical_octets, canonical_elements, list_fails, empties}
+use Rattle.oer_spec.specs.Leaves.{Width, Fixed as FixedWidth, Counted as CountedWidth, TooManyEmpty, width_of, unit_of}
+use Rattle.oer_spec.specs.Lengths.{IsQuantity, IsTag}
+use Rattle.oer_spec.specs.Mode.{Lenient}
+use Rattle.oer_spec.specs.Orders.{Stands, Reorders}
+use Rattle.oer_spec.specs.Places.{Item, present, presence, bodies, extension_bit, IsExtension, SpellsStruct, IsInOrder, IsAlternative}
+use Rattle.oer_spec.specs.Reading.{◌>>=◌, quantity_at}
+use Rattle.oer_spec.specs.ReadingBits.{preamble_at, bitmap_at}
+use Rattle.oer_spec.specs.Same.{EachTree, OnSlot}
+use Rattle.oer_spec.specs.Tree.{Leaf, Boolean, Null, Enum, Int, Bits, Text, Tree, Primitive, Struct, ListOf, Choice as ChoiceTree, Rows, NoRows, Required, Optional, Default, Slot, Absent, Present, Trees, NoTrees, More}
+use Rattle.oer_spec.proofs.Lists.{Reorders-refl, Reorders-length, Reorders-all}
+use Rattle.oer_spec.proofs.Nil.{nil_alike}
+use Rattle.oer_spec.proofs.Skips.{is_nil}
+use Rattle.oer_spec.proofs.Trees.{EachRow, by_parts}
+use Rattle.oer_walk.specs.Described.{Describes, DescribesRoots, DescribesAdditions, DescribesSlot, DescribesTrees}
+use Rattle.oer_walk.specs.Forms.{width_form, bits_form, units_form, leaf_form}
+use Rattle.oer_walk.specs.Tables.{nothing, word, place_of, form_if, form_of, component_of, alternative_at, alternative_of, optionals}
+use Rattle.oer_walk.specs.Walks.{Walk, done, from, inside, elements_by, components_by, known_by, additions_by, extension_count, body_by, sequence_by, found, tagged_at, chosen, choice_by, list_by, is_leaf, leaf_at, scope_by, part_at}
+use Rattle.oer_walk.specs.declared.places.Place.{Place}
+use Rattle.oer_walk.specs.declared.places.Scope.{Scope}
+use Rattle.oer_walk.specs.declared.places.Stop.{Stop}
+use Rattle.oer_walk.specs.declared.table.Form.{Form}
+use Rattle.oer_walk.specs.declared.table.Form.TheVariants.{List as ListForm, Sequence, Choice, Nothing}
+use Rattle.oer_walk.specs.declared.table.Parts.{Parts}
+use Rattle.oer_walk.proofs.Leaves.{leaf_taken}
+use Rattle.oer_walk.proofs.Steps.{value_leaf, value_scope}
+use Rattle.oer_walk.proofs.Takes.{TakesPart, TakesValue, Takes, takes_behind, takes_read, takes_read_part, takes_from, takes_closed, takes_open}
+use Rattle.oer_walk.proofs.TakesRows.{BodyTaken, AllTaken, elements_taken, RootsTaken, roots_counted, roots_taken, AdditionsTaken, additions_taken}
+
+-- ---- leaves
+width_is : (w : Width) → is_leaf (width_form w) ≡ true
+width_is (FixedWidth sign k) = refl
+width_is (CountedWidth sign) = refl
+
+bits_is : (o : Option ℕ) → is_leaf (bits_form o) ≡ true
+bits_is (Some n) = refl
+bits_is None = refl
+
+units_is : (k : ℕ) (o : Option ℕ) → is_leaf (units_form k o) ≡ true
+units_is k (Some n) = refl
+units_is k None = refl
+
+leaf_is : (l : Leaf) → is_leaf (leaf_form l) ≡ true
+leaf_is (Boolean b) = refl
+leaf_is Null = refl
+leaf_is (Enum n) = refl
+leaf_is (Int r n) = width_is (width_of r)
+leaf_is (Bits s b) = bits_is _
+leaf_is (Text r s c) = units_is (unit_of r) _
+
+-- as many elements have no octets as are written without
+empty_of : (o : Octets) (os : List Octets) → empties (o ∷ os) ≡ cond (is_nil o) (suc (empties os)) (empties os)
+empty_of [] os = refl
+empty_of (x ∷ o) os = refl
+
+same_empties : (d : ℕ) (os : List Octets) (ts : Trees) → AreTrees ts → AreElements Lenient d os ts → empties (canonical_elements ts) ≡ empties os
+unfolding Rattle.oer_spec.specs.Encoding.IsTree Rattle.oer_spec.specs.Encoding.IsEncoding Rattle.oer_spec.specs.Encoding.canonical_octets
+same_empties d os NoTrees i h = ap empties (sym h)
+same_empties d [] (More t ts) i h = absurd h
+same_empties d (o ∷ os) (More t ts) i h =
+    empty_of (canonical_octets t) (canonical_elements ts)
+    ∙ ap (λ (b : Bool). cond b (suc (empties (canonical_elements ts))) (empties (canonical_elements ts))) (sym (nil_alike t Lenient d o i.0 h.0))
+    ∙ ap (λ (z : ℕ). cond (is_nil o) (suc z) z) (same_empties d os ts i.1 h.1)
+    ∙ sym (empty_of o os)
+
+-- in whatever order
+taken_empties : (os : List Octets) (o : Octets) (rest : List Octets) → Stands os o rest → empties os ≡ empties (o ∷ rest)
+taken_empties [] o rest s = absurd s
+taken_empties (p ∷ os) o rest (inl (e, f)) = ap (λ (z : Octets). empties (z ∷ os)) e ∙ ap (λ (zs : List Octets). empties (o ∷ zs)) f
+taken_empties ([] ∷ os) [] rest (inr (rs, e, s)) = ap suc (taken_empties os [] rs s) ∙ ap (λ (z : List Octets). empties ([] ∷ z)) (sym e)
+taken_empties ([] ∷ os) (y ∷ o) rest (inr (rs, e, s)) = ap suc (taken_empties os (y ∷ o) rs s) ∙ ap (λ (z : List Octets). empties z) (sym e)
+taken_empties ((x ∷ p) ∷ os) [] rest (inr (rs, e, s)) = taken_empties os [] rs s ∙ ap (λ (z : List Octets). empties ([] ∷ z)) (sym e)
+taken_empties ((x ∷ p) ∷ os) (y ∷ o) rest (inr (rs, e, s)) = taken_empties os (y ∷ o) rs s ∙ ap (λ (z : List Octets). empties z) (sym e)
+
+same_more : (o : Octets) (ps qs : List Octets) → empties ps ≡ empties qs → empties (o ∷ ps) ≡ empties (o ∷ qs)
+same_more [] ps qs e = ap suc e
+same_more (x ∷ o) ps qs e = e
+
+reordered_empties : (read os : List Octets) → Reorders read os → empties read ≡ empties os
+reordered_empties [] os r = ap empties (sym r)
+reordered_empties (o ∷ read) os (rest, s, r) = same_more o read rest (reordered_empties read rest r) ∙ sym (taken_empties os o rest s)
+
+reordered : (ordered : Bool) (read own : List Octets) → IsInOrder Lenient ordered read own → Reorders read own
+reordered true read own e = subst (Reorders read) e (Reorders-refl read)
+reordered false read own (r, strict) = r
+
+module _ (ws : List ℕ) (none : form_of ws nothing ≡ Nothing) where
+  abbrev Taken : Tree → Type 0
+  Taken t = (d m : ℕ) (o rest : Octets) → IsTree t → Describes ws m t → IsEncoding Lenient d o t → Takes ws d m (o ++ rest) rest
+
+  single : (l : Leaf) → Taken (Primitive l)
+  unfolding Rattle.oer_spec.specs.Encoding.IsTree Rattle.oer_spec.specs.Encoding.IsEncoding Rattle.oer_walk.specs.Described.Describes
+  single l d m o rest i f h = λ s n e.
+      let form : form_of ws s.type_number ≡ leaf_form l = ap (form_of ws) e ∙ f in
+      let t = leaf_taken l o rest i h in
+      let read : leaf_at (form_of ws s.type_number) (o ++ rest) ≡ Ok (t.0, rest) = ap (λ (z : Form). leaf_at z (o ++ rest)) form ∙ t.1 in
+      subst (λ (z : Walk (ℕ × Octets)). TakesValue z rest) (sym (value_leaf ws d s n (o ++ rest) (ap is_leaf form ∙ leaf_is l)))
+      (takes_read s.start (leaf_at (form_of ws s.type_number) (o ++ rest)) (t.0, rest) (λ x. done (s.end - length x.0, x.1)) rest read (inl (s.end - length t.0, refl)))
+
+  -- what is inside a list, a sequence or a choice
+  scope_taken : (d m : ℕ) (form : Form) (input rest : Octets) → form_of ws m ≡ form → is_leaf form ≡ false → 1 ≤ d → ((s : Scope) (n : ℕ) → TakesValue (scope_by (part_at ws (d - 1)) ws form s n input) rest) → Takes ws d m input rest
+  scope_taken d m form input rest f leaf deep h = λ s n e.
+      let is : form_of ws s.type_number ≡ form = ap (form_of ws) e ∙ f in
+      subst (λ (z : Walk (ℕ × Octets)). TakesValue z rest) (sym (value_scope ws d (d - 1) s n input (ap is_leaf is ∙ leaf) (omega arith)))
+      (subst (λ (z : Form). TakesValue (scope_by (part_at ws (d - 1)) ws z s n input) rest) (sym is) (h s n))
+
+  -- ---- lists
+  each_taken : (ts : Trees) (d m : ℕ) (own : List Octets) → EachTree Taken ts → AreTrees ts → DescribesTrees ws m ts → AreElements Lenient d own ts → AllTaken ws d m own
+  unfolding Rattle.oer_spec.specs.Encoding.IsTree Rattle.oer_spec.specs.Encoding.IsEncoding Rattle.oer_walk.specs.Described.Describes
+  each_taken NoTrees d m own p i f h = subst (AllTaken ws d m) (sym h) tt
+  each_taken (More t ts) d m [] p i f h = absurd h
+  each_taken (More t ts) d m (o ∷ own) p i f h = ((λ rest. p.0 d m o rest i.0 f.0 h.0), each_taken ts d m own p.1 i.1 f.1 h.1)
+
+  list_taken : (d m : ℕ) (q : Octets) (own : List Octets) (rest : Octets) (s : Scope) (n : ℕ) → IsQuantity Lenient q (length own) → AllTaken ws d m own → empties own ≤ 65536 → TakesValue (list_by (part_at ws d) m s n (q ++ (joined own ++ rest))) rest
+  unfolding list_by
+  list_taken d m q own rest s n h all few =
+      takes_read s.start (quantity_at Oer (q ++ (joined own ++ rest))) (length own, joined own ++ rest) (λ x. from (s.end - length x.1) (elements_by (part_at ws d) s (inside s m nothing false) x.0 0 n x.1)) rest
+      ((quantity_reads Oer).again q (joined own ++ rest) (length own) h)
+      (takes_from (s.end - length (joined own ++ rest)) (elements_by (part_at ws d) s (inside s m nothing false) (length own) 0 n (joined own ++ rest)) rest (elements_taken ws d s m own 0 n rest all (omega arith)))
+
+  -- ---- sequences
+  body_of : (d m : ℕ) (g : Tag) (t : Tree) (o : Octets) → Taken t → IsTree t → Describes ws m t → IsEncoding Lenient d o t → BodyTaken ws d m true o
+  body_of d m g t o p i f h = λ rest. p d m o rest i f h
+
+  item_body : (d m : ℕ) (g : Tag) (x : Item) (b : Bool) → x.bit ≡ b → BodyTaken ws d m b x.octets → BodyTaken ws d m x.bit x.octets
+  item_body d m g x b e h = subst (λ (z : Bool). BodyTaken ws d m z x.octets) (sym e) h
+
+  slot_body : (s : Slot) (d m : ℕ) (g : Tag) (x : Item) → OnSlot Taken s → AreSlot s → DescribesSlot ws m s → IsItem Lenient d g x s → (x.marked ≡ true) × BodyTaken ws d m x.bit x.octets
+  unfolding Rattle.oer_spec.specs.Encoding.IsTree Rattle.oer_spec.specs.Encoding.IsEncoding Rattle.oer_walk.specs.Described.Describes
+  slot_body Absent d m g x p i f h = (ap (λ (z : Item). z.marked) h, item_body d m g x false (ap (λ (z : Item). z.bit) h) (ap (λ (z : Item). z.octets) h))
+  slot_body (Present t) d m g x p i f h = (ap (λ (z : Item). z.marked) h.0, item_body d m g x true (ap (λ (z : Item). z.bit) h.0) (λ rest. p d m x.octets rest i f h.1))
+
+  spelled_body : (u : Tree) (d m : ℕ) (g : Tag) (x : Item) → Taken u → IsTree u → Describes ws m u → x ≡ present g x.octets → IsEncoding Lenient d x.octets u → (x.marked ≡ true) × BodyTaken ws d m x.bit x.octets
+  spelled_body u d m g x p i f e h = (ap (λ (z : Item). z.marked) e, item_body d m g x true (ap (λ (z : Item). z.bit) e) (λ rest. p d m x.octets rest i f h))
+
+  marked_there : (x : Item) → x.marked ≡ true → x.marked ≡ false → x.bit ≡ true
+  marked_there x e f = absurd (cc (sym e ∙ f))
+
+  roots_are : (r : Rows) (d i k : ℕ) (ps : Parts) (is : List Item) → EachRow Taken r → AreRows r → DescribesRoots ws ps i k r → AreItems Lenient d is r → RootsTaken ws d ps i k is
+  unfolding Rattle.oer_spec.specs.Encoding.IsTree Rattle.oer_spec.specs.Encoding.IsEncoding Rattle.oer_walk.specs.Described.Describes
+  roots_are NoRows d i k ps is p a f h = subst (RootsTaken ws d ps i k) (sym h) f
+  roots_are (Required g t r) d i zero ps is p a f h = absurd f
+  roots_are (Required g t r) d i (suc k) ps [] p a f h = absurd h
+  roots_are (Required g t r) d i (suc k) ps (x ∷ is) p a f h = (
+    record {
+      marked = f.0 ∙ sym (ap (λ (z : Item). z.marked) h.0);
+      there = λ e. ap (λ (z : Item). z.bit) h.0;
+      body = item_body d (component_of ws ps i).type_number g x true (ap (λ (z : Item). z.bit) h.0) (λ rest. p.0 d (component_of ws ps i).type_number x.octets rest a.0 f.1 h.1);
+    },
+    roots_are r d (i + 1) k ps is p.1 a.1 f.2 h.2,
+  )
+  roots_are (Optional g s r) d i zero ps is p a f h = absurd f
+  roots_are (Optional g s r) d i (suc k) ps [] p a f h = absurd h
+  roots_are (Optional g s r) d i (suc k) ps (x ∷ is) p a f h =
+      let b = slot_body s d (component_of ws ps i).type_number g x p.0 a.0 f.1 h.0 in
+      (record { marked = f.0 ∙ sym b.0; there = marked_there x b.0; body = b.1 }, roots_are r d (i + 1) k ps is p.1 a.1 f.2 h.1)
+  roots_are (Default g u s r) d i zero ps is p a f h = absurd f
+  roots_are (Default g u s r) d i (suc k) ps [] p a f h = absurd h
+  roots_are (Default g u s r) d i (suc k) ps (x ∷ is) p a f (inl h, more) =
+      let b = slot_body s d (component_of ws ps i).type_number g x p.1 a.1 f.2 h in
+      (record { marked = f.0 ∙ sym b.0; there = marked_there x b.0; body = b.1 }, roots_are r d (i + 1) k ps is p.2 a.3 f.3 more)
+  roots_are (Default g u s r) d i (suc k) ps (x ∷ is) p a f (inr h, more) =
+      let b = spelled_body u d (component_of ws ps i).type_number g x p.0 a.0 f.1 h.2 h.3 in
+      (record { marked = f.0 ∙ sym b.0; there = marked_there x b.0; body = b.1 }, roots_are r d (i + 1) k ps is p.2 a.3 f.3 more)
+
+  additions_are : (r : Rows) (d i k : ℕ) (ps : Parts) (is : List Item) → EachRow Taken r → AreRows r → DescribesAdditions ws ps i k r → AreItems Lenient d is r → AdditionsTaken ws d ps i k is
+  unfolding Rattle.oer_spec.specs.Encoding.IsTree Rattle.oer_spec.specs.Encoding.IsEncoding Rattle.oer_walk.specs.Described.Describes
+  additions_are NoRows d i k ps is p a f h = subst (AdditionsTaken ws d ps i k) (sym h) f
+  additions_are (Required g t r) d i zero ps is p a f h = absurd f
+  additions_are (Required g t r) d i (suc k) ps [] p a f h = absurd h
+  additions_are (Required g t r) d i (suc k) ps (x ∷ is) p a f h =
+      (item_body d (component_of ws ps (ps.roots + i)).type_number g x true (ap (λ (z : Item). z.bit) h.0) (λ rest. p.0 d (component_of ws ps (ps.roots + i)).type_number x.octets rest a.0 f.0 h.1), additions_are r d (i + 1) k ps is p.1 a.1 f.1 h.2)
+  additions_are (Optional g s r) d i zero ps is p a f h = absurd f
+  additions_are (Optional g s r) d i (suc k) ps [] p a f h = absurd h
+  additions_are (Optional g s r) d i (suc k) ps (x ∷ is) p a f h = ((slot_body s d (component_of ws ps (ps.roots + i)).type_number g x p.0 a.0 f.0 h.0).1, additions_are r d (i + 1) k ps is p.1 a.1 f.1 h.1)
+  additions_are (Default g u s r) d i zero ps is p a f h = absurd f
+  additions_are (Default g u s r) d i (suc k) ps [] p a f h = absurd h
+  additions_are (Default g u s r) d i (suc k) ps (x ∷ is) p a f (inl h, more) = ((slot_body s d (component_of ws ps (ps.roots + i)).type_number g x p.1 a.1 f.1 h).1, additions_are r d (i + 1) k ps is p.2 a.3 f.2 more)
+  additions_are (Default g u s r) d i (suc k) ps (x ∷ is) p a f (inr h, more) = ((spelled_body u d (component_of ws ps (ps.roots + i)).type_number g x p.0 a.0 f.0 h.2 h.3).1, additions_are r d (i + 1) k ps is p.2 a.3 f.2 more)
+
+  -- bits in front of the components' own
+  front_count : (ps : Parts) (e x : Bool) → ps.is_extensible ≡ e → length (extension_bit e x) ≡ extension_count ps
+  front_count ps true x h = ap (λ (b : Bool). cond b 1 0) (sym h)
+  front_count ps false x h = ap (λ (b : Bool). cond b 1 0) (sym h)
+
+  front_dropped : (ps : Parts) (e x : Bool) (bits : List Bool) → ps.is_extensible ≡ e → drop (extension_count ps) (extension_bit e x ++ bits) ≡ bits
+  front_dropped ps true x bits h = ap (λ (b : Bool). drop (cond b 1 0) (x ∷ bits)) h
+  front_dropped ps false x bits h = ap (λ (b : Bool). drop (cond b 1 0) bits) h
+
+  front_bit : (ps : Parts) (e x : Bool) (bits : List Bool) → ps.is_extensible ≡ e → (x ≡ true → e ≡ true) → (ps.is_extensible && get_or (extension_bit e x ++ bits) 0 false) ≡ x
+  front_bit ps true x bits h only = ap (λ (b : Bool). b && x) h
+  front_bit ps false false bits h only = ap (λ (b : Bool). b && get_or bits 0 false) h
+  front_bit ps false true bits h only = absurd (cc (only refl))
+
+  rest_taken : (d : ℕ) (ps : Parts) (s : Scope) (extended : Bool) (o : Octets) (js : List Item) (n : ℕ) (rest : Octets) → AdditionsTaken ws d ps 0 ps.additions js → IsExtension Lenient extended o js → TakesPart (cond extended (additions_by (part_at ws d) ws ps s n (o ++ rest)) (done (o ++ rest))) rest
+  unfolding additions_by
+  rest_taken d ps s false o js n rest all h = inl (ap (λ (z : Octets). Ok (z ++ rest)) h.0)
+  rest_taken d ps s true o js n rest all (q, later, b, whole, bitmap, more, own) =
+      let regrouped : o ++ rest ≡ q ++ (later ++ rest) = ap (λ (z : Octets). z ++ rest) whole ∙ append_assoc q later rest in
+      subst (λ (z : Octets). TakesPart (additions_by (part_at ws d) ws ps s n z) rest) (sym regrouped)
+      (takes_read_part s.start (bitmap_at Oer (q ++ (later ++ rest))) (b, later ++ rest) (λ x. known_by (part_at ws d) ws ps s ps.additions 0 x.0 n x.1) rest ((bitmap_reads Oer).again q (later ++ rest) b bitmap)
+      (additions_taken ws d ps s 0 ps.additions js b n later rest none all more))
+
+  body_taken : (d : ℕ) (ps : Parts) (s : Scope) (e x : Bool) (is js : List Item) (o : Octets) (n : ℕ) (rest : Octets) → ps.is_extensible ≡ e → (x ≡ true → e ≡ true) → RootsTaken ws d ps 0 ps.roots is → AdditionsTaken ws d ps 0 ps.additions js → IsExtension Lenient x o js → TakesPart (body_by (part_at ws d) ws ps s (extension_bit e x ++ presence is) n (bodies is ++ (o ++ rest))) rest
+  unfolding body_by
+  body_taken d ps s e x is js o n rest ext only roots adds h =
+      let bits : List Bool = extension_bit e x ++ presence is in
+      takes_behind n (components_by (part_at ws d) ws ps s ps.roots 0 (drop (extension_count ps) (extension_bit e x ++ presence is)) n (bodies is ++ (o ++ rest))) (λ m left. cond (ps.is_extensible && get_or (extension_bit e x ++ presence is) 0 false) (additions_by (part_at ws d) ws ps s m left) (done left)) (o ++ rest) rest
+      (roots_taken ws d ps s 0 ps.roots is (drop (extension_count ps) (extension_bit e x ++ presence is)) [] n (o ++ rest) roots (front_dropped ps e x (presence is) ext ∙ sym (append-nil (presence is))))
+      (λ m. subst (λ (z : Bool). TakesPart (cond z (additions_by (part_at ws d) ws ps s m (o ++ rest)) (done (o ++ rest))) rest) (sym (front_bit ps e x (presence is) ext only)) (rest_taken d ps s x o js m rest adds h))
+
+  sequence_taken : (d : ℕ) (ps : Parts) (s : Scope) (e : Bool) (is js : List Item) (o : Octets) (n : ℕ) (rest : Octets) → ps.is_extensible ≡ e → RootsTaken ws d ps 0 ps.roots is → AdditionsTaken ws d ps 0 ps.additions js → SpellsStruct Lenient o false e is js → TakesValue (sequence_by (part_at ws d) ws ps s n (o ++ rest)) rest
+  unfolding sequence_by
+  sequence_taken d ps s e is js o n rest ext roots adds h =
+      let left : Octets = bodies is ++ (h.extension ++ rest) in
+      let bits : List Bool = extension_bit e h.extended ++ presence is in
+      let regrouped : o ++ rest ≡ h.preamble ++ (bodies is ++ (h.extension ++ rest)) = ap (λ (z : Octets). z ++ rest) h.whole ∙ append_assoc h.preamble (bodies is ++ h.extension) rest ∙ ap (λ (z : Octets). h.preamble ++ z) (append_assoc (bodies is) h.extension rest) in
+      let counted = roots_counted ws d ps 0 ps.roots is roots in
+      let many : length (extension_bit e h.extended ++ presence is) ≡ extension_count ps + optionals ws ps ps.roots = omega (arith, length-append (extension_bit e h.extended) (presence is), front_count ps e h.extended ext, counted ∙ ap (optionals ws ps) (zero_more ps.roots)) in
+      subst (λ (z : Octets). TakesValue (sequence_by (part_at ws d) ws ps s n z) rest) (sym regrouped)
+      (takes_read s.start (preamble_at (extension_count ps + optionals ws ps ps.roots) (h.preamble ++ (bodies is ++ (h.extension ++ rest)))) (extension_bit e h.extended ++ presence is, bodies is ++ (h.extension ++ rest)) (λ b. from (s.end - length b.1) (body_by (part_at ws d) ws ps s b.0 n b.1)) rest
+      ((preamble_reads (extension_count ps + optionals ws ps ps.roots)).again h.preamble (bodies is ++ (h.extension ++ rest)) (extension_bit e h.extended ++ presence is) (h.bits, many))
+      (takes_from (s.end - length (bodies is ++ (h.extension ++ rest))) (body_by (part_at ws d) ws ps s (extension_bit e h.extended ++ presence is) n (bodies is ++ (h.extension ++ rest))) rest
+      (body_taken d ps s e h.extended is js h.extension n rest ext h.only roots adds h.rest)))
+    where
+      zero_more : (k : ℕ) → 0 + k ≡ k
+      zero_more k = omega arith
+
+  -- ---- choices
+  alternative_taken : (d : ℕ) (p : Place) (n : ℕ) (root : Bool) (r f rest : Octets) → p.is_open ≡ not root → BodyTaken ws d p.type_number true f → IsAlternative Lenient root r f → TakesPart (part_at ws d p n (r ++ rest)) rest
+  alternative_taken d p n true r f rest is_open h e = subst (λ (z : Octets). TakesPart (part_at ws d p n (z ++ rest)) rest) (sym e) (takes_closed ws d p n (f ++ rest) rest is_open (h rest))
+  alternative_taken d p n false r f rest is_open h (content, left, at, split, strict) =
+      takes_open ws d p n r rest content left is_open at (subst (λ (z : Octets). Takes ws d p.type_number z left) (sym split) (h left))
+
+  not_less : (a b : ℕ) (root : Bool) → nat_lt a b ≡ root → nat_le b a ≡ not root
+  not_less a b true e = lt-leb b a (ltb-true a b e)
+  not_less a b false e = le-leb b a (ltb-false a b e)
+
+  tagged : (ps : Parts) (i : ℕ) (g : Tag) (q rest : Octets) → g.value < 2 ^ 32 → IsTag Lenient q g → alternative_of ws ps g ≡ Some i → tagged_at ws ps (q ++ rest) ≡ Ok (i, rest)
+  unfolding tagged_at
+  tagged ps i g q rest small tag alternative =
+      ap (λ (z : Result (Tag × Octets) DecodeErrorKind). z >>= λ (t : Tag × Octets). found ps t.0 t.1 (alternative_of ws ps t.0)) ((tag_reads Oer).again q rest g (small, tag)) ∙ ap (found ps g rest) alternative
+
+  choice_taken : (d : ℕ) (ps : Parts) (i : ℕ) (s : Scope) (g : Tag) (root : Bool) (q r f : Octets) (n : ℕ) (rest : Octets) → g.value < 2 ^ 32 → alternative_of ws ps g ≡ Some i → nat_lt i ps.roots ≡ root → BodyTaken ws d (alternative_at ws ps i).type_number true f → IsTag Lenient q g → IsAlternative Lenient root r f → TakesValue (choice_by (part_at ws d) ws ps s n (q ++ (r ++ rest))) rest
+  unfolding choice_by
+  choice_taken d ps i s g root q r f n rest small alternative less h tag is =
+      takes_read s.start (tagged_at ws ps (q ++ (r ++ rest))) (i, r ++ rest) (λ t. from (s.end - length t.1) (chosen (part_at ws d) ws ps s t.0 n t.1)) rest (tagged ps i g q (r ++ rest) small tag alternative)
+      (takes_from (s.end - length (r ++ rest)) (chosen (part_at ws d) ws ps s i n (r ++ rest)) rest
+      (alternative_taken d (inside s (alternative_at ws ps i).type_number (alternative_at ws ps i).name (nat_le ps.roots i)) n root r f rest (not_less i ps.roots root less) h is))
+
+  -- ---- all trees
+  struct : (set extensible : Bool) (r a : Rows) → EachRow Taken r → EachRow Taken a → Taken (Struct set extensible r a)
+  unfolding Rattle.oer_spec.specs.Encoding.IsTree Rattle.oer_spec.specs.Encoding.IsEncoding Rattle.oer_walk.specs.Described.Describes scope_by
+  struct set extensible r a pr pa d m o rest i (ps, form, is_set, ext, roots, adds) (deep, is, js, ri, ai, s) =
+      scope_taken d m (Sequence ps) (o ++ rest) rest form refl deep (λ sc n. sequence_taken (d - 1) ps sc extensible is js o n rest ext (roots_are r (d - 1) 0 ps.roots ps is pr i.0 roots ri) (additions_are a (d - 1) 0 ps.additions ps js pa i.1 adds ai) (subst (λ (b : Bool). SpellsStruct Lenient o b extensible is js) is_set s))
+
+  items : (ordered : Bool) (ts : Trees) → EachTree Taken ts → Taken (ListOf ordered ts)
+  unfolding Rattle.oer_spec.specs.Encoding.IsTree Rattle.oer_spec.specs.Encoding.IsEncoding Rattle.oer_walk.specs.Described.Describes scope_by
+  items ordered ts p d m o rest i (element, form, each) (deep, fine, own, elements, (q, read, whole, many, order)) =
+      let mixed = reordered ordered read own order in
+      let regrouped : o ++ rest ≡ q ++ (joined read ++ rest) = ap (λ (z : Octets). z ++ rest) whole ∙ append_assoc q (joined read) rest in
+      let few = ltb-false 65536 (empties (canonical_elements ts)) (fine TooManyEmpty) in
+      let as_many = same_empties (d - 1) own ts i elements in
+      let again = reordered_empties read own mixed in
+      let all : AllTaken ws (d - 1) element read = Reorders-all (λ (o : Octets). (rest : Octets) → Takes ws (d - 1) element (o ++ rest) rest) read own mixed (each_taken ts (d - 1) element own p i each elements) in
+      scope_taken d m (ListForm element) (o ++ rest) rest form refl deep (λ s n. subst (λ (z : Octets). TakesValue (list_by (part_at ws (d - 1)) element s n z) rest) (sym regrouped)
+      (list_taken (d - 1) element q read rest s n (subst (IsQuantity Lenient q) (sym (Reorders-length read own mixed)) many) all (omega arith)))
+
+  choice : (roots additions : List Tag) (g : Tag) (t : Tree) → Taken t → Taken (ChoiceTree roots additions g t)
+  unfolding Rattle.oer_spec.specs.Encoding.IsTree Rattle.oer_spec.specs.Encoding.IsEncoding Rattle.oer_walk.specs.Described.Describes scope_by
+  choice roots additions g t p d m o rest i (ps, k, form, small, alternative, less, described) (deep, f, inner, (q, r, whole, tag, is)) =
+      let regrouped : o ++ rest ≡ q ++ (r ++ rest) = ap (λ (z : Octets). z ++ rest) whole ∙ append_assoc q r rest in
+      scope_taken d m (Choice ps) (o ++ rest) rest form refl deep (λ s n. subst (λ (z : Octets). TakesValue (choice_by (part_at ws (d - 1)) ws ps s n z) rest) (sym regrouped)
+      (choice_taken (d - 1) ps k s g (holds roots g) q r f n rest small alternative less (λ later. p (d - 1) (alternative_at ws ps k).type_number f later i.0 described inner) tag is))
+
+  pub tree_taken : (t : Tree) → Taken t
+  tree_taken t = by_parts Taken single struct items choice t
+
+-- ---- the whole walk
+-- no table has a type of the number that stands for nothing
+nothing_is : (ws : List ℕ) → ((k : ℕ) → Fits w32 (get_or ws k 0)) → form_of ws nothing ≡ Nothing
+unfolding form_of place_of
+nothing_is ws fits = ap (λ (b : Bool). form_if ws (cond b (Some (word ws (nothing + 1))) None)) (le-ltb nothing (word ws 0) (first ws fits))
+  where
+    first : (us : List ℕ) → ((k : ℕ) → Fits w32 (get_or us k 0)) → word us 0 ≤ nothing
+    first [] f = omega arith
+    first (u ∷ us) f = let l = f 0 in omega (arith, l)
+
+pub walk_takes : (ws us : List ℕ) (levels : ℕ) (p : Place) (input o rest : Octets) (t : Tree) → ws ≡ us → ((k : ℕ) → Fits w32 (get_or us k 0)) → p.is_open ≡ false → input ≡ o ++ rest → IsTree t → Describes us p.type_number t → IsEncoding Lenient levels o t → TakesPart (part_at ws levels p 0 input) rest
+walk_takes ws us levels p input o rest t same fits closed e i f h =
+    subst (λ (z : Octets). TakesPart (part_at ws levels p 0 z) rest) (sym e)
+    (subst (λ (z : List ℕ). TakesPart (part_at z levels p 0 (o ++ rest)) rest) (sym same)
+    (takes_closed us levels p 0 (o ++ rest) rest closed (tree_taken us (nothing_is us fits) t levels p.type_number o rest i f h)))
+
+pub took_ok : (input o rest left : Octets) (w : Walk Octets) (consumed : ℕ) → input ≡ o ++ rest → w.answer ≡ Ok left → consumed ≡ length input - length left → TakesPart w rest → ((◌≡◌ {A = Option DecodeErrorKind} None None) × (consumed ≡ length o)) ⊎ (◌≡◌ {A = Option DecodeErrorKind} None (Some TooManyEmptyElements))
+took_ok input o rest left w consumed e is c (inl f) =
+    let same : left ≡ rest = cc (sym is ∙ f) in
+    inl (refl, let l = ap length same in let m = ap length e in let n = length-append o rest in omega (arith, c, l, m, n))
+took_ok input o rest left w consumed e is c (inr (at, f)) = absurd (cc (sym is ∙ f))
+
+pub took_err : (o rest : Octets) (stop : Stop) (w : Walk Octets) (consumed : ℕ) → w.answer ≡ Err stop → TakesPart w rest → ((Some stop.kind ≡ None) × (consumed ≡ length o)) ⊎ (Some stop.kind ≡ Some TooManyEmptyElements)
+took_err o rest stop w consumed is (inl f) = absurd (cc (sym is ∙ f))
+took_err o rest stop w consumed is (inr (at, f)) = let same : stop ≡ record { place = at; kind = TooManyEmptyElements } = cc (sym is ∙ f) in inr (ap (λ (z : Stop). Some z.kind) same)
