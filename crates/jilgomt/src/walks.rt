@@ -2,6 +2,7 @@
 ghost use Rattle.std.specs.Prelude.{◌≡◌, length, min};
 ghost use Rattle.jilgomt.specs.Walks.{IsWalkAnswer, walk_answer};
 ghost use Rattle.oer_walk.specs.Parts.{ArePlaced};
+ghost use Rattle.oer_walk.specs.Walks.{overlay, walk_of};
 
 use oer_calls::answer::Answer;
 use oer_walk::{Node, Walked, walk};
@@ -29,7 +30,8 @@ pub extern "C" fn jilgomt_walk(
     answer: &mut Answer,
 ) -> u32
     ensures status { result ≡ answer.new.status }
-    ensures answered { IsWalkAnswer (length nodes.old) answer.new }
+    ensures answered { IsWalkAnswer (length nodes.old) (length input.now) (walk_of table.now type_number levels input.now) answer.new }
+    ensures nodes { nodes.new ≡ overlay nodes.old 0 (walk_of table.now type_number levels input.now).nodes }
     ensures placed { ArePlaced (length input.now) (min answer.new.written (length nodes.new)) nodes.new }
 {
     let room = nodes.len();
