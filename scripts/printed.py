@@ -2,7 +2,7 @@
 """Says where crates/sample_types or crates/recursive_types, or the line of one in crates.txt, isn't what oergen prints of its module
 in crates/oergen/data, where types of made modules are put into other crates than they should be, or lack names, comments, constants
 or boxes that they should have, where of the published modules in scripts/v2x.d a type is left out or isn't listed as listed.txt there has it, where the types of scripts/printed.d/circle.asn, which contain each other, aren't printed with the definitions beside it, and
-where what is printed of long.asn, which has long names and wide choices, isn't in the layout that `rt fmt` leaves as it is.
+where what is printed of long.asn, which has long names and wide choices, or of comments, isn't in the layout that `rt fmt` leaves as it is.
 
 usage: printed.py PROGRAM, for example: printed.py crates/oergen/out/oergen
 
@@ -88,6 +88,9 @@ def misplaced(program):
     return faults
 
 
+# a module of these types
+MADE = "M DEFINITIONS AUTOMATIC TAGS ::= BEGIN\n{}\nEND\n"
+
 # modules with names that clash with one another's, with those that are printed of other types, or with the library's; and lines of
 # what is printed of each
 NAMES = (
@@ -136,7 +139,11 @@ isOn BOOLEAN ::= TRUE
 Rights ::= BIT STRING { read(0), write-all(7) } (SIZE(8))
 Row ::= SEQUENCE {
    -- its state
-   state State, bits BIT STRING { a(3) } (SIZE(4)) }"""
+   state State, bits BIT STRING { a(3) } (SIZE(4)) }
+-- a\ttab, a \u202e turn and a\rreturn\x00
+Name ::= IA5String (PATTERN "a
+b")
+Named ::= SEQUENCE { name IA5String DEFAULT "a\tb" }"""
 SIZED = " ".join(sequences(1) + ["T ::= SEQUENCE { %s } C ::= CHOICE { a T, b NULL, c T }" % ", ".join(f"s{at} S0" for at in range(20))])
 LINES = (
     (
@@ -156,6 +163,9 @@ LINES = (
             "pub const RIGHTS_WRITE_ALL: usize = 7;",
             "pub const ROW_BITS_A: usize = 3;",
             "    /// its state",
+            "/// a tab, a   turn and a return",
+            "/// `Name ::= IA5String (PATTERN \"a b\")`",
+            "/// The default \"a b\" of `NamedName`.",
             "pub mod values;",
         ),
     ),
@@ -169,7 +179,7 @@ def misprinted(program):
     for more, body, wanted in (*(((), *row) for row in NAMES), *LINES):
         with tempfile.TemporaryDirectory() as folder:
             module = pathlib.Path(folder) / "made.asn"
-            module.write_text(f"M DEFINITIONS AUTOMATIC TAGS ::= BEGIN\n{body}\nEND\n")
+            module.write_text(MADE.format(body), newline="")
             said, files = printed(program, folder, "made", module, more)
         lines = {line for text in (said, *files.values()) for line in text.split("\n")}
         faults += [f"of {body} there is no line {line!r}" for line in wanted if line not in lines]
@@ -202,13 +212,16 @@ def undefined(program):
 
 
 def unformatted(program):
-    """Which files of long.asn aren't in the layout."""
+    """Which files of long.asn, and of what has comments, aren't in the layout."""
     rattle = pathlib.Path(shutil.which("rt")).resolve().parent / "rattle"
     with tempfile.TemporaryDirectory() as folder:
-        printed(program, folder, "made", DATA / "long.asn")
+        noted = pathlib.Path(folder) / "noted.asn"
+        noted.write_text(MADE.format(NOTED), newline="")
+        for module in (DATA / "long.asn", noted):
+            printed(program, folder, module.stem, module)
         files = sorted(pathlib.Path(folder).rglob("*.rt"))
         ran = subprocess.run([rattle, "fmt", "--check", *files], capture_output=True, text=True, timeout=60, check=False)
-    return [f"long.asn: {line}" for line in (ran.stdout + ran.stderr).splitlines()] if ran.returncode else []
+    return [f"not in the layout: {line}" for line in (ran.stdout + ran.stderr).splitlines()] if ran.returncode else []
 
 
 def main(program):

@@ -218,7 +218,7 @@ fn push_names(scope: Scope<'_, '_>, out: &mut Text, names: &[TokenId]) {
 /// Appends a value as the module writes it, in one line: one token, or names between braces.
 pub fn push_written(scope: Scope<'_, '_>, out: &mut Text, value: &Value) {
     match value {
-        Value::Literal(id) => out.push_replaced(scope.text(*id), "\n", " "),
+        Value::Literal(id) => out.push_plain(scope.text(*id)),
         Value::Names(_, names) => push_names(scope, out, names.as_slice()),
         Value::Negative(_) | Value::Reference(_) | Value::Braces(_) => {}
     }

@@ -1,13 +1,18 @@
 //! The comments in front of a type or a component, as documentation.
 
-use crate::text::Text;
+use crate::text::{Text, is_plain};
 
 /// Signs of which a line is drawn.
 const FENCE: &str = "-*/=#~_ ";
 
+/// What is blank around words: white space, and what no comment of the language may have.
+fn is_blank(c: char) -> bool {
+    c.is_whitespace() || !is_plain(c)
+}
+
 /// What a line of a comment says, without the signs of the comment: nothing of a line that is drawn.
 fn words_of(line: &str) -> &str {
-    let line = line.trim();
+    let line = line.trim_matches(|c: char| is_blank(c));
     let opened = line.strip_prefix("/**").or(line.strip_prefix("/*"));
     let behind = line
         .strip_prefix("--")
@@ -15,7 +20,7 @@ fn words_of(line: &str) -> &str {
         .or(line.strip_prefix('*'));
     let words = behind.unwrap_or(line);
     let front = words.strip_suffix("--").or(words.strip_suffix("*/"));
-    let words = front.unwrap_or(words).trim();
+    let words = front.unwrap_or(words).trim_matches(|c: char| is_blank(c));
     if words.chars().all(|c| FENCE.contains(c)) {
         ""
     } else {
@@ -37,7 +42,9 @@ pub fn push_note(out: &mut Text, note: &str, indent: &str) {
             };
         } else {
             out.push_all(&between);
-            out.push_all(&[indent, "/// ", words, "\n"]);
+            out.push_all(&[indent, "/// "]);
+            out.push_plain(words);
+            out.push("\n");
             between = ["", ""];
             is_begun = true;
         }
