@@ -59,7 +59,7 @@ impl Constants {
 }
 
 /// A constant of a name, with the comments in front of that; `what` and `of` say what it is.
-fn constant(
+fn make_constant(
     scope: Scope<'_, '_>,
     name: TokenId,
     owner: &Text,
@@ -132,7 +132,7 @@ fn assigned<'m>(
     let none = Text::new(scope.alloc);
     let what = ("The value", module);
     match value_of(scope, &one.of, &one.value)? {
-        Some(value) => Ok(Some(constant(scope, one.name, &none, what, value))),
+        Some(value) => Ok(Some(make_constant(scope, one.name, &none, what, value))),
         None => Ok(None),
     }
 }
@@ -156,7 +156,7 @@ fn named<'m>(
         ("The number", rust)
     };
     let what = (what, owner.as_str());
-    Ok(Some(constant(scope, item.name, owner, what, (rust, text))))
+    Ok(Some(make_constant(scope, item.name, owner, what, (rust, text))))
 }
 
 /// Prints the constants of the names that a part's type has for numbers or bits.
