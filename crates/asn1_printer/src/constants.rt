@@ -8,11 +8,14 @@ use asn1_layouts::definitions::{Definition, Part, free_name};
 use asn1_layouts::names::snake;
 use asn1_layouts::numbers::{Spot, names_of, number_of, settled};
 use asn1_layouts::scope::Scope;
-use asn1_modules::ast::{Body, Module, Numbered, Simple, Type, Value, ValueAssignment};
+use asn1_modules::ast::{Body, Module, Numbered, Simple, Type, Value};
 use asn1_modules::lexer::TokenId;
 use asn1_modules::refusal::Refusal;
 use std::alloc::AllocError;
 use std::collections::BTreeMap;
+
+/// A constant's Rust type, and its value.
+type Literal = (&'static str, Text);
 
 /// Constants as they are printed, and the names that they have.
 #[derive(Drop)]
@@ -21,66 +24,53 @@ struct Constants {
     names: BTreeMap<String, usize>,
 }
 
-/// A constant: the name that it would have, what is said of it, its Rust type, and its value.
-#[derive(Drop)]
-struct Constant {
-    name: Text,
-    doc: Text,
-    rust: &'static str,
-    value: Text,
-}
-
 impl Constants {
-    /// Prints a constant: its name in capitals, with `_` behind it as often as others have it.
-    fn push(&mut self, one: Constant) -> Result<(), AllocError> {
+    /// The name of a constant in capitals, behind that of its owner where it has one, and with `_` behind it as often as others have it.
+    fn name_of(&mut self, owner: &str, name: &str) -> Result<String, AllocError> {
         let alloc = self.text.alloc();
-        let small = snake(alloc, one.name.as_str())?;
+        let mut own = Text::new(alloc);
+        own.push_all(&[owner, if owner.is_empty() { "" } else { "-" }, name]);
+        let own = own.end()?;
+        let small = snake(alloc, own.as_str())?;
         let mut wanted = Text::new(alloc);
         wanted.push_upper(small.as_str());
-        wanted.heed(&one.name);
         let wanted = wanted.end()?;
-        let name = free_name(alloc, &mut self.names, wanted.as_str())?;
-        self.text.push_text(&one.doc);
+        free_name(alloc, &mut self.names, wanted.as_str())
+    }
+
+    /// Prints the constant of a name, with the comments in front of that, where it has a value; `origin` has its owner, what it is, and of
+    /// what.
+    fn push(
+        &mut self,
+        scope: Scope<'_, '_>,
+        name: TokenId,
+        origin: (&str, &str, &str),
+        value: Option<Literal>,
+    ) -> Result<(), AllocError> {
+        let Some((rust, value)) = value else {
+            return Ok(());
+        };
+        let (owner, what, of) = origin;
+        let token = scope.token(name);
+        let name = self.name_of(owner, token.text)?;
+        let mut doc = Text::new(scope.alloc);
+        push_noted(&mut doc, token.note);
+        doc.push_all(&["/// ", what, " `", token.text, "` of `", of, "`.\n"]);
+        self.text.push_text(&doc);
         self.text
-            .push_all(&["pub const ", name.as_str(), ": ", one.rust, " = "]);
-        self.text.push_text(&one.value);
+            .push_all(&["pub const ", name.as_str(), ": ", rust, " = "]);
+        self.text.push_text(&value);
         self.text.push(";\n\n");
         Ok(())
     }
-
-    /// Prints a constant where there is one; what can't be resolved has none.
-    fn push_found(&mut self, found: Result<Option<Constant>, Refusal>) -> Result<(), AllocError> {
-        match found {
-            Ok(Some(one)) => self.push(one),
-            Ok(None) | Err(Refusal::At { .. }) => Ok(()),
-            Err(Refusal::OutOfMemory) => Err(AllocError),
-        }
-    }
 }
 
-/// A constant of a name, with the comments in front of that; `what` and `of` say what it is.
-fn make_constant(
-    scope: Scope<'_, '_>,
-    name: TokenId,
-    owner: &Text,
-    what: (&str, &str),
-    value: (&'static str, Text),
-) -> Constant {
-    let (what, of) = what;
-    let (rust, value) = value;
-    let token = scope.token(name);
-    let mut own = Text::new(scope.alloc);
-    own.push_text(owner);
-    own.push(if owner.is_empty() { "" } else { "-" });
-    own.push(token.text);
-    let mut doc = Text::new(scope.alloc);
-    push_noted(&mut doc, token.note);
-    doc.push_all(&["/// ", what, " `", token.text, "` of `", of, "`.\n"]);
-    Constant {
-        name: own,
-        doc,
-        rust,
-        value,
+/// What was found; nothing where it can't be resolved.
+fn resolved(found: Result<Option<Literal>, Refusal>) -> Result<Option<Literal>, AllocError> {
+    match found {
+        Ok(value) => Ok(value),
+        Err(Refusal::OutOfMemory) => Err(AllocError),
+        Err(Refusal::At { .. }) => Ok(None),
     }
 }
 
@@ -89,7 +79,7 @@ fn number_of_type<'m>(
     scope: Scope<'m, '_>,
     of: &'m Type,
     number: i128,
-) -> Result<(&'static str, Text), Refusal> {
+) -> Result<Literal, Refusal> {
     let mut text = Text::new(scope.alloc);
     text.push_number(number);
     Ok((constant_type(scope, of, number)?, text))
@@ -100,7 +90,7 @@ fn value_of<'m>(
     scope: Scope<'m, '_>,
     of: &'m Type,
     value: &'m Value,
-) -> Result<Option<(&'static str, Text)>, Refusal> {
+) -> Result<Option<Literal>, Refusal> {
     let base = scope.base_of(of)?;
     let names = names_of(base);
     let spot = Spot { value, names };
@@ -114,7 +104,7 @@ fn value_of<'m>(
 }
 
 /// TRUE or FALSE as a constant has it.
-fn boolean_of(scope: Scope<'_, '_>, value: &Value) -> Option<(&'static str, Text)> {
+fn boolean_of(scope: Scope<'_, '_>, value: &Value) -> Option<Literal> {
     let Value::Literal(id) = value else {
         return None;
     };
@@ -123,40 +113,26 @@ fn boolean_of(scope: Scope<'_, '_>, value: &Value) -> Option<(&'static str, Text
     Some(("bool", text))
 }
 
-/// The constant of an assignment; nothing where it is neither a number nor a boolean.
-fn assigned<'m>(
+/// The number that a type has a name for, or the place of a bit.
+fn named_value<'m>(
     scope: Scope<'m, '_>,
-    module: &str,
-    one: &'m ValueAssignment,
-) -> Result<Option<Constant>, Refusal> {
-    let none = Text::new(scope.alloc);
-    let what = ("The value", module);
-    match value_of(scope, &one.of, &one.value)? {
-        Some(value) => Ok(Some(make_constant(scope, one.name, &none, what, value))),
-        None => Ok(None),
-    }
-}
-
-/// The constant of a name that a type has for a number, or for a bit by its place.
-fn named<'m>(
-    scope: Scope<'m, '_>,
-    owner: &Text,
     of: &'m Type,
     item: &'m Numbered,
     is_bit: bool,
-) -> Result<Option<Constant>, Refusal> {
+) -> Result<Option<Literal>, Refusal> {
     let Some(value) = &item.number else {
         return Ok(None);
     };
     let number = number_of(scope, Spot { value, names: &[] })?;
-    let (rust, text) = number_of_type(scope, of, number)?;
-    let (what, rust) = if is_bit {
-        ("The place of the bit", "usize")
-    } else {
-        ("The number", rust)
-    };
-    let what = (what, owner.as_str());
-    Ok(Some(make_constant(scope, item.name, owner, what, (rust, text))))
+    if !is_bit {
+        return Ok(Some(number_of_type(scope, of, number)?));
+    }
+    if usize::try_from(number).is_err() {
+        return Ok(None);
+    }
+    let mut text = Text::new(scope.alloc);
+    text.push_number(number);
+    Ok(Some(("usize", text)))
 }
 
 /// Prints the constants of the names that a part's type has for numbers or bits.
@@ -171,6 +147,7 @@ fn push_named<'m>(
     if let Some(row) = part.row {
         own.push_type_name(scope.text(row.name));
     }
+    let own = own.end()?;
     let (items, is_bit) = match &part.inner.body {
         Body::Integer(items) => (items.as_slice(), false),
         Body::BitString(items) => (items.as_slice(), true),
@@ -178,8 +155,14 @@ fn push_named<'m>(
         Body::Sequence(_) | Body::Set(_) | Body::Choice(_) => return Ok(()),
         Body::SequenceOf(_) | Body::SetOf(_) => return Ok(()),
     };
+    let what = if is_bit {
+        "The place of the bit"
+    } else {
+        "The number"
+    };
     for item in items.iter() {
-        out.push_found(named(scope, &own, part.inner, item, is_bit))?;
+        let value = resolved(named_value(scope, part.inner, item, is_bit))?;
+        out.push(scope, item.name, (own.as_str(), what, own.as_str()), value)?;
     }
     Ok(())
 }
@@ -191,7 +174,9 @@ fn push_assigned<'m>(
     module: &'m Module,
 ) -> Result<(), AllocError> {
     for one in module.values.iter() {
-        out.push_found(assigned(scope, scope.text(module.name), one))?;
+        let value = resolved(value_of(scope, &one.of, &one.value))?;
+        let origin = ("", "The value", scope.text(module.name));
+        out.push(scope, one.name, origin, value)?;
     }
     Ok(())
 }
