@@ -325,10 +325,12 @@ def encoder():
         "encode_default", "encode_default_with_tag_and_constraints", "encode_explicit_prefix", "Encode::encode",
         "Encode::encode_with_tag", "Encode::encode_with_constraints", "Encode::encode_with_tag_and_constraints",
     )]  # fmt: skip
+    # a root alternative stands behind its tag as it is, one beyond the root as an open type
+    rows += [("encode_alternative", "", "81ff"), ("encode_alternative_beyond_the_root", "", "b201ff")]
     # no scope is open: nothing is appended
     rows += [(name, "", "") for name in (
         "encode_none", "encode_none_with_tag", "encode_extension_addition", "encode_extension_addition_group",
-        "encode_extension_addition_default",
+        "encode_extension_addition_default", "encode_optional_addition",
     )]  # fmt: skip
     for call, read, appended in rows:
         takes_none = call in ("encode_null", "encode_none", "encode_none_with_tag")

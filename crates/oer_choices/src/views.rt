@@ -1,10 +1,8 @@
 //! Alternatives, written from references.
-ghost use Rattle.std.specs.Prelude.{OnOk};
 ghost use Rattle.oer_choices.specs.Putting.{PutsOne};
-ghost use Rattle.oer_write.specs.Choices.{WritesAlternative};
 
 use crate::alternatives::{Alternatives, Either, Offers};
-use asn1_core::{Choice, Constraints, EncodeError, Tag};
+use asn1_core::{Choice, EncodeError, Tag};
 use oer_rows::{Extensible, NoMore, Place};
 use oer_write::{Encode, Encoder};
 
@@ -20,17 +18,7 @@ pub fn put_alternative<E: Choice, T: Encode>(
 ) -> Result<(), EncodeError>
     ensures { PutsOne E.root_tags E.addition_tags tag (T.tree T.CONSTRAINTS value.now) (T.IsValue value.now) encoder.old result encoder.new }
 {
-    encoder.encode_choice::<E, _>(
-        Constraints::NONE,
-        tag,
-        |encoder: &mut Encoder<'_>| -> Result<Tag, EncodeError>
-            ensures written { WritesAlternative (T.tree T.CONSTRAINTS value.entry.now) tag encoder.old result encoder.new }
-            ensures value { OnOk result (T.IsValue value.entry.now) }
-        {
-            value.encode(encoder)?;
-            Ok(tag)
-        },
-    )
+    encoder.encode_alternative::<E, T>(tag, value)
 }
 
 /// A row whose alternatives are written from references to what they hold.

@@ -1,5 +1,6 @@
 //! Writes an INTEGER, laid out by its value constraint (X.696, 10).
-ghost use Rattle.std.specs.Prelude.{◌≡◌, ◌<◌, ◌≤◌, pos, true, false, length, int_lt};
+ghost use Rattle.std.specs.Prelude.{◌≡◌, ◌<◌, ◌≤◌, pos, true, false, [], ◌∷◌, ◌++◌, length, int_lt, OnOk, IfErr};
+ghost use Rattle.asn1_core.specs.declared.error.EncodeErrorKind.TheVariants.{OutOfMemory};
 ghost use Rattle.asn1_core.specs.Bounds.{value_bounds};
 ghost use Rattle.asn1_core.specs.Numbers.{signed_octets};
 ghost use Rattle.oer_spec.specs.Leaves.{counted_octets, fixed_octets};
@@ -84,6 +85,31 @@ fn write_few(octets: &[u8], out: &mut Vec<u8>) -> Result<(), EncodeErrorKind>
     Ok(())
 }
 
+/// Appends two octets, with one look at the room that is left and no call.
+#[inline(always)]
+fn push_two(a: u8, b: u8, out: &mut Vec<u8>) -> Result<(), EncodeErrorKind>
+    ensures done { OnOk result (out.new.items ≡ out.old.items ++ (a ∷ b ∷ [])) }
+    ensures refused { IfErr result (λ k. (k ≡ OutOfMemory) × (out.new.items ≡ out.old.items)) }
+{
+    out.reserve(2)?;
+    out.push_reserved(a);
+    out.push_reserved(b);
+    Ok(())
+}
+
+/// Likewise three.
+#[inline(always)]
+fn push_three(a: u8, b: u8, c: u8, out: &mut Vec<u8>) -> Result<(), EncodeErrorKind>
+    ensures done { OnOk result (out.new.items ≡ out.old.items ++ (a ∷ b ∷ c ∷ [])) }
+    ensures refused { IfErr result (λ k. (k ≡ OutOfMemory) × (out.new.items ≡ out.old.items)) }
+{
+    out.reserve(3)?;
+    out.push_reserved(a);
+    out.push_reserved(b);
+    out.push_reserved(c);
+    Ok(())
+}
+
 /// Appends a length and the shortest octets of a number in two's complement: one or two.
 #[inline(always)]
 fn write_short(n: i16, out: &mut Vec<u8>) -> Result<(), EncodeErrorKind>
@@ -91,10 +117,10 @@ fn write_short(n: i16, out: &mut Vec<u8>) -> Result<(), EncodeErrorKind>
 {
     let [high, low] = n.to_be_bytes();
     if n >= -(1 << 7) && n < 1 << 7 {
-        out.extend_from_slice(&[1, low])?;
+        push_two(1, low, out)?;
         return Ok(());
     }
-    out.extend_from_slice(&[2, high, low])?;
+    push_three(2, high, low, out)?;
     Ok(())
 }
 

@@ -3,9 +3,9 @@ use crate::answers::{appended, plain as shown};
 use crate::entry::one;
 use crate::marks::begin;
 use anyhow::{Error, Result};
-use asn1_core::{Constraints, EncodeError, SetOf, Tag};
+use asn1_core::{Class, Constraints, EncodeError, SetOf, Tag};
 use asn1_ints::Integer;
-use oer_types::{Enum4, Sequence, components};
+use oer_types::{Enum4, PriorityChoice, Sequence, components};
 use oer_write::enc::EncoderOptions;
 use rasn_oer::{Decoder, DecoderOptions, Encode, Encoder};
 use std::alloc::Global;
@@ -227,10 +227,14 @@ fn defaults(word: &str, e: &mut Encoder<'_>) -> Result<Done> {
     Ok(Some(done))
 }
 
-/// Additions.
+/// Additions and alternatives.
 fn additions(word: &str, e: &mut Encoder<'_>) -> Result<Done> {
     let done = match word {
         "encode_extension_addition" => e.encode_extension_addition(one(), NONE, Some(&true)),
+        "encode_optional_addition" => e.encode_optional_addition(one(), Some(&true)),
+        "encode_alternative" => e.encode_alternative::<PriorityChoice, bool>(one(), &true),
+        "encode_alternative_beyond_the_root" => e
+            .encode_alternative::<PriorityChoice, bool>(Tag::new(Class::Context, 50), &true),
         "encode_extension_addition_group" => {
             e.encode_extension_addition_group(Some(&Sequence(components::Sequence4 { a: true })))
         }

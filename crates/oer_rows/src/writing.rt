@@ -81,7 +81,7 @@ pub fn put_addition<E: Encode>(
     ensures value { OnOk result (IfSome value.now E.IsValue) }
     ensures refused { IfErr result (λ x. RowsRefused NoRows (optional tag (slot_of (E.tree E.CONSTRAINTS) value.now)) x encoder.old encoder.new) }
 {
-    encoder.encode_extension_addition(tag, E::CONSTRAINTS, value.as_ref())
+    encoder.encode_optional_addition(tag, value.as_ref())
 }
 
 /// Writes a required extension addition as an open type (X.696, 16.4 and 30).
@@ -97,7 +97,7 @@ pub fn put_added<E: Encode>(
     ensures value { OnOk result (E.IsValue value.now) }
     ensures refused { IfErr result (λ x. RowsRefused NoRows (required tag (E.tree E.CONSTRAINTS value.now)) x encoder.old encoder.new) }
 {
-    encoder.encode_extension_addition(tag, E::CONSTRAINTS, Some(value))
+    encoder.encode_optional_addition(tag, Some(value))
 }
 
 /// Writes an extension addition with the DEFAULT `D`: nothing but its bit of the bitmap where the value equals it.
@@ -119,7 +119,7 @@ pub fn put_default_addition<D: Standard<E>, E: Encode + EqualAsSpelled>(
     } else {
         Some(value)
     };
-    encoder.encode_extension_addition(tag, E::CONSTRAINTS, spelled)
+    encoder.encode_optional_addition(tag, spelled)
 }
 
 /// Writes an addition group that is there as an open type (X.696, 16.4 and 30).

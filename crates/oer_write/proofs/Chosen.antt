@@ -1,6 +1,6 @@
 -- From what the closure of a choice writes to what the choice writes.
-use Rattle.std.proofs.Common.{◌≡◌, ℕ, suc, ◌+◌, ◌^◌, ◌<◌, ◌≤◌, Bool, true, false, not, ◌&&◌, List, ◌++◌, length, take, drop, refl, ap, sym, ◌∙◌, arith, append_assoc, inl, inr}
-use Rattle.std.specs.Prelude.{nat_lt}
+use Rattle.std.proofs.Common.{◌≡◌, ℕ, suc, ◌+◌, ◌^◌, ◌<◌, ◌≤◌, Bool, true, false, not, ◌&&◌, List, ◌++◌, length, take, drop, refl, ap, sym, subst, ◌∙◌, arith, append_assoc, inl, inr}
+use Rattle.std.specs.Prelude.{nat_lt, Result, Ok, Err, OnOk}
 use Rattle.std.proofs.lemmas.List.{append_cancel_left}
 use Rattle.asn1_core.specs.Octets.{Octets, usize_max}
 use Rattle.asn1_core.specs.Tags.{holds}
@@ -14,8 +14,14 @@ use Rattle.oer_spec.specs.Lengths.{behind_length, tag_octets}
 use Rattle.oer_spec.specs.Places.{choice_octets}
 use Rattle.oer_spec.specs.Tree.{Tree, Choice}
 use Rattle.oer_write.specs.Choices.{Picks, ContentDone, Appended, AppendedOpen, ChoiceDone, ChoiceBroken, alternative_octets, IsKnownToPick}
-use Rattle.oer_write.specs.Written.{Written, append, Encodes, Refused}
+use Rattle.oer_write.specs.Rows.{IsOpenEncodable, open_type}
+use Rattle.oer_write.specs.Written.{Written, Keeps, append, Encodes, Refused}
 use Rattle.oer_write.proofs.Items.{or_false, or_left}
+use Rattle.oer_write.proofs.Keeping.{keeps_then}
+use Rattle.oer_write.proofs.Nesting.{keeps_append}
+
+true_not_false : true ≡ false → ⊥
+true_not_false h = cc
 
 not_above : (a b : ℕ) → a < suc b → nat_lt b a ≡ false
 not_above a b h = grind arith
@@ -64,3 +70,41 @@ choice_refused picks roots additions tag t old new x known h = record {
   mode = elim h.reason [ inl m ↦ m.1 | inr c ↦ (known _ _ _ c.opened c.ran).mode ];
   keeps = h.keeps;
 }
+
+-- a root alternative that stands straight behind its tag
+pub root_done : (roots additions : List Tag) (tag : Tag) (t : Tree) (old middle new : Written) → holds roots tag ≡ true → middle ≡ append (tag_octets tag) old → Encodes t middle new → Encodes (Choice roots additions tag t) old new
+root_done roots additions tag t old middle new root put w = record {
+  encodable = choice_encodable roots additions tag t w.encodable (λ no. absurd (true_not_false (sym root ∙ no)));
+  written =
+      w.written ∙ ap (λ (e : Written). append (canonical_octets t) e) put
+      ∙ ap (λ (o : Octets). record old { octets = o }) (append_assoc old.octets (tag_octets tag) (canonical_octets t))
+      ∙ ap (λ (o : Octets). append o old) (subst (λ (b : Bool). tag_octets tag ++ alternative_octets b (canonical_octets t) ≡ canonical_octets (Choice roots additions tag t)) root (choice_octets_are roots additions tag t (canonical_octets t) refl));
+}
+
+pub root_refused : (roots additions : List Tag) (tag : Tag) (t : Tree) (old middle new : Written) (x : EncodeError) → middle ≡ append (tag_octets tag) old → Refused t x middle new → Refused (Choice roots additions tag t) x old new
+root_refused roots additions tag t old middle new x put h = record {
+  reason = elim h.reason [ inl m ↦ inl m | inr f ↦ inr (alternative_fails roots additions tag t x.kind f) ];
+  mode = h.mode;
+  keeps = keeps_then old middle new (keeps_append (tag_octets tag) old middle put) h.keeps;
+}
+
+within_size : (n : ℕ) → n ≤ usize_max → n < 2 ^ 64
+within_size n h = omega arith
+
+open_short : (t : Tree) → IsOpenEncodable t → length (canonical_octets t) < 2 ^ 64
+open_short t h = within_size (length (canonical_octets t)) h.short
+
+-- another that stands behind its tag as an open type
+pub open_done : (roots additions : List Tag) (tag : Tag) (t : Tree) (old middle new : Written) → holds roots tag ≡ false → middle ≡ append (tag_octets tag) old → IsOpenEncodable t → new ≡ append (open_type (canonical_octets t)) middle → Encodes (Choice roots additions tag t) old new
+unfolding open_type
+open_done roots additions tag t old middle new other put short wrote = record {
+  encodable = choice_encodable roots additions tag t short.encodable (λ no. open_short t short);
+  written =
+      wrote ∙ ap (λ (e : Written). append (behind_length (canonical_octets t)) e) put
+      ∙ ap (λ (o : Octets). record old { octets = o }) (append_assoc old.octets (tag_octets tag) (behind_length (canonical_octets t)))
+      ∙ ap (λ (o : Octets). append o old) (subst (λ (b : Bool). tag_octets tag ++ alternative_octets b (canonical_octets t) ≡ canonical_octets (Choice roots additions tag t)) other (choice_octets_are roots additions tag t (canonical_octets t) refl));
+}
+
+pub open_written : (answer : Result Unit EncodeError) (roots additions : List Tag) (tag : Tag) (t : Tree) (old middle new : Written) → holds roots tag ≡ false → middle ≡ append (tag_octets tag) old → OnOk answer (IsOpenEncodable t) → OnOk answer (new ≡ append (open_type (canonical_octets t)) middle) → OnOk answer (Encodes (Choice roots additions tag t) old new)
+open_written (Ok u) roots additions tag t old middle new other put short wrote = open_done roots additions tag t old middle new other put short wrote
+open_written (Err x) roots additions tag t old middle new other put short wrote = tt

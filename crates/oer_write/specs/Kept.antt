@@ -1,5 +1,5 @@
 -- How the root components of an open set are seen.
-use Rattle.std.specs.Prelude.{◌+◌, ◌≤◌, List, [], ◌∷◌, length, map, take, drop, ⊤}
+use Rattle.std.specs.Prelude.{◌≡◌, ◌+◌, ◌≤◌, List, [], ◌∷◌, length, map, take, drop, ⊤}
 use Rattle.asn1_core.specs.Octets.{Octets}
 use Rattle.oer_spec.specs.Places.{Item}
 use Rattle.oer_write.specs.declared.component.Component.{Component}
@@ -16,5 +16,6 @@ AreLaid o (c ∷ cs) = (c.start + c.size ≤ length o) × AreLaid o cs
 abbrev pub kept : Inside → List Item
 kept k = map (item k.octets.items) k.places.items
 
-abbrev pub AreWithin : Inside → Type 0
-AreWithin k = AreLaid k.octets.items k.places.items
+pub record AreWithin (k : Inside) : Type 0 where
+  pub laid : AreLaid k.octets.items k.places.items
+  pub none : k.insertions ≡ []

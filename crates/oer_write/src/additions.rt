@@ -20,8 +20,42 @@ use crate::opens::close_open;
 use crate::region::{Region, begin};
 use crate::rows::append_within;
 use crate::scopes::open_scope;
-use asn1_core::{Constraints, EncodeError, EncodeErrorKind, Tag};
+use asn1_core::{AsnType, Constraints, EncodeError, EncodeErrorKind, Tag};
 use std::alloc::Global;
+use std::marker::PhantomData;
+
+/// The constraints that an addition is written under.
+trait Rule: Drop {
+    ghost use Rattle.asn1_core.specs.declared.constraints.Constraints.{Constraints};
+
+    ghost bounds: { Self → Constraints };
+
+    fn constraints(self) -> Constraints
+        ensures { result ≡ bounds self };
+}
+
+/// Such as are handed in.
+impl Rule for Constraints {
+    ghost bounds = { λ c. c };
+
+    #[inline(always)]
+    fn constraints(self) -> Constraints {
+        self
+    }
+}
+
+/// A type's own: they take no room where they are handed on, and are folded away behind.
+#[derive(Drop)]
+struct Own<E>(PhantomData<E>);
+
+impl<E: AsnType> Rule for Own<E> {
+    ghost bounds = { λ o. E.CONSTRAINTS };
+
+    #[inline(always)]
+    fn constraints(self) -> Constraints {
+        E::CONSTRAINTS
+    }
+}
 
 /// Appends an open type (X.696, 30): the value, and in front of it its length.
 #[inline(always)]
@@ -55,7 +89,7 @@ fn write_open<E: Encode>(
 
 /// Appends an open type; where it refuses, the octets and the insertions are as before.
 #[inline(always)]
-fn put_open<E: Encode>(
+pub(crate) fn put_open<E: Encode>(
     alloc: Global,
     is_inside: bool,
     tag: Tag,
@@ -96,43 +130,51 @@ fn put_open<E: Encode>(
 }
 
 /// Appends an open type to octets that stand apart, all in their places.
-#[inline(always)]
-fn put_apart<E: Encode>(
+#[inline(never)]
+fn put_apart<E: Encode, C: Rule>(
     alloc: Global,
     tag: Tag,
-    constraints: Constraints,
+    rule: C,
     value: &E,
     out: &mut Vec<u8>,
 ) -> Result<(), EncodeError>
-    requires { IsConsistent constraints }
-    ensures short { OnOk result (IsOpenEncodable (E.tree constraints value.now)) }
-    ensures done { OnOk result (out.new.items ≡ out.old.items ++ open_type (canonical_octets (E.tree constraints value.now))) }
+    requires { IsConsistent (C.bounds rule) }
+    ensures short { OnOk result (IsOpenEncodable (E.tree (C.bounds rule) value.now)) }
+    ensures done { OnOk result (out.new.items ≡ out.old.items ++ open_type (canonical_octets (E.tree (C.bounds rule) value.now))) }
     ensures value { OnOk result (E.IsValue value.now) }
-    ensures refused { IfErr result (λ x. (x.kind ≡ OutOfMemory) ⊎ Fails (E.tree constraints value.now) x.kind) }
+    ensures refused { IfErr result (λ x. (x.kind ≡ OutOfMemory) ⊎ Fails (E.tree (C.bounds rule) value.now) x.kind) }
     ensures mode { IfErr result (λ x. x.codec ≡ Coer) }
     ensures unchanged { OnErr result (out.new.items ≡ out.old.items) }
 {
     let mut insertions = Insertions::new(alloc);
-    put_open(alloc, false, tag, constraints, value, out, &mut insertions)
+    put_open(
+        alloc,
+        false,
+        tag,
+        rule.constraints(),
+        value,
+        out,
+        &mut insertions,
+    )
 }
 
 /// Appends an open type to the additions that lie in the output; where it refuses, these are as before.
-#[inline(always)]
-fn put_behind<E: Encode>(
+#[inline(never)]
+fn put_behind<E: Encode, C: Rule>(
     alloc: Global,
     tag: Tag,
-    constraints: Constraints,
+    rule: C,
     value: &E,
     region: &mut Region,
     out: &mut Vec<u8>,
     insertions: &mut Insertions,
 ) -> Result<(), EncodeError>
-    requires consistent { IsConsistent constraints }
+    requires consistent { IsConsistent (C.bounds rule) }
     requires laid { IsLaid region.old (length out.old.items) insertions.old }
-    ensures short { OnOk result (IsOpenEncodable (E.tree constraints value.now)) }
-    ensures done { OnOk result (within region.new out.new.items insertions.new ≡ within region.old out.old.items insertions.old ++ open_type (canonical_octets (E.tree constraints value.now))) }
+    ensures short { OnOk result (IsOpenEncodable (E.tree (C.bounds rule) value.now)) }
+    ensures done { OnOk result (within region.new out.new.items insertions.new ≡ within region.old out.old.items insertions.old ++ open_type (canonical_octets (E.tree (C.bounds rule) value.now))) }
     ensures value { OnOk result (E.IsValue value.now) }
-    ensures refused { IfErr result (λ x. (x.kind ≡ OutOfMemory) ⊎ Fails (E.tree constraints value.now) x.kind) }
+    ensures refused { IfErr result (λ x. (x.kind ≡ OutOfMemory) ⊎ Fails (E.tree (C.bounds rule) value.now) x.kind) }
     ensures mode { IfErr result (λ x. x.codec ≡ Coer) }
     ensures octets { around region.new out.new.items insertions.new ≡ around region.old out.old.items insertions.old }
     ensures unchanged { OnErr result (within region.new out.new.items insertions.new ≡ within region.old out.old.items insertions.old) }
@@ -146,7 +188,7 @@ fn put_behind<E: Encode>(
         alloc,
         true,
         tag,
-        constraints,
+        rule.constraints(),
         value,
         &mut *out,
         &mut *insertions,
@@ -157,6 +199,23 @@ fn put_behind<E: Encode>(
 }
 
 impl<'buffer> Encoder<'buffer> {
+    /// Writes an addition that is present as an open type, and records whether it is, under the type's own constraints.
+    ///
+    /// Refused by what the value is refused by.
+    #[inline(always)]
+    pub fn encode_optional_addition<E: Encode>(
+        &mut self,
+        tag: Tag,
+        value: Option<&E>,
+    ) -> Result<(), EncodeError>
+        ensures done { OnOk result (RowsDone NoRows (optional tag (slot_of (λ x. E.tree E.CONSTRAINTS x.now) value.entry)) self.old self.new) }
+        ensures in_set { self.old.frame.is_set ≡ true → OnOk result (SetDone NoRows (optional tag (slot_of (λ x. E.tree E.CONSTRAINTS x.now) value.entry)) self.old self.new) }
+        ensures value { OnOk result (IfSome value.entry (λ x. E.IsValue x.now)) }
+        ensures refused { IfErr result (λ x. RowsRefused NoRows (optional tag (slot_of (λ x. E.tree E.CONSTRAINTS x.now) value.entry)) x self.old self.new) }
+    {
+        self.add(tag, Own::<E>(PhantomData), value)
+    }
+
     /// Writes an addition that is present as an open type, and records whether it is, under constraints that stand in
     /// place of the type's own.
     ///
@@ -174,10 +233,7 @@ impl<'buffer> Encoder<'buffer> {
         ensures value { OnOk result (IfSome value.entry (λ x. E.IsValue x.now)) }
         ensures refused { IfErr result (λ x. RowsRefused NoRows (optional tag (slot_of (λ x. E.tree constraints x.now) value.entry)) x self.old self.new) }
     {
-        match value {
-            None => self.leave_addition(tag),
-            Some(value) => self.put_addition(tag, constraints, value),
-        }
+        self.add(tag, constraints, value)
     }
 
     /// Writes an addition group that is present as an open type, and records whether it is.
@@ -193,7 +249,7 @@ impl<'buffer> Encoder<'buffer> {
         ensures value { OnOk result (IfSome value.entry (λ x. E.IsValue x.now)) }
         ensures refused { IfErr result (λ x. RowsRefused NoRows (optional E.TAG (slot_of (λ x. E.tree E.CONSTRAINTS x.now) value.entry)) x self.old self.new) }
     {
-        self.encode_extension_addition(E::TAG, E::CONSTRAINTS, value)
+        self.encode_optional_addition(E::TAG, value)
     }
 
     /// Writes an addition as an open type, or nothing where it equals its default, and records which.
@@ -213,60 +269,72 @@ impl<'buffer> Encoder<'buffer> {
         ensures value { E.eq value.now default.now ≡ false → OnOk result (E.IsValue value.now) }
         ensures refused { IfErr result (λ x. RowsRefused NoRows (defaulted tag (E.tree constraints default.now) (present_unless (E.eq value.now default.now) (E.tree constraints value.now))) x self.old self.new) }
     {
-        if *value == *default {
-            self.leave_addition(tag)
+        let spelled = if *value == *default {
+            None
         } else {
-            self.put_addition(tag, constraints, value)
-        }
+            Some(value)
+        };
+        self.add(tag, constraints, spelled)
     }
 
+    /// Records whether an addition is present, and writes one that is.
     #[inline(always)]
-    fn leave_addition(&mut self, _tag: Tag) -> Result<(), EncodeError>
-        ensures done { OnOk result (RowsDone NoRows (optional _tag Absent) self.old self.new) }
-        ensures in_set { self.old.frame.is_set ≡ true → OnOk result (SetDone NoRows (optional _tag Absent) self.old self.new) }
-        ensures refused { IfErr result (λ x. WantsMemory x × Keeps self.old self.new) }
-    {
-        self.note_addition(false)?;
-        Ok(())
-    }
-
-    #[inline(always)]
-    fn put_addition<E: Encode>(
+    fn add<E: Encode, C: Rule>(
         &mut self,
         tag: Tag,
-        constraints: Constraints,
+        rule: C,
+        value: Option<&E>,
+    ) -> Result<(), EncodeError>
+        requires { IsConsistent (C.bounds rule) }
+        ensures done { OnOk result (RowsDone NoRows (optional tag (slot_of (λ x. E.tree (C.bounds rule) x.now) value.entry)) self.old self.new) }
+        ensures in_set { self.old.frame.is_set ≡ true → OnOk result (SetDone NoRows (optional tag (slot_of (λ x. E.tree (C.bounds rule) x.now) value.entry)) self.old self.new) }
+        ensures value { OnOk result (IfSome value.entry (λ x. E.IsValue x.now)) }
+        ensures refused { IfErr result (λ x. RowsRefused NoRows (optional tag (slot_of (λ x. E.tree (C.bounds rule) x.now) value.entry)) x self.old self.new) }
+    {
+        self.scope.bitmap.push(self.alloc, value.is_some())?;
+        match value {
+            None => Ok(()),
+            Some(value) => self.put_addition(tag, rule, value),
+        }
+    }
+
+    /// Writes an addition as an open type: in a sequence straight into the output.
+    #[inline(always)]
+    fn put_addition<E: Encode, C: Rule>(
+        &mut self,
+        tag: Tag,
+        rule: C,
         value: &E,
     ) -> Result<(), EncodeError>
-        requires { IsConsistent constraints }
-        ensures done { OnOk result (RowsDone NoRows (optional tag (Present (E.tree constraints value.now))) self.old self.new) }
-        ensures in_set { self.old.frame.is_set ≡ true → OnOk result (SetDone NoRows (optional tag (Present (E.tree constraints value.now))) self.old self.new) }
+        requires { IsConsistent (C.bounds rule) }
+        ensures short { OnOk result (IsOpenEncodable (E.tree (C.bounds rule) value.now)) }
+        ensures done { OnOk result (self.new ≡ record self.old { frame = record self.old.frame { opens = self.old.frame.opens ++ open_type (canonical_octets (E.tree (C.bounds rule) value.now)) } }) }
         ensures value { OnOk result (E.IsValue value.now) }
-        ensures refused { IfErr result (λ x. RowsRefused NoRows (optional tag (Present (E.tree constraints value.now))) x self.old self.new) }
+        ensures refused { IfErr result (λ x. RowsRefused NoRows (optional tag (Present (E.tree (C.bounds rule) value.now))) x self.old self.new) }
     {
         if self.scope.is_sequence() {
-            return self.put_within(tag, constraints, value);
+            return self.put_within(tag, rule, value);
         }
         let mut opens = std::mem::replace(&mut self.scope.opens, Vec::new(self.alloc));
-        let answer = put_apart(self.alloc, tag, constraints, value, &mut opens);
+        let answer = put_apart(self.alloc, tag, rule, value, &mut opens);
         self.scope.opens = opens;
-        answer?;
-        self.note_addition(true)?;
-        Ok(())
+        answer
     }
 
     /// Writes an addition straight into the output.
     #[inline(always)]
-    fn put_within<E: Encode>(
+    fn put_within<E: Encode, C: Rule>(
         &mut self,
         tag: Tag,
-        constraints: Constraints,
+        rule: C,
         value: &E,
     ) -> Result<(), EncodeError>
-        requires consistent { IsConsistent constraints }
+        requires consistent { IsConsistent (C.bounds rule) }
         requires sequence { (self.old.frame.is_open && not self.old.frame.is_set) ≡ true }
-        ensures done { OnOk result (RowsDone NoRows (optional tag (Present (E.tree constraints value.now))) self.old self.new) }
+        ensures short { OnOk result (IsOpenEncodable (E.tree (C.bounds rule) value.now)) }
+        ensures done { OnOk result (self.new ≡ record self.old { frame = record self.old.frame { opens = self.old.frame.opens ++ open_type (canonical_octets (E.tree (C.bounds rule) value.now)) } }) }
         ensures value { OnOk result (E.IsValue value.now) }
-        ensures refused { IfErr result (λ x. RowsRefused NoRows (optional tag (Present (E.tree constraints value.now))) x self.old self.new) }
+        ensures refused { IfErr result (λ x. RowsRefused NoRows (optional tag (Present (E.tree (C.bounds rule) value.now))) x self.old self.new) }
     {
         let mut region = self.scope.region;
         let empty = Insertions::new(self.alloc);
@@ -274,7 +342,7 @@ impl<'buffer> Encoder<'buffer> {
         let answer = put_behind(
             self.alloc,
             tag,
-            constraints,
+            rule,
             value,
             &mut region,
             &mut *self.output,
@@ -283,17 +351,6 @@ impl<'buffer> Encoder<'buffer> {
         self.scope.region = region;
         self.insertions = pieces;
         answer?;
-        self.note_addition(true)?;
-        Ok(())
-    }
-
-    /// Records whether an addition is present.
-    #[inline(always)]
-    fn note_addition(&mut self, bit: bool) -> Result<(), EncodeErrorKind>
-        ensures done { OnOk result (self.new ≡ record self.old { frame = record self.old.frame { bitmap = self.old.frame.bitmap ++ (bit ∷ []) } }) }
-        ensures refused { IfErr result (λ k. (k ≡ OutOfMemory) × Keeps self.old self.new) }
-    {
-        self.scope.bitmap.push(self.alloc, bit)?;
         Ok(())
     }
 }

@@ -1,5 +1,6 @@
 //! Choices: a tag, and the alternative that the closure writes.
-ghost use Rattle.std.specs.Prelude.{◌≡◌, ◌^◌, ◌<◌, ◌++◌, ◌⊎◌, [], Bool, true, false, length, OnOk, OnErr, IfErr};
+ghost use Rattle.std.specs.Prelude.{◌≡◌, ◌^◌, ◌<◌, ◌++◌, ◌⊎◌, [], List, Bool, true, false, length, OnOk, OnErr, IfErr};
+ghost use Rattle.asn1_core.specs.declared.tag.Tag.{Tag as Label};
 ghost use Rattle.std.specs.Fn.{FnOnceTakesAtMut};
 ghost use Rattle.asn1_core.specs.Octets.{Octets};
 ghost use Rattle.asn1_core.specs.Tags.{holds};
@@ -8,14 +9,21 @@ ghost use Rattle.oer_spec.specs.Tree.{Tree, Choice};
 ghost use Rattle.oer_spec.specs.Writing.{BeginsWith};
 ghost use Rattle.oer_write.specs.Held.{Kept};
 ghost use Rattle.oer_write.specs.Layout.{Adds};
+ghost use Rattle.asn1_core.specs.declared.codec.Codec.TheVariants.{Coer};
+ghost use Rattle.asn1_core.specs.declared.error.EncodeErrorKind.TheVariants.{OutOfMemory};
+ghost use Rattle.oer_spec.specs.Encoding.{canonical_octets};
+ghost use Rattle.oer_spec.specs.Failures.{Fails};
+ghost use Rattle.oer_write.specs.Rows.{IsOpenEncodable, open_type};
 ghost use Rattle.oer_write.specs.Choices.{PromisePick, PicksTag, ContentDone, ContentRefused, Appended, AppendedOpen, alternative_octets, ChoiceDone, ChoiceBroken, IsKnownToPick};
-ghost use Rattle.oer_write.specs.Written.{Written, Keeps, Encodes, Refused, WantsMemory};
+ghost use Rattle.oer_write.specs.Written.{Written, Keeps, Encodes, Refused, WantsMemory, append};
 
+use crate::additions::put_open;
+use crate::encode::Encode;
 use crate::encoder::Encoder;
 use crate::insertions::Insertions;
 use crate::opens::close_open;
 use crate::scopes::open_scope;
-use asn1_core::{Choice, Constraints, EncodeError, Tag};
+use asn1_core::{Choice, Constraints, EncodeError, EncodeErrorKind, Tag};
 use oer_leaf_write::write_tag;
 use oer_spec::is_among;
 use std::alloc::Global;
@@ -171,6 +179,37 @@ fn put_choice<F: FnOnce(&mut Encoder<'_>) -> Result<Tag, EncodeError>>(
     }
 }
 
+/// Appends a value as an open type under its type's own constraints: out of line, where these are folded away.
+#[inline(never)]
+fn put_own<T: Encode>(
+    alloc: Global,
+    is_inside: bool,
+    tag: Tag,
+    value: &T,
+    out: &mut Vec<u8>,
+    insertions: &mut Insertions,
+) -> Result<(), EncodeError>
+    requires { is_inside ≡ false → insertions.old ≡ [] }
+    ensures short { OnOk result (IsOpenEncodable (T.tree T.CONSTRAINTS value.now)) }
+    ensures done { OnOk result (Adds (open_type (canonical_octets (T.tree T.CONSTRAINTS value.now))) out.old.items insertions.old out.new.items insertions.new) }
+    ensures value { OnOk result (T.IsValue value.now) }
+    ensures refused { IfErr result (λ x. (x.kind ≡ OutOfMemory) ⊎ Fails (T.tree T.CONSTRAINTS value.now) x.kind) }
+    ensures mode { IfErr result (λ x. x.codec ≡ Coer) }
+    ensures unchanged { OnErr result (out.new.items ≡ out.old.items) }
+    ensures kept { OnErr result (insertions.new ≡ insertions.old) }
+    ensures alone { is_inside ≡ false → OnOk result (insertions.new ≡ []) }
+{
+    put_open(
+        alloc,
+        is_inside,
+        tag,
+        T::CONSTRAINTS,
+        value,
+        out,
+        insertions,
+    )
+}
+
 impl<'buffer> Encoder<'buffer> {
     /// Writes a CHOICE (X.696, 20): the tag, and the alternative that the closure writes, which answers that tag.
     ///
@@ -220,5 +259,80 @@ impl<'buffer> Encoder<'buffer> {
         self.insertions = pieces;
         answer?;
         Ok(())
+    }
+
+    #[tactic(auto, using(crate::proofs::Regions::more_around, crate::proofs::Regions::more_within))]
+    #[inline(always)]
+    fn put_tag(&mut self, tag: Tag) -> Result<(), EncodeErrorKind>
+        ensures done { OnOk result (self.new ≡ append (tag_octets tag) self.old) }
+        ensures refused { IfErr result (λ k. (k ≡ OutOfMemory) × Keeps self.old self.new) }
+    {
+        write_tag(tag, &mut *self.output)?;
+        Ok(())
+    }
+
+    /// Writes a CHOICE (X.696, 20) whose alternative with that tag is the value: a root alternative straight behind the tag,
+    /// another as an open type. `Ok` only for an admitted value.
+    ///
+    /// Refused by what the value is refused by, or for want of memory.
+    #[inline(always)]
+    pub fn encode_alternative<E: Choice, T: Encode>(
+        &mut self,
+        tag: Tag,
+        value: &T,
+    ) -> Result<(), EncodeError>
+        ensures done { OnOk result (Encodes (Choice E.root_tags E.addition_tags tag (T.tree T.CONSTRAINTS value.now)) self.old self.new) }
+        ensures value { OnOk result (T.IsValue value.now) }
+        ensures refused { IfErr result (λ x. Refused (Choice E.root_tags E.addition_tags tag (T.tree T.CONSTRAINTS value.now)) x self.old self.new) }
+    {
+        if is_among(E::root_tags(), tag) {
+            return self.root_alternative(tag, value);
+        }
+        self.open_alternative(tag, value)
+    }
+
+    /// Writes the tag, and behind it the value as an open type.
+    #[inline(always)]
+    fn open_alternative<T: Encode>(&mut self, tag: Tag, value: &T) -> Result<(), EncodeError>
+        ensures done { (roots additions : List Label) → holds roots tag ≡ false → OnOk result (Encodes (Choice roots additions tag (T.tree T.CONSTRAINTS value.now)) self.old self.new) }
+        ensures value { OnOk result (T.IsValue value.now) }
+        ensures refused { (roots additions : List Label) → IfErr result (λ x. Refused (Choice roots additions tag (T.tree T.CONSTRAINTS value.now)) x self.old self.new) }
+    {
+        self.put_tag(tag)?;
+        self.put_own_open(tag, value)
+    }
+
+    /// Writes a value as an open type (X.696, 30), by a call to which the list of insertions is lent.
+    #[inline(always)]
+    fn put_own_open<T: Encode>(&mut self, tag: Tag, value: &T) -> Result<(), EncodeError>
+        ensures short { OnOk result (IsOpenEncodable (T.tree T.CONSTRAINTS value.now)) }
+        ensures done { OnOk result (self.new ≡ append (open_type (canonical_octets (T.tree T.CONSTRAINTS value.now))) self.old) }
+        ensures value { OnOk result (T.IsValue value.now) }
+        ensures refused { IfErr result (λ x. Refused (T.tree T.CONSTRAINTS value.now) x self.old self.new) }
+    {
+        let empty = Insertions::new(self.alloc);
+        let mut pieces = std::mem::replace(&mut self.insertions, empty);
+        let answer = put_own(
+            self.alloc,
+            self.is_inside,
+            tag,
+            value,
+            &mut *self.output,
+            &mut pieces,
+        );
+        self.insertions = pieces;
+        answer?;
+        Ok(())
+    }
+
+    /// Writes the tag and the value straight behind it.
+    #[inline(always)]
+    fn root_alternative<T: Encode>(&mut self, tag: Tag, value: &T) -> Result<(), EncodeError>
+        ensures done { (roots additions : List Label) → holds roots tag ≡ true → OnOk result (Encodes (Choice roots additions tag (T.tree T.CONSTRAINTS value.now)) self.old self.new) }
+        ensures value { OnOk result (T.IsValue value.now) }
+        ensures refused { (roots additions : List Label) → IfErr result (λ x. Refused (Choice roots additions tag (T.tree T.CONSTRAINTS value.now)) x self.old self.new) }
+    {
+        self.put_tag(tag)?;
+        value.encode(self)
     }
 }

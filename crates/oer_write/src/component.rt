@@ -10,6 +10,7 @@ ghost use Rattle.oer_spec.specs.Places.{absent};
 ghost use Rattle.oer_spec.specs.Spelled.{IsConsistent};
 
 use crate::encode::Encode;
+use crate::insertions::Insertions;
 use crate::rows::append_value;
 use asn1_core::{Class, Constraints, EncodeError, EncodeErrorKind, Tag};
 use std::alloc::Global;
@@ -75,6 +76,8 @@ impl Component {
 pub(crate) struct Components {
     pub(crate) places: Vec<Component>,
     pub(crate) octets: Vec<u8>,
+    /// The one list that serves the insertions of each component: none is left between two of them.
+    pub(crate) insertions: Insertions,
 }
 
 impl Model for Components {
@@ -99,6 +102,7 @@ impl Components {
         Components {
             places: Vec::new(alloc),
             octets: Vec::new(alloc),
+            insertions: Insertions::new(alloc),
         }
     }
 
@@ -130,7 +134,14 @@ impl Components {
         ensures mode { IfErr result (λ x. x.codec ≡ Coer) }
     {
         let start = self.octets.len();
-        append_value(alloc, tag, constraints, value, &mut self.octets)?;
+        append_value(
+            alloc,
+            tag,
+            constraints,
+            value,
+            &mut self.octets,
+            &mut self.insertions,
+        )?;
         let size = self.octets.len() - start;
         push_place(
             &mut self.places,

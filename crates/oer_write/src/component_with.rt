@@ -88,8 +88,7 @@ impl Components {
         ensures refused { IfErr result (λ x. WantsMemory x ⊎ RefusedInside (Promise F.FnOnce f) x) }
     {
         let start = self.octets.len();
-        let mut insertions = Insertions::new(alloc);
-        put_into(alloc, false, f, &mut self.octets, &mut insertions)?;
+        put_into(alloc, false, f, &mut self.octets, &mut self.insertions)?;
         let size = self.octets.len() - start;
         push_place(
             &mut self.places,

@@ -219,22 +219,4 @@ impl<'buffer> Encoder<'buffer> {
         } = self;
         (std::mem::replace(output, Vec::new(alloc)), insertions)
     }
-
-    /// The octets written, where nothing is open.
-    #[inline(always)]
-    pub(crate) fn into_octets(self) -> Vec<u8>
-        requires shut { self.frame.is_open ≡ false }
-        requires outermost { self.outer ≡ [] }
-        ensures { result.items ≡ self.entry.octets }
-    {
-        let Encoder {
-            output,
-            insertions: _,
-            scope: _,
-            is_lent: _,
-            is_inside: _,
-            alloc,
-        } = self;
-        std::mem::replace(output, Vec::new(alloc))
-    }
 }

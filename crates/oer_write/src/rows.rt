@@ -14,14 +14,13 @@ ghost use Rattle.oer_write.specs.Rows.{RowsDone, SetDone, RowsRefused, required,
 ghost use Rattle.oer_write.specs.Written.{Keeps, Encodes, Refused, WantsMemory};
 
 use crate::component::Components;
-use crate::enc::EncoderOptions;
 use crate::encode::Encode;
 use crate::encoder::Encoder;
 use crate::insertions::Insertions;
 use asn1_core::{Constraints, EncodeError, EncodeErrorKind, Tag};
 use std::alloc::Global;
 
-/// Appends a value's octets to those of before.
+/// Appends a value's octets to those of before, where nothing is open; the list of insertions is lent, and left empty.
 #[inline(always)]
 pub(crate) fn append_value<E: Encode>(
     alloc: Global,
@@ -29,18 +28,24 @@ pub(crate) fn append_value<E: Encode>(
     constraints: Constraints,
     value: &E,
     out: &mut Vec<u8>,
+    insertions: &mut Insertions,
 ) -> Result<(), EncodeError>
-    requires { IsConsistent constraints }
+    requires consistent { IsConsistent constraints }
+    requires none { insertions.old ≡ [] }
     ensures done { OnOk result (IsEncodable (E.tree constraints value.now) × (out.new.items ≡ out.old.items ++ canonical_octets (E.tree constraints value.now))) }
     ensures value { OnOk result (E.IsValue value.now) }
     ensures refused { IfErr result (λ x. (x.kind ≡ OutOfMemory) ⊎ Fails (E.tree constraints value.now) x.kind) }
     ensures mode { IfErr result (λ x. x.codec ≡ Coer) }
     ensures begins { BeginsWith out.old.items out.new.items }
+    ensures none { insertions.new ≡ [] }
 {
-    let mut worker = Vec::new(alloc);
-    let mut encoder = Encoder::from_buffer(alloc, EncoderOptions::coer(), &mut *out, &mut worker);
+    let empty = Insertions::new(alloc);
+    let pieces = std::mem::replace(&mut *insertions, empty);
+    let mut encoder = Encoder::lent(alloc, false, pieces, &mut *out);
     let answer = value.encode_with_tag_and_constraints(&mut encoder, tag, constraints);
-    *out = encoder.into_octets();
+    let (octets, pieces) = encoder.into_parts();
+    *out = octets;
+    *insertions = pieces;
     answer
 }
 
@@ -183,9 +188,10 @@ impl<'buffer> Encoder<'buffer> {
         ensures value { OnOk result (IfSome value.entry (λ x. E.IsValue x.now)) }
         ensures refused { IfErr result (λ x. RowsRefused (optional tag (slot_of (λ x. E.tree E.CONSTRAINTS x.now) value.entry)) NoRows x self.old self.new) }
     {
+        self.mark(value.is_some())?;
         match value {
-            Some(value) => self.write_present(tag, E::CONSTRAINTS, value),
-            None => Ok(self.mark(false)?),
+            Some(value) => value.encode_with_tag(self, tag),
+            None => Ok(()),
         }
     }
 

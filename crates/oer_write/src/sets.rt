@@ -74,10 +74,11 @@ impl Scope {
         requires { self.old.is_set ≡ true }
         ensures { (o : Octets) (is : List Piece) → AppendsOrMemory result (set_octets (frame_of o is self.old)) out.old.items out.new.items }
     {
-        let Components { mut places, octets } = std::mem::replace(
-            &mut self.components,
-            Components::new(alloc),
-        );
+        let Components {
+            mut places,
+            octets,
+            insertions: _,
+        } = std::mem::replace(&mut self.components, Components::new(alloc));
         arrange(&mut places)?;
         let mut presence = Bits::new(alloc);
         put_presence(alloc, &places, &mut presence)?;

@@ -14,6 +14,7 @@ ghost use Rattle.oer_write.specs.Written.{append, Keeps, Encodes, Refused};
 
 use crate::encode::Encode;
 use crate::encoder::Encoder;
+use crate::insertions::Insertions;
 use crate::lists::MAX_EMPTY_ELEMENTS;
 use crate::rows::append_value;
 use asn1_core::{Constraints, EncodeError, EncodeErrorKind, SetOf, Tag};
@@ -42,6 +43,16 @@ pub(crate) struct Contents {
     sizes: Vec<usize>,
 }
 
+/// No sizes yet, and room for those of so many elements.
+fn sizes_for(alloc: Global, count: usize) -> Result<Vec<usize>, EncodeErrorKind>
+    ensures done { IfOk result (λ sizes. sizes.items ≡ []) }
+    ensures refused { IfErr result (λ k. k ≡ OutOfMemory) }
+{
+    let mut sizes = Vec::new(alloc);
+    sizes.reserve(count)?;
+    Ok(sizes)
+}
+
 /// Records how many octets an element has.
 fn push_size(sizes: &mut Vec<usize>, size: usize) -> Result<(), EncodeErrorKind>
     ensures done { OnOk result (sizes.new.items ≡ sizes.old.items ++ size ∷ []) }
@@ -58,23 +69,26 @@ fn put_one<E: Encode>(
     count: u32,
     octets: &mut Vec<u8>,
     sizes: &mut Vec<usize>,
+    insertions: &mut Insertions,
 ) -> Result<u32, EncodeError>
     requires few { count < 65537 }
+    requires none { insertions.old ≡ [] }
     requires whole { sum sizes.old.items ≡ length octets.old.items }
     ensures done { IfOk result (λ n. OneMore (E.tree E.CONSTRAINTS) E.IsValue x.now (parts sizes.old.items octets.old.items) (parts sizes.new.items octets.new.items) count n) }
     ensures whole { OnOk result (sum sizes.new.items ≡ length octets.new.items) }
     ensures refused { IfErr result (λ e. OneRefused (E.tree E.CONSTRAINTS x.now) count e.kind) }
     ensures mode { IfErr result (λ e. e.codec ≡ Coer) }
+    ensures none { insertions.new ≡ [] }
 {
     let before = octets.len();
-    append_value(alloc, E::TAG, E::CONSTRAINTS, x, octets)?;
+    append_value(alloc, E::TAG, E::CONSTRAINTS, x, octets, insertions)?;
     let size = octets.len() - before;
     let next = next_count(size == 0, count)?;
     push_size(sizes, size)?;
     Ok(next)
 }
 
-/// Each element's octets, in the elements' order.
+/// Each element's octets, in the elements' order; one list serves the insertions of all.
 fn contents_of<E: Encode>(alloc: Global, elements: &SetOf<E>) -> Result<Contents, EncodeError>
     ensures done { IfOk result (λ contents. (count : ℕ) × Gathered (E.tree E.CONSTRAINTS) E.IsValue elements.now (parts contents.sizes.items contents.octets.items) count) }
     ensures refused { IfErr result (λ x. (x.kind ≡ OutOfMemory) ⊎ Fails (list_of false (E.tree E.CONSTRAINTS) elements.now) x.kind) }
@@ -82,10 +96,18 @@ fn contents_of<E: Encode>(alloc: Global, elements: &SetOf<E>) -> Result<Contents
     ensures first { IfErr result (λ x. IsByFirst (E.tree E.CONSTRAINTS) elements.now x) }
 {
     let mut octets = Vec::new(alloc);
-    let mut sizes = Vec::new(alloc);
+    let mut sizes = sizes_for(alloc, elements.len())?;
+    let mut insertions = Insertions::new(alloc);
     let mut empty_count: u32 = 0;
     for x in elements.iter() {
-        empty_count = put_one(alloc, x, empty_count, &mut octets, &mut sizes)?;
+        empty_count = put_one(
+            alloc,
+            x,
+            empty_count,
+            &mut octets,
+            &mut sizes,
+            &mut insertions,
+        )?;
     }
     Ok(Contents { octets, sizes })
 }

@@ -12,7 +12,7 @@ returns-then-n-2 c =
     let octets = simp to_z-of_z at c.to_be_bytes.ensures in
     let low = simp to_z-of_z at c.if-n.true in
     let high = simp to_z-of_z at c.if-n-2.true in
-    c.in_ok-extend_from_slice.ensures.items ∙ ap (λ o. c.args.out.now.items ++ o) (short_one c.args.n c.to_be_bytes.result fits octets low high)
+    c.in_ok-push_two.ensures.done ∙ ap (λ o. c.args.out.now.items ++ o) (short_one c.args.n c.to_be_bytes.result fits octets low high)
 
 pub returns : goal.returns
 returns c =
@@ -22,4 +22,4 @@ returns c =
       | else-n-via-then-n+else-n-2 w ↦ above (simp to_z-of_z at w.if-n-2.false)
       | else-n-via-else-n w ↦ below (simp to_z-of_z at w.if-n.false)
     ] in
-    c.in_ok-extend_from_slice-2.ensures.items ∙ ap (λ o. c.args.out.now.items ++ o) (short_two c.args.n c.to_be_bytes.result fits octets wide)
+    c.in_ok-push_three.ensures.done ∙ ap (λ o. c.args.out.now.items ++ o) (short_two c.args.n c.to_be_bytes.result fits octets wide)

@@ -14,20 +14,21 @@ loop-x-preserved g c =
     rw (length_push c.loop-x.yielded c.in-Some.x) (record {
       gathered = gathered_more _ _ _ _ _ _ _ _ _ turn.0 turn.1 c.loop-x.invariant.gathered c.in_ok-empty_count.ensures.done;
       whole = c.in_ok-empty_count.ensures.whole;
+      none = c.in_ok-empty_count.ensures.none;
     })
 
 pub returns-in_err-empty_count-clause-refused : goal.returns-in_err-empty_count-clause-refused
 returns-in_err-empty_count-clause-refused g c =
     let walked = YieldsList-from_slice c.args.elements.now (ap iter_rest c.into_iter-x-iterator.ensures.into_iter_gives ∙ c.iter-x-items.ensures) in
     let turn = YieldsList-turn walked c.loop-x.yielded _ c.loop-x.yielded_by _ _ c.in-Some.x c.in-Some.is c.next.ensures.steps in
-    let p = err_from_is_err_and c.from_residual.result c.from_residual.ensures.1 in
+    let p = err_from_is_err_and c.from_residual-in_err-empty_count.result c.from_residual-in_err-empty_count.ensures.1 in
     rw (p.1, p.2) (gathered_broken _ _ _ (gathered_first _ _ _ _ _ _ _ _ turn.0 turn.1 c.loop-x.invariant.gathered c.in_err-empty_count.ensures.refused c.in_err-empty_count.ensures.mode))
 
 pub returns-in_err-empty_count-clause-first : goal.returns-in_err-empty_count-clause-first
 returns-in_err-empty_count-clause-first g c =
     let walked = YieldsList-from_slice c.args.elements.now (ap iter_rest c.into_iter-x-iterator.ensures.into_iter_gives ∙ c.iter-x-items.ensures) in
     let turn = YieldsList-turn walked c.loop-x.yielded _ c.loop-x.yielded_by _ _ c.in-Some.x c.in-Some.is c.next.ensures.steps in
-    let p = err_from_is_err_and c.from_residual.result c.from_residual.ensures.1 in
+    let p = err_from_is_err_and c.from_residual-in_err-empty_count.result c.from_residual-in_err-empty_count.ensures.1 in
     rw (p.1, p.2) (gathered_first _ _ _ _ _ _ _ _ turn.0 turn.1 c.loop-x.invariant.gathered c.in_err-empty_count.ensures.refused c.in_err-empty_count.ensures.mode)
 
 pub returns-clause-done : goal.returns-clause-done

@@ -6,4 +6,7 @@ pub invariant_of-self-2 : goal.invariant_of-self-2
 invariant_of-self-2 c =
     let s = c.new.ensures.start in
     let z = c.new.ensures.size in
-    rw c.in_ok-push.ensures.items (laid_push c.self.inside.octets.items c.self.inside.places.items c.new.result c.self.invariant (omega (arith, s, z)))
+    record {
+      laid = rw c.in_ok-push.ensures.items (laid_push c.self.inside.octets.items c.self.inside.places.items c.new.result c.self.invariant.laid (omega (arith, s, z)));
+      none = c.self.invariant.none;
+    }

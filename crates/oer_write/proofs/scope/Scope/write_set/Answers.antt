@@ -1,4 +1,5 @@
-use Rattle.std.proofs.Common.{◌≡◌, ◌++◌, [], map, sym, subst, ◌∙◌, rules}
+use Rattle.std.proofs.Common.{◌≡◌, ◌++◌, [], append-nil, map, sym, subst, ◌∙◌, rules}
+use Rattle.std.proofs.lemmas.Result.{err_from_is_err_and}
 use Rattle.asn1_core.specs.Octets.{Octets, pack}
 use Rattle.oer_spec.specs.Places.{bodies, extension_bit, presence}
 use Rattle.oer_spec.specs.Writing.{AppendsOrMemory}
@@ -8,6 +9,11 @@ use Rattle.oer_write.specs.Seen.{frame_of}
 use Rattle.oer_write.proofs.Closing.{apart}
 use Rattle.oer_write.proofs.Places.{set_written}
 use Rattle.oer_write.proofs.scope.Scope.write_set.Goals as goal
+
+pub returns-in_err-put_presence : goal.returns-in_err-put_presence
+returns-in_err-put_presence c = λ o is.
+    let p = err_from_is_err_and c.from_residual-in_err-put_presence.result c.from_residual-in_err-put_presence.ensures.1 in
+    rw (p.1, p.2) (c.in_err-put_presence.ensures.refused, ([], sym (append-nil _)))
 
 pub returns : goal.returns
 returns c = λ o is.
