@@ -1,8 +1,8 @@
 #!/usr/bin/env python3
 """Says where crates/sample_types or crates/recursive_types, or the line of one in crates.txt, isn't what oergen prints of its module
-in crates/oergen/data, where types of made modules are put into other crates than they should be, or don't have the names that they
-should, where of the published modules in scripts/v2x.d a type is left out or isn't listed as listed.txt there has it, where the types of scripts/printed.d/circle.asn, which contain each other, aren't printed with the definitions beside it, and
-where what is printed of long.asn, which has long names and wide choices, isn't in the layout that `rt fmt` leaves as it is.
+in crates/oergen/data, where types of made modules are put into other crates than they should be, or lack names, comments, constants
+or boxes that they should have, where of the published modules in scripts/v2x.d a type is left out or isn't listed as listed.txt there has it, where the types of scripts/printed.d/circle.asn, which contain each other, aren't printed with the definitions beside it, and
+where what is printed of long.asn, which has long names and wide choices, or of comments, isn't in the layout that `rt fmt` leaves as it is.
 
 usage: printed.py PROGRAM, for example: printed.py crates/oergen/out/oergen
 
@@ -46,9 +46,9 @@ CIRCLE_DEFINITIONS = {
 }
 
 
-def printed(program, folder, name, module=None):
+def printed(program, folder, name, module=None, more=()):
     """The lines for crates.txt, and each file below the folder with its text."""
-    words = [program, "--out", folder, "--name", name, str(module or top / "crates/oergen/data" / MODULES[name])]
+    words = [program, "--out", folder, "--name", name, *more, str(module or top / "crates/oergen/data" / MODULES[name])]
     lines = subprocess.run(words, check=True, capture_output=True, text=True, timeout=60).stdout
     root = pathlib.Path(folder)
     return lines, {str(it.relative_to(root)): it.read_text() for it in root.rglob("*") if it.is_file()}
@@ -88,6 +88,9 @@ def misplaced(program):
     return faults
 
 
+# a module of these types
+MADE = "M DEFINITIONS AUTOMATIC TAGS ::= BEGIN\n{}\nEND\n"
+
 # modules with names that clash with one another's, with those that are printed of other types, or with the library's; and lines of
 # what is printed of each
 NAMES = (
@@ -117,15 +120,68 @@ NAMES = (
 )
 
 
-def misnamed(program):
-    """Which types aren't printed with the names that they should have."""
+# comments, constants and parts of large types, and lines of what is printed of each
+NOTED = """-- What lamps do.
+--
+-- ====
+
+-- on or off --
+State ::= ENUMERATED { -- behind
+   -- dark
+   off, on }
+/** How loud.
+ *  In steps. */
+Level ::= INTEGER { low(-1), high(9) } (-9..9)
+-- the most
+most Level ::= high
+wide INTEGER ::= 18446744073709551616
+isOn BOOLEAN ::= TRUE
+Rights ::= BIT STRING { read(0), write-all(7) } (SIZE(8))
+Row ::= SEQUENCE {
+   -- its state
+   state State, bits BIT STRING { a(3) } (SIZE(4)) }
+-- a\ttab, a \u202e turn and a\rreturn\x00
+Name ::= IA5String (PATTERN "a
+b")
+Named ::= SEQUENCE { name IA5String DEFAULT "a\tb" }"""
+SIZED = " ".join(sequences(1) + ["T ::= SEQUENCE { %s } C ::= CHOICE { a T, b NULL, c T }" % ", ".join(f"s{at} S0" for at in range(20))])
+LINES = (
+    (
+        (),
+        NOTED,
+        (
+            "/// on or off",
+            "///",
+            "    /// dark",
+            "/// How loud.",
+            "/// In steps.",
+            "/// the most",
+            "pub const MOST: i8 = 9;",
+            "pub const WIDE: i128 = 18446744073709551616;",
+            "pub const IS_ON: bool = true;",
+            "pub const LEVEL_LOW: i8 = -1;",
+            "pub const RIGHTS_WRITE_ALL: usize = 7;",
+            "pub const ROW_BITS_A: usize = 3;",
+            "    /// its state",
+            "/// a tab, a   turn and a return",
+            "/// `Name ::= IA5String (PATTERN \"a b\")`",
+            "/// The default \"a b\" of `NamedName`.",
+            "pub mod values;",
+        ),
+    ),
+    ((), SIZED, ("    A(Held<T>),", "    B(()),", "    C(Held<T>),", "    pub s0: S0,")),
+)
+
+
+def misprinted(program):
+    """Which lines aren't printed, or said for crates.txt, that should be."""
     faults = []
-    for body, wanted in NAMES:
+    for more, body, wanted in (*(((), *row) for row in NAMES), *LINES):
         with tempfile.TemporaryDirectory() as folder:
             module = pathlib.Path(folder) / "made.asn"
-            module.write_text(f"M DEFINITIONS AUTOMATIC TAGS ::= BEGIN\n{body}\nEND\n")
-            _, files = printed(program, folder, "made", module)
-        lines = {line for text in files.values() for line in text.split("\n")}
+            module.write_text(MADE.format(body), newline="")
+            said, files = printed(program, folder, "made", module, more)
+        lines = {line for text in (said, *files.values()) for line in text.split("\n")}
         faults += [f"of {body} there is no line {line!r}" for line in wanted if line not in lines]
     return faults
 
@@ -156,17 +212,20 @@ def undefined(program):
 
 
 def unformatted(program):
-    """Which files of long.asn aren't in the layout."""
+    """Which files of long.asn, and of what has comments, aren't in the layout."""
     rattle = pathlib.Path(shutil.which("rt")).resolve().parent / "rattle"
     with tempfile.TemporaryDirectory() as folder:
-        printed(program, folder, "made", DATA / "long.asn")
+        noted = pathlib.Path(folder) / "noted.asn"
+        noted.write_text(MADE.format(NOTED), newline="")
+        for module in (DATA / "long.asn", noted):
+            printed(program, folder, module.stem, module)
         files = sorted(pathlib.Path(folder).rglob("*.rt"))
         ran = subprocess.run([rattle, "fmt", "--check", *files], capture_output=True, text=True, timeout=60, check=False)
-    return [f"long.asn: {line}" for line in (ran.stdout + ran.stderr).splitlines()] if ran.returncode else []
+    return [f"not in the layout: {line}" for line in (ran.stdout + ran.stderr).splitlines()] if ran.returncode else []
 
 
 def main(program):
-    faults = misplaced(program) + misnamed(program) + unread(program) + undefined(program) + unformatted(program)
+    faults = misplaced(program) + misprinted(program) + unread(program) + undefined(program) + unformatted(program)
     for fault in faults:
         print(f"printed: {fault}")
     status = 1 if faults else 0

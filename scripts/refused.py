@@ -107,9 +107,9 @@ def bounds():
 def left_out():
     """A type that contains itself in a form that isn't printed, one that stands on it, one that is printed, and two that contain
     each other, of which one stands on a type that isn't printed; and assignments of each sort that isn't read, names that aren't
-    assigned, clashes, and what is printed between them: the one crate has a root and a file of types."""
+    assigned, clashes, and what is printed between them: the one crate has a root and a file of types, that of unread.asn a file of constants too."""
     texts = [[(DATA / f"{name}.{end}").read_text(encoding="utf-8") for end in ("asn", "txt")] for name in ("left_out", "unread")]
-    return [Case((*PRINT, "--leave-out"), module, (lines, "", 0, 2)) for module, lines in texts]
+    return [Case((*PRINT, "--leave-out"), module, (lines, "", 0, files)) for (module, lines), files in zip(texts, (2, 3))]
 
 
 NULL_LISTED = ("A of M: NULL, no octets\n", "", 0, 0)

@@ -6,8 +6,8 @@ usage: second_reader.py PROGRAM [--seed NUMBER] [--modules COUNT]     modules of
        second_reader.py PROGRAM MODULE.asn..                         modules of files, together
 
 For example: second_reader.py crates/oergen/out/oergen. Each type is compared with its lines of `--list`, and with what is printed: the
-cells of its row in turn, each with its tag, its need and the type and limits that it has in the end. Types that contain one another
-are compared with the list alone. The same seed gives the same modules.
+cells of its row in turn, each with its tag, its need and the type and limits that it has in the end, in a box or not. Types that contain
+one another are compared with the list alone. So are constants of numbers with what is assigned. The same seed gives the same modules.
 """
 import argparse
 import concurrent.futures
@@ -78,6 +78,8 @@ class Printed:
             return (name, self.shape(inside[0]), self.limits[inside[1][0]])
         if name in ("ListOf", "SetOf"):
             return (name, self.shape(inside[0]))
+        if name == "Held":
+            return self.shape(inside[0])
         if name in ("Sequence", "SetSequence", "Set", "OneOf", "Enumeration"):
             return (inside[0][0],)
         return self.shape(self.aliases[name]) if name in self.aliases else (name,)
@@ -200,6 +202,25 @@ class Comparison:
             self.says(f"{rust}.{member.name}", self.printed.shape(inside[1]), self.shape(lists, target, of))
 
 
+def constants(listing):
+    """The numbers that are assigned to names: each with its module, and the name, the type and the number of its constant."""
+    world, found = listing.world, []
+    for module in world.modules.values():
+        for name, (of, value) in module.values.items():
+            if of.sort == "NAME" and of.inside[1] not in world.home(module, *of.inside[:2]).types:
+                continue  # an object of a class
+            base, _ = world.base(of, {})
+            if base.sort != "INTEGER":
+                continue
+            number = world.number(value, {}, base.inside)
+            width, is_signed = world.limits(of, {}, False).width()
+            low, high = (0, 0) if not width else (-(2 ** (8 * width - 1)), 2 ** (8 * width - 1)) if is_signed else (0, 2 ** (8 * width))
+            rust = f"{'i' if is_signed else 'u'}{8 * width}" if low <= number < high else "i128"
+            constant = re.sub(r"(?<=[a-z0-9])(?=[A-Z])", "_", name).replace("-", "_").upper()
+            found.append((name, module.name, constant, rust, str(number)))
+    return sorted(found)
+
+
 def ran(program, words, folder):
     found = subprocess.run([program, *words], cwd=folder, capture_output=True, text=True, timeout=120, check=False)
     if found.returncode:
@@ -235,6 +256,9 @@ def faults_of(program, texts):
         text = "\n".join(it.read_text() for it in sorted(pathlib.Path(folder).rglob("*.rt")))
     own = {rust: listing.block(rust) for rust in listing.lines}
     faults = [f"listed {table.get(it)!r}, and not {own.get(it)!r}" for it in sorted(own.keys() | table.keys()) if own.get(it) != table.get(it)]
+    printed = re.findall(r"^/// The value `(\S+)` of `(\S+)`\.\npub const (\w+?)_*: (\w+) = (-?\d+);", text, re.M)
+    if sorted(printed) != constants(listing):
+        faults.append(f"constants {sorted(printed)!r}, and not {constants(listing)!r}")
     comparison = Comparison(listing, Printed(text))
     plain = [rust for rust in listing.printed if f"{comparison.printed.name(rust)}Content<K>" not in text]
     for rust in plain if not faults else []:

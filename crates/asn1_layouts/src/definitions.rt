@@ -49,6 +49,8 @@ pub struct Part<'m> {
     pub target: Option<usize>,
     /// `Plain` until circles are found.
     pub tie: Tie,
+    /// Whether its Rust type is held in a box, so that the type that has it reaches fewer fields.
+    pub is_held: bool,
 }
 
 /// A Rust type.
@@ -80,10 +82,10 @@ fn peeled<'m>(start: &'m Type) -> (usize, &'m Type) {
     let mut of = start;
     let mut lists = 0usize;
     for _ in 0..MAX_LISTS {
-        match &of.body {
-            Body::SequenceOf(element) | Body::SetOf(element) => of = &**element,
-            _ => break,
-        }
+        let Some((element, _)) = of.body.list() else {
+            break;
+        };
+        of = element;
         lists = lists.saturating_add(1);
     }
     (lists, of)
@@ -91,10 +93,11 @@ fn peeled<'m>(start: &'m Type) -> (usize, &'m Type) {
 
 /// Whether a type needs a Rust type of its own.
 fn has_parts(of: &Type) -> bool {
-    matches!(
-        of.body,
-        Body::Sequence(_) | Body::Set(_) | Body::Choice(_) | Body::Enumerated(_, _)
-    )
+    match &of.body {
+        Body::Sequence(_) | Body::Set(_) | Body::Choice(_) | Body::Enumerated(_, _) => true,
+        Body::Simple(_) | Body::Integer(_) | Body::BitString(_) | Body::Reference(_) => false,
+        Body::SequenceOf(_) | Body::SetOf(_) => false,
+    }
 }
 
 /// A part, by the type where it is written. A type with parts inside it gets the name of the type around it and its own.
@@ -133,6 +136,7 @@ fn make_part<'m>(
         inner,
         target,
         tie: Tie::Plain,
+        is_held: false,
     })
 }
 
@@ -220,8 +224,8 @@ fn part_names(scope: Scope<'_, '_>, all: &mut Vec<Pending<'_>>) -> Result<(), Al
     Ok(())
 }
 
-/// A name that no type before has: the one given, or with `_` behind it, and puts it to the names.
-fn free_name(
+/// A name that isn't among others: the one given, or with `_` behind it, and puts it to these.
+pub fn free_name(
     alloc: Global,
     names: &mut BTreeMap<String, usize>,
     wanted: &str,

@@ -24,17 +24,11 @@ pub fn lists_of(alloc: Global, start: &Type) -> Result<String, AllocError> {
     let mut text = String::new(alloc);
     let mut of = start;
     for _ in 0..MAX_LISTS {
-        match &of.body {
-            Body::SequenceOf(element) => {
-                text.push_str("SEQUENCE OF ")?;
-                of = &**element;
-            }
-            Body::SetOf(element) => {
-                text.push_str("SET OF ")?;
-                of = &**element;
-            }
-            _ => break,
-        }
+        let Some((element, is_set)) = of.body.list() else {
+            break;
+        };
+        text.push_str(if is_set { "SET OF " } else { "SEQUENCE OF " })?;
+        of = element;
     }
     Ok(text)
 }

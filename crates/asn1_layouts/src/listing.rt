@@ -91,7 +91,9 @@ fn mark_text<'m>(of: &'m Type) -> &'static str {
     match &of.body {
         Body::Choice(_) if is_extensible(of) => ", extensible",
         Body::Enumerated(_, Some(_)) => ", extensible",
-        _ => "",
+        Body::Choice(_) | Body::Enumerated(_, None) | Body::Sequence(_) | Body::Set(_) => "",
+        Body::Simple(_) | Body::Integer(_) | Body::BitString(_) | Body::Reference(_) => "",
+        Body::SequenceOf(_) | Body::SetOf(_) => "",
     }
 }
 

@@ -29,8 +29,8 @@ pub fn push_type_name(out: &mut String, name: &str) -> Result<(), AllocError> {
     Ok(())
 }
 
-/// A component's name in snake case: a word begins at a hyphen, and at a capital behind a letter or digit that is none. A keyword gets `r_` in front.
-pub fn component_name(alloc: Global, name: &str) -> Result<String, AllocError> {
+/// A name in snake case: a word begins at a hyphen, and at a capital behind a letter or digit that is none.
+pub fn snake(alloc: Global, name: &str) -> Result<String, AllocError> {
     let mut out = String::new(alloc);
     let mut before = '-';
     for c in name.chars() {
@@ -44,6 +44,12 @@ pub fn component_name(alloc: Global, name: &str) -> Result<String, AllocError> {
         }
         before = c;
     }
+    Ok(out)
+}
+
+/// A component's name in snake case. A keyword gets `r_` in front.
+pub fn component_name(alloc: Global, name: &str) -> Result<String, AllocError> {
+    let out = snake(alloc, name)?;
     if KEYWORDS.split(' ').any(|word| word == out.as_str()) {
         return format!(in alloc; "r_{out}");
     }

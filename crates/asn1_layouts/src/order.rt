@@ -53,7 +53,7 @@ pub fn behind_names(definitions: &[Definition<'_>], start: usize) -> usize {
             Some(definition) if matches!(definition.of.body, Body::Reference(_)) => {
                 at = first_target(definition).unwrap_or(at);
             }
-            _ => break,
+            Some(_) | None => break,
         }
     }
     at

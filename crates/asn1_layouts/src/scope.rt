@@ -12,6 +12,7 @@ const MAX_CHAIN: usize = 64;
 const NO_TOKEN: Token<'static> = Token {
     kind: Kind::End,
     text: "",
+    note: "",
     place: Place {
         file: 0,
         line: 0,
@@ -222,10 +223,10 @@ impl<'m, 'a> Scope<'m, 'a> {
         let mut of = start;
         for _ in 0..MAX_CHAIN {
             chain.push(of)?;
-            match &of.body {
-                Body::Reference(name) => of = self.find_type(*name)?.of,
-                _ => return Ok(chain),
-            }
+            let Body::Reference(name) = &of.body else {
+                return Ok(chain);
+            };
+            of = self.find_type(*name)?.of;
         }
         Err(self.refused(
             start.first,

@@ -19,16 +19,21 @@ pub fn default_of<'m>(
     let base = scope.base_of(row.of)?;
     let names = names_of(base);
     let spot = Spot { value, names };
-    match (&base.body, value) {
-        (Body::Integer(_), _) => {
+    match &base.body {
+        Body::Integer(_) => {
             let number = number_of(scope, spot)?;
             Ok(format!(in scope.alloc; "{number}")?)
         }
-        (Body::Enumerated(_, _), _) => {
+        Body::Enumerated(_, _) => {
             let name = enumerated_default(scope, spot)?;
             Ok(String::from_str(scope.alloc, scope.text(name))?)
         }
-        _ => literal_of(scope, base, names, settled(scope, spot)?.value),
+        Body::Simple(_) | Body::BitString(_) | Body::SequenceOf(_) | Body::SetOf(_) => {
+            literal_of(scope, base, names, settled(scope, spot)?.value)
+        }
+        Body::Sequence(_) | Body::Set(_) | Body::Choice(_) | Body::Reference(_) => {
+            Err(scope.refused(first_of(settled(scope, spot)?.value), DEFAULT))
+        }
     }
 }
 

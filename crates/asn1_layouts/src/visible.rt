@@ -1,4 +1,6 @@
 //! Which values and sizes a type's constraints leave, as far as the octet encoding rules see them (X.696, 8.2).
+ghost use Rattle.std.specs.Prelude.{◌≡◌};
+ghost use Rattle.asn1_layouts.specs.Widths.{signed_octets, unsigned_octets, width_of};
 
 use crate::numbers::{Spot, names_of, number_of};
 use crate::scope::Scope;
@@ -96,18 +98,25 @@ impl Limits {
     }
 
     /// The octets of an INTEGER, none behind a length, and whether they are signed (X.696, 10.2 to 10.4).
-    pub fn width(self) -> (Option<u8>, bool) {
+    pub fn width(self) -> (Option<u8>, bool)
+        ensures { result ≡ width_of self.low self.high self.is_extensible }
+    {
+        if self.is_extensible {
+            return (None, true);
+        }
         match (self.low, self.high) {
-            _ if self.is_extensible => (None, true),
-            (Some(low), high) if low >= 0 => (high.and_then(unsigned_width), false),
+            (Some(low), Some(high)) if low >= 0 => (unsigned_width(high), false),
             (Some(low), Some(high)) => (signed_width(low, high), true),
-            _ => (None, true),
+            (Some(low), None) => (None, low < 0),
+            (None, _) => (None, true),
         }
     }
 }
 
 /// 1, 2, 4 or 8 unsigned octets for the numbers up to one; none past 64 bits.
-fn unsigned_width(high: i128) -> Option<u8> {
+fn unsigned_width(high: i128) -> Option<u8>
+    ensures { result ≡ unsigned_octets high }
+{
     if high <= 255 {
         Some(1)
     } else if high <= 65535 {
@@ -122,7 +131,9 @@ fn unsigned_width(high: i128) -> Option<u8> {
 }
 
 /// 1, 2, 4 or 8 signed octets for the numbers between two; none past 64 bits.
-fn signed_width(low: i128, high: i128) -> Option<u8> {
+fn signed_width(low: i128, high: i128) -> Option<u8>
+    ensures { result ≡ signed_octets low high }
+{
     if low >= -128 && high <= 127 {
         Some(1)
     } else if low >= -32768 && high <= 32767 {

@@ -99,6 +99,19 @@ pub enum Body {
     Reference(Reference),
 }
 
+impl Body {
+    /// The type of a list's elements, and whether it is a SET OF; nothing of another type.
+    pub fn list(&self) -> Option<(&Type, bool)> {
+        match self {
+            Body::SequenceOf(element) => Some((&**element, false)),
+            Body::SetOf(element) => Some((&**element, true)),
+            Body::Simple(_) | Body::Integer(_) | Body::BitString(_) | Body::Enumerated(_, _) =>
+                None,
+            Body::Sequence(_) | Body::Set(_) | Body::Choice(_) | Body::Reference(_) => None,
+        }
+    }
+}
+
 /// Types without parts.
 #[derive(Clone, Copy, PartialEq, Eq)]
 pub enum Simple {

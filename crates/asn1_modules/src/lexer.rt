@@ -24,11 +24,13 @@ pub enum Kind {
     End,
 }
 
-/// A token: its text as it stands, where that is, and the number of the copying that put it where it is read, 0 for none.
+/// A token: its text as it stands, the comments in lines of their own directly in front of it, where it is, and the number of the
+/// copying that put it where it is read, 0 for none.
 #[derive(Clone, Copy)]
 pub struct Token<'a> {
     pub kind: Kind,
     pub text: &'a str,
+    pub note: &'a str,
     pub place: Place,
     pub copy: usize,
 }
@@ -222,23 +224,32 @@ fn token_length(rest: &str) -> Option<(Kind, usize)> {
     }
 }
 
+/// Whether a note begins behind what was passed over: behind an empty line, and behind the end of a line where there is none so far.
+fn begins_note(blank: &str, is_first: bool) -> bool {
+    let ends = blank.chars().filter(|c| *c == '\n').count();
+    blank.trim().is_empty() && (ends > 1 || ends == 1 && is_first)
+}
+
 impl<'a> Cursor<'a> {
-    /// Passes over white space and comments; false where a comment doesn't end.
-    fn skips_blank(&mut self) -> bool {
+    /// Passes over white space and comments, and answers those that a token's note has; nothing where a comment doesn't end.
+    fn skip_blank(&mut self) -> Option<&'a str> {
+        let is_first = self.place.line == 1 && self.place.column == 1;
+        let mut note = if is_first { self.rest } else { "" };
         for _ in 0..self.rest.len() {
-            match blank_length(self.rest) {
-                Some(0) => return true,
-                Some(length) => {
-                    let _ = self.take(length);
-                }
-                None => return false,
+            let length = blank_length(self.rest)?;
+            if length == 0 {
+                break;
+            }
+            let blank = self.take(length);
+            if begins_note(blank, note.is_empty()) {
+                note = self.rest;
             }
         }
-        true
+        note.get(..note.len().saturating_sub(self.rest.len()))
     }
 
-    /// The token at the front.
-    fn token(&mut self, alloc: Global) -> Result<Token<'a>, Refusal> {
+    /// The token at the front, behind that note.
+    fn token(&mut self, alloc: Global, note: &'a str) -> Result<Token<'a>, Refusal> {
         let place = self.place;
         let Some((kind, length)) = token_length(self.rest) else {
             return Err(Refusal::new(
@@ -260,6 +271,7 @@ impl<'a> Cursor<'a> {
         Ok(Token {
             kind,
             text,
+            note,
             place,
             copy: 0,
         })
@@ -279,22 +291,23 @@ pub fn tokens(alloc: Global, file: usize, text: &str) -> Result<Vec<Token<'_>>, 
     };
     let mut tokens = Vec::new(alloc);
     for _ in 0..text.len() {
-        if !cursor.skips_blank() {
+        let Some(note) = cursor.skip_blank() else {
             return Err(Refusal::new(
                 alloc,
                 cursor.place,
                 "a comment that doesn't end",
                 "its '*/'",
             ));
-        }
+        };
         if cursor.rest.is_empty() {
             break;
         }
-        tokens.push(cursor.token(alloc)?)?;
+        tokens.push(cursor.token(alloc, note)?)?;
     }
     tokens.push(Token {
         kind: Kind::End,
         text: "",
+        note: "",
         place: cursor.place,
         copy: 0,
     })?;

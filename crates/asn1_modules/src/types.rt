@@ -167,7 +167,11 @@ fn skip_rest(reader: &mut Reader<'_>, simple: Simple) -> Result<(), Refusal> {
             let _ = reader.takes(Kind::Word, "a component's name")?;
             Ok(())
         }
-        _ => Ok(()),
+        Simple::Any | Simple::Boolean | Simple::Null | Simple::Utf8String => Ok(()),
+        Simple::NumericString | Simple::PrintableString | Simple::VisibleString => Ok(()),
+        Simple::Ia5String | Simple::GeneralString | Simple::GraphicString => Ok(()),
+        Simple::TeletexString | Simple::BmpString => Ok(()),
+        Simple::UtcTime | Simple::GeneralizedTime | Simple::Date => Ok(()),
     }
 }
 

@@ -2,6 +2,7 @@
 
 use crate::defaults::push_default;
 use crate::items::push_limits;
+use crate::notes::push_note;
 use crate::shapes::shape_of;
 use crate::text::Text;
 use asn1_core::{Class, Tag};
@@ -12,9 +13,14 @@ use asn1_modules::ast::Need;
 use asn1_modules::refusal::Refusal;
 use std::alloc::{AllocError, Global};
 
+/// What stands in front of a field or a variant.
+const INDENT: &str = "    ";
+
 /// A cell of a row, as it is printed.
 #[derive(Drop)]
 pub struct Cell {
+    /// The comments in front of the component, as documentation.
+    pub note: Text,
     /// The field's name.
     pub field: Text,
     /// The field's type.
@@ -35,6 +41,7 @@ impl Cell {
     /// A cell without texts.
     fn new(alloc: Global, head: &'static str) -> Cell {
         Cell {
+            note: Text::new(alloc),
             field: Text::new(alloc),
             field_type: Text::new(alloc),
             camel: Text::new(alloc),
@@ -67,6 +74,7 @@ impl Cell {
     /// The cell; refused where memory was refused for a piece of it.
     fn end(self) -> Result<Cell, AllocError> {
         let is_whole = self.field.is_whole() && self.field_type.is_whole() && self.camel.is_whole();
+        let is_whole = is_whole && self.note.is_whole();
         if is_whole && self.arguments.is_whole() && self.entry.is_whole() {
             Ok(self)
         } else {
@@ -152,7 +160,7 @@ fn push_own_default<'m>(
 ) -> Result<Option<Text>, Refusal> {
     match row.need {
         Need::Default(value) => Ok(Some(push_default(scope, all, out, row, value, (own, rust))?)),
-        _ => Ok(None),
+        Need::Required | Need::Optional => Ok(None),
     }
 }
 
@@ -204,7 +212,8 @@ pub fn cell_of<'m>(
     let rust = push_shape(scope, all, out, own.as_str(), part, row)?;
     let default = push_own_default(scope, all, out, own.as_str(), row, rust.as_str())?;
     let names = (name, part.rust_name.as_str());
-    let cell = component_cell(scope.alloc, names, row, rust.as_str(), default, is_addition);
+    let mut cell = component_cell(scope.alloc, names, row, rust.as_str(), default, is_addition);
+    push_note(&mut cell.note, scope.token(row.name).note, INDENT);
     Ok(cell.tied(part.tie).end()?)
 }
 
@@ -261,6 +270,7 @@ pub fn alternative_of<'m>(
     let rust = push_shape(scope, all, out, own.as_str(), part, row)?;
     let names = (name, part.rust_name.as_str());
     let tag = row.tag.unwrap_or(Tag::EOC);
-    let cell = alternative_cell(scope.alloc, names, tag, rust.as_str());
+    let mut cell = alternative_cell(scope.alloc, names, tag, rust.as_str());
+    push_note(&mut cell.note, scope.token(row.name).note, INDENT);
     Ok(cell.tied(part.tie).end()?)
 }

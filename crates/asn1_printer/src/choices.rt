@@ -48,6 +48,7 @@ fn push_table(alloc: Global, out: &mut Text, owner: &str, part: &str, cells: &[C
 /// The variants of an enum, each with what it holds, a line each.
 pub fn push_variants(out: &mut Text, cells: &[Cell]) {
     for cell in cells.iter() {
+        out.push_text(&cell.note);
         out.push_all(&[
             "    ",
             cell.camel.as_str(),

@@ -14,10 +14,10 @@ const MAX_LISTS: usize = 64;
 fn is_in_set_of(start: &Type) -> bool {
     let mut of = start;
     for _ in 0..MAX_LISTS {
-        match &of.body {
-            Body::SequenceOf(element) => of = &**element,
-            Body::SetOf(_) => return true,
-            _ => return false,
+        match of.body.list() {
+            Some((element, false)) => of = element,
+            Some((_, true)) => return true,
+            None => return false,
         }
     }
     false

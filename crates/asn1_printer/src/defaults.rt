@@ -182,7 +182,9 @@ fn written_bits<'m>(
     match spot.value {
         Value::Literal(id) => Ok(bits_of_literal(scope, *id)?),
         Value::Names(_, bits) => bits_of_names(scope, spot.names, bits.as_slice()),
-        _ => Err(scope.refused(row.name, PRINTED)),
+        Value::Negative(_) | Value::Reference(_) | Value::Braces(_) => {
+            Err(scope.refused(row.name, PRINTED))
+        }
     }
 }
 
@@ -308,7 +310,7 @@ fn push_made(out: &mut Text, held: Held) {
 fn push_value(out: &mut Text, held: Held, list: &Text) {
     match held.evidence {
         Evidence::Utf8 => out.push_text(list),
-        _ => {
+        Evidence::Any | Evidence::Each | Evidence::Pairs => {
             out.push("record { 0 = ");
             out.push_text(list);
             out.push(" }");

@@ -118,7 +118,8 @@ fn leaf_depth<'m>(scope: Scope<'m, '_>, link: &'m Type, base: &'m Type) -> Resul
         }
         Body::BitString(_) => (BITS, sizes_of(scope, link)?.0),
         Body::Simple(simple) => (simple_depth(*simple), sizes_of(scope, link)?.0),
-        _ => (0, false),
+        Body::Sequence(_) | Body::Set(_) | Body::Choice(_) | Body::Enumerated(_, _) => (0, false),
+        Body::SequenceOf(_) | Body::SetOf(_) | Body::Reference(_) => (0, false),
     };
     Ok(if has_limits {
         own.max(1).saturating_add(1)
@@ -146,7 +147,7 @@ fn part_depth<'m>(
         Tie::Member(at) => Some(at),
         Tie::Plain => part.target,
     };
-    if part.lists != 0 {
+    if part.lists != 0 || part.is_held {
         return Ok(APART);
     }
     let base = scope.base_of(part.inner)?;
@@ -154,7 +155,10 @@ fn part_depth<'m>(
         Body::Integer(_) | Body::BitString(_) | Body::Simple(_) => {
             leaf_depth(scope, part.inner, base)
         }
-        _ => Ok(own_at(depths, at)),
+        Body::Sequence(_) | Body::Set(_) | Body::Choice(_) | Body::Enumerated(_, _) => Ok(own_at(
+            depths, at,
+        )),
+        Body::SequenceOf(_) | Body::SetOf(_) | Body::Reference(_) => Ok(own_at(depths, at)),
     }
 }
 
@@ -236,7 +240,7 @@ fn with_additions<'m>(
                 counted = number;
                 row = with_group(scope, depths, parts, number, row)?;
             }
-            _ => {}
+            Some(Position::Root | Position::Group(_)) | None => {}
         }
     }
     Ok(row)
@@ -267,6 +271,18 @@ fn choice_depth<'m>(
     Ok(row.depth())
 }
 
+/// The depth of a name for a type, for a list or for a type without parts.
+fn named_depth<'m>(
+    scope: Scope<'m, '_>,
+    depths: &[Depth],
+    parts: &[Part<'m>],
+) -> Result<Depth, Refusal> {
+    match parts.first() {
+        Some(part) => Ok(Depth::of(part_depth(scope, depths, part)?)),
+        None => Ok(Depth::of(0)),
+    }
+}
+
 /// The depth of a type, by those of the types that it uses.
 fn depth_of<'m>(
     scope: Scope<'m, '_>,
@@ -274,12 +290,17 @@ fn depth_of<'m>(
     definition: &Definition<'m>,
 ) -> Result<Depth, Refusal> {
     let parts = definition.parts.as_slice();
-    match (&definition.of.body, parts.first()) {
-        (Body::Sequence(_), _) => sequence_depth(scope, depths, parts, false),
-        (Body::Set(_), _) => sequence_depth(scope, depths, parts, true),
-        (Body::Choice(_), _) => choice_depth(scope, depths, parts),
-        (Body::Enumerated(_, _), _) | (_, None) => Ok(Depth::of(2)),
-        (_, Some(part)) => Ok(Depth::of(part_depth(scope, depths, part)?)),
+    match &definition.of.body {
+        Body::Sequence(_) => sequence_depth(scope, depths, parts, false),
+        Body::Set(_) => sequence_depth(scope, depths, parts, true),
+        Body::Choice(_) => choice_depth(scope, depths, parts),
+        Body::Enumerated(_, _) => Ok(Depth::of(2)),
+        Body::Simple(_) | Body::Integer(_) | Body::BitString(_) => named_depth(
+            scope, depths, parts,
+        ),
+        Body::SequenceOf(_) | Body::SetOf(_) | Body::Reference(_) => {
+            named_depth(scope, depths, parts)
+        }
     }
 }
 

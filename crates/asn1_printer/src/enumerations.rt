@@ -2,6 +2,7 @@
 
 use crate::cells::variant_name;
 use crate::items::push_defined;
+use crate::notes::push_note;
 use crate::templates::ENUMERATED;
 use crate::text::{Text, Words};
 use asn1_layouts::definitions::Definition;
@@ -13,9 +14,10 @@ use asn1_modules::refusal::Refusal;
 use std::alloc::Global;
 use std::collections::BTreeMap;
 
-/// A value: the name of its variant, and its number.
+/// A value: the comments in front of it, the name of its variant, and its number.
 #[derive(Drop)]
 struct Variant {
+    note: Text,
     name: String,
     number: i128,
 }
@@ -37,7 +39,10 @@ fn variants_of(scope: Scope<'_, '_>, numbers: &[(TokenId, i128)]) -> Result<Vec<
             return Err(scope.refused_beside(*id, READS, names, name.as_str()));
         }
         seen.insert(name.clone()?, *id)?;
+        let mut note = Text::new(scope.alloc);
+        push_note(&mut note, scope.token(*id).note, "    ");
         variants.push(Variant {
+            note,
             name,
             number: *number,
         })?;
@@ -48,6 +53,7 @@ fn variants_of(scope: Scope<'_, '_>, numbers: &[(TokenId, i128)]) -> Result<Vec<
 /// Appends a line for each value.
 fn push_lines(out: &mut Text, variants: &[Variant]) {
     for one in variants.iter() {
+        out.push_text(&one.note);
         out.push_all(&["    ", one.name.as_str(), " = "]);
         out.push_number(one.number);
         out.push(",\n");

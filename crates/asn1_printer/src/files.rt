@@ -1,9 +1,11 @@
 //! The files of the crates that the types are put into.
 
+use crate::constants::constants_of;
 use crate::knot_files::{has_knots, push_circle_files, push_definition_names};
 use crate::knot_templates::KNOT_USES;
 use crate::outputs::{File, push_placed};
 use crate::printer::{LeftOut, Outcome, Printed, free_names, print_types};
+use crate::sizes::hold_large;
 use crate::text::Text;
 use crate::uses::{Homes, Paths, path_lines, push_path, use_lines};
 use asn1_layouts::circles::find_circles;
@@ -331,11 +333,17 @@ fn root_file(
     types: &[Printed],
     all: &[Section],
     library: &str,
+    has_constants: bool,
 ) -> Result<File, AllocError> {
     let names = name_lines(alloc, types, all, library)?;
     let mut text = Text::new(alloc);
     text.push_all(&[HEAD, "#![tactic(auto)]\n\n"]);
     push_modules(&mut text, all, library);
+    text.push(if has_constants {
+        "pub mod values;\n"
+    } else {
+        ""
+    });
     text.push_all(&["\n", names.as_str()]);
     File::at(alloc, &[library, "/src/lib.rt"], text.end()?)
 }
@@ -360,6 +368,13 @@ fn definitions_root(
     Ok(Some(File::at(alloc, &[library, "/specs/Lib.antt"], text)?))
 }
 
+/// The file of constants.
+fn constants_file(alloc: Global, library: &str, constants: &str) -> Result<File, AllocError> {
+    let mut text = Text::new(alloc);
+    text.push_all(&[HEAD, "\n", constants.trim_end(), "\n"]);
+    File::at(alloc, &[library, "/src/values.rt"], text.end()?)
+}
+
 /// Puts the root files of a crate behind others.
 fn push_root_files(
     alloc: Global,
@@ -367,24 +382,43 @@ fn push_root_files(
     types: &[Printed],
     all: &[Section],
     library: &str,
+    constants: &str,
 ) -> Result<(), AllocError> {
-    files.push(root_file(alloc, types, all, library)?)?;
+    let has_constants = !constants.is_empty();
+    files.push(root_file(alloc, types, all, library, has_constants)?)?;
+    if has_constants {
+        files.push(constants_file(alloc, library, constants)?)?;
+    }
     if let Some(root) = definitions_root(alloc, types, all, library)? {
         files.push(root)?;
     }
     Ok(())
 }
 
-/// The files of all crates.
-fn crate_files(alloc: Global, types: &[Printed], all: &[Section]) -> Result<Vec<File>, AllocError> {
+/// The files of all crates; the first crate has the constants.
+fn crate_files(
+    alloc: Global,
+    types: &[Printed],
+    all: &[Section],
+    constants: &str,
+) -> Result<Vec<File>, AllocError> {
     let homes = homes_of(alloc, types, all)?;
     let mut files = Vec::new(alloc);
+    let mut left = constants;
     for section in all.iter() {
         files.push(section_file(alloc, types, &homes, section)?)?;
         let place = (section.library.as_str(), section.module.as_str());
         push_circle_files(alloc, &mut files, types_of(types, section), place)?;
         if section.module.as_str() == FIRST_MODULE {
-            push_root_files(alloc, &mut files, types, all, section.library.as_str())?;
+            push_root_files(
+                alloc,
+                &mut files,
+                types,
+                all,
+                section.library.as_str(),
+                left,
+            )?;
+            left = "";
         }
     }
     Ok(files)
@@ -481,6 +515,7 @@ fn push_all_unread(scope: Scope<'_, '_>, out: &mut Text, files: &[&str]) -> Resu
 fn output_of(
     scope: Scope<'_, '_>,
     outcome: &Outcome,
+    constants: &str,
     wish: Wish<'_>,
 ) -> Result<Output, AllocError> {
     let alloc = scope.alloc;
@@ -491,7 +526,7 @@ fn output_of(
     push_all_unread(scope, &mut lines, wish.files)?;
     push_left_out(alloc, &mut lines, outcome.left_out.as_slice(), wish.files)?;
     Ok(Output {
-        files: crate_files(alloc, types, all.as_slice())?,
+        files: crate_files(alloc, types, all.as_slice(), constants)?,
         lines: lines.end()?,
     })
 }
@@ -500,9 +535,11 @@ fn output_of(
 fn crates_of_scope(scope: Scope<'_, '_>, wish: Wish<'_>) -> Result<Output, Refusal> {
     let mut all = definitions(scope, wish.leaves_out)?;
     let order = find_circles(scope.alloc, &mut all)?;
+    hold_large(scope.alloc, &mut all, order.as_slice())?;
     free_names(scope, &mut all)?;
     let outcome = print_types(scope, all.as_slice(), order.as_slice(), wish.leaves_out)?;
-    Ok(output_of(scope, &outcome, wish)?)
+    let constants = constants_of(scope, all.as_slice())?;
+    Ok(output_of(scope, &outcome, constants.as_str(), wish)?)
 }
 
 /// The crates of the modules in tokens.

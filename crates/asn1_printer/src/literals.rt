@@ -112,7 +112,11 @@ fn is_permitted(simple: Simple, c: char) -> bool {
         Simple::VisibleString => c == ' ' || c.is_ascii_graphic(),
         Simple::BmpString => u32::from(c) <= 65535 && c != '\n',
         Simple::Utf8String => c != '\n',
-        _ => c.is_ascii() && c != '\n',
+        Simple::Ia5String | Simple::GeneralString => c.is_ascii() && c != '\n',
+        Simple::GraphicString | Simple::TeletexString => c.is_ascii() && c != '\n',
+        Simple::Boolean | Simple::Null | Simple::OctetString => false,
+        Simple::ObjectIdentifier | Simple::Any => false,
+        Simple::UtcTime | Simple::GeneralizedTime | Simple::Date => false,
     }
 }
 
@@ -214,8 +218,8 @@ fn push_names(scope: Scope<'_, '_>, out: &mut Text, names: &[TokenId]) {
 /// Appends a value as the module writes it, in one line: one token, or names between braces.
 pub fn push_written(scope: Scope<'_, '_>, out: &mut Text, value: &Value) {
     match value {
-        Value::Literal(id) => out.push_replaced(scope.text(*id), "\n", " "),
+        Value::Literal(id) => out.push_plain(scope.text(*id)),
         Value::Names(_, names) => push_names(scope, out, names.as_slice()),
-        _ => {}
+        Value::Negative(_) | Value::Reference(_) | Value::Braces(_) => {}
     }
 }

@@ -59,7 +59,7 @@ pub fn push_notation(out: &mut Text, tokens: &[Token<'_>], start: usize) {
             column = 4;
         }
         out.push(blank(apart, is_new_line));
-        out.push(token.text);
+        out.push_plain(token.text);
         column = column.saturating_add(width);
         before = Some(*token);
     }

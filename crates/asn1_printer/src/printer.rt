@@ -9,6 +9,7 @@ use crate::items::push_limits;
 use crate::knots::{knot_name, push_knot, push_list};
 use crate::lines::laid_out;
 use crate::notation::push_notation;
+use crate::notes::push_noted;
 use crate::sequences::push_sequence;
 use crate::shapes::shape_of;
 use crate::templates::ALIAS;
@@ -180,23 +181,25 @@ fn token_before<'a>(scope: Scope<'_, 'a>, start: usize, back: usize) -> Option<T
 }
 
 /// The name in front of a type that is assigned; nothing in front of another.
-fn name_before<'a>(scope: Scope<'_, 'a>, start: usize) -> Option<&'a str> {
+fn name_before<'a>(scope: Scope<'_, 'a>, start: usize) -> Option<Token<'a>> {
     match (token_before(scope, start, 2), token_before(scope, start, 1)) {
-        (Some(name), Some(assigns)) if assigns.text == "::=" => Some(name.text),
+        (Some(name), Some(assigns)) if assigns.text == "::=" => Some(name),
         _ => None,
     }
 }
 
-/// A type's ASN.1 as a doc comment.
+/// The comments in front of a type, and its ASN.1, as a doc comment.
 fn doc_of(scope: Scope<'_, '_>, definition: &Definition<'_>) -> Result<String, AllocError> {
     let start = definition.of.first.index;
     let mut doc = Text::new(scope.alloc);
-    doc.push("/// `");
+    let mut notation = Text::new(scope.alloc);
+    notation.push("/// `");
     if let Some(name) = name_before(scope, start) {
-        doc.push(name);
-        doc.push(" ::= ");
+        push_noted(&mut doc, name.note);
+        notation.push_all(&[name.text, " ::= "]);
     }
-    push_notation(&mut doc, scope.tokens, start);
+    push_notation(&mut notation, scope.tokens, start);
+    doc.push_text(&notation);
     doc.end()
 }
 
@@ -221,7 +224,10 @@ fn text_of<'m>(
         Body::Reference(_) if definition.circle.is_some() => {
             push_circle_name(scope.alloc, all, &mut out, definition, doc);
         }
-        _ => push_alias(scope, all, &mut out, definition, doc)?,
+        Body::Simple(_) | Body::Integer(_) | Body::BitString(_) | Body::Reference(_) => {
+            push_alias(scope, all, &mut out, definition, doc)?
+        }
+        Body::SequenceOf(_) | Body::SetOf(_) => push_alias(scope, all, &mut out, definition, doc)?,
     }
     if knot_name(all, definition) == Some(definition.rust_name.as_str()) {
         push_knot(scope.alloc, &mut out, definition)?;

@@ -20,8 +20,10 @@ use std::collections::BTreeMap;
 /// The fields of a struct, a line each.
 pub fn push_fields(out: &mut Text, cells: &[Cell]) {
     for cell in cells.iter() {
+        out.push("\n");
+        out.push_text(&cell.note);
         out.push_all(&[
-            "\n    pub ",
+            "    pub ",
             cell.field.as_str(),
             ": ",
             cell.field_type.as_str(),

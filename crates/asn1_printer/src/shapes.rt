@@ -213,6 +213,26 @@ pub fn number_of_octets<'m>(
     Ok((rust, !limits.is_extensible && limits != own, limits))
 }
 
+/// The Rust type of a constant of an INTEGER: that of its numbers, or one of 128 bits, of which an `Integer` is made.
+pub fn constant_type<'m>(
+    scope: Scope<'m, '_>,
+    of: &'m Type,
+    number: i128,
+) -> Result<&'static str, Refusal> {
+    let (_, _, limits) = number_of_octets(scope, of)?;
+    match number_type(limits) {
+        (
+            rust,
+            Limits {
+                low: Some(low),
+                high: Some(high),
+                ..
+            },
+        ) if low <= number && number <= high => { Ok(rust) }
+        _ => Ok("i128"),
+    }
+}
+
 /// Whether the Rust type of a string stands within sizes, and these.
 pub fn sizes_of<'m>(scope: Scope<'m, '_>, link: &'m Type) -> Result<(bool, Limits), Refusal> {
     let chain = scope.chain_of(link)?;
@@ -228,17 +248,11 @@ pub fn sizes_of<'m>(scope: Scope<'m, '_>, link: &'m Type) -> Result<(bool, Limit
 fn push_lists(out: &mut Text, start: &Type) -> usize {
     let mut of = start;
     for count in 0..MAX_LISTS {
-        match &of.body {
-            Body::SequenceOf(element) => {
-                out.push("ListOf<");
-                of = &**element;
-            }
-            Body::SetOf(element) => {
-                out.push("SetOf<");
-                of = &**element;
-            }
-            _ => return count,
-        }
+        let Some((element, is_set)) = of.body.list() else {
+            return count;
+        };
+        out.push(if is_set { "SetOf<" } else { "ListOf<" });
+        of = element;
     }
     MAX_LISTS
 }
@@ -254,8 +268,9 @@ pub fn shape_of<'m>(
     let inner = inner_shape(scope, all, part, name)?;
     let mut text = Text::new(scope.alloc);
     let lists = push_lists(&mut text, whole);
+    text.push(if part.is_held { "Held<" } else { "" });
     text.push_text(&inner.text);
-    text.push_times(">", lists);
+    text.push_times(">", lists.saturating_add(if part.is_held { 1 } else { 0 }));
     Ok(Shape {
         text,
         limits: inner.limits,

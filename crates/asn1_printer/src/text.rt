@@ -3,6 +3,12 @@
 use asn1_layouts::names::push_type_name;
 use std::alloc::{AllocError, Global};
 
+/// Whether a comment of the language may have a character: it may not have tabs and other controls, ends of lines, and signs that turn
+/// the direction of a text.
+pub fn is_plain(c: char) -> bool {
+    !(c.is_control() || matches!(c, '\u{2028}'..='\u{202E}' | '\u{2066}'..='\u{2069}'))
+}
+
 /// A text that is put together. Where memory is refused for a piece, it says so once, at its end: so a function that only appends has no
 /// early exits, of which each costs a check about what a call does, and all that is held there besides.
 #[derive(Drop)]
@@ -105,6 +111,13 @@ impl Text {
     pub fn push_lower(&mut self, name: &str) {
         for c in name.chars() {
             self.push_char(c.to_ascii_lowercase());
+        }
+    }
+
+    /// Appends a text of a module to a comment: a blank in the place of each character that no comment may have.
+    pub fn push_plain(&mut self, text: &str) {
+        for c in text.chars() {
+            self.push_char(if is_plain(c) { c } else { ' ' });
         }
     }
 

@@ -302,7 +302,16 @@ pub fn weights_of(
             definition,
         ),
         Body::Choice(_) if definition.circle.is_some() => choice_weights(scope, all, definition),
-        _ => Ok(Weights {
+        Body::Sequence(_)
+        | Body::Set(_)
+        | Body::Choice(_)
+        | Body::Enumerated(_, _)
+        | Body::SequenceOf(_)
+        | Body::SetOf(_)
+        | Body::Reference(_)
+        | Body::Simple(_)
+        | Body::Integer(_)
+        | Body::BitString(_) => Ok(Weights {
             uses: String::new(scope.alloc),
             lines: String::new(scope.alloc),
         }),

@@ -6,6 +6,8 @@ ghost use Rattle.asn1_core.specs.declared.constraints.TheConstants.Constraints.{
 use rasn_oer::prelude::*;
 use std::alloc::Global;
 
+/// By an optional component, behind and in front of others.
+///
 /// `Node ::= SEQUENCE { value INTEGER (0..255), next Node OPTIONAL, last BOOLEAN DEFAULT FALSE }`
 #[derive(Debug, PartialEq, Eq, Drop)]
 pub struct Node(pub NodeContent<Node>);
@@ -349,6 +351,8 @@ impl<K: Encode + Decode> TakesAlternative for BodyAlternatives<K> {
     }
 }
 
+/// A sequence, and a choice that may hold it; both may be extended.
+///
 /// `Envelope ::= SEQUENCE { id Serial, body Body, ..., urgent BOOLEAN OPTIONAL }`
 #[derive(Debug, PartialEq, Eq, Drop)]
 pub struct Envelope(pub EnvelopeContent<Envelope>);

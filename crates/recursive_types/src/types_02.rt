@@ -13,6 +13,8 @@ pub type Forest = ForestContent<Tree>;
 /// A `Forest` with `K` in the place of `Tree`.
 pub type ForestContent<K> = ListOf<Bare<K>>;
 
+/// A list of itself, by names.
+///
 /// `Tree ::= SEQUENCE { label IA5String, leaves Forest, shade Forest OPTIONAL }`
 #[derive(Debug, PartialEq, Eq, Drop)]
 pub struct Tree(pub TreeContent<Tree>);
@@ -225,6 +227,8 @@ impl Decode for Tree {
     }
 }
 
+/// A list of itself, and no more.
+///
 /// `Nest ::= SEQUENCE OF Nest`
 #[derive(Debug, PartialEq, Eq, Drop)]
 pub struct Nest(pub NestContent<Nest>);
@@ -326,6 +330,8 @@ impl Decode for Nest {
     }
 }
 
+/// Beside a circle.
+///
 /// `Post ::= SEQUENCE { letter Envelope, answer Body OPTIONAL }`
 pub type Post = Sequence<PostComponents, 2, 0>;
 

@@ -6,6 +6,7 @@ mod types_02;
 mod types_03;
 mod types_04;
 mod types_05;
+pub mod values;
 
 pub use types_01::{
     Again, Below, Bits, Colour, ColourValues, Key, Name, Names, Narrow, Percent, Row,

@@ -429,6 +429,7 @@ pub type Leaves = Sequence<LeavesComponents, 19, 0>;
 /// The components of `Leaves`.
 #[derive(Debug, PartialEq, Eq, Drop)]
 pub struct LeavesComponents {
+    /// a comment within its line
     pub none: (),
     pub two: Limited<u16, LeavesTwoLimits>,
     pub wide: Limited<i16, LeavesWideLimits>,
