@@ -233,8 +233,10 @@ fn additions(word: &str, e: &mut Encoder<'_>) -> Result<Done> {
         "encode_extension_addition" => e.encode_extension_addition(one(), NONE, Some(&true)),
         "encode_optional_addition" => e.encode_optional_addition(one(), Some(&true)),
         "encode_alternative" => e.encode_alternative::<PriorityChoice, bool>(one(), &true),
-        "encode_alternative_beyond_the_root" => e
-            .encode_alternative::<PriorityChoice, bool>(Tag::new(Class::Context, 50), &true),
+        "encode_alternative_beyond_the_root" => e.encode_alternative::<PriorityChoice, bool>(
+            Tag::new(Class::Context, 50),
+            &true,
+        ),
         "encode_extension_addition_group" => {
             e.encode_extension_addition_group(Some(&Sequence(components::Sequence4 { a: true })))
         }
