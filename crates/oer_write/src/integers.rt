@@ -5,6 +5,8 @@ use asn1_core::{Constraints, EncodeError, Tag};
 use asn1_ints::{ConstrainedInteger, Integer, IntegerRange};
 
 impl Encode for i8 {
+    const IS_LEAF: bool = true;
+
     #[inline(always)]
     fn encode_with_tag_and_constraints(
         &self,
@@ -17,6 +19,8 @@ impl Encode for i8 {
 }
 
 impl Encode for i16 {
+    const IS_LEAF: bool = true;
+
     #[inline(always)]
     fn encode_with_tag_and_constraints(
         &self,
@@ -29,6 +33,8 @@ impl Encode for i16 {
 }
 
 impl Encode for i32 {
+    const IS_LEAF: bool = true;
+
     #[inline(always)]
     fn encode_with_tag_and_constraints(
         &self,
@@ -41,6 +47,8 @@ impl Encode for i32 {
 }
 
 impl Encode for i64 {
+    const IS_LEAF: bool = true;
+
     #[inline(always)]
     fn encode_with_tag_and_constraints(
         &self,
@@ -53,6 +61,8 @@ impl Encode for i64 {
 }
 
 impl Encode for i128 {
+    const IS_LEAF: bool = true;
+
     #[inline(always)]
     fn encode_with_tag_and_constraints(
         &self,
@@ -65,6 +75,8 @@ impl Encode for i128 {
 }
 
 impl Encode for isize {
+    const IS_LEAF: bool = true;
+
     #[inline(always)]
     fn encode_with_tag_and_constraints(
         &self,
@@ -77,6 +89,8 @@ impl Encode for isize {
 }
 
 impl Encode for u8 {
+    const IS_LEAF: bool = true;
+
     #[inline(always)]
     fn encode_with_tag_and_constraints(
         &self,
@@ -89,6 +103,8 @@ impl Encode for u8 {
 }
 
 impl Encode for u16 {
+    const IS_LEAF: bool = true;
+
     #[inline(always)]
     fn encode_with_tag_and_constraints(
         &self,
@@ -101,6 +117,8 @@ impl Encode for u16 {
 }
 
 impl Encode for u32 {
+    const IS_LEAF: bool = true;
+
     #[inline(always)]
     fn encode_with_tag_and_constraints(
         &self,
@@ -113,6 +131,8 @@ impl Encode for u32 {
 }
 
 impl Encode for u64 {
+    const IS_LEAF: bool = true;
+
     #[inline(always)]
     fn encode_with_tag_and_constraints(
         &self,
@@ -125,6 +145,8 @@ impl Encode for u64 {
 }
 
 impl Encode for u128 {
+    const IS_LEAF: bool = true;
+
     #[inline(always)]
     fn encode_with_tag_and_constraints(
         &self,
@@ -137,6 +159,8 @@ impl Encode for u128 {
 }
 
 impl Encode for usize {
+    const IS_LEAF: bool = true;
+
     #[inline(always)]
     fn encode_with_tag_and_constraints(
         &self,
@@ -149,6 +173,8 @@ impl Encode for usize {
 }
 
 impl Encode for Integer {
+    const IS_LEAF: bool = true;
+
     #[inline(always)]
     fn encode_with_tag_and_constraints(
         &self,
@@ -161,6 +187,8 @@ impl Encode for Integer {
 }
 
 impl<R: IntegerRange> Encode for ConstrainedInteger<R> {
+    const IS_LEAF: bool = true;
+
     #[inline(always)]
     fn encode_with_tag_and_constraints(
         &self,

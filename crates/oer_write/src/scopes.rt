@@ -23,7 +23,7 @@ use asn1_core::{Constructed, EncodeError, EncodeErrorKind, Tag};
 use std::alloc::Global;
 
 /// Room that an outermost scope asks for at once, so that the octets of a small value take one request for memory.
-pub(crate) const ROOM: usize = 32;
+pub(crate) const ROOM: usize = 96;
 
 /// Lends an encoder to a closure.
 #[inline(always)]

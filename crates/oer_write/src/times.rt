@@ -67,6 +67,8 @@ impl<'buffer> Encoder<'buffer> {
 }
 
 impl Encode for UtcTime {
+    const IS_LEAF: bool = true;
+
     fn encode_with_tag_and_constraints(
         &self,
         encoder: &mut Encoder<'_>,
@@ -78,6 +80,8 @@ impl Encode for UtcTime {
 }
 
 impl Encode for GeneralizedTime {
+    const IS_LEAF: bool = true;
+
     fn encode_with_tag_and_constraints(
         &self,
         encoder: &mut Encoder<'_>,
@@ -89,6 +93,8 @@ impl Encode for GeneralizedTime {
 }
 
 impl Encode for Date {
+    const IS_LEAF: bool = true;
+
     fn encode_with_tag_and_constraints(
         &self,
         encoder: &mut Encoder<'_>,

@@ -15,16 +15,16 @@ use Rattle.oer_write.proofs.encoder.Encoder.put_own_open.Goals as goal
 pub invariant_of-self-2 : goal.invariant_of-self-2
 invariant_of-self-2 g c =
     let q : c.replace-pieces.result ≡ c.self.inside.insertions = search rules in
-    let answered : c.put_own-answer.result ≡ Ok tt = search rules in
+    let answered : c.put_own_by_sort-answer.result ≡ Ok tt = search rules in
     let x : Octets = open_type (canonical_octets (g.T.Spelled.tree g.T.AsnType.CONSTRAINTS c.args.value.now)) in
-    grown_sound c.self.inside.scope c.self.inside.is_lent c.self.inside.is_inside c.self.inside.output.now.items x c.put_own-answer.new.out.items c.self.inside.insertions c.put_own-answer.new.insertions c.self.invariant (adds_from _ _ _ _ _ _ q (ok_of _ answered c.put_own-answer.ensures.done)) (λ h. ok_of _ answered (c.put_own-answer.ensures.alone h))
+    grown_sound c.self.inside.scope c.self.inside.is_lent c.self.inside.is_inside c.self.inside.output.now.items x c.put_own_by_sort-answer.new.out.items c.self.inside.insertions c.put_own_by_sort-answer.new.insertions c.self.invariant (adds_from _ _ _ _ _ _ q (ok_of _ answered c.put_own_by_sort-answer.ensures.done)) (λ h. ok_of _ answered (c.put_own_by_sort-answer.ensures.alone h))
 
 pub returns-clause-done : goal.returns-clause-done
 returns-clause-done g c =
     let q : c.replace-pieces.result ≡ c.self.inside.insertions = search rules in
-    let answered : c.put_own-answer.result ≡ Ok tt = search rules in
+    let answered : c.put_own_by_sort-answer.result ≡ Ok tt = search rules in
     let x : Octets = open_type (canonical_octets (g.T.Spelled.tree g.T.AsnType.CONSTRAINTS c.args.value.now)) in
-    grown_seen c.self.inside.scope c.self.inside.is_lent c.self.inside.is_inside c.self.inside.output.now.items x c.put_own-answer.new.out.items c.self.inside.insertions c.put_own-answer.new.insertions c.self.invariant (adds_from _ _ _ _ _ _ q (ok_of _ answered c.put_own-answer.ensures.done)) ∙ ap (append x) c.self.view_is
+    grown_seen c.self.inside.scope c.self.inside.is_lent c.self.inside.is_inside c.self.inside.output.now.items x c.put_own_by_sort-answer.new.out.items c.self.inside.insertions c.put_own_by_sort-answer.new.insertions c.self.invariant (adds_from _ _ _ _ _ _ q (ok_of _ answered c.put_own_by_sort-answer.ensures.done)) ∙ ap (append x) c.self.view_is
 
 pub returns-in_err-answer-clause-refused : goal.returns-in_err-answer-clause-refused
 returns-in_err-answer-clause-refused g c =
