@@ -80,6 +80,8 @@ impl EqualAsSpelled for Utf8Text {
 }
 
 impl Encode for Utf8Text {
+    const IS_LEAF: bool = true;
+
     fn encode_with_tag_and_constraints(
         &self,
         encoder: &mut Encoder<'_>,
@@ -152,6 +154,8 @@ impl EqualAsSpelled for NumericText {
 }
 
 impl Encode for NumericText {
+    const IS_LEAF: bool = true;
+
     fn encode_with_tag_and_constraints(
         &self,
         encoder: &mut Encoder<'_>,
@@ -219,6 +223,8 @@ impl EqualAsSpelled for PrintableText {
 }
 
 impl Encode for PrintableText {
+    const IS_LEAF: bool = true;
+
     fn encode_with_tag_and_constraints(
         &self,
         encoder: &mut Encoder<'_>,
@@ -286,6 +292,8 @@ impl EqualAsSpelled for VisibleText {
 }
 
 impl Encode for VisibleText {
+    const IS_LEAF: bool = true;
+
     fn encode_with_tag_and_constraints(
         &self,
         encoder: &mut Encoder<'_>,
@@ -353,6 +361,8 @@ impl EqualAsSpelled for Ia5Text {
 }
 
 impl Encode for Ia5Text {
+    const IS_LEAF: bool = true;
+
     fn encode_with_tag_and_constraints(
         &self,
         encoder: &mut Encoder<'_>,
