@@ -8,7 +8,7 @@ ghost use Rattle.oer_spec.specs.Spelled.{IsConsistent};
 ghost use Rattle.oer_spec.specs.Writing.{BeginsWith};
 ghost use Rattle.oer_spec.specs.Tree.{NoRows, Present, Absent, slot_of, present_unless};
 ghost use Rattle.oer_write.specs.Held.{Kept};
-ghost use Rattle.oer_write.specs.Layout.{Adds};
+ghost use Rattle.oer_write.specs.Layout.{Ascends};
 ghost use Rattle.oer_write.specs.Rows.{RowsDone, SetDone, RowsRefused, IsOpenEncodable, optional, defaulted, open_type};
 ghost use Rattle.oer_write.specs.Seen.{around, within, IsLaid};
 ghost use Rattle.oer_write.specs.Written.{Keeps, WantsMemory};
@@ -97,6 +97,7 @@ fn put_behind<E: Encode, C: WrittenUnder, W: WritesOpen>(
 ) -> Result<(), EncodeError>
     requires consistent { IsConsistent (C.bounds rule) }
     requires laid { IsLaid region.old (length out.old.items) insertions.old }
+    requires before { Ascends 0 (take region.old.first insertions.old) region.old.base }
     ensures short { OnOk result (IsOpenEncodable (E.tree (C.bounds rule) value.now)) }
     ensures done { OnOk result (within region.new out.new.items insertions.new ≡ within region.old out.old.items insertions.old ++ open_type (canonical_octets (E.tree (C.bounds rule) value.now))) }
     ensures value { OnOk result (E.IsValue value.now) }
@@ -137,6 +138,7 @@ fn put_by_sort<E: Encode, C: WrittenUnder>(
 ) -> Result<(), EncodeError>
     requires consistent { IsConsistent (C.bounds rule) }
     requires laid { IsLaid region.old (length out.old.items) insertions.old }
+    requires before { Ascends 0 (take region.old.first insertions.old) region.old.base }
     ensures short { OnOk result (IsOpenEncodable (E.tree (C.bounds rule) value.now)) }
     ensures done { OnOk result (within region.new out.new.items insertions.new ≡ within region.old out.old.items insertions.old ++ open_type (canonical_octets (E.tree (C.bounds rule) value.now))) }
     ensures value { OnOk result (E.IsValue value.now) }

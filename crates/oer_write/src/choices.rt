@@ -8,7 +8,7 @@ ghost use Rattle.oer_spec.specs.Lengths.{behind_length, tag_octets};
 ghost use Rattle.oer_spec.specs.Tree.{Tree, Choice};
 ghost use Rattle.oer_spec.specs.Writing.{BeginsWith};
 ghost use Rattle.oer_write.specs.Held.{Kept};
-ghost use Rattle.oer_write.specs.Layout.{Adds};
+ghost use Rattle.oer_write.specs.Layout.{Adds, Ascends};
 ghost use Rattle.asn1_core.specs.declared.codec.Codec.TheVariants.{Coer};
 ghost use Rattle.asn1_core.specs.declared.error.EncodeErrorKind.TheVariants.{OutOfMemory};
 ghost use Rattle.oer_spec.specs.Encoding.{canonical_octets};
@@ -71,6 +71,7 @@ fn pick_into<F: FnOnce(&mut Encoder<'_>) -> Result<Tag, EncodeError>>(
     requires callable { (lent : Written) → lent.frame.is_open ≡ false → FnOnceTakesAtMut F.FnOnce f lent }
     requires picks { PicksTag (PromisePick F.FnOnce f) tag }
     requires alone { is_inside ≡ false → insertions.old ≡ [] }
+    requires ascends { Ascends 0 insertions.old (length out.old.items) }
     ensures done { OnOk result ((o : Octets) × ContentDone (PromisePick F.FnOnce f) o × Adds o out.old.items insertions.old out.new.items insertions.new) }
     ensures refused { IfErr result (λ x. ContentRefused (PromisePick F.FnOnce f) x) }
     ensures kept { Kept out.old.items insertions.old out.new.items insertions.new }
@@ -99,6 +100,7 @@ fn pick_open<F: FnOnce(&mut Encoder<'_>) -> Result<Tag, EncodeError>>(
     requires callable { (lent : Written) → lent.frame.is_open ≡ false → FnOnceTakesAtMut F.FnOnce f lent }
     requires picks { PicksTag (PromisePick F.FnOnce f) tag }
     requires alone { is_inside ≡ false → insertions.old ≡ [] }
+    requires ascends { Ascends 0 insertions.old (length out.old.items) }
     ensures done { OnOk result ((o : Octets) × ContentDone (PromisePick F.FnOnce f) o × (length o < 2 ^ 64) × Adds (behind_length o) out.old.items insertions.old out.new.items insertions.new) }
     ensures refused { IfErr result (λ x. WantsMemory x ⊎ ContentRefused (PromisePick F.FnOnce f) x) }
     ensures kept { Kept out.old.items insertions.old out.new.items insertions.new }
@@ -127,6 +129,7 @@ fn write_choice<F: FnOnce(&mut Encoder<'_>) -> Result<Tag, EncodeError>>(
     requires callable { (lent : Written) → lent.frame.is_open ≡ false → FnOnceTakesAtMut F.FnOnce f lent }
     requires picks { PicksTag (PromisePick F.FnOnce f) tag }
     requires alone { is_inside ≡ false → insertions.old ≡ [] }
+    requires ascends { Ascends 0 insertions.old (length out.old.items) }
     ensures done { OnOk result ((o : Octets) × ContentDone (PromisePick F.FnOnce f) o × (is_root ≡ false → length o < 2 ^ 64) × Adds (tag_octets tag ++ alternative_octets is_root o) out.old.items insertions.old out.new.items insertions.new) }
     ensures refused { IfErr result (λ x. WantsMemory x ⊎ ContentRefused (PromisePick F.FnOnce f) x) }
     ensures kept { Kept out.old.items insertions.old out.new.items insertions.new }
@@ -153,6 +156,7 @@ fn put_choice<F: FnOnce(&mut Encoder<'_>) -> Result<Tag, EncodeError>>(
     requires callable { (lent : Written) → lent.frame.is_open ≡ false → FnOnceTakesAtMut F.FnOnce f lent }
     requires picks { PicksTag (PromisePick F.FnOnce f) tag }
     requires alone { is_inside ≡ false → insertions.old ≡ [] }
+    requires ascends { Ascends 0 insertions.old (length out.old.items) }
     ensures done { OnOk result ((o : Octets) × ContentDone (PromisePick F.FnOnce f) o × (is_root ≡ false → length o < 2 ^ 64) × Adds (tag_octets tag ++ alternative_octets is_root o) out.old.items insertions.old out.new.items insertions.new) }
     ensures refused { IfErr result (λ x. WantsMemory x ⊎ ContentRefused (PromisePick F.FnOnce f) x) }
     ensures unchanged { OnErr result (out.new.items ≡ out.old.items) }
@@ -189,7 +193,8 @@ fn put_own<T: Encode, W: WritesOpen>(
     out: &mut Vec<u8>,
     insertions: &mut Insertions,
 ) -> Result<(), EncodeError>
-    requires { is_inside ≡ false → insertions.old ≡ [] }
+    requires alone { is_inside ≡ false → insertions.old ≡ [] }
+    requires ascends { Ascends 0 insertions.old (length out.old.items) }
     ensures short { OnOk result (IsOpenEncodable (T.tree T.CONSTRAINTS value.now)) }
     ensures done { OnOk result (Adds (open_type (canonical_octets (T.tree T.CONSTRAINTS value.now))) out.old.items insertions.old out.new.items insertions.new) }
     ensures value { OnOk result (T.IsValue value.now) }
@@ -220,7 +225,8 @@ fn put_own_by_sort<T: Encode>(
     out: &mut Vec<u8>,
     insertions: &mut Insertions,
 ) -> Result<(), EncodeError>
-    requires { is_inside ≡ false → insertions.old ≡ [] }
+    requires alone { is_inside ≡ false → insertions.old ≡ [] }
+    requires ascends { Ascends 0 insertions.old (length out.old.items) }
     ensures short { OnOk result (IsOpenEncodable (T.tree T.CONSTRAINTS value.now)) }
     ensures done { OnOk result (Adds (open_type (canonical_octets (T.tree T.CONSTRAINTS value.now))) out.old.items insertions.old out.new.items insertions.new) }
     ensures value { OnOk result (T.IsValue value.now) }
@@ -287,7 +293,7 @@ impl<'buffer> Encoder<'buffer> {
         Ok(())
     }
 
-    #[tactic(auto, using(crate::proofs::Regions::more_around, crate::proofs::Regions::more_within))]
+    #[tactic(auto, using(crate::proofs::Regions::more_shown, crate::proofs::Regions::more_within))]
     #[inline(always)]
     fn put_tag(&mut self, tag: Tag) -> Result<(), EncodeErrorKind>
         ensures done { OnOk result (self.new ≡ append (tag_octets tag) self.old) }

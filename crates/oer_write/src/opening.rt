@@ -9,7 +9,7 @@ ghost use Rattle.oer_spec.specs.Lengths.{behind_length};
 ghost use Rattle.oer_spec.specs.Spelled.{IsConsistent};
 ghost use Rattle.oer_spec.specs.Writing.{BeginsWith};
 ghost use Rattle.oer_write.specs.Held.{Kept};
-ghost use Rattle.oer_write.specs.Layout.{Adds};
+ghost use Rattle.oer_write.specs.Layout.{Adds, Ascends};
 ghost use Rattle.oer_write.specs.Rows.{IsOpenEncodable, open_type};
 
 use crate::bits::Packed;
@@ -35,6 +35,7 @@ pub(crate) trait WritesOpen {
     ) -> Result<(), EncodeError>
         requires consistent { IsConsistent constraints }
         requires alone { is_inside ≡ false → insertions.old ≡ [] }
+        requires ascends { Ascends 0 insertions.old (length out.old.items) }
         ensures short { OnOk result (IsOpenEncodable (E.tree constraints value.now)) }
         ensures done { OnOk result (Adds (open_type (canonical_octets (E.tree constraints value.now))) out.old.items insertions.old out.new.items insertions.new) }
         ensures value { OnOk result (E.IsValue value.now) }
@@ -93,6 +94,7 @@ fn write_open<E: Encode>(
 ) -> Result<(), EncodeError>
     requires consistent { IsConsistent constraints }
     requires alone { is_inside ≡ false → insertions.old ≡ [] }
+    requires ascends { Ascends 0 insertions.old (length out.old.items) }
     ensures short { OnOk result (IsOpenEncodable (E.tree constraints value.now)) }
     ensures done { OnOk result (Adds (open_type (canonical_octets (E.tree constraints value.now))) out.old.items insertions.old out.new.items insertions.new) }
     ensures value { OnOk result (E.IsValue value.now) }
@@ -123,6 +125,7 @@ pub(crate) fn put_open<E: Encode, W: WritesOpen>(
 ) -> Result<(), EncodeError>
     requires consistent { IsConsistent constraints }
     requires alone { is_inside ≡ false → insertions.old ≡ [] }
+    requires ascends { Ascends 0 insertions.old (length out.old.items) }
     ensures short { OnOk result (IsOpenEncodable (E.tree constraints value.now)) }
     ensures done { OnOk result (Adds (open_type (canonical_octets (E.tree constraints value.now))) out.old.items insertions.old out.new.items insertions.new) }
     ensures value { OnOk result (E.IsValue value.now) }
@@ -197,6 +200,7 @@ fn write_leaf<E: Encode>(
 ) -> Result<(), EncodeError>
     requires consistent { IsConsistent constraints }
     requires alone { is_inside ≡ false → insertions.old ≡ [] }
+    requires ascends { Ascends 0 insertions.old (length out.old.items) }
     ensures short { OnOk result (IsOpenEncodable (E.tree constraints value.now)) }
     ensures done { OnOk result (Adds (open_type (canonical_octets (E.tree constraints value.now))) out.old.items insertions.old out.new.items insertions.new) }
     ensures value { OnOk result (E.IsValue value.now) }

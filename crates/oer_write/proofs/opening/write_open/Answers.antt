@@ -4,7 +4,7 @@ use Rattle.oer_spec.specs.Encoding.{canonical_octets}
 use Rattle.oer_write.specs.Layout.{slots}
 use Rattle.oer_write.specs.Rows.{open_type}
 use Rattle.oer_write.proofs.Holding.{kept_added}
-use Rattle.oer_write.proofs.Nesting.{adds_alike, kept_same, taken_adds}
+use Rattle.oer_write.proofs.Nesting.{adds_alike, kept_same, taken_adds, taken_ascends}
 use Rattle.oer_write.proofs.opening.write_open.Goals as goal
 
 pub returns-in_err-open_scope-clause-kept : goal.returns-in_err-open_scope-clause-kept
@@ -41,3 +41,6 @@ returns-clause-done g c =
 
 pub returns-clause-kept : goal.returns-clause-kept
 returns-clause-kept g c = kept_added _ _ _ _ _ (returns-clause-done g c)
+
+pub append_within-requires-clause-ascends : goal.append_within-requires-clause-ascends
+append_within-requires-clause-ascends g c = taken_ascends c.args.is_inside c.args.out.now.items c.open_scope.new.output.items c.args.insertions.now c.open_scope.new.insertions c.requires.ascends c.in_ok-open_scope.ensures.unchanged c.in_ok-open_scope.ensures.done
