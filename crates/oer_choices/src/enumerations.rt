@@ -140,8 +140,6 @@ impl<T: Numbered> EqualAsSpelled for Enumeration<T> {
 }
 
 impl<T: Numbered> Encode for Enumeration<T> {
-    const IS_LEAF: bool = true;
-
     #[inline(always)]
     fn encode_with_tag_and_constraints(
         &self,

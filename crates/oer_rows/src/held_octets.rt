@@ -48,8 +48,6 @@ impl EqualAsSpelled for Octets {
 }
 
 impl Encode for Octets {
-    const IS_LEAF: bool = true;
-
     fn encode_with_tag_and_constraints(
         &self,
         encoder: &mut Encoder<'_>,
@@ -117,8 +115,6 @@ impl EqualAsSpelled for OpenOctets {
 }
 
 impl Encode for OpenOctets {
-    const IS_LEAF: bool = true;
-
     fn encode_with_tag_and_constraints(
         &self,
         encoder: &mut Encoder<'_>,

@@ -80,8 +80,6 @@ impl EqualAsSpelled for Utf8Text {
 }
 
 impl Encode for Utf8Text {
-    const IS_LEAF: bool = true;
-
     fn encode_with_tag_and_constraints(
         &self,
         encoder: &mut Encoder<'_>,
@@ -154,8 +152,6 @@ impl EqualAsSpelled for NumericText {
 }
 
 impl Encode for NumericText {
-    const IS_LEAF: bool = true;
-
     fn encode_with_tag_and_constraints(
         &self,
         encoder: &mut Encoder<'_>,
@@ -223,8 +219,6 @@ impl EqualAsSpelled for PrintableText {
 }
 
 impl Encode for PrintableText {
-    const IS_LEAF: bool = true;
-
     fn encode_with_tag_and_constraints(
         &self,
         encoder: &mut Encoder<'_>,
@@ -292,8 +286,6 @@ impl EqualAsSpelled for VisibleText {
 }
 
 impl Encode for VisibleText {
-    const IS_LEAF: bool = true;
-
     fn encode_with_tag_and_constraints(
         &self,
         encoder: &mut Encoder<'_>,
@@ -361,8 +353,6 @@ impl EqualAsSpelled for Ia5Text {
 }
 
 impl Encode for Ia5Text {
-    const IS_LEAF: bool = true;
-
     fn encode_with_tag_and_constraints(
         &self,
         encoder: &mut Encoder<'_>,

@@ -71,8 +71,6 @@ impl<T: EqualAsSpelled, L: Limits> EqualAsSpelled for Limited<T, L> {
 }
 
 impl<T: Encode, L: Limits> Encode for Limited<T, L> {
-    const IS_LEAF: bool = T::IS_LEAF;
-
     #[inline(always)]
     fn encode_with_tag_and_constraints(
         &self,

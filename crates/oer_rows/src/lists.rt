@@ -87,8 +87,6 @@ impl<T: EqualAsSpelled> EqualAsSpelled for ListOf<T> {
 }
 
 impl<T: Encode> Encode for ListOf<T> {
-    const IS_LEAF: bool = T::IS_LEAF;
-
     #[inline(always)]
     fn encode_with_tag_and_constraints(
         &self,

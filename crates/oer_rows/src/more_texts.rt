@@ -48,8 +48,6 @@ impl EqualAsSpelled for GeneralText {
 }
 
 impl Encode for GeneralText {
-    const IS_LEAF: bool = true;
-
     fn encode_with_tag_and_constraints(
         &self,
         encoder: &mut Encoder<'_>,
@@ -117,8 +115,6 @@ impl EqualAsSpelled for GraphicText {
 }
 
 impl Encode for GraphicText {
-    const IS_LEAF: bool = true;
-
     fn encode_with_tag_and_constraints(
         &self,
         encoder: &mut Encoder<'_>,
@@ -186,8 +182,6 @@ impl EqualAsSpelled for TeletexText {
 }
 
 impl Encode for TeletexText {
-    const IS_LEAF: bool = true;
-
     fn encode_with_tag_and_constraints(
         &self,
         encoder: &mut Encoder<'_>,
@@ -255,8 +249,6 @@ impl EqualAsSpelled for BmpText {
 }
 
 impl Encode for BmpText {
-    const IS_LEAF: bool = true;
-
     fn encode_with_tag_and_constraints(
         &self,
         encoder: &mut Encoder<'_>,

@@ -153,8 +153,6 @@ impl<const RC: usize, const EC: usize, T: Tabled<RC, EC>> Writes for Sequence<T,
 }
 
 impl<const RC: usize, const EC: usize, T: Tabled<RC, EC>> Encode for Sequence<T, RC, EC> {
-    const IS_LEAF: bool = false;
-
     #[inline(always)]
     fn encode_with_tag_and_constraints(
         &self,

@@ -121,8 +121,6 @@ impl<const RC: usize, const EC: usize, T: InTagOrder<RC, EC>> Writes for Set<T, 
 }
 
 impl<const RC: usize, const EC: usize, T: InTagOrder<RC, EC>> Encode for Set<T, RC, EC> {
-    const IS_LEAF: bool = false;
-
     fn encode_with_tag_and_constraints(
         &self,
         encoder: &mut Encoder<'_>,

@@ -212,8 +212,6 @@ impl EqualAsSpelled for HashedId3 {
 }
 
 impl Encode for HashedId3 {
-    const IS_LEAF: bool = true;
-
     #[tactic(auto, using(crate::specs::Wrappers::narrowed_consistent))]
     fn encode_with_tag_and_constraints(
         &self,

@@ -1,13 +1,12 @@
 -- What an encoder gives back.
-use Rattle.std.proofs.Common.{◌≡◌, ℕ, ◌+◌, ◌-◌, ◌<◌, ◌≤◌, Bool, true, false, cond, not, ◌&&◌, ◌||◌, List, [], ◌∷◌, ◌++◌, map, length, take, drop, refl, ap, ap₂, sym, ◌∙◌, subst, arith, append_assoc, append-nil, length-append, length-drop}
+use Rattle.std.proofs.Common.{◌≡◌, ℕ, ◌+◌, ◌-◌, ◌≤◌, Bool, true, false, cond, not, ◌&&◌, ◌||◌, List, [], ◌∷◌, ◌++◌, map, length, take, drop, refl, ap, ap₂, sym, ◌∙◌, arith, append_assoc, length-append, length-drop}
 use Rattle.std.proofs.lemmas.List.{take-take, take-append-drop, length-take-le, take_at, drop_at, drop_all, take_all, drop-drop}
 use Rattle.asn1_core.specs.Octets.{Octets}
-use Rattle.oer_spec.specs.Writing.{BeginsWith}
 use Rattle.oer_write.specs.Held.{length_within, marks, pieces_in, frame_at, lent_frame, Holds, IsInFront, Leaves, Kept}
 use Rattle.oer_write.specs.Layout.{Piece, spread, total, merged, Ascends, Adds}
 use Rattle.oer_write.specs.Closed.{ClosedOff, FrontLeft}
 use Rattle.oer_write.specs.Scopes.{extension_of}
-use Rattle.oer_write.specs.Seen.{around, shown, view_of, within, IsLaid, IsSound, frame_of, opens_in, region_at}
+use Rattle.oer_write.specs.Seen.{around, shown, view_of, within, IsLaid, IsSound, frame_of, opens_in}
 use Rattle.oer_write.specs.Written.{Written, WriteFrame, Keeps, append}
 use Rattle.oer_write.specs.declared.scope.Scope.{Scope}
 use Rattle.oer_write.specs.declared.region.Region.{Region}

@@ -1,12 +1,12 @@
 -- What is written in an encoder that was lent, within an output and its pieces.
-use Rattle.std.specs.Prelude.{⊤, IfErr, OnOk}
+use Rattle.std.specs.Prelude.{⊤, IfErr, OnErr, OnOk}
 use Rattle.std.proofs.Common.{◌≡◌, ℕ, ◌+◌, ◌-◌, ◌≤◌, Bool, true, false, List, [], ◌∷◌, ◌++◌, length, take, drop, refl, ap, ap₂, sym, ◌∙◌, subst, Ok, Err, Result, arith, append_assoc, append-nil, length-append}
-use Rattle.std.proofs.lemmas.List.{take_at, take_all, drop_at}
+use Rattle.std.proofs.lemmas.List.{take_at, drop_at}
 use Rattle.asn1_core.specs.Octets.{Octets}
 use Rattle.asn1_core.specs.declared.error.EncodeErrorKind.{EncodeErrorKind}
 use Rattle.asn1_core.specs.declared.error.EncodeErrorKind.TheVariants.{OutOfMemory}
 use Rattle.oer_write.specs.Held.{marks, pieces_in, shut_at, Holds, IsInFront, Leaves, Kept}
-use Rattle.oer_write.specs.Layout.{Piece, free_at, slots, spread, total, merged, Ascends, Adds}
+use Rattle.oer_write.specs.Layout.{Piece, slots, spread, total, merged, Ascends, Adds}
 use Rattle.asn1_core.specs.declared.error.EncodeError.{EncodeError}
 use Rattle.oer_spec.specs.Encoding.{canonical_octets}
 use Rattle.oer_spec.specs.Tree.{Tree}
@@ -149,6 +149,10 @@ set_pieces is_set extensible e e' old ps made k = ap pieces_in (k.outer ∙ ap (
 pub set_begins : (r : Result ⊤ EncodeErrorKind) (x old front new : Octets) → front ≡ old → AppendsOrMemory r x front new → BeginsWith old new
 set_begins (Ok u) x old front new e h = (x, h ∙ ap (λ (z : Octets). z ++ x) e)
 set_begins (Err k) x old front new e h = (h.1.0, h.1.1 ∙ ap (λ (z : Octets). z ++ h.1.0) e)
+
+pub begins_or : {T E P : Type 0} (r : Result T E) (old new : Octets) → (P → BeginsWith old new) → OnOk r P → OnErr r (new ≡ old) → BeginsWith old new
+begins_or {T} {E} {P} (Ok t) old new f h e = f h
+begins_or {T} {E} {P} (Err y) old new f h e = ([], e ∙ sym (append-nil old))
 
 -- ---- where no pieces are left
 

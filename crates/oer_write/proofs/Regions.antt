@@ -1,15 +1,15 @@
 -- A scope's octets and additions in the output, with its insertions in their places.
-use Rattle.std.proofs.Common.{◌≡◌, ℕ, ◌+◌, ◌-◌, ◌<◌, ◌≤◌, Bool, true, false, cond, not, ◌&&◌, ◌||◌, List, [], ◌∷◌, ◌++◌, map, length, take, drop, refl, ap, ap₂, sym, ◌∙◌, subst, arith, append_assoc, append-nil, length-append, length-drop}
-use Rattle.std.proofs.lemmas.List.{take-take, take-append-le, drop-append-le, take-append-drop, length-take-le, take_at, drop_at, drop-drop, drop-take, take_all, drop_all}
+use Rattle.std.proofs.Common.{◌≡◌, ℕ, ◌+◌, ◌-◌, ◌<◌, ◌≤◌, Bool, true, false, cond, not, ◌&&◌, ◌||◌, List, [], ◌∷◌, ◌++◌, length, take, drop, refl, ap, ap₂, sym, ◌∙◌, subst, arith, append_assoc, append-nil, length-append}
+use Rattle.std.proofs.lemmas.List.{take-take, take-append-le, drop-append-le, take-append-drop, length-take-le, take_at, drop_at, drop-take, take_all, drop_all}
 use Rattle.asn1_core.specs.Octets.{Octets}
 use Rattle.oer_spec.specs.Writing.{BeginsWith}
 use Rattle.oer_write.specs.declared.region.Region.{Region}
 use Rattle.oer_write.specs.declared.scope.Scope.{Scope}
-use Rattle.oer_write.specs.Held.{marks, pieces_in, frame_at, lent_frame, shut_at, Holds, Leaves, Kept}
+use Rattle.oer_write.specs.Held.{marks, shut_at}
 use Rattle.oer_write.specs.Layout.{Piece, free_at, slots, filled, spread, total, top, merged, Ascends, Adds}
-use Rattle.oer_write.specs.Seen.{around, shown, view_of, within, IsLaid, IsSound, frame_of, opens_in, region_at}
-use Rattle.oer_write.specs.Written.{Written, WriteFrame, Keeps, append, fresh}
-use Rattle.oer_write.proofs.Layouts.{filled_at, ascends_le, ascends_join, ascends_top, ascends_more, spread_append, spread_more, spread_length, total_append}
+use Rattle.oer_write.specs.Seen.{around, shown, view_of, within, IsLaid, IsSound, opens_in, region_at}
+use Rattle.oer_write.specs.Written.{append, fresh, no_scope}
+use Rattle.oer_write.proofs.Layouts.{filled_at, ascends_le, ascends_join, ascends_top, ascends_more, spread_more, spread_length, total_append}
 
 -- ---- no additions yet
 
@@ -281,6 +281,15 @@ lent_seen s i o is b n r e f g h j k m p q asc =
     let t : take s.region.first is ≡ is = take_all s.region.first is (omega (arith, f, ap (λ (x : Region). x.first) r)) in
     let a : shown s.region.base is (around s.region o is) ≡ merged o is = ap (λ (x : Region). shown x.base is (around x o is)) r ∙ ap (shown b is) (none_around b n o is (omega (arith, f))) ∙ shown_all b is o e in
     let z : s.region.base + total is ≡ length (merged o is) = (let y = ap (λ (x : Region). x.base) r in let w = merged_length o is asc in omega (arith, y, e, w)) in
+    rw (t, a, z, g, h, j, k, m, p, q) refl
+
+-- an encoder over a buffer
+pub bare_seen : (s : Scope) (o : Octets) (is : List Piece) → s.region ≡ region_at 0 0 → is ≡ [] → s.is_open ≡ false → s.is_set ≡ false → s.extensible ≡ false → s.presence ≡ [] → s.components ≡ [] → s.bitmap ≡ [] → s.opens.items ≡ []
+    → view_of s false false o is ≡ record { octets = o; frame = no_scope; outer = [] }
+bare_seen s o is r e g h j k m p q =
+    let t : take s.region.first is ≡ [] = ap (take s.region.first) e ∙ take_all s.region.first [] (omega arith) in
+    let a : shown s.region.base [] (around s.region o is) ≡ o = shown_none s.region.base (around s.region o is) ∙ ap (λ (x : Region). around x o is) r ∙ none_around 0 0 o is (omega (arith, ap length e)) in
+    let z : s.region.base ≡ 0 = ap (λ (x : Region). x.base) r in
     rw (t, a, z, g, h, j, k, m, p, q) refl
 
 either : (c : Bool) (x y : Octets) → x ≡ [] → y ≡ [] → cond c x y ≡ []

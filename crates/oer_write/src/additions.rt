@@ -16,7 +16,7 @@ ghost use Rattle.oer_write.specs.Written.{Keeps, WantsMemory};
 use crate::encode::Encode;
 use crate::encoder::Encoder;
 use crate::insertions::Insertions;
-use crate::opening::{Composite, Leaf, WritesOpen, put_open};
+use crate::opening::{Composite, Leaf, WritesOpen, is_leaf, put_open};
 use crate::region::{Region, begin};
 use asn1_core::{AsnType, Constraints, EncodeError, EncodeErrorKind, Tag};
 use std::alloc::Global;
@@ -151,7 +151,7 @@ fn put_by_sort<E: Encode, C: WrittenUnder>(
     ensures first { region.new.first ≡ region.old.first }
     ensures front { take region.old.first insertions.new ≡ take region.old.first insertions.old }
 {
-    if E::IS_LEAF {
+    if is_leaf(E::TAG) {
         return put_behind::<E, C, Leaf>(alloc, tag, rule, value, region, out, insertions);
     }
     put_behind::<E, C, Composite>(alloc, tag, rule, value, region, out, insertions)

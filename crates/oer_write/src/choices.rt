@@ -20,7 +20,7 @@ ghost use Rattle.oer_write.specs.Written.{Written, Keeps, Encodes, Refused, Want
 use crate::encode::Encode;
 use crate::encoder::Encoder;
 use crate::insertions::Insertions;
-use crate::opening::{Composite, Leaf, WritesOpen, put_open};
+use crate::opening::{Composite, Leaf, WritesOpen, is_leaf, put_open};
 use crate::opens::close_open;
 use crate::scopes::open_scope;
 use asn1_core::{Choice, Constraints, EncodeError, EncodeErrorKind, Tag};
@@ -236,7 +236,7 @@ fn put_own_by_sort<T: Encode>(
     ensures kept { OnErr result (insertions.new ≡ insertions.old) }
     ensures alone { is_inside ≡ false → OnOk result (insertions.new ≡ []) }
 {
-    if T::IS_LEAF {
+    if is_leaf(T::TAG) {
         return put_own::<T, Leaf>(alloc, is_inside, tag, value, out, insertions);
     }
     put_own::<T, Composite>(alloc, is_inside, tag, value, out, insertions)

@@ -15,10 +15,6 @@ use oer_spec::Spelled;
 /// by a kind whose condition the tree breaks, always in the mode `Coer`; the octets then still begin with those of before,
 /// and the same scopes are open. Constraints that are handed in are consistent.
 pub trait Encode: Spelled {
-    /// Whether a value has no components, so that nothing is open within it. For speed alone: the same octets are written
-    /// either way.
-    const IS_LEAF: bool = false;
-
     /// Writes the value under constraints that stand in place of the type's own.
     #[inline(always)]
     fn encode_with_tag_and_constraints(
@@ -76,8 +72,6 @@ pub trait Encode: Spelled {
 }
 
 impl Encode for bool {
-    const IS_LEAF: bool = true;
-
     #[inline(always)]
     fn encode_with_tag_and_constraints(
         &self,
@@ -90,8 +84,6 @@ impl Encode for bool {
 }
 
 impl Encode for () {
-    const IS_LEAF: bool = true;
-
     #[inline(always)]
     fn encode_with_tag_and_constraints(
         &self,
@@ -105,8 +97,6 @@ impl Encode for () {
 
 /// A box is written as its content.
 impl<T: Encode> Encode for Box<T> {
-    const IS_LEAF: bool = T::IS_LEAF;
-
     #[inline(always)]
     fn encode_with_tag_and_constraints(
         &self,
@@ -119,8 +109,6 @@ impl<T: Encode> Encode for Box<T> {
 }
 
 impl<T: Encode> Encode for Vec<T> {
-    const IS_LEAF: bool = T::IS_LEAF;
-
     #[inline(always)]
     fn encode_with_tag_and_constraints(
         &self,
@@ -133,8 +121,6 @@ impl<T: Encode> Encode for Vec<T> {
 }
 
 impl Encode for BitString {
-    const IS_LEAF: bool = true;
-
     #[inline(always)]
     fn encode_with_tag_and_constraints(
         &self,
@@ -147,8 +133,6 @@ impl Encode for BitString {
 }
 
 impl Encode for OctetString {
-    const IS_LEAF: bool = true;
-
     #[inline(always)]
     fn encode_with_tag_and_constraints(
         &self,
@@ -161,8 +145,6 @@ impl Encode for OctetString {
 }
 
 impl Encode for Any {
-    const IS_LEAF: bool = true;
-
     #[inline(always)]
     fn encode_with_tag_and_constraints(
         &self,

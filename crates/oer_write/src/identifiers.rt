@@ -35,8 +35,6 @@ impl<'buffer> Encoder<'buffer> {
 }
 
 impl Encode for ObjectIdentifier {
-    const IS_LEAF: bool = true;
-
     fn encode_with_tag_and_constraints(
         &self,
         encoder: &mut Encoder<'_>,

@@ -5,8 +5,6 @@ use asn1_core::{Constraints, EncodeError, Tag};
 use asn1_ints::{ConstrainedInteger, Integer, IntegerRange};
 
 impl Encode for i8 {
-    const IS_LEAF: bool = true;
-
     #[inline(always)]
     fn encode_with_tag_and_constraints(
         &self,
@@ -19,8 +17,6 @@ impl Encode for i8 {
 }
 
 impl Encode for i16 {
-    const IS_LEAF: bool = true;
-
     #[inline(always)]
     fn encode_with_tag_and_constraints(
         &self,
@@ -33,8 +29,6 @@ impl Encode for i16 {
 }
 
 impl Encode for i32 {
-    const IS_LEAF: bool = true;
-
     #[inline(always)]
     fn encode_with_tag_and_constraints(
         &self,
@@ -47,8 +41,6 @@ impl Encode for i32 {
 }
 
 impl Encode for i64 {
-    const IS_LEAF: bool = true;
-
     #[inline(always)]
     fn encode_with_tag_and_constraints(
         &self,
@@ -61,8 +53,6 @@ impl Encode for i64 {
 }
 
 impl Encode for i128 {
-    const IS_LEAF: bool = true;
-
     #[inline(always)]
     fn encode_with_tag_and_constraints(
         &self,
@@ -75,8 +65,6 @@ impl Encode for i128 {
 }
 
 impl Encode for isize {
-    const IS_LEAF: bool = true;
-
     #[inline(always)]
     fn encode_with_tag_and_constraints(
         &self,
@@ -89,8 +77,6 @@ impl Encode for isize {
 }
 
 impl Encode for u8 {
-    const IS_LEAF: bool = true;
-
     #[inline(always)]
     fn encode_with_tag_and_constraints(
         &self,
@@ -103,8 +89,6 @@ impl Encode for u8 {
 }
 
 impl Encode for u16 {
-    const IS_LEAF: bool = true;
-
     #[inline(always)]
     fn encode_with_tag_and_constraints(
         &self,
@@ -117,8 +101,6 @@ impl Encode for u16 {
 }
 
 impl Encode for u32 {
-    const IS_LEAF: bool = true;
-
     #[inline(always)]
     fn encode_with_tag_and_constraints(
         &self,
@@ -131,8 +113,6 @@ impl Encode for u32 {
 }
 
 impl Encode for u64 {
-    const IS_LEAF: bool = true;
-
     #[inline(always)]
     fn encode_with_tag_and_constraints(
         &self,
@@ -145,8 +125,6 @@ impl Encode for u64 {
 }
 
 impl Encode for u128 {
-    const IS_LEAF: bool = true;
-
     #[inline(always)]
     fn encode_with_tag_and_constraints(
         &self,
@@ -159,8 +137,6 @@ impl Encode for u128 {
 }
 
 impl Encode for usize {
-    const IS_LEAF: bool = true;
-
     #[inline(always)]
     fn encode_with_tag_and_constraints(
         &self,
@@ -173,8 +149,6 @@ impl Encode for usize {
 }
 
 impl Encode for Integer {
-    const IS_LEAF: bool = true;
-
     #[inline(always)]
     fn encode_with_tag_and_constraints(
         &self,
@@ -187,8 +161,6 @@ impl Encode for Integer {
 }
 
 impl<R: IntegerRange> Encode for ConstrainedInteger<R> {
-    const IS_LEAF: bool = true;
-
     #[inline(always)]
     fn encode_with_tag_and_constraints(
         &self,

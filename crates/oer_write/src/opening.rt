@@ -18,8 +18,22 @@ use crate::insertions::Insertions;
 use crate::opens::{close_open, long_length};
 use crate::rows::{append_value, append_within};
 use crate::scopes::{close_scope, open_scope};
-use asn1_core::{Constraints, EncodeError, EncodeErrorKind, Tag};
+use asn1_core::{Class, Constraints, EncodeError, EncodeErrorKind, Tag};
 use std::alloc::Global;
+
+/// Whether a type with this tag has no components, so that nothing is open within its values: as its universal tag says, if it has
+/// one. For speed alone: the same octets are written either way.
+#[inline(always)]
+pub(crate) fn is_leaf(tag: Tag) -> bool {
+    match tag.class {
+        Class::Universal => {
+            tag.value != Tag::EOC.value
+                && tag.value != Tag::SEQUENCE.value
+                && tag.value != Tag::SET.value
+        }
+        Class::Application | Class::Context | Class::Private => false,
+    }
+}
 
 /// How a value is written as an open type.
 pub(crate) trait WritesOpen {

@@ -27,8 +27,6 @@ fn octets_of(octets: &[u8]) -> &[u8]
 }
 
 impl Encode for Utf8String {
-    const IS_LEAF: bool = true;
-
     #[inline(always)]
     fn encode_with_tag_and_constraints(
         &self,
@@ -42,8 +40,6 @@ impl Encode for Utf8String {
 
 /// A restricted character string of any character set.
 impl<C: CharacterSet> Encode for RestrictedString<C> {
-    const IS_LEAF: bool = true;
-
     #[inline(always)]
     fn encode_with_tag_and_constraints(
         &self,

@@ -67,8 +67,6 @@ impl<'buffer> Encoder<'buffer> {
 }
 
 impl Encode for UtcTime {
-    const IS_LEAF: bool = true;
-
     fn encode_with_tag_and_constraints(
         &self,
         encoder: &mut Encoder<'_>,
@@ -80,8 +78,6 @@ impl Encode for UtcTime {
 }
 
 impl Encode for GeneralizedTime {
-    const IS_LEAF: bool = true;
-
     fn encode_with_tag_and_constraints(
         &self,
         encoder: &mut Encoder<'_>,
@@ -93,8 +89,6 @@ impl Encode for GeneralizedTime {
 }
 
 impl Encode for Date {
-    const IS_LEAF: bool = true;
-
     fn encode_with_tag_and_constraints(
         &self,
         encoder: &mut Encoder<'_>,

@@ -1,4 +1,4 @@
-use Rattle.std.proofs.Common.{◌≡◌, ap, ◌∙◌, rules, List, length, subst, sym}
+use Rattle.std.proofs.Common.{◌≡◌, rules, List, length, subst, sym}
 use Rattle.std.proofs.lemmas.Result.{on_ok_weaker}
 use Rattle.oer_write.specs.Layout.{Piece, Ascends}
 use Rattle.oer_write.proofs.Nesting.{lent_adds, lent_kept}

@@ -1,8 +1,7 @@
-use Rattle.std.proofs.Common.{◌≡◌, ◌++◌, length, ap, ◌∙◌, rules}
-use Rattle.asn1_core.specs.Octets.{Octets}
+use Rattle.std.proofs.Common.{◌≡◌, ◌++◌, length, ◌∙◌}
 use Rattle.oer_write.specs.Layout.{slots}
 use Rattle.oer_write.proofs.Holding.{kept_added}
-use Rattle.oer_write.proofs.Nesting.{adds_alike, kept_same, kept_less, kept_alike, taken_adds, taken_ascends}
+use Rattle.oer_write.proofs.Nesting.{adds_alike, kept_same, taken_adds, taken_ascends}
 use Rattle.oer_write.proofs.choices.pick_open.Goals as goal
 
 pub returns-in_err-open_scope-clause-kept : goal.returns-in_err-open_scope-clause-kept

@@ -1,4 +1,4 @@
-use Rattle.std.proofs.Common.{◌≡◌, refl, ap, ◌∙◌, rules, List, length, subst, sym}
+use Rattle.std.proofs.Common.{◌≡◌, refl, rules, List, length, subst, sym}
 use Rattle.std.proofs.lemmas.Result.{on_ok_weaker}
 use Rattle.asn1_core.specs.Octets.{joined}
 use Rattle.oer_write.specs.Layout.{Piece, Ascends}

@@ -1,4 +1,4 @@
-use Rattle.std.proofs.Common.{◌≡◌, ◌++◌, ◌%◌, ◌+◌, ◌-◌, Bool, arith, rules, length, take, drop, refl, ap, sym, ◌∙◌, append-nil}
+use Rattle.std.proofs.Common.{◌≡◌, ◌++◌, ◌%◌, ◌+◌, ◌-◌, Bool, arith, rules, length, drop, refl, ap, sym, ◌∙◌, append-nil}
 use Rattle.std.specs.Prelude.{slice_set}
 use Rattle.std.proofs.lemmas.List.{length-drop, take-set}
 use Rattle.std.proofs.lemmas.Result.{on_ok_weaker}

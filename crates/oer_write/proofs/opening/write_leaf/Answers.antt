@@ -1,4 +1,4 @@
-use Rattle.std.proofs.Common.{◌≡◌, ◌+◌, ◌-◌, ◌++◌, length, ap, refl, ◌∙◌, arith, rules, suc}
+use Rattle.std.proofs.Common.{◌≡◌, ◌-◌, length, ap, refl, ◌∙◌, arith, rules}
 use Rattle.asn1_core.specs.Octets.{Octets}
 use Rattle.oer_spec.specs.Encoding.{canonical_octets}
 use Rattle.oer_spec.specs.Lengths.{behind_length}

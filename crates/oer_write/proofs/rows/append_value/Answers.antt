@@ -1,8 +1,7 @@
 use Rattle.std.proofs.Common.{◌≡◌, true, false, [], ap, ◌∙◌, rules, List, length, subst, sym, arith}
 use Rattle.std.proofs.lemmas.Result.{on_ok_weaker}
-use Rattle.oer_spec.specs.Encoding.{canonical_octets}
 use Rattle.oer_write.specs.Layout.{Piece, Ascends}
-use Rattle.oer_write.specs.Held.{marks, lent_frame}
+use Rattle.oer_write.specs.Held.{marks}
 use Rattle.oer_write.specs.Written.{Written}
 use Rattle.oer_write.proofs.Nesting.{adds_alone, lent_adds, lent_kept, tree_keeps, tree_wrote}
 use Rattle.oer_write.proofs.rows.append_value.Goals as goal

@@ -1,10 +1,7 @@
-use Rattle.std.proofs.Common.{◌≡◌, ◌++◌, true, ap, sym, ◌∙◌, rules, List, length, subst}
+use Rattle.std.proofs.Common.{◌≡◌, true, ap, sym, rules, List, length, subst}
 use Rattle.std.proofs.lemmas.Result.{on_ok_weaker}
-use Rattle.asn1_core.specs.Octets.{Octets}
-use Rattle.oer_spec.specs.Encoding.{canonical_octets}
-use Rattle.oer_write.specs.Held.{Holds, Kept}
-use Rattle.oer_write.specs.Layout.{Adds, Piece, Ascends}
-use Rattle.oer_write.specs.Written.{Written, Keeps}
+use Rattle.oer_write.specs.Layout.{Piece, Ascends}
+use Rattle.oer_write.specs.Written.{Written}
 use Rattle.oer_write.proofs.Nesting.{lent_adds, lent_kept, tree_keeps, tree_wrote}
 use Rattle.oer_write.proofs.rows.append_within.Goals as goal
 

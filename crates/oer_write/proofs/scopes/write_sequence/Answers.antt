@@ -1,11 +1,11 @@
-use Rattle.std.proofs.Common.{◌≡◌, ◌+◌, ◌≤◌, ◌++◌, [], Ok, false, true, length, take, refl, ap, ap₂, sym, ◌∙◌, subst, rules, List, ℕ}
-use Rattle.std.specs.Prelude.{OnOk, IfOk, IfErr}
+use Rattle.std.proofs.Common.{◌≡◌, ◌++◌, Ok, false, length, refl, ap, sym, ◌∙◌, subst, rules}
+use Rattle.std.specs.Prelude.{OnOk, IfOk}
 use Rattle.oer_write.specs.Preambles.{IsSized, preamble_octets}
 use Rattle.asn1_core.specs.Octets.{Octets, pack}
 use Rattle.oer_spec.specs.Places.{extension_bit}
-use Rattle.oer_write.specs.Held.{Holds, Kept}
-use Rattle.oer_write.specs.Layout.{Piece, Adds, slots}
-use Rattle.oer_write.specs.Scopes.{Promise, any_true, extension_of, sequence_octets}
+use Rattle.oer_write.specs.Held.{Holds}
+use Rattle.oer_write.specs.Layout.{Adds, slots}
+use Rattle.oer_write.specs.Scopes.{Promise, any_true, extension_of}
 use Rattle.oer_write.specs.Written.{Written, append, fresh}
 use Rattle.oer_write.proofs.Closing.{opened_new}
 use Rattle.oer_write.proofs.Nesting.{kept_same, kept_less, kept_alike, opened_adds, opened_kept, taken_adds, taken_long, taken_ascends}
@@ -35,6 +35,17 @@ pub close_by-requires-clause-sized : goal.close_by-requires-clause-sized
 close_by-requires-clause-sized g c =
     let closed : c.close_sequence-octets.result.2 ≡ Ok c.in_ok-preamble.preamble = search rules in
     (subst (λ r. IfOk r (λ p. IsSized p × (preamble_octets p ≡ pack (extension_bit c.lend-answer.new.encoder.frame.extensible (any_true c.lend-answer.new.encoder.frame.bitmap) ++ c.lend-answer.new.encoder.frame.presence)))) closed c.close_sequence-octets.ensures.preamble).0
+
+pub close_by-requires-clause-start : goal.close_by-requires-clause-start
+close_by-requires-clause-start g c =
+    let q : c.replace-pieces.result ≡ c.args.insertions.now ++ slots c.args.is_inside (length c.args.output.now.items) = search rules in
+    let closed : c.close_sequence-octets.result.2 ≡ Ok c.in_ok-preamble.preamble = search rules in
+    let start : c.len-start.result ≡ length c.args.output.now.items = c.len-start.ensures ∙ c.args.output.now.ok.0 in
+    let ext : Octets = extension_of c.lend-answer.new.encoder.frame.bitmap c.lend-answer.new.encoder.frame.opens in
+    let holds : Holds (append ext c.lend-answer.new.encoder) c.close_sequence-octets.result.0.items c.close_sequence-octets.result.1 = subst (λ r. OnOk r (Holds (append ext c.lend-answer.new.encoder) c.close_sequence-octets.result.0.items c.close_sequence-octets.result.1)) closed c.close_sequence-octets.ensures.done in
+    let adds = opened_adds c.args.extensible false c.open-inner.result c.open_scope.new.output.items c.args.output.now.items c.replace-pieces.result (c.args.insertions.now ++ slots c.args.is_inside (length c.args.output.now.items)) c.open-inner.ensures c.in_ok-open_scope.ensures.unchanged q (taken_ascends c.args.is_inside c.args.output.now.items c.open_scope.new.output.items c.args.insertions.now c.replace-pieces.result c.requires.ascends c.in_ok-open_scope.ensures.unchanged q)
+    c.lend-answer.new.encoder ext c.close_sequence-octets.result.0.items c.close_sequence-octets.result.1 c.lend-answer.ensures.keeps holds c.lend-answer.ensures.keeps.octets.0 c.lend-answer.ensures.keeps.octets.1 in
+    (taken_long c.args.is_inside c.len-start.result c.len-slot.result c.args.output.now.items c.close_sequence-octets.result.0.items c.args.insertions.now c.close_sequence-octets.result.1 _ start c.len-slot.ensures adds).0
 
 pub close_by-requires-clause-slot : goal.close_by-requires-clause-slot
 close_by-requires-clause-slot g c =
@@ -101,3 +112,8 @@ returns-clause-done g c =
 pub returns-clause-kept : goal.returns-clause-kept
 returns-clause-kept g c =
     let done = returns-clause-done g c in kept_added _ _ _ _ _ done.3
+
+pub open-inner-requires : goal.open-inner-requires
+open-inner-requires g c =
+    let q : c.replace-pieces.result ≡ c.args.insertions.now ++ slots c.args.is_inside (length c.args.output.now.items) = search rules in
+    taken_ascends c.args.is_inside c.args.output.now.items c.open_scope.new.output.items c.args.insertions.now c.replace-pieces.result c.requires.ascends c.in_ok-open_scope.ensures.unchanged q

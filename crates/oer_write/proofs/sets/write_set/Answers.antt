@@ -1,11 +1,8 @@
-use Rattle.std.proofs.Common.{◌≡◌, ◌++◌, true, false, Ok, refl, ap, ap₂, sym, ◌∙◌, subst, rules, length, take, List}
-use Rattle.std.proofs.lemmas.List.{take_at}
+use Rattle.std.proofs.Common.{◌≡◌, ◌++◌, true, Ok, refl, ap, sym, ◌∙◌, subst, rules, length, List}
 use Rattle.asn1_core.specs.Octets.{Octets}
 use Rattle.oer_spec.specs.Writing.{AppendsOrMemory}
-use Rattle.oer_write.specs.Held.{marks, pieces_in}
 use Rattle.oer_write.specs.Layout.{Piece, Ascends}
 use Rattle.oer_write.specs.Scopes.{Promise, set_octets}
-use Rattle.oer_write.specs.Written.{Written, WriteFrame, Keeps, fresh}
 use Rattle.oer_write.proofs.Closing.{opened_new}
 use Rattle.oer_write.proofs.Nesting.{set_front, set_begins, set_pieces}
 use Rattle.oer_write.proofs.sets.write_set.Goals as goal
@@ -58,3 +55,19 @@ returns-clause-done g c =
       },
       written ∙ ap (λ (o : Octets). o ++ set_octets c.lend-answer.new.encoder.frame) front,
     )
+
+pub returns-in_err-closed-clause-begins : goal.returns-in_err-closed-clause-begins
+returns-in_err-closed-clause-begins g c =
+    let q : c.replace-pieces.result ≡ c.args.insertions.now = search rules in
+    let asc : Ascends 0 c.replace-pieces.result (length c.args.output.now.items) = subst (λ (z : List Piece). Ascends 0 z (length c.args.output.now.items)) (sym q) c.requires.ascends in
+    let w = c.close_set-octets.ensures.written in
+    let front = set_front true c.args.extensible c.open-inner.result c.lend-answer.new.encoder w.0 c.args.output.now.items c.replace-pieces.result c.open-inner.ensures c.lend-answer.ensures.keeps asc w.1 in
+    set_begins c.close_set-octets.result.2 (set_octets c.lend-answer.new.encoder.frame) c.args.output.now.items w.0 c.close_set-octets.result.0.items front w.2
+
+pub returns-clause-begins : goal.returns-clause-begins
+returns-clause-begins g c =
+    let q : c.replace-pieces.result ≡ c.args.insertions.now = search rules in
+    let asc : Ascends 0 c.replace-pieces.result (length c.args.output.now.items) = subst (λ (z : List Piece). Ascends 0 z (length c.args.output.now.items)) (sym q) c.requires.ascends in
+    let w = c.close_set-octets.ensures.written in
+    let front = set_front true c.args.extensible c.open-inner.result c.lend-answer.new.encoder w.0 c.args.output.now.items c.replace-pieces.result c.open-inner.ensures c.lend-answer.ensures.keeps asc w.1 in
+    set_begins c.close_set-octets.result.2 (set_octets c.lend-answer.new.encoder.frame) c.args.output.now.items w.0 c.close_set-octets.result.0.items front w.2

@@ -1,8 +1,7 @@
-use Rattle.std.proofs.Common.{◌≡◌, take, ap, ap₂, sym, ◌∙◌, subst, rules, ℕ}
+use Rattle.std.proofs.Common.{◌≡◌, take, ap, sym, ◌∙◌, subst, rules}
 use Rattle.asn1_core.specs.Octets.{Octets}
 use Rattle.oer_spec.specs.Writing.{AppendsOrMemory}
 use Rattle.oer_write.specs.Held.{pieces_in, IsInFront}
-use Rattle.oer_write.specs.Layout.{Piece}
 use Rattle.oer_write.specs.Scopes.{set_octets}
 use Rattle.oer_write.specs.Written.{Written}
 use Rattle.oer_write.proofs.Holding.{sound_front, pieces_marked}
@@ -19,8 +18,7 @@ returns-clause-written c =
     let o = c.self.inside.output.now.items in
     let is = c.self.inside.insertions in
     let taken : c.replace-octets.result.items ≡ o = search rules in
-    let front : c.truncate.new.self.items ≡ take s.region.base o = c.truncate.ensures.items ∙ ap (take s.region.base) taken in
-    (
+    let front : c.truncate.new.self.items ≡ take s.region.base o = c.truncate.ensures.items ∙ ap (take s.region.base) taken in (
       take s.region.base o,
       subst (λ (w : Written). IsInFront w (take s.region.base o)) c.self.view_is (sound_front s c.self.inside.is_lent c.self.inside.is_inside o is c.self.invariant),
       subst (λ (z : Octets). AppendsOrMemory c.write_set-closed.result (set_octets c.args.self.now.frame) z c.write_set-closed.new.out.items) front

@@ -1,10 +1,9 @@
-use Rattle.std.proofs.Common.{◌≡◌, ◌++◌, ap, sym, ◌∙◌, rules, refl, List, subst, length}
+use Rattle.std.proofs.Common.{◌≡◌, ap, sym, ◌∙◌, rules, List, subst, length}
 use Rattle.std.proofs.lemmas.Result.{on_ok_weaker}
-use Rattle.asn1_core.specs.Octets.{Octets, joined}
 use Rattle.oer_write.specs.Layout.{Piece, Ascends}
-use Rattle.oer_write.specs.Written.{Written, append}
+use Rattle.oer_write.specs.Written.{append}
 use Rattle.oer_write.proofs.Nesting.{keeps_append}
-use Rattle.oer_write.proofs.Regions.{adds_from, grown_seen, grown_sound, grown_around, sound_ascends}
+use Rattle.oer_write.proofs.Regions.{adds_from, grown_seen, grown_sound, sound_ascends}
 use Rattle.oer_write.proofs.encoder.Encoder.put_inside.Goals as goal
 
 pub invariant_of-self : goal.invariant_of-self

@@ -1,11 +1,10 @@
 use Rattle.std.proofs.lemmas.Result.{err_from_is_err_and}
-use Rattle.oer_write.specs.Held.{marks}
 use Rattle.oer_write.specs.Layout.{Piece, Ascends}
 use Rattle.oer_write.specs.Seen.{view_of}
 use Rattle.oer_write.proofs.Lawful.{keeps_all}
-use Rattle.std.proofs.Common.{List, take, ap₂, subst, Ok, ◌≡◌, ◌++◌, ap, sym, ◌∙◌, rules, length}
+use Rattle.std.proofs.Common.{List, ap₂, subst, Ok, ◌≡◌, ap, sym, ◌∙◌, rules, length}
 use Rattle.asn1_core.specs.Octets.{Octets}
-use Rattle.oer_write.specs.Scopes.{Closed, sequence_octets}
+use Rattle.oer_write.specs.Scopes.{sequence_octets}
 use Rattle.oer_write.specs.Written.{Written, append, Keeps}
 use Rattle.oer_write.proofs.Keeping.{ok_of}
 use Rattle.oer_write.proofs.Regions.{adds_from, grown_seen, grown_sound, sound_ascends}

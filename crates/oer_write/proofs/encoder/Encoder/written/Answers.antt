@@ -1,6 +1,6 @@
 use Rattle.std.proofs.Common.{◌≡◌, ◌+◌, length, ap, ◌∙◌, rules, arith}
 use Rattle.oer_write.specs.Layout.{total}
-use Rattle.oer_write.specs.Held.{length_within, pieces_in}
+use Rattle.oer_write.specs.Held.{length_within}
 use Rattle.oer_write.specs.Written.{Written}
 use Rattle.oer_write.proofs.Holding.{all_written}
 use Rattle.oer_write.proofs.encoder.Encoder.written.Goals as goal
