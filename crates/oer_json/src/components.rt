@@ -1,4 +1,4 @@
-//! The members of an object, beside the components of a sequence or set (X.697, 26 and 27).
+//! The members of an object, beside the components of a sequence or set (X.697).
 
 use crate::json::Json;
 use crate::refusals::{Fault, Misfit};

@@ -1,4 +1,4 @@
-//! Values without parts (X.697, 20 to 33).
+//! Values without parts (X.697).
 
 use crate::json::Json;
 use crate::numbers::{put_counted, put_fixed, put_long, put_name};
@@ -67,7 +67,7 @@ fn check_bits(octets: &[u8], bits: usize) -> Result<(), Fault> {
     }
 }
 
-/// Appends the bits of a type that has no other size (X.697, 24.2).
+/// Appends the bits of a type that has no other size.
 fn put_fixed_bits(
     alloc: Global,
     tables: &Tables,
@@ -100,7 +100,7 @@ fn counted_bits(json: &Json) -> Result<(&Json, usize), Fault> {
     }
 }
 
-/// Appends the bits of a type that may have other sizes (X.697, 24.1): a length, the count of unused bits, and the octets.
+/// Appends the bits of a type that may have other sizes (X.696, 13): a length, the count of unused bits, and the octets.
 fn put_bits(
     alloc: Global,
     tables: &Tables,
@@ -227,7 +227,7 @@ fn arcs_of(alloc: Global, text: &str) -> Result<Vec<u32>, Fault> {
     Ok(arcs)
 }
 
-/// Appends an object identifier (X.697, 28).
+/// Appends an object identifier (X.696, 21).
 fn put_identifier(alloc: Global, json: &Json, out: &mut Vec<u8>) -> Result<(), Fault> {
     let Json::Text(text) = json else {
         return Err(wrong_sort("a text"));

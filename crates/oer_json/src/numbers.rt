@@ -1,4 +1,4 @@
-//! Numbers: INTEGER and ENUMERATED (X.696, 10 and 11; X.697, 22 and 23).
+//! Numbers: INTEGER and ENUMERATED (X.696, 10 and 11).
 
 use crate::refusals::{Fault, Misfit};
 use crate::tables::{Bounds, Tables};

@@ -1,4 +1,4 @@
-//! Values of every type: lists, sequences, sets and choices, and what is in them (X.696, 16, 17, 19 and 20).
+//! Values of every type: lists, sequences, sets and choices, and what is in them (X.696, 16 to 20).
 
 use crate::components::{
     Member, UNKNOWN, alternative_of, check_members, has_any_of, is_extensible, member, members_of,
