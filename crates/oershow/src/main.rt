@@ -1,21 +1,20 @@
-//! `oershow` shows where each part of a message lies in its octets, by a table of types.
+//! `oershow` shows where each part of a message lies in its octets, by a table of types, and writes the octets of JSON.
 #![tactic(auto)]
 
 mod messages;
 mod page;
-mod tables;
 mod values;
 mod words;
 
 use anyhow::{Error, Result};
 use base64::engine::general_purpose::STANDARD;
 use messages::{Colours, PLAIN, TERMINAL, is_whole, read_message};
+use oer_json::{Tables, octets_of as octets_of_json};
 use page::Page;
 use std::alloc::Global;
 use std::io::{BufRead, BufReader, IsTerminal, Read};
 use std::process::ExitCode;
 use std::{env, fs, io};
-use tables::Tables;
 use words::{Output, USAGE, Wish, asked, wish_of};
 
 /// What has been done of a wish.
@@ -27,9 +26,11 @@ struct Done {
     /// How many messages there were, and how many of them were whole.
     messages: u64,
     whole: u64,
+    /// How many texts in JSON were refused.
+    refused: u64,
 }
 
-/// A message that was read from a line: its type, its octets, and whether it is to be shown as JSON.
+/// A message that was read from a line: its type, its octets or its text in JSON, and what is to be written of it.
 #[derive(Drop)]
 struct Line<'l> {
     type_name: &'l str,
@@ -57,22 +58,36 @@ fn octets_of(alloc: Global, text: &str, is_base64: bool) -> Result<Vec<u8>> {
     }
 }
 
+/// What is read of a message: of JSON the text itself.
+fn input_of(alloc: Global, text: &str, output: Output, is_base64: bool) -> Result<Vec<u8>> {
+    if output == Output::Octets {
+        return Ok(Vec::from_slice(alloc, text.as_bytes())?);
+    }
+    octets_of(alloc, text, is_base64)
+}
+
 /// What a line says. With `-` for the type it stands in front, behind words for this message alone.
 fn line_of<'l>(alloc: Global, wish: &Wish<'l>, line: &'l str) -> Result<Line<'l>> {
     if wish.type_name != "-" {
         return Ok(Line {
             type_name: wish.type_name,
-            octets: octets_of(alloc, line, wish.is_base64)?,
+            octets: input_of(alloc, line, wish.output, wish.is_base64)?,
             output: wish.output,
         });
     }
     let (is_json, line) = asked(line, "--json ");
+    let (is_octets, line) = asked(line, "--from-json ");
     let (is_base64, line) = asked(line, "--base64 ");
     let (type_name, text) = line.split_once(" ").unwrap_or((line, ""));
+    let output = match (is_json, is_octets) {
+        (true, _) => Output::Json,
+        (false, true) => Output::Octets,
+        (false, false) => wish.output,
+    };
     Ok(Line {
         type_name,
-        octets: octets_of(alloc, text, wish.is_base64 || is_base64)?,
-        output: if is_json { Output::Json } else { wish.output },
+        octets: input_of(alloc, text, output, wish.is_base64 || is_base64)?,
+        output,
     })
 }
 
@@ -105,6 +120,9 @@ impl Done {
         octets: &[u8],
     ) -> Result<String> {
         let type_number = type_of(tables, type_name)?;
+        if output == Output::Octets {
+            return self.octets_text(tables, type_number, octets);
+        }
         if output == Output::Check && is_whole(tables, type_number, octets) {
             self.whole = self.whole.saturating_add(1);
             return Ok(String::new(self.alloc));
@@ -117,6 +135,21 @@ impl Done {
             Output::Page => {
                 self.page.push(&message)?;
                 Ok(String::new(self.alloc))
+            }
+            Output::Octets => Ok(String::new(self.alloc)),
+        }
+    }
+
+    /// The line of a text in JSON: its canonical octets, or why it is refused.
+    fn octets_text(&mut self, tables: &Tables, type_number: u32, text: &[u8]) -> Result<String> {
+        match octets_of_json(self.alloc, tables, type_number, text) {
+            Ok(octets) => {
+                let digits = hex::encode(self.alloc, octets.as_slice())?;
+                Ok(format!(in self.alloc; "{digits}\n")?)
+            }
+            Err(refusal) => {
+                self.refused = self.refused.saturating_add(1);
+                Ok(format!(in self.alloc; "refused: {refusal}\n")?)
             }
         }
     }
@@ -194,7 +227,7 @@ impl Done {
     /// Writes what comes at the end; whether all is well.
     fn end(&mut self, rt: &HostRuntime, wish: &Wish<'_>) -> Result<bool> {
         match wish.output {
-            Output::Tree | Output::Json => Ok(true),
+            Output::Tree | Output::Json | Output::Octets => Ok(self.refused == 0),
             Output::Page => {
                 let alloc = self.alloc;
                 let written = fs::write(rt, wish.file, self.page.end()?);
@@ -229,6 +262,7 @@ fn run(rt: &HostRuntime, wish: &Wish<'_>) -> Result<bool> {
         page: Page::new(rt.alloc())?,
         messages: 0,
         whole: 0,
+        refused: 0,
     };
     if wish.is_binary {
         done.show_binaries(rt, &tables, wish)?;

@@ -1,8 +1,8 @@
 //! What is shown of a message: a tree, or JSON.
 
-use crate::tables::Tables;
 use crate::values::{hex_of, leaf_of, push_quoted};
 use anyhow::{Error, Result};
+use oer_json::Tables;
 use oer_walk::{Node, Walked, walk};
 use std::alloc::Global;
 

@@ -1,7 +1,7 @@
 //! Values of parts without parts, as text and as JSON (X.697).
 
-use crate::tables::Tables;
 use anyhow::Result;
+use oer_json::Tables;
 use oer_walk::Node;
 use std::alloc::Global;
 
@@ -23,6 +23,8 @@ pub enum Leaf {
     /// A dotted number.
     Identifier(String),
     Hex(String),
+    /// Octets that are no text of a string type, in hexadecimal.
+    NoText(String),
 }
 
 /// The kind of enumerated types.
@@ -171,11 +173,11 @@ fn octets_leaf(alloc: Global, octets: &[u8], text: u32) -> Result<Leaf> {
     match text {
         1..=8 | 21..=23 => match std::str::from_utf8(octets) {
             Ok(text) => Ok(Leaf::Text(String::from_str(alloc, text)?)),
-            Err(_) => Ok(Leaf::Hex(hex_of(alloc, octets)?)),
+            Err(_) => Ok(Leaf::NoText(hex_of(alloc, octets)?)),
         },
         9 => match wide_text(alloc, octets)? {
             Some(text) => Ok(Leaf::Text(text)),
-            None => Ok(Leaf::Hex(hex_of(alloc, octets)?)),
+            None => Ok(Leaf::NoText(hex_of(alloc, octets)?)),
         },
         20 => match identifier_of(alloc, octets)? {
             Some(text) => Ok(Leaf::Identifier(text)),
@@ -260,7 +262,7 @@ impl Leaf {
                 let text = format!(in alloc; "{name} ({number})")?;
                 Ok(out.push_str(text.as_str())?)
             }
-            Leaf::Hex(digits) => {
+            Leaf::Hex(digits) | Leaf::NoText(digits) => {
                 let digits = digits.as_str();
                 let text = format!(in alloc; "'{digits}'H")?;
                 Ok(out.push_str(text.as_str())?)
@@ -281,6 +283,11 @@ impl Leaf {
             Leaf::Bits(count, digits, _) => {
                 let digits = digits.as_str();
                 let text = format!(in alloc; "{{\"value\":\"{digits}\",\"length\":{count}}}")?;
+                Ok(out.push_str(text.as_str())?)
+            }
+            Leaf::NoText(digits) => {
+                let digits = digits.as_str();
+                let text = format!(in alloc; "{{\"octets\":\"{digits}\"}}")?;
                 Ok(out.push_str(text.as_str())?)
             }
             Leaf::FixedBits(_, text, _)

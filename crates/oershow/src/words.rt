@@ -3,8 +3,10 @@
 pub const USAGE: &str =
     "usage: oershow [--json|--check|--html FILE] [--base64] TABLE TYPE [OCTETS..]
        oershow [--json|--check|--html FILE] --binary TABLE TYPE [FILE..]
+       oershow --from-json [--binary] TABLE TYPE [JSON..]
 OCTETS are in hexadecimal, or in base64; without them each line of standard input is a message. With `-` for TYPE each line has
-its type in front, and may have --json and --base64 before it. --binary takes each file, or standard input, as one message.
+its type in front, and may have --json or --from-json, and --base64 before it. --binary takes each file, or standard input, as
+one message. --from-json takes values in JSON, and writes their canonical octets in hexadecimal.
 scripts/tables.py --lines writes TABLE.";
 
 /// What comes of messages.
@@ -18,6 +20,8 @@ pub enum Output {
     Check,
     /// A page of HTML.
     Page,
+    /// Of a value in JSON a line of octets each.
+    Octets,
 }
 
 /// What the words ask for.
@@ -54,6 +58,7 @@ fn with_option<'w>(
     match first.as_str() {
         "--json" => options.output = Output::Json,
         "--check" => options.output = Output::Check,
+        "--from-json" => options.output = Output::Octets,
         "--base64" => options.is_base64 = true,
         "--binary" => options.is_binary = true,
         "--html" => {

@@ -1,0 +1,2 @@
+-- What is said of the octets that are answered.
+pub mod Whole

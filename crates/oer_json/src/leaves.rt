@@ -1,0 +1,326 @@
+//! Values without parts (X.697).
+
+use crate::json::Json;
+use crate::numbers::{put_counted, put_fixed, put_long, put_name};
+use crate::refusals::{Fault, Misfit};
+use crate::tables::{Bounds, Tables};
+use asn1_strings::{
+    CharacterSet, Ia5Characters, NumericCharacters, PrintableCharacters, RestrictedString,
+    VisibleCharacters,
+};
+use asn1_times::{Date, GeneralizedTime, UtcTime};
+use oer_leaf_write::{write_bool, write_content, write_length, write_object_identifier};
+use std::alloc::Global;
+
+/// What a text that stands for octets, bits and open types is.
+const HEXADECIMAL: &str = "a text in hexadecimal";
+
+fn wrong_sort(sort: &'static str) -> Fault {
+    Fault::Misfit(Misfit::WrongSort(sort))
+}
+
+/// The octets that a text has in hexadecimal.
+fn octets_in(alloc: Global, text: &str) -> Result<Vec<u8>, Fault> {
+    match hex::decode(alloc, text) {
+        Ok(octets) => Ok(octets),
+        Err(_) => Err(Fault::Misfit(Misfit::NoHexadecimal)),
+    }
+}
+
+/// The octets of a value that is a text in hexadecimal.
+fn hexadecimal(alloc: Global, json: &Json) -> Result<Vec<u8>, Fault> {
+    match json {
+        Json::Text(text) => octets_in(alloc, text.as_str()),
+        _ => Err(wrong_sort(HEXADECIMAL)),
+    }
+}
+
+/// Refused where so many octets, bits or characters are none of the type's sizes.
+fn check_size(tables: &Tables, type_number: u32, size: usize) -> Result<(), Fault> {
+    match tables.size_of(type_number) {
+        Some(bounds) => check_bounds(bounds, size),
+        None => Ok(()),
+    }
+}
+
+fn check_bounds(bounds: Bounds, size: usize) -> Result<(), Fault> {
+    if bounds.allows(size as i128) {
+        return Ok(());
+    }
+    Err(Fault::Misfit(Misfit::WrongSize {
+        size,
+        low: bounds.low,
+        high: bounds.high,
+    }))
+}
+
+/// Refused where octets don't hold exactly so many bits, or a bit behind them is set.
+fn check_bits(octets: &[u8], bits: usize) -> Result<(), Fault> {
+    if octets.len() != bits.div_ceil(8) {
+        return Err(Fault::Misfit(Misfit::WrongLength));
+    }
+    match octets.last() {
+        Some(last) if !bits.is_multiple_of(8) && *last & (0xFF >> (bits % 8)) != 0 => {
+            Err(Fault::Misfit(Misfit::UnusedBits))
+        }
+        _ => Ok(()),
+    }
+}
+
+/// Appends the bits of a type that has no other size.
+fn put_fixed_bits(
+    alloc: Global,
+    tables: &Tables,
+    type_number: u32,
+    json: &Json,
+    out: &mut Vec<u8>,
+) -> Result<(), Fault> {
+    let octets = hexadecimal(alloc, json)?;
+    check_bits(octets.as_slice(), tables.word_of(type_number, 0) as usize)?;
+    Ok(out.extend_from_slice(octets.as_slice())?)
+}
+
+/// The digits and the count of bits in an object of `value` and `length`.
+fn counted_bits(json: &Json) -> Result<(&Json, usize), Fault> {
+    let expected = "an object of value and length";
+    let Json::Members(members) = json else {
+        return Err(wrong_sort(expected));
+    };
+    let (value, length) = match members.as_slice() {
+        [value, length] if value.0.as_str() == "value" => (value, length),
+        [length, value] if value.0.as_str() == "value" => (value, length),
+        _ => return Err(wrong_sort(expected)),
+    };
+    match &length.1 {
+        Json::Number(count) if length.0.as_str() == "length" => match usize::try_from(*count) {
+            Ok(count) => Ok((&value.1, count)),
+            Err(_) => Err(Fault::Misfit(Misfit::WrongLength)),
+        },
+        _ => Err(wrong_sort(expected)),
+    }
+}
+
+/// Appends the bits of a type that may have other sizes (X.696, 13): a length, the count of unused bits, and the octets.
+fn put_bits(
+    alloc: Global,
+    tables: &Tables,
+    type_number: u32,
+    json: &Json,
+    out: &mut Vec<u8>,
+) -> Result<(), Fault> {
+    let (value, bits) = counted_bits(json)?;
+    let octets = hexadecimal(alloc, value)?;
+    check_bits(octets.as_slice(), bits)?;
+    check_size(tables, type_number, bits)?;
+    write_length(octets.len().saturating_add(1), out)?;
+    out.push(match bits % 8 {
+        0 => 0,
+        used => 8 - used as u8,
+    })?;
+    Ok(out.extend_from_slice(octets.as_slice())?)
+}
+
+/// Octets that are a text of a type, and how many characters they are.
+#[derive(Drop)]
+struct Units {
+    octets: Vec<u8>,
+    count: usize,
+}
+
+fn one_octet_each(octets: Vec<u8>) -> Units {
+    let count = octets.len();
+    Units { octets, count }
+}
+
+/// A text of one octet a character, of an alphabet.
+fn restricted<C: CharacterSet>(
+    alloc: Global,
+    text: &str,
+    name: &'static str,
+) -> Result<Units, Fault> {
+    if !RestrictedString::<C>::is_text(text.as_bytes()) {
+        return Err(Fault::Misfit(Misfit::NotInAlphabet(name)));
+    }
+    Ok(one_octet_each(Vec::from_slice(alloc, text.as_bytes())?))
+}
+
+/// A text of two octets a character (X.680, 41.15).
+fn wide(alloc: Global, text: &str) -> Result<Units, Fault> {
+    let mut octets = Vec::new(alloc);
+    let mut count: usize = 0;
+    for character in text.chars() {
+        let code = character as u32;
+        if code > 0xFFFF {
+            return Err(Fault::Misfit(Misfit::NotInAlphabet("BMPString")));
+        }
+        octets.push((code / 256) as u8)?;
+        octets.push((code % 256) as u8)?;
+        count = count.saturating_add(1);
+    }
+    Ok(Units { octets, count })
+}
+
+/// A time's or a day's text.
+fn time(alloc: Global, text: &str, is_time: bool, form: &'static str) -> Result<Units, Fault> {
+    if !is_time {
+        return Err(Fault::Misfit(Misfit::NoTime(form)));
+    }
+    Ok(one_octet_each(Vec::from_slice(alloc, text.as_bytes())?))
+}
+
+/// The octets of a text, by what the table says that they are.
+fn units_of(alloc: Global, text: &str, sort: u32) -> Result<Units, Fault> {
+    let octets = text.as_bytes();
+    match sort {
+        1 | 6..=8 => Ok(one_octet_each(Vec::from_slice(alloc, octets)?)),
+        2 => restricted::<NumericCharacters>(alloc, text, "NumericString"),
+        3 => restricted::<PrintableCharacters>(alloc, text, "PrintableString"),
+        4 => restricted::<VisibleCharacters>(alloc, text, "VisibleString"),
+        5 => restricted::<Ia5Characters>(alloc, text, "IA5String"),
+        9 => wide(alloc, text),
+        21 => time(
+            alloc,
+            text,
+            UtcTime::from_text(octets).is_ok(),
+            "YYMMDDhhmmssZ",
+        ),
+        22 => time(
+            alloc,
+            text,
+            GeneralizedTime::from_text(octets).is_ok(),
+            "YYYYMMDDhhmmssZ, or with a point and 1 to 9 digits before the Z",
+        ),
+        23 => time(alloc, text, Date::from_text(octets).is_ok(), "YYYYMMDD"),
+        _ => Ok(one_octet_each(octets_in(alloc, text)?)),
+    }
+}
+
+/// The octets of a string: a text; of a type whose characters may be any octets, also an object of `octets`, if they are no text.
+fn string(alloc: Global, json: &Json, sort: u32) -> Result<Units, Fault> {
+    match json {
+        Json::Text(text) => units_of(alloc, text.as_str(), sort),
+        Json::Members(members) => match members.as_slice() {
+            [(name, value)] if name.as_str() == "octets" && matches!(sort, 6..=9) => {
+                let octets = hexadecimal(alloc, value)?;
+                let count = if sort == 9 {
+                    octets.len() / 2
+                } else {
+                    octets.len()
+                };
+                Ok(Units { octets, count })
+            }
+            _ => Err(wrong_sort("a text")),
+        },
+        _ => Err(wrong_sort("a text")),
+    }
+}
+
+/// The arcs of a dotted number.
+fn arcs_of(alloc: Global, text: &str) -> Result<Vec<u32>, Fault> {
+    let mut arcs = Vec::new(alloc);
+    for part in text.split('.') {
+        match part.parse::<u32>() {
+            Ok(arc) if !part.starts_with("+") => arcs.push(arc)?,
+            _ => return Err(Fault::Misfit(Misfit::NoIdentifier)),
+        }
+    }
+    Ok(arcs)
+}
+
+/// Appends an object identifier (X.696, 21).
+fn put_identifier(alloc: Global, json: &Json, out: &mut Vec<u8>) -> Result<(), Fault> {
+    let Json::Text(text) = json else {
+        return Err(wrong_sort("a text"));
+    };
+    let arcs = arcs_of(alloc, text.as_str())?;
+    if !asn1_strings::is_identifier(arcs.as_slice()) {
+        return Err(Fault::Misfit(Misfit::NoIdentifier));
+    }
+    Ok(write_object_identifier(arcs.as_slice(), out)?)
+}
+
+/// Appends a string of so many octets, and no length.
+fn put_fixed_string(
+    alloc: Global,
+    tables: &Tables,
+    type_number: u32,
+    json: &Json,
+    out: &mut Vec<u8>,
+) -> Result<(), Fault> {
+    let sort = tables.word_of(type_number, 1);
+    let string = string(alloc, json, sort)?;
+    let wanted = tables.word_of(type_number, 0);
+    if string.octets.len() != wanted as usize {
+        let size = Some(i128::from(if sort == 9 { wanted / 2 } else { wanted }));
+        return Err(Fault::Misfit(Misfit::WrongSize {
+            size: string.count,
+            low: size,
+            high: size,
+        }));
+    }
+    Ok(out.extend_from_slice(string.octets.as_slice())?)
+}
+
+/// Appends a string behind a length.
+fn put_string(
+    alloc: Global,
+    tables: &Tables,
+    type_number: u32,
+    json: &Json,
+    out: &mut Vec<u8>,
+) -> Result<(), Fault> {
+    let sort = tables.word_of(type_number, 0);
+    if sort == 20 {
+        return put_identifier(alloc, json, out);
+    }
+    let string = string(alloc, json, sort)?;
+    check_size(tables, type_number, string.count)?;
+    Ok(write_content(string.octets.as_slice(), out)?)
+}
+
+/// Appends a number of a kind, or an enumerated value by its name.
+fn put_number(
+    alloc: Global,
+    tables: &Tables,
+    type_number: u32,
+    kind: u32,
+    json: &Json,
+    out: &mut Vec<u8>,
+) -> Result<(), Fault> {
+    match (kind, json) {
+        (2, Json::Number(number)) => put_fixed(tables, type_number, *number, out),
+        (3, Json::Number(number)) => put_counted(tables, type_number, *number, out),
+        (3, Json::Text(text)) => {
+            let octets = octets_in(alloc, text.as_str())?;
+            put_long(tables, type_number, octets.as_slice(), out)
+        }
+        (4, Json::Text(name)) => put_name(tables, type_number, name.as_str(), out),
+        (4, Json::Number(_)) => Err(Fault::Misfit(Misfit::UnknownName)),
+        (_, Json::OtherNumber) => Err(Fault::Misfit(Misfit::NumberTooLarge)),
+        (4, _) => Err(wrong_sort("a name")),
+        _ => Err(wrong_sort("an integer")),
+    }
+}
+
+/// Appends a value without parts of a kind.
+pub fn put_leaf(
+    alloc: Global,
+    tables: &Tables,
+    type_number: u32,
+    kind: u32,
+    json: &Json,
+    out: &mut Vec<u8>,
+) -> Result<(), Fault> {
+    match (kind, json) {
+        (0, Json::Bool(is_true)) => Ok(write_bool(*is_true, out)?),
+        (0, _) => Err(wrong_sort("true or false")),
+        (1, Json::Null) => Ok(()),
+        (1, _) => Err(wrong_sort("null")),
+        (2..=4, _) => put_number(alloc, tables, type_number, kind, json, out),
+        (5, _) => put_fixed_bits(alloc, tables, type_number, json, out),
+        (6, _) => put_bits(alloc, tables, type_number, json, out),
+        (7, _) => put_fixed_string(alloc, tables, type_number, json, out),
+        (8, _) => put_string(alloc, tables, type_number, json, out),
+        _ => Err(Fault::Misfit(Misfit::UnknownType)),
+    }
+}

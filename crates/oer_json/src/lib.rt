@@ -1,0 +1,20 @@
+//! From a value in JSON (X.697) to its canonical octets (X.696), by a table of types.
+//!
+//! What is read is what `oershow --json` prints of a value. The octets are walked by the same table before they are answered.
+#![tactic(auto)]
+
+mod components;
+mod json;
+mod leaves;
+mod numbers;
+mod octets;
+mod refusals;
+mod tables;
+#[cfg(test)]
+mod tests;
+mod values;
+
+pub use json::Json;
+pub use octets::octets_of;
+pub use refusals::{Misfit, Refusal};
+pub use tables::{Bounds, Standard, TableError, Tables, ValueName};

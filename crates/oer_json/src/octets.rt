@@ -1,0 +1,93 @@
+//! From a text to octets that the walk takes.
+ghost use Rattle.std.specs.Prelude.{◌↔◌, IfOk, IsTrue, length};
+ghost use Rattle.oer_json.specs.Whole.{IsWalkedWhole};
+
+use crate::components::{Member, has_component};
+use crate::json::Json;
+use crate::refusals::{Refusal, refusal_of};
+use crate::tables::{SEQUENCE, Tables};
+use crate::values::{Source, put_value};
+use oer_walk::walk;
+use std::alloc::Global;
+
+/// How many sequences, sets, lists and choices may be nested.
+const LEVELS: u32 = 1024;
+
+/// Whether the walk takes octets whole.
+fn is_walked_whole(tables: &Tables, type_number: u32, octets: &[u8]) -> bool
+    ensures { IsTrue result ↔ IsWalkedWhole tables.now.words.items type_number 1024 octets.now }
+{
+    let walked = walk(
+        tables.words.as_slice(),
+        type_number,
+        LEVELS,
+        octets,
+        &mut [],
+    );
+    walked.refusal.is_none() && walked.consumed == octets.len()
+}
+
+/// Whether members are those of a line that `oershow --json` prints, and no value of a type that has such components itself.
+fn is_line(tables: &Tables, type_number: u32, members: &[Member]) -> bool {
+    match members {
+        [octets, value] => {
+            octets.0.as_str() == "octets"
+                && value.0.as_str() == "value"
+                && !(tables.kind_of(type_number) == SEQUENCE
+                    && has_component(tables, type_number, "octets"))
+        }
+        _ => false,
+    }
+}
+
+/// The value in a line that `oershow --json` prints, or the value itself.
+fn value_in<'j>(tables: &Tables, type_number: u32, json: &'j Json) -> &'j Json {
+    match json {
+        Json::Members(members) if is_line(tables, type_number, members.as_slice()) => {
+            match members.as_slice() {
+                [_, value] => &value.1,
+                _ => json,
+            }
+        }
+        _ => json,
+    }
+}
+
+/// The octets of a value, before they are walked.
+fn written(
+    alloc: Global,
+    tables: &Tables,
+    type_number: u32,
+    json: &Json,
+) -> Result<Vec<u8>, Refusal> {
+    let mut path = Vec::new(alloc);
+    let mut octets = Vec::new(alloc);
+    let source = Source { alloc, tables };
+    match put_value(source, type_number, LEVELS, json, &mut path, &mut octets) {
+        Ok(()) => Ok(octets),
+        Err(fault) => Err(refusal_of(alloc, tables, path.as_slice(), fault)?),
+    }
+}
+
+/// The canonical octets (X.696) of a value of the type with that number, which a text has in JSON (X.697), or a line that
+/// `oershow --json` prints of the value. They are octets that the walk by the table takes whole, within 1024 levels.
+///
+/// Refused: octets that aren't UTF-8, as `NotUtf8`; what is no JSON, as `NotJson`; JSON that is no value of the type, as
+/// `Misfit` with the first path that doesn't fit and what is expected there; octets that the walk doesn't take, as `NotWalked`.
+pub fn octets_of(
+    alloc: Global,
+    tables: &Tables,
+    type_number: u32,
+    text: &[u8],
+) -> Result<Vec<u8>, Refusal>
+    ensures { IfOk result (λ octets. IsWalkedWhole tables.now.words.items type_number 1024 octets.items) }
+{
+    let json = Json::read(alloc, text)?;
+    let json = value_in(tables, type_number, &json);
+    let octets = written(alloc, tables, type_number, json)?;
+    if is_walked_whole(tables, type_number, octets.as_slice()) {
+        Ok(octets)
+    } else {
+        Err(Refusal::NotWalked)
+    }
+}
