@@ -77,16 +77,12 @@ enum State {
     LeftOut,
 }
 
-/// The printed names, in small letters, each with the name of the type that it was printed of.
-type Owners = BTreeMap<String, String>;
-
-/// What is known so far: what became of each type, how deep each is, the printed names, and what came of a circle's other types, which
-/// are printed with its first one, the next one last.
+/// What is known so far: what became of each type, how deep each is, and what came of a circle's other types, which are printed with its
+/// first one, the next one last.
 #[derive(Drop)]
 struct Progress {
     states: Vec<State>,
     depths: Vec<Depth>,
-    seen: Owners,
     waiting: Vec<Result<Printed, Refusal>>,
 }
 
@@ -327,74 +323,43 @@ fn clashes<'m>(scope: Scope<'m, '_>, all: &[Definition<'m>]) -> Result<Vec<usize
     Ok(found)
 }
 
-/// Puts `_` behind names of types, which no name of ASN.1 has, until what is printed of each has names that neither another type nor the
-/// library has.
-pub fn free_names<'m>(
-    scope: Scope<'m, '_>,
-    all: &mut Vec<Definition<'m>>,
-) -> Result<(), AllocError> {
-    for _ in 0..MAX_RENAMES {
-        let found = clashes(scope, all.as_slice())?;
-        if found.is_empty() {
-            break;
-        }
-        for at in found.iter() {
-            if let Some(definition) = all.get_mut(*at) {
-                definition.rust_name.push('_')?;
-            }
+/// Puts `_` behind the names of the types at some places.
+fn rename(all: &mut Vec<Definition<'_>>, places: &[usize]) -> Result<(), AllocError> {
+    for at in places.iter() {
+        if let Some(definition) = all.get_mut(*at) {
+            definition.rust_name.push('_')?;
         }
     }
     Ok(())
 }
 
-/// The refusal of a type for a printed name that another has.
-fn same_name(
-    scope: Scope<'_, '_>,
-    definition: &Definition<'_>,
-    name: &str,
-    other: Option<&str>,
-) -> Refusal {
+/// Puts `_` behind names of types, which no name of ASN.1 has, until what is printed of each has names that neither another type nor the
+/// library has, in letters of either size. Refused where so many names are one that this doesn't come to an end.
+pub fn free_names<'m>(scope: Scope<'m, '_>, all: &mut Vec<Definition<'m>>) -> Result<(), Refusal> {
     const READS: &str =
         "a type none of whose printed names, in letters of either size, is another's";
-    let (behind, owner) = match other {
-        Some(owner) => ("is printed of ", owner),
-        None => ("is the library's", ""),
-    };
-    match format!(in scope.alloc; "{READS}: {name} {behind}{owner}") {
-        Ok(reads) => scope.refused(definition.of.first, reads.as_str()),
-        Err(_) => Refusal::OutOfMemory,
+    let mut left = None;
+    for _ in 0..all.len().saturating_add(MAX_RENAMES) {
+        let found = clashes(scope, all.as_slice())?;
+        left = found
+            .first()
+            .and_then(|at| all.get(*at))
+            .map(|one| one.of.first);
+        if left.is_none() {
+            break;
+        }
+        rename(all, found.as_slice())?;
+    }
+    match left {
+        Some(first) => Err(scope.refused(first, READS)),
+        None => Ok(()),
     }
 }
 
-/// Puts a printed name to those that were seen. Refused where it, in letters of either size, is that of another.
-fn see_name<'m>(
-    scope: Scope<'m, '_>,
-    definition: &Definition<'m>,
-    name: &str,
-    seen: &mut Owners,
-) -> Result<(), Refusal> {
-    let small = lower(scope.alloc, name)?;
-    if is_taken(small.as_str()) {
-        return Err(same_name(scope, definition, name, None));
-    }
-    if let Some(owner) = seen.get(small.as_str()) {
-        return Err(same_name(scope, definition, name, Some(owner.as_str())));
-    }
-    seen.insert(small, definition.rust_name.clone()?)?;
-    Ok(())
-}
-
-/// The names of a text that others may use. Refused where one, in letters of either size, is that of another.
-fn names_of_text<'m>(
-    scope: Scope<'m, '_>,
-    definition: &Definition<'m>,
-    text: &str,
-    seen: &mut Owners,
-) -> Result<Vec<String>, Refusal> {
-    let alloc = scope.alloc;
+/// The names of a text that others may use.
+fn shown_names(alloc: Global, text: &str) -> Result<Vec<String>, AllocError> {
     let mut names = Vec::new(alloc);
     for (name, is_shown) in declared_names(alloc, text)? {
-        see_name(scope, definition, name.as_str(), seen)?;
         if is_shown {
             names.push(name)?;
         }
@@ -412,7 +377,7 @@ fn print_one<'m>(
 ) -> Result<Printed, Refusal> {
     require_depth(scope, all, definition, progress.depths.get(at))?;
     let text = text_of(scope, all, definition, Some(progress.states.as_slice()))?;
-    let names = names_of_text(scope, definition, text.as_str(), &mut progress.seen)?;
+    let names = shown_names(scope.alloc, text.as_str())?;
     Ok(Printed {
         text,
         names,
@@ -566,7 +531,6 @@ pub fn print_types<'m>(
     let mut progress = Progress {
         states: vec![in alloc; State::New; all.len()]?,
         depths: depths_of(scope, all, order)?,
-        seen: BTreeMap::new(alloc),
         waiting: Vec::new(alloc),
     };
     let mut printed = Vec::new(alloc);

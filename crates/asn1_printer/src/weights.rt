@@ -295,26 +295,18 @@ pub fn weights_of(
     all: &[Definition<'_>],
     definition: &Definition<'_>,
 ) -> Result<Weights, AllocError> {
+    let none = Ok(Weights {
+        uses: String::new(scope.alloc),
+        lines: String::new(scope.alloc),
+    });
     match definition.of.body {
-        Body::Sequence(_) | Body::Set(_) if definition.circle.is_some() => sequence_weights(
-            scope.alloc,
-            all,
-            definition,
-        ),
+        Body::Sequence(_) | Body::Set(_) if definition.circle.is_some() => {
+            sequence_weights(scope.alloc, all, definition)
+        }
         Body::Choice(_) if definition.circle.is_some() => choice_weights(scope, all, definition),
-        Body::Sequence(_)
-        | Body::Set(_)
-        | Body::Choice(_)
-        | Body::Enumerated(_, _)
-        | Body::SequenceOf(_)
-        | Body::SetOf(_)
-        | Body::Reference(_)
-        | Body::Simple(_)
-        | Body::Integer(_)
-        | Body::BitString(_) => Ok(Weights {
-            uses: String::new(scope.alloc),
-            lines: String::new(scope.alloc),
-        }),
+        Body::Sequence(_) | Body::Set(_) | Body::Choice(_) | Body::Enumerated(_, _) => none,
+        Body::SequenceOf(_) | Body::SetOf(_) | Body::Reference(_) => none,
+        Body::Simple(_) | Body::Integer(_) | Body::BitString(_) => none,
     }
 }
 
