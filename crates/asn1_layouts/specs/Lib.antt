@@ -1,1 +1,4 @@
+pub mod Enumerations
+pub mod Preambles
+pub mod Tags
 pub mod Widths

@@ -1,10 +1,13 @@
 //! How a type lies in octets, in words: which constraint gives which width, and where a length stands (X.696, clauses 9 to 29).
+ghost use Rattle.std.specs.Prelude.{◌≡◌};
+ghost use Rattle.asn1_layouts.specs.Preambles.{has_bit, octets_of_preamble};
 
+use crate::definitions::Part;
 use crate::numbers::names_of;
-use crate::rows::members_of;
+use crate::rows::{Position, members_of};
 use crate::scope::Scope;
 use crate::visible::{Limits, Purpose, limits_of};
-use asn1_modules::ast::{Body, Member, Simple, Type};
+use asn1_modules::ast::{Body, Member, Need, Simple, Type};
 use asn1_modules::refusal::Refusal;
 use std::alloc::{AllocError, Global};
 
@@ -17,6 +20,29 @@ pub fn is_extensible<'m>(of: &'m Type) -> bool {
         Some(members) => members.iter().any(|m| matches!(m, Member::Mark(_))),
         None => false,
     }
+}
+
+/// Whether the preamble has a bit for a component.
+fn is_asked(part: &Part<'_>) -> bool
+    ensures { result ≡ has_bit part.now }
+{
+    match &part.row {
+        Some(row) => match (row.position, row.need) {
+            (Position::Root, Need::Optional | Need::Default(_)) => true,
+            (Position::Root, Need::Required) => false,
+            (Position::Addition | Position::Group(_), _) => false,
+        },
+        None => false,
+    }
+}
+
+/// How many octets the preamble of a SEQUENCE or a SET has (X.696, 16.2).
+pub fn preamble_octets(parts: &[Part<'_>], is_extensible: bool) -> usize
+    ensures { result ≡ octets_of_preamble is_extensible parts.now }
+{
+    let asked = parts.iter().filter(|part| is_asked(*part)).count();
+    let extension = if is_extensible { 1 } else { 0 };
+    (asked + extension).div_ceil(8)
 }
 
 /// The lists around a type, as ASN.1 writes them.

@@ -2,7 +2,7 @@
 
 use crate::definitions::{Definition, Part, definitions};
 use crate::expansion::tokens_of;
-use crate::layouts::{is_extensible, layout_of, lists_of, octets_text};
+use crate::layouts::{is_extensible, layout_of, lists_of, octets_text, preamble_octets};
 use crate::numbers::enumerated_numbers;
 use crate::order::{boxes, order_of_use};
 use crate::rows::{Position, Row, tag_text};
@@ -122,30 +122,14 @@ fn push_preamble<'m>(
     if !matches!(definition.of.body, Body::Sequence(_) | Body::Set(_)) {
         return Ok(());
     }
-    let mut bits = 0usize;
-    for part in definition.parts.iter() {
-        if is_asked(part) {
-            bits = bits.saturating_add(1);
-        }
-    }
     let extension = is_extensible(definition.of);
-    if extension {
-        bits = bits.saturating_add(1);
-    }
-    let octets = octets_text(scope.alloc, i128::try_from(bits.div_ceil(8)).unwrap_or(0))?;
+    let octets = preamble_octets(definition.parts.as_slice(), extension);
+    let octets = octets_text(scope.alloc, i128::try_from(octets).unwrap_or(0))?;
     let first = if extension { "with" } else { "without" };
     out.push_str(format!(in scope.alloc;
         "    preamble: {octets}, {first} an extension bit\n"
     )?.as_str())?;
     Ok(())
-}
-
-/// Whether the preamble has a bit for a component.
-fn is_asked(part: &Part<'_>) -> bool {
-    match &part.row {
-        Some(row) => row.position == Position::Root && !matches!(row.need, Need::Required),
-        None => false,
-    }
 }
 
 /// A definition's components or alternatives, a line each.

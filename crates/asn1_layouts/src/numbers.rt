@@ -1,4 +1,6 @@
 //! The values that names and literals stand for.
+ghost use Rattle.std.specs.Prelude.{IfSome};
+ghost use Rattle.asn1_layouts.specs.Enumerations.{IsLeastFree};
 
 use crate::scope::Scope;
 use asn1_modules::ast::{Body, Numbered, Reference, Type, Value};
@@ -11,6 +13,9 @@ const MAX_CHAIN: usize = 64;
 
 /// What can be read where names lead back to themselves.
 const NAMED: &str = "a value that isn't a name of itself, or behind 64 names";
+
+/// What can be read where a number is past i128.
+const NUMBER: &str = "a number of at most 128 bits, with its sign";
 
 /// A value, and the names that its type gives to numbers: none where it has no such names.
 #[derive(Clone, Copy)]
@@ -155,10 +160,7 @@ pub fn number_of<'m>(scope: Scope<'m, '_>, spot: Spot<'m>) -> Result<i128, Refus
     };
     match number {
         Some(number) => Ok(number),
-        None => Err(scope.refused(
-            first_of(end.value),
-            "a number of at most 128 bits, with its sign",
-        )),
+        None => Err(scope.refused(first_of(end.value), NUMBER)),
     }
 }
 
@@ -187,7 +189,9 @@ pub fn enumerated_numbers<'m>(
     let mut next = 0i128;
     for (at, item) in items.iter().enumerate() {
         let written = written_number(scope, item)?;
-        let number = written.unwrap_or(free_number(taken.as_slice(), next));
+        let Some(number) = written.or(free_number(taken.as_slice(), next)) else {
+            return Err(scope.refused(item.name, NUMBER));
+        };
         if written.is_none() || at >= root {
             next = number.saturating_add(1);
         }
@@ -221,14 +225,16 @@ fn written_number<'m>(scope: Scope<'m, '_>, item: &'m Numbered) -> Result<Option
     }
 }
 
-/// The least number from `next` on that isn't taken.
-fn free_number(taken: &[i128], next: i128) -> i128 {
+/// The least number from `next` on that isn't taken; nothing past i128.
+fn free_number(taken: &[i128], next: i128) -> Option<i128>
+    ensures { IfSome result (IsLeastFree taken.now next) }
+{
     let mut number = next;
-    for _ in 0..taken.len() {
+    'tried: for _ in 0..taken.len().saturating_add(1) {
         if !taken.contains(&number) {
-            break;
+            return Some(number);
         }
-        number = number.saturating_add(1);
+        number = number.checked_add(1)?;
     }
-    number
+    None
 }

@@ -1,4 +1,6 @@
 //! The components of a SEQUENCE or a SET, and the alternatives of a CHOICE: each with its place and its tag.
+ghost use Rattle.std.specs.Prelude.{◌≡◌, ◌<◌, ◌^◌, IfOk, length};
+ghost use Rattle.asn1_layouts.specs.Tags.{automatic_tags, is_root, with_tag};
 
 use crate::numbers::{Spot, number_of};
 use crate::scope::Scope;
@@ -244,24 +246,45 @@ fn simple_tag(simple: Simple) -> Option<Tag> {
     })
 }
 
+impl<'m> Row<'m> {
+    /// Whether it is of the root.
+    fn is_root(&self) -> bool
+        ensures { result ≡ is_root self.now }
+    {
+        match self.position {
+            Position::Root => true,
+            Position::Addition | Position::Group(_) => false,
+        }
+    }
+
+    /// The row with a context-specific tag.
+    fn numbered(self, value: u32) -> Row<'m>
+        ensures { result ≡ with_tag self.entry value }
+    {
+        let class = Class::Context;
+        Row {
+            tag: Some(Tag { class, value }),
+            ..self
+        }
+    }
+}
+
 /// The rows with tags from 0: the root components first, then the additions (X.680, 25.7 to 25.9 and 29.5).
-fn numbered_rows<'m>(scope: Scope<'m, '_>, rows: &[Row<'m>]) -> Result<Vec<Row<'m>>, Refusal> {
-    let mut all = Vec::new(scope.alloc);
+fn numbered_rows<'m>(alloc: Global, rows: &[Row<'m>]) -> Result<Vec<Row<'m>>, AllocError>
+    ensures { length rows.now < 2 ^ 31 → IfOk result (λ all. all.items ≡ automatic_tags rows.now) }
+{
+    let mut all = Vec::new(alloc);
+    let roots = rows.iter().filter(|row| row.is_root()).count();
     let mut root = 0u32;
-    let roots = rows.iter().filter(|r| r.position == Position::Root).count();
     let mut addition = u32::try_from(roots).unwrap_or(u32::MAX);
     for row in rows.iter() {
-        let next = if row.position == Position::Root {
-            &mut root
+        if row.is_root() {
+            all.push(row.numbered(root))?;
+            root = root.saturating_add(1);
         } else {
-            &mut addition
-        };
-        let tag = Some(Tag {
-            class: Class::Context,
-            value: *next,
-        });
-        *next = next.saturating_add(1);
-        all.push(Row { tag, ..*row })?;
+            all.push(row.numbered(addition))?;
+            addition = addition.saturating_add(1);
+        }
     }
     Ok(all)
 }
@@ -371,7 +394,7 @@ pub fn rows_of<'m>(scope: Scope<'m, '_>, of: &'m Type) -> Result<Vec<Row<'m>>, R
     let written = written_rows(scope, members, MAX_NESTING)?;
     let is_automatic = scope.tagging_of(of.first) == Tagging::Automatic;
     let rows = if is_automatic && !members.iter().any(|m| is_tagged(scope, m)) {
-        numbered_rows(scope, written.as_slice())?
+        numbered_rows(scope.alloc, written.as_slice())?
     } else {
         tagged_rows(scope, written.as_slice())?
     };
