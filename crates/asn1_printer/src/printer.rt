@@ -6,14 +6,14 @@ use crate::circles::{again, require_circle, run_of};
 use crate::depths::{Depth, depths_of, require_depth};
 use crate::enumerations::push_enumerated;
 use crate::items::push_limits;
-use crate::knots::{knot_name, push_knot, push_list};
+use crate::knots::{knot_name, owner_words, push_knot};
 use crate::lines::laid_out;
 use crate::notation::push_notation;
 use crate::notes::push_noted;
 use crate::sequences::push_sequence;
 use crate::shapes::shape_of;
 use crate::templates::ALIAS;
-use crate::text::{Text, Words};
+use crate::text::Text;
 use crate::uses::{KNOWN, declared_names};
 use crate::weights::{Knot, Weights, knot_of, weights_of};
 use asn1_layouts::definitions::{Circle, Definition, Tie};
@@ -119,11 +119,9 @@ fn require_targets<'m>(
     Ok(())
 }
 
-/// Prints a name for a type, by its Rust type.
-fn push_name(alloc: Global, out: &mut Text, name: &str, doc: &str, rust: &Text) {
-    let mut words = Words::new(alloc);
-    words.put("DOC", doc);
-    words.put("NAME", name);
+/// Prints a name for a type, by its Rust type; with the parameter of a knot where there is one.
+fn push_name(out: &mut Text, name: &str, doc: &str, rust: &Text, knot: Option<&str>) {
+    let mut words = owner_words(out.alloc(), doc, name, knot);
     words.begin("TYPE").push_text(rust);
     out.fill(ALIAS, &words);
 }
@@ -141,11 +139,7 @@ fn push_alias<'m>(
     };
     let name = definition.rust_name.as_str();
     let shape = shape_of(scope, all, part, definition.of, name)?;
-    if let Some(knot) = knot_name(all, definition) {
-        push_list(scope.alloc, out, doc, name, knot, &shape.text);
-        return Ok(());
-    }
-    push_name(scope.alloc, out, name, doc, &shape.text);
+    push_name(out, name, doc, &shape.text, knot_name(all, definition));
     match shape.limits {
         Some(limits) => push_limits(scope, out, name, limits, definition.of.first),
         None => Ok(()),
@@ -154,7 +148,6 @@ fn push_alias<'m>(
 
 /// A name of a type of its circle.
 fn push_circle_name(
-    alloc: Global,
     all: &[Definition<'_>],
     out: &mut Text,
     definition: &Definition<'_>,
@@ -162,9 +155,9 @@ fn push_circle_name(
 ) {
     let target = definition.parts.first().and_then(|part| part.target);
     if let Some(target) = target.and_then(|at| all.get(at)) {
-        let mut rust = Text::new(alloc);
+        let mut rust = Text::new(out.alloc());
         rust.push(target.rust_name.as_str());
-        push_name(alloc, out, definition.rust_name.as_str(), doc, &rust);
+        push_name(out, definition.rust_name.as_str(), doc, &rust, None);
     }
 }
 
@@ -218,7 +211,7 @@ fn text_of<'m>(
             push_enumerated(scope, &mut out, definition, items, doc)?;
         }
         Body::Reference(_) if definition.circle.is_some() => {
-            push_circle_name(scope.alloc, all, &mut out, definition, doc);
+            push_circle_name(all, &mut out, definition, doc);
         }
         Body::Simple(_) | Body::Integer(_) | Body::BitString(_) | Body::Reference(_) => {
             push_alias(scope, all, &mut out, definition, doc)?
@@ -226,7 +219,7 @@ fn text_of<'m>(
         Body::SequenceOf(_) | Body::SetOf(_) => push_alias(scope, all, &mut out, definition, doc)?,
     }
     if knot_name(all, definition) == Some(definition.rust_name.as_str()) {
-        push_knot(scope.alloc, &mut out, definition)?;
+        push_knot(scope.alloc, &mut out, definition);
     }
     Ok(laid_out(scope.alloc, &out)?)
 }

@@ -2,9 +2,6 @@
 
 use crate::chains::Chain;
 use crate::choices::push_table_name;
-use crate::knots::put_parameter;
-use crate::sequences::put_counts;
-use crate::templates::IN_TAG_ORDER;
 use crate::text::{Text, Words};
 use std::alloc::{AllocError, Global};
 use std::collections::BTreeMap;
@@ -64,19 +61,15 @@ fn push_places(out: &mut Text, places: &[usize]) {
     out.push("[]");
 }
 
-/// Prints where the components of a SET stand in its text, and that its row has them in the order of their tags.
-pub fn push_set_order(alloc: Global, out: &mut Text, of: Chain<'_>) {
-    let mut words = Words::new(alloc);
-    words.put("NAME", of.owner);
-    push_table_name(words.begin("TEXT"), of.owner, "IN_TEXT_ORDER");
+/// Says where the components of a SET stand in its text, and what names their table.
+pub fn put_set_order(words: &mut Words, of: Chain<'_>) {
+    const TEXT: &str = "IN_TEXT_ORDER";
+    push_table_name(words.begin("TEXT"), of.owner, TEXT);
     push_text_table(words.begin("TEXT_TABLE"), of);
     if of.knot.is_some() {
-        push_table_name(words.begin("SET_FIELDS"), of.owner, "IN_TEXT_ORDER");
+        push_table_name(words.begin("SET_FIELDS"), of.owner, TEXT);
     } else {
         words.put("SET_FIELDS", "Self::SET_FIELDS.fields");
     }
     push_places(words.begin("PLACES"), of.places);
-    put_counts(&mut words, of);
-    put_parameter(&mut words, of);
-    out.fill(IN_TAG_ORDER, &words);
 }

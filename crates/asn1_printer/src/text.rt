@@ -1,6 +1,6 @@
 //! Text by pieces, and by templates.
 
-use asn1_layouts::names::push_type_name;
+use asn1_layouts::names::{component_name, push_type_name};
 use std::alloc::{AllocError, Global};
 
 /// Whether a comment of the language may have a character: it may not have tabs and other controls, ends of lines, and signs that turn
@@ -100,6 +100,14 @@ impl Text {
         }
     }
 
+    /// Appends a name as a component's.
+    pub fn push_component_name(&mut self, name: &str) {
+        match component_name(self.alloc, name) {
+            Ok(name) => self.push(name.as_str()),
+            Err(_) => self.is_whole = false,
+        }
+    }
+
     /// Appends a name in capitals.
     pub fn push_upper(&mut self, name: &str) {
         for c in name.chars() {
@@ -182,6 +190,11 @@ impl Words {
             text: Text::new(alloc),
             starts: Vec::new(alloc),
         }
+    }
+
+    /// Where their memory comes from.
+    pub fn alloc(&self) -> Global {
+        self.text.alloc
     }
 
     /// Begins what stands for a word: all that is appended before the next one.
