@@ -16,7 +16,7 @@ with_tag row number = record row { tag = Some (record { class = Context; value =
 abbrev pub tags_from : ℕ → ℕ → List Row → List Row
 tags_from root addition [] = []
 tags_from root addition (row ∷ rows) =
-  cond (is_root row)
+    cond (is_root row)
     (with_tag row root ∷ tags_from (root + 1) addition rows)
     (with_tag row addition ∷ tags_from root (addition + 1) rows)
 

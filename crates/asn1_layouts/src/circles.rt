@@ -45,14 +45,6 @@ fn users_of(alloc: Global, all: &[Definition<'_>]) -> Result<Vec<Vec<usize>>, Al
     Ok(users)
 }
 
-/// Puts places behind others.
-fn push_places(places: &mut Vec<usize>, more: &[usize]) -> Result<(), AllocError> {
-    for at in more.iter() {
-        places.push(*at)?;
-    }
-    Ok(())
-}
-
 impl Grouping {
     /// Gives a definition a number; false where it has one.
     fn takes(&mut self, at: usize, number: usize) -> bool {
@@ -78,7 +70,7 @@ impl Grouping {
             if self.takes(at, number) {
                 group.push(at)?;
                 if let Some(users) = self.users.get(at) {
-                    push_places(&mut open, users.as_slice())?;
+                    open.extend_from_slice(users.as_slice())?;
                 }
             }
         }
@@ -247,7 +239,7 @@ fn push_group(
 ) -> Result<(), AllocError> {
     let number = order.len();
     if group.len() == 1 && !group.iter().any(|at| contains_itself(all.as_slice(), *at)) {
-        return push_places(order, group);
+        return order.extend_from_slice(group);
     }
     let knot_last = cut(alloc, all.as_slice(), grouping, group)?;
     let (places, knot) = match &knot_last {
@@ -255,7 +247,7 @@ fn push_group(
         None => (group, None),
     };
     set_circle(alloc, all, grouping, group, Circle { number, knot })?;
-    push_places(order, places)
+    order.extend_from_slice(places)
 }
 
 /// Finds the circles, says in each definition of which it is, and answers an order of use: each place behind those that it uses, the

@@ -140,32 +140,22 @@ fn make_part<'m>(
     })
 }
 
-/// A definition: its parts are its components or alternatives, or the type itself.
-fn define<'m>(
+/// What a type has: its components or alternatives, or the type itself.
+fn parts_of<'m>(
     scope: Scope<'m, '_>,
     pending: &mut Vec<Pending<'m>>,
-    rust_name: String,
-    own: (usize, &'m Type),
-) -> Result<Definition<'m>, Refusal> {
-    let (module, of) = own;
+    parent: (&str, usize),
+    of: &'m Type,
+) -> Result<Vec<Part<'m>>, Refusal> {
     let rows = rows_of(scope, of)?;
     let mut parts = Vec::new(scope.alloc);
     for row in rows.iter() {
-        let parent = (rust_name.as_str(), module);
         parts.push(make_part(scope, pending, parent, Some(*row), row.of)?)?;
     }
     if rows.is_empty() && !has_parts(of) {
-        let parent = (rust_name.as_str(), module);
         parts.push(make_part(scope, pending, parent, None, of)?)?;
     }
-    Ok(Definition {
-        rust_name,
-        module,
-        of,
-        parts,
-        circle: None,
-        fault: None,
-    })
+    Ok(parts)
 }
 
 /// The assignments of all modules, in the order of their text.
@@ -253,40 +243,18 @@ fn require_one(scope: Scope<'_, '_>, at: usize, name: TokenId) -> Result<(), Ref
     ))
 }
 
-/// A type that can't be resolved; the refusal itself where memory was refused, or where none is kept.
-fn faulty<'m>(
-    rust_name: String,
-    own: (usize, &'m Type),
-    why: Refusal,
-    parts: Vec<Part<'m>>,
-    keeps_faults: bool,
-) -> Result<Definition<'m>, Refusal> {
-    if !keeps_faults || matches!(why, Refusal::OutOfMemory) {
-        return Err(why);
-    }
-    let (module, of) = own;
-    Ok(Definition {
-        rust_name,
-        module,
-        of,
-        parts,
-        circle: None,
-        fault: Some(why),
-    })
-}
-
-/// The definition of the type at a place, which `named` is the name of where it is an assignment.
-fn resolve<'m>(
+/// The parts of the type at a place, which `named` is the name of where it is an assignment.
+fn resolved<'m>(
     scope: Scope<'m, '_>,
     pending: &mut Vec<Pending<'m>>,
-    rust_name: String,
-    own: (usize, &'m Type),
+    parent: (&str, usize),
+    of: &'m Type,
     named: (usize, Option<TokenId>),
-) -> Result<Definition<'m>, Refusal> {
+) -> Result<Vec<Part<'m>>, Refusal> {
     if let (at, Some(name)) = named {
         require_one(scope, at, name)?;
     }
-    define(scope, pending, rust_name, own)
+    parts_of(scope, pending, parent, of)
 }
 
 /// All definitions: first the assignments, then the types inside them. Refused at the first that can't be resolved; with `keeps_faults`
@@ -303,18 +271,33 @@ pub fn definitions<'m>(
         let Some(next) = pending.get(at) else {
             break;
         };
-        let own = (next.module, next.of);
-        let named = (at, next.named);
-        let name = free_name(scope.alloc, &mut names, next.rust_name.as_str())?;
-        let kept = next.rust_name.clone()?;
+        let (module, of, named) = (next.module, next.of, next.named);
+        let wanted = next.rust_name.clone()?;
+        let free = free_name(scope.alloc, &mut names, wanted.as_str())?;
         let count = pending.len();
-        match resolve(scope, &mut pending, name, own, named) {
-            Ok(one) => all.push(one)?,
-            Err(why) => {
+        let parent = (free.as_str(), module);
+        let (rust_name, parts, fault) = match resolved(
+            scope,
+            &mut pending,
+            parent,
+            of,
+            (at, named),
+        ) {
+            Ok(parts) => (free, parts, None),
+            Err(why) if keeps_faults && !matches!(why, Refusal::OutOfMemory) => {
                 pending.truncate(count);
-                all.push(faulty(kept, own, why, Vec::new(scope.alloc), keeps_faults)?)?;
+                (wanted, Vec::new(scope.alloc), Some(why))
             }
-        }
+            Err(why) => return Err(why),
+        };
+        all.push(Definition {
+            rust_name,
+            module,
+            of,
+            parts,
+            circle: None,
+            fault,
+        })?;
     }
     Ok(all)
 }

@@ -93,14 +93,6 @@ fn parts_of<'t, 'a>(
     Ok(parts)
 }
 
-/// Puts tokens behind others.
-fn push_all<'a>(out: &mut Vec<Token<'a>>, tokens: &[Token<'a>]) -> Result<(), AllocError> {
-    for token in tokens.iter() {
-        out.push(*token)?;
-    }
-    Ok(())
-}
-
 /// Puts tokens behind others, as those of a copying.
 fn push_copied<'a>(
     out: &mut Vec<Token<'a>>,
@@ -237,12 +229,12 @@ impl<'m, 'a> Source<'m, 'a> {
     fn push_set(&self, out: &mut Vec<Token<'a>>, of: Assignment) -> Result<(), AllocError> {
         let second = of.start.saturating_add(1);
         let assigns = of.body.saturating_sub(1);
-        push_all(out, self.range(of.start, second))?;
-        push_all(out, self.range(assigns, of.body))?;
-        push_all(out, self.range(second, assigns))?;
+        out.extend_from_slice(self.range(of.start, second))?;
+        out.extend_from_slice(self.range(assigns, of.body))?;
+        out.extend_from_slice(self.range(second, assigns))?;
         if let Some(open) = self.scope.tokens.get(of.body) {
             push_word(out, *open, Kind::Sign, "(")?;
-            push_all(out, inside(self.range(of.body, of.end)))?;
+            out.extend_from_slice(inside(self.range(of.body, of.end)))?;
             push_word(out, *open, Kind::Sign, ")")?;
         }
         Ok(())
@@ -257,7 +249,7 @@ impl<'m, 'a> Source<'m, 'a> {
         if self.is_set(of) {
             return self.push_set(out, of);
         }
-        push_all(out, self.range(of.start, of.end))
+        out.extend_from_slice(self.range(of.start, of.end))
     }
 
     /// The tokens without what no octet depends on, and with value sets as types with a constraint.
@@ -265,11 +257,11 @@ impl<'m, 'a> Source<'m, 'a> {
         let mut out = Vec::new(self.scope.alloc);
         let mut at = 0usize;
         for one in self.assignments.iter() {
-            push_all(&mut out, self.range(at, one.start))?;
+            out.extend_from_slice(self.range(at, one.start))?;
             self.push_assignment(&mut out, *one)?;
             at = one.end;
         }
-        push_all(&mut out, self.rest(at))?;
+        out.extend_from_slice(self.rest(at))?;
         Ok(out)
     }
 
@@ -337,7 +329,7 @@ impl<'m, 'a> Source<'m, 'a> {
         }
         for token in self.range(of.body, of.end).iter() {
             match given_for(dummies.as_slice(), given.as_slice(), *token) {
-                Some(given) => push_all(out, given)?,
+                Some(given) => out.extend_from_slice(given)?,
                 None => out.push(Token { copy, ..*token })?,
             }
         }

@@ -3,7 +3,7 @@
 use asn1_modules::ast::{Body, Module, Reference, Tagging, Type, ValueAssignment};
 use asn1_modules::lexer::{Kind, Token, TokenId, tokens};
 use asn1_modules::refusal::{Place, Refusal};
-use std::alloc::{AllocError, Global};
+use std::alloc::Global;
 
 /// How many types may stand for one another in a row.
 const MAX_CHAIN: usize = 64;
@@ -40,17 +40,9 @@ pub struct Found<'m> {
 pub fn all_tokens<'a>(alloc: Global, texts: &[&'a str]) -> Result<Vec<Token<'a>>, Refusal> {
     let mut all = Vec::new(alloc);
     for (file, text) in texts.iter().enumerate() {
-        push_tokens(&mut all, tokens(alloc, file, *text)?)?;
+        all.extend_from_slice(tokens(alloc, file, *text)?.as_slice())?;
     }
     Ok(all)
-}
-
-/// Puts a file's tokens behind the others.
-fn push_tokens<'a>(all: &mut Vec<Token<'a>>, more: Vec<Token<'a>>) -> Result<(), AllocError> {
-    for token in more {
-        all.push(token)?;
-    }
-    Ok(())
 }
 
 impl<'m, 'a> Scope<'m, 'a> {
