@@ -1,6 +1,6 @@
 -- The preamble of a SEQUENCE or a SET (X.696, 16.2): a bit for the extension mark, where there is one, and one for each component of the
 -- root that is OPTIONAL or has a default, filled up to whole octets.
-use Rattle.std.specs.Prelude.{ℕ, ◌+◌, ◌/◌, Bool, true, false, cond, List, count_by, Option, Some, None}
+use Rattle.std.specs.Prelude.{ℕ, ◌+◌, ◌/◌, Bool, true, false, cond, List, count_by, Some, None}
 use Rattle.asn1_modules.specs.declared.ast.Need.{Need}
 use Rattle.asn1_modules.specs.declared.ast.Need.TheVariants.{Required, Optional, Default}
 use Rattle.asn1_layouts.specs.declared.definitions.Part.{Part}

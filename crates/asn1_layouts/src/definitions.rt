@@ -276,13 +276,8 @@ pub fn definitions<'m>(
         let free = free_name(scope.alloc, &mut names, wanted.as_str())?;
         let count = pending.len();
         let parent = (free.as_str(), module);
-        let (rust_name, parts, fault) = match resolved(
-            scope,
-            &mut pending,
-            parent,
-            of,
-            (at, named),
-        ) {
+        let made = resolved(scope, &mut pending, parent, of, (at, named));
+        let (rust_name, parts, fault) = match made {
             Ok(parts) => (free, parts, None),
             Err(why) if keeps_faults && !matches!(why, Refusal::OutOfMemory) => {
                 pending.truncate(count);

@@ -218,20 +218,11 @@ fn see_element<'m>(
         Element::Single(_) | Element::Range(_, _) if view.purpose == Purpose::Size => Ok(None),
         Element::Single(value) => {
             let number = number_of(view.scope, spot_of(view, value))?;
-            let number = Some(number);
-            Ok(Some(Limits {
-                low: number,
-                high: number,
-                ..UNLIMITED
-            }))
+            Ok(Some(limits_between(Some(number), Some(number))))
         }
         Element::Range(from, to) => {
             let (low, high) = (see_end(view, from, 1)?, see_end(view, to, -1)?);
-            Ok(Some(Limits {
-                low,
-                high,
-                ..UNLIMITED
-            }))
+            Ok(Some(limits_between(low, high)))
         }
         Element::Size(_) | Element::Unseen => Ok(None),
     }
@@ -255,6 +246,15 @@ fn see_type<'m>(
         ));
     }
     Ok(Some(limits))
+}
+
+/// Limits without a mark.
+fn limits_between(low: Option<i128>, high: Option<i128>) -> Limits {
+    Limits {
+        low,
+        high,
+        is_extensible: false,
+    }
 }
 
 /// A value in a constraint.
