@@ -1,6 +1,6 @@
 //! A CHOICE: its enum, its row, its tags and its conversions.
 
-use crate::cells::{Cell, alternative_name, alternative_of};
+use crate::cells::{Cell, Place, alternative_name, cell_of, see_name};
 use crate::chains::{Chain, push_row};
 use crate::knot_templates::KNOT_ALTERNATING;
 use crate::knots::{knot_name, owner_words};
@@ -10,7 +10,6 @@ use asn1_layouts::definitions::Definition;
 use asn1_layouts::layouts::is_extensible;
 use asn1_layouts::rows::Position;
 use asn1_layouts::scope::Scope;
-use asn1_modules::lexer::TokenId;
 use asn1_modules::refusal::Refusal;
 use std::alloc::Global;
 use std::collections::BTreeMap;
@@ -24,26 +23,16 @@ pub fn push_table_name(out: &mut Text, owner: &str, part: &str) {
     out.push_all(&["_", part]);
 }
 
-/// Appends tags as a list.
-fn push_tags(out: &mut Text, cells: &[Cell]) {
-    if cells.is_empty() {
-        out.push("&[]");
-        return;
-    }
-    out.push("tags![");
-    for (at, cell) in cells.iter().enumerate() {
-        out.push_all(&[if at == 0 { "" } else { ", " }, cell.entry.as_str()]);
-    }
-    out.push("]");
-}
-
 /// Prints a constant of tags.
 fn push_constant(out: &mut Text, owner: &str, part: &str, cells: &[Cell]) {
     out.push("const ");
     push_table_name(out, owner, part);
     out.push(": &'static [Tag] = ");
-    push_tags(out, cells);
-    out.push(";\n\n");
+    out.push(if cells.is_empty() { "&[" } else { "tags![" });
+    for (at, cell) in cells.iter().enumerate() {
+        out.push_all(&[if at == 0 { "" } else { ", " }, cell.entry.as_str()]);
+    }
+    out.push("];\n\n");
 }
 
 /// The variants of an enum, each with what it holds, a line each.
@@ -60,10 +49,11 @@ fn push_variants(out: &mut Text, cells: &[Cell]) {
     }
 }
 
-/// The names of variants.
-fn push_names(out: &mut Text, cells: &[Cell]) {
+/// The names of variants, each but the first with a text in front, and each with one behind it.
+fn push_names(out: &mut Text, cells: &[Cell], between: &str, behind: &str) {
     for (at, cell) in cells.iter().enumerate() {
-        out.push_all(&[if at == 0 { "" } else { ", " }, cell.camel.as_str()]);
+        let front = if at == 0 { "" } else { between };
+        out.push_all(&[front, cell.camel.as_str(), behind]);
     }
 }
 
@@ -78,14 +68,6 @@ fn push_cases(out: &mut Text, cells: &[Cell]) {
         out.push_times("Rest (", at);
         out.push("First held");
         out.push_times(")", at);
-    }
-}
-
-/// That each alternative weighs what its row says.
-fn push_weighed(out: &mut Text, cells: &[Cell]) {
-    for (at, cell) in cells.iter().enumerate() {
-        let between = if at == 0 { "" } else { " | " };
-        out.push_all(&[between, cell.camel.as_str(), " held ↦ refl"]);
     }
 }
 
@@ -115,9 +97,9 @@ fn put_tag_names(words: &mut Words, of: Chain<'_>) {
 fn words_of(alloc: Global, doc: &str, of: Chain<'_>) -> Words {
     let mut words = owner_words(alloc, doc, of.owner, of.knot);
     push_variants(words.begin("VARIANTS"), of.cells);
-    push_names(words.begin("LIST"), of.cells);
+    push_names(words.begin("LIST"), of.cells, ", ", "");
     push_cases(words.begin("CASES"), of.cells);
-    push_weighed(words.begin("WEIGHED"), of.cells);
+    push_names(words.begin("WEIGHED"), of.cells, " | ", " held ↦ refl");
     push_table_name(words.begin("ROOTS"), of.owner, "ROOTS");
     push_addition_name(words.begin("ADDITIONS"), of);
     put_tag_names(&mut words, of);
@@ -133,7 +115,14 @@ fn push_alternatives(alloc: Global, out: &mut Text, doc: &str, of: Chain<'_>) {
     if of.is_extensible {
         push_constant(out, of.owner, "ADDITIONS", of.additions());
     }
-    out.fill(if of.knot.is_some() { KNOT_ALTERNATING } else { "" }, &words);
+    out.fill(
+        if of.knot.is_some() {
+            KNOT_ALTERNATING
+        } else {
+            ""
+        },
+        &words,
+    );
     out.fill(CHOICE_IMPLS, &words);
 }
 
@@ -150,7 +139,7 @@ fn push_cells<'m>(
     for part in definition.parts.iter() {
         if let Some(row) = part.row {
             if (row.position == Position::Root) == are_roots {
-                cells.push(alternative_of(scope, all, out, owner, part, row)?)?;
+                cells.push(cell_of(scope, all, out, owner, part, row, Place::Alternative)?)?;
             }
         }
     }
@@ -159,22 +148,19 @@ fn push_cells<'m>(
 
 /// Refuses two alternatives whose variants have one name.
 fn require_names<'m>(scope: Scope<'m, '_>, definition: &Definition<'m>) -> Result<(), Refusal> {
-    let mut seen: BTreeMap<String, TokenId> = BTreeMap::new(scope.alloc);
+    const READS: &str = "alternatives whose Rust names differ";
+    let mut seen = BTreeMap::new(scope.alloc);
     for part in definition.parts.iter() {
-        let Some(row) = part.row else {
-            continue;
-        };
-        let text = scope.text(row.name);
-        let name = alternative_name(scope.alloc, text).end()?;
-        if let Some(other) = seen.get(name.as_str()) {
-            return Err(scope.refused_beside(
+        if let Some(row) = part.row {
+            let name = alternative_name(scope.alloc, scope.text(row.name)).end()?;
+            see_name(
+                scope,
+                &mut seen,
+                (name, row.name),
                 definition.of.first,
-                "alternatives whose Rust names differ",
-                (text, scope.text(*other)),
-                name.as_str(),
-            ));
+                READS,
+            )?;
         }
-        seen.insert(name, row.name)?;
     }
     Ok(())
 }
@@ -200,14 +186,11 @@ pub fn push_choice<'m>(
     push_cells(scope, all, out, definition, false, &mut cells)?;
     require_names(scope, definition)?;
     let of = Chain {
-        owner: definition.rust_name.as_str(),
-        cells: cells.as_slice(),
         root_count,
         is_extensible: is_extensible(definition.of),
         is_choice: true,
         knot: knot_name(all, definition),
-        in_text: &[],
-        places: &[],
+        ..Chain::of(definition.rust_name.as_str(), cells.as_slice())
     };
     push_alternatives(alloc, out, doc, of);
     Ok(())

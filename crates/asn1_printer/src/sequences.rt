@@ -1,6 +1,6 @@
 //! A SEQUENCE or a SET: its struct, its row, its tables and its conversions.
 
-use crate::cells::{Cell, cell_of, group_cell};
+use crate::cells::{Cell, Names, Place, cell_of, group_cell, see_name};
 use crate::chains::{Chain, push_row};
 use crate::choices::push_table_name;
 use crate::knot_templates::KNOT_ROWED;
@@ -175,11 +175,7 @@ fn in_tag_order(alloc: Global, parts: &[Part<'_>]) -> Result<Vec<usize>, AllocEr
             }
         }
     }
-    let mut places = Vec::new(alloc);
-    for at in order.values() {
-        places.push(*at)?;
-    }
-    Ok(places)
+    order.values().copied().collect(alloc)
 }
 
 /// The components that stand at a position, as places among all.
@@ -212,47 +208,11 @@ fn cells_at<'m>(
     for at in places.iter() {
         if let Some(part) = parts.get(*at) {
             if let Some(row) = part.row {
-                cells.push(cell_of(scope, all, out, owner, part, row, false)?)?;
+                cells.push(cell_of(scope, all, out, owner, part, row, Place::Root)?)?;
             }
         }
     }
     Ok(cells)
-}
-
-/// Prints the sequence of an addition group by its cells.
-fn push_group_type<'c>(
-    alloc: Global,
-    out: &mut Text,
-    owner: &str,
-    name: &'c str,
-    cells: &'c [Cell],
-    number: usize,
-) -> Result<(), AllocError> {
-    let mut doc = Text::new(alloc);
-    doc.push("/// The addition group ");
-    doc.push_count(number);
-    doc.push_all(&[" of `", owner, "`.\n"]);
-    let of = Chain {
-        owner: name,
-        cells,
-        root_count: cells.len(),
-        is_extensible: false,
-        is_choice: false,
-        knot: None,
-        in_text: &[],
-        places: &[],
-    };
-    let doc = doc.end()?;
-    push_members(alloc, out, doc.as_str(), of, false);
-    Ok(())
-}
-
-/// The name of the sequence of an addition group.
-fn group_name(alloc: Global, owner: &str, number: usize) -> Result<String, AllocError> {
-    let mut name = Text::new(alloc);
-    name.push_all(&[owner, "Group"]);
-    name.push_count(number);
-    name.end()
 }
 
 /// Prints the sequence of an addition group, and answers its cell.
@@ -266,10 +226,12 @@ fn push_group<'m>(
     let alloc = scope.alloc;
     let owner = definition.rust_name.as_str();
     let parts = definition.parts.as_slice();
-    let name = group_name(alloc, owner, number)?;
+    let name = format!(in alloc; "{owner}Group{number}")?;
+    let doc = format!(in alloc; "/// The addition group {number} of `{owner}`.\n")?;
     let places = in_text_order(alloc, parts, Position::Group(number))?;
     let cells = cells_at(scope, all, out, name.as_str(), parts, places.as_slice())?;
-    push_group_type(alloc, out, owner, name.as_str(), cells.as_slice(), number)?;
+    let of = Chain::of(name.as_str(), cells.as_slice());
+    push_members(alloc, out, doc.as_str(), of, false);
     Ok(group_cell(alloc, name.as_str(), number, cells.len())?)
 }
 
@@ -288,7 +250,7 @@ fn push_addition_cells<'m>(
             continue;
         };
         let cell = match row.position {
-            Position::Addition => cell_of(scope, all, out, owner, part, row, true)?,
+            Position::Addition => cell_of(scope, all, out, owner, part, row, Place::Addition)?,
             Position::Group(number) if number != printed => {
                 printed = number;
                 push_group(scope, all, out, definition, number)?
@@ -301,16 +263,11 @@ fn push_addition_cells<'m>(
 }
 
 /// The names of the groups among the components, as fields, each with what it is called in a refusal.
-fn group_fields<'a>(
-    scope: Scope<'_, 'a>,
-    parts: &[Part<'_>],
-) -> Result<BTreeMap<String, &'a str>, AllocError> {
+fn group_fields<'a>(scope: Scope<'_, 'a>, parts: &[Part<'_>]) -> Result<Names<'a>, AllocError> {
     let mut names = BTreeMap::new(scope.alloc);
     for part in parts.iter() {
-        if let Some(row) = part.row {
-            if let Position::Group(number) = row.position {
-                names.insert(format!(in scope.alloc; "group_{number}")?, "[[")?;
-            }
+        if let Some(Position::Group(number)) = part.row.map(|row| row.position) {
+            names.insert(format!(in scope.alloc; "group_{number}")?, "[[")?;
         }
     }
     Ok(names)
@@ -318,18 +275,13 @@ fn group_fields<'a>(
 
 /// Refuses two components whose Rust names are the same.
 fn require_names<'m>(scope: Scope<'m, '_>, parts: &[Part<'m>]) -> Result<(), Refusal> {
+    const READS: &str = "a component whose Rust name no other has";
     let mut seen = group_fields(scope, parts)?;
     for part in parts.iter() {
-        let Some(row) = part.row else {
-            continue;
-        };
-        let name = part.rust_name.as_str();
-        if let Some(other) = seen.get(name) {
-            let names = (scope.text(row.name), *other);
-            const READS: &str = "a component whose Rust name no other has";
-            return Err(scope.refused_beside(row.name, READS, names, name));
+        if let Some(row) = part.row {
+            let name = part.rust_name.clone()?;
+            see_name(scope, &mut seen, (name, row.name), row.name, READS)?;
         }
-        seen.insert(part.rust_name.clone()?, scope.text(row.name))?;
     }
     Ok(())
 }
@@ -366,14 +318,12 @@ pub fn push_sequence<'m>(
     let text_places = text_order(scope.alloc, is_set, in_text.as_slice())?;
     push_addition_cells(scope, all, out, definition, &mut cells)?;
     let of = Chain {
-        owner,
-        cells: cells.as_slice(),
         root_count,
         is_extensible: is_extensible(definition.of),
-        is_choice: false,
         knot: knot_name(all, definition),
         in_text: in_text.as_slice(),
         places: text_places.as_slice(),
+        ..Chain::of(owner, cells.as_slice())
     };
     push_members(scope.alloc, out, doc, of, is_set);
     Ok(())

@@ -6,32 +6,19 @@ use crate::text::{Text, Words};
 use std::alloc::{AllocError, Global};
 use std::collections::BTreeMap;
 
-/// Where each of some numbers stands, by the number.
-fn places_by_number(
-    alloc: Global,
-    numbers: &[usize],
-) -> Result<BTreeMap<usize, usize>, AllocError> {
-    let mut places = BTreeMap::new(alloc);
-    for (at, number) in numbers.iter().enumerate() {
-        places.insert(*number, at)?;
-    }
-    Ok(places)
-}
-
 /// Where each of a SET's numbers stands, the least number first; of another type nothing.
 pub fn text_order(
     alloc: Global,
     is_set: bool,
     numbers: &[usize],
 ) -> Result<Vec<usize>, AllocError> {
-    let mut order = Vec::new(alloc);
-    if !is_set {
-        return Ok(order);
+    let mut places = BTreeMap::new(alloc);
+    for (at, number) in numbers.iter().enumerate() {
+        if is_set {
+            places.insert(*number, at)?;
+        }
     }
-    for at in places_by_number(alloc, numbers)?.values() {
-        order.push(*at)?;
-    }
-    Ok(order)
+    places.values().copied().collect(alloc)
 }
 
 /// The table of the root components in the order of the text.
