@@ -36,15 +36,8 @@ pub fn owner_words(alloc: Global, doc: &str, owner: &str, knot: Option<&str>) ->
     words.put("WRITES", "<K: Encode>");
     words.put("READS", "<K: Encode + Decode>");
     words.put("CONTENT", "Content<K>");
-    put_filled(&mut words, "HEAD", if owner == knot { KNOT } else { MEMBER });
+    words.put_filled("HEAD", if owner == knot { KNOT } else { MEMBER });
     words
-}
-
-/// Says what stands for a word: a template, filled with the words before.
-fn put_filled(words: &mut Words, word: &'static str, template: &str) {
-    let mut text = Text::new(words.alloc());
-    text.fill(template, words);
-    words.begin(word).push_text(&text);
 }
 
 /// Whether a knot is a list of itself, and no more.
@@ -65,14 +58,14 @@ pub fn push_knot(alloc: Global, out: &mut Text, definition: &Definition<'_>) {
     };
     words.put("TAG", tag);
     words.put("IS_CHOICE", is_choice);
-    put_filled(&mut words, "USES", OWN_USES);
-    put_filled(&mut words, "TIED", TIED);
-    put_filled(&mut words, "WEIGHED", WEIGHED);
+    words.put_filled("USES", OWN_USES);
+    words.put_filled("TIED", TIED);
+    words.put_filled("WEIGHED", WEIGHED);
     let reader = if is_list_of_itself(definition) {
         LIST_READER
     } else {
         READER
     };
-    put_filled(&mut words, "READER", reader);
+    words.put_filled("READER", reader);
     out.fill(KNOT_IMPLS, &words);
 }

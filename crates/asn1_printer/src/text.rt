@@ -28,6 +28,13 @@ impl Text {
         }
     }
 
+    /// Pieces, one behind another.
+    pub fn of(alloc: Global, pieces: &[&str]) -> Text {
+        let mut text = Text::new(alloc);
+        text.push_all(pieces);
+        text
+    }
+
     /// Where its memory comes from.
     pub fn alloc(&self) -> Global {
         self.alloc
@@ -192,11 +199,6 @@ impl Words {
         }
     }
 
-    /// Where their memory comes from.
-    pub fn alloc(&self) -> Global {
-        self.text.alloc
-    }
-
     /// Begins what stands for a word: all that is appended before the next one.
     pub fn begin(&mut self, word: &'static str) -> &mut Text {
         let start = self.text.len();
@@ -209,6 +211,13 @@ impl Words {
     /// Says what stands for a word.
     pub fn put(&mut self, word: &'static str, text: &str) {
         self.begin(word).push(text);
+    }
+
+    /// Says what stands for a word: a template with the words before put in.
+    pub fn put_filled(&mut self, word: &'static str, template: &str) {
+        let mut text = Text::new(self.text.alloc);
+        text.fill(template, self);
+        self.begin(word).push_text(&text);
     }
 
     /// What stands for a word; nothing where there is none.
