@@ -105,15 +105,10 @@ fn require_targets<'m>(
         return Ok(());
     };
     for part in definition.parts.iter() {
-        let Some(target) = part.target else {
-            continue;
-        };
-        if part.tie != Tie::Plain {
-            continue;
-        }
-        match states.get(target).copied() {
-            Some(State::Printed) => {}
-            _ => return Err(scope.refused(part.inner.first, "a type that is printed")),
+        if let (Some(target), Tie::Plain) = (part.target, part.tie) {
+            if states.get(target).copied() != Some(State::Printed) {
+                return Err(scope.refused(part.inner.first, "a type that is printed"));
+            }
         }
     }
     Ok(())
@@ -155,24 +150,15 @@ fn push_circle_name(
 ) {
     let target = definition.parts.first().and_then(|part| part.target);
     if let Some(target) = target.and_then(|at| all.get(at)) {
-        let mut rust = Text::new(out.alloc());
-        rust.push(target.rust_name.as_str());
+        let rust = Text::of(out.alloc(), &[target.rust_name.as_str()]);
         push_name(out, definition.rust_name.as_str(), doc, &rust, None);
-    }
-}
-
-/// The token so many in front of another; nothing in front of the first.
-fn token_before<'a>(scope: Scope<'_, 'a>, start: usize, back: usize) -> Option<Token<'a>> {
-    match start.checked_sub(back) {
-        Some(at) => scope.tokens.get(at).copied(),
-        None => None,
     }
 }
 
 /// The name in front of a type that is assigned; nothing in front of another.
 fn name_before<'a>(scope: Scope<'_, 'a>, start: usize) -> Option<Token<'a>> {
-    match (token_before(scope, start, 2), token_before(scope, start, 1)) {
-        (Some(name), Some(assigns)) if assigns.text == "::=" => Some(name),
+    match scope.tokens.get(start.checked_sub(2)?..start)? {
+        [name, assigns] if assigns.text == "::=" => Some(*name),
         _ => None,
     }
 }
@@ -181,8 +167,7 @@ fn name_before<'a>(scope: Scope<'_, 'a>, start: usize) -> Option<Token<'a>> {
 fn doc_of(scope: Scope<'_, '_>, definition: &Definition<'_>) -> Result<String, AllocError> {
     let start = definition.of.first.index;
     let mut doc = Text::new(scope.alloc);
-    let mut notation = Text::new(scope.alloc);
-    notation.push("/// `");
+    let mut notation = Text::of(scope.alloc, &["/// `"]);
     if let Some(name) = name_before(scope, start) {
         push_noted(&mut doc, name.note);
         notation.push_all(&[name.text, " ::= "]);
@@ -440,21 +425,6 @@ fn print_run<'m>(
     print_members(scope, all, run, progress)
 }
 
-/// Prints the types of a circle, or refuses each as the first of them is that can't be printed.
-fn print_circle<'m>(
-    scope: Scope<'m, '_>,
-    all: &[Definition<'m>],
-    run: &[usize],
-    circle: Circle,
-    progress: &mut Progress,
-) -> Result<(), Refusal> {
-    progress.waiting = match print_run(scope, all, run, circle, progress) {
-        Ok(made) => made,
-        Err(why) => refuse_all(scope.alloc, &why, run.len())?,
-    };
-    Ok(())
-}
-
 /// Prints a type that is of no circle. Refused where it can't be resolved, listed or printed.
 fn print_alone<'m>(
     scope: Scope<'m, '_>,
@@ -470,7 +440,8 @@ fn print_alone<'m>(
     print_one(scope, all, at, definition, progress)
 }
 
-/// Prints the type whose turn it is. At the turn of the first type of a circle all of them are printed.
+/// Prints the type whose turn it is. At the turn of the first type of a circle all of them are printed, or each is refused as the first of
+/// them is that can't be printed.
 fn print_at<'m>(
     scope: Scope<'m, '_>,
     all: &[Definition<'m>],
@@ -485,7 +456,10 @@ fn print_at<'m>(
     };
     if progress.waiting.is_empty() {
         let run = run_of(all, order, turn, circle);
-        print_circle(scope, all, run, circle, progress)?;
+        progress.waiting = match print_run(scope, all, run, circle, progress) {
+            Ok(made) => made,
+            Err(why) => refuse_all(scope.alloc, &why, run.len())?,
+        };
     }
     match progress.waiting.pop() {
         Some(made) => made,
