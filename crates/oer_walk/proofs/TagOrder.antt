@@ -105,6 +105,6 @@ module _ (ws : List ℕ) (d : ℕ) (ps : Parts) where
   roots_in_order true k is gs ns e r =
       let sorted : List Placed = by_tag (λ (q : Placed). q.0.tag) r.placed in
       let places : map place_of sorted ≡ from_on 0 k =
-          sym (tagged_places sorted) ∙ ap (map (λ (x : Tag × ℕ). x.1)) (map_sorted tagged_place (λ (x : Tag × ℕ). x.0) r.placed ∙ ap (by_tag (λ (x : Tag × ℕ). x.0)) r.tags) ∙ e in
+      sym (tagged_places sorted) ∙ ap (map (λ (x : Tag × ℕ). x.1)) (map_sorted tagged_place (λ (x : Tag × ℕ). x.0) r.placed ∙ ap (by_tag (λ (x : Tag × ℕ). x.0)) r.tags) ∙ e in
       let items : map item_of sorted ≡ items_by_tag is = map_sorted item_of (λ (x : Item). x.tag) r.placed ∙ ap (by_tag (λ (x : Item). x.tag)) r.items ∙ items_same is in
       subst (RootsTaken ws d ps 0 k) items (in_turn sorted 0 k places (all_sorted (λ (q : Placed). q.0.tag) (λ (q : Placed). RootTaken ws d ps q.1 q.0) r.placed r.taken))
