@@ -39,8 +39,11 @@ def exported():
 
 
 def declared():
-    """The same of the header."""
-    text = re.sub(r"/\*.*?\*/", "", read("include/jilgomt.h"), flags=re.S).replace("JILGOMT_RESTRICT ", "")
+    """The same of the header, with what its list of types stands for."""
+    text = re.sub(r"/\*.*?\*/", "", read("include/jilgomt.h"), flags=re.S).replace("\\\n", " ").replace("JILGOMT_RESTRICT ", "")
+    of_one = re.search(r"#define JILGOMT_TYPE\(word\)(.*)", text)[1].replace(";", ";\n")
+    words = re.findall(r"X\((\w+)\)", re.search(r"#define JILGOMT_TYPES\(X\)(.*)", text)[1])
+    text += "\n" + "".join(re.sub(r"(?m)^ +", "", of_one.replace("##word##", it)) for it in words)
     found = {name: ([" ".join(it.split()) for it in parameters.split(",")], result) for result, name, parameters in PROTOTYPE.findall(text)}
     return found | {name: ([" ".join(it.split()) for it in fields.split(";") if it.strip()], "struct") for fields, name in re.findall(r"typedef struct \w+ {(.*?)} (\w+);", text, re.S)}
 

@@ -174,6 +174,37 @@ static void of_types(void) {
     free(in.octets);
 }
 
+typedef uint32_t canonicalise_of(uint32_t, size_t, const uint8_t *JILGOMT_RESTRICT, size_t, uint8_t *JILGOMT_RESTRICT, size_t,
+                                 jilgomt_answer *JILGOMT_RESTRICT);
+typedef uint32_t check_of(uint32_t, size_t, const uint8_t *, size_t, jilgomt_answer *);
+
+static int are_same(const jilgomt_answer *a, const jilgomt_answer *b) { return memcmp(a, b, sizeof *a) == 0; }
+
+/* A type's functions answer as the calls by its word. */
+static void same(const char *word, canonicalise_of *canonicalise_it, check_of *check_it) {
+    static const char *const octets[] = {"", "ff", "00ff", "0101", "020304", "010101ff", "8002014d", "80ff0206c001ff01ff", "010203", "7f"};
+    for (size_t i = 0; i < sizeof octets / sizeof *octets; i++) {
+        block in = of_hex(octets[i]);
+        for (uint32_t mode = JILGOMT_OER; mode <= JILGOMT_COER; mode++) {
+            uint8_t out[2][32] = {{0}};
+            jilgomt_answer answers[2];
+            memset(answers, 0, sizeof answers);
+            block room = {out[0], sizeof out[0]};
+            uint32_t status = canonicalise(word, mode, in, room, &answers[0]);
+            WANT(canonicalise_it(mode, JILGOMT_LEVELS, in.octets, in.size, out[1], sizeof out[1], &answers[1]) == status);
+            WANT(are_same(&answers[0], &answers[1]) && memcmp(out[0], out[1], sizeof out[0]) == 0);
+            status = jilgomt_check((const uint8_t *)word, strlen(word), mode, JILGOMT_LEVELS, in.octets, in.size, &answers[0]);
+            WANT(check_it(mode, JILGOMT_LEVELS, in.octets, in.size, &answers[1]) == status && are_same(&answers[0], &answers[1]));
+        }
+        free(in.octets);
+    }
+}
+
+static void of_each_type(void) {
+#define SAME(word) same(#word, jilgomt_##word##_canonicalise, jilgomt_##word##_check);
+    JILGOMT_TYPES(SAME)
+}
+
 /* The header's numbers of kinds are those of the library, by their names. */
 static void of_kinds(void) {
     static const char *const read[] = {
@@ -255,6 +286,7 @@ int main(void) {
     of_checks();
     of_versions();
     of_types();
+    of_each_type();
     of_kinds();
     of_names();
     of_walks();

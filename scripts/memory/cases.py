@@ -325,6 +325,7 @@ def encoder():
         "encode_default", "encode_default_with_tag_and_constraints", "encode_explicit_prefix", "Encode::encode",
         "Encode::encode_with_tag", "Encode::encode_with_constraints", "Encode::encode_with_tag_and_constraints",
     )]  # fmt: skip
+    rows += [("encode_enumerated_number", "", "8203e8")]
     # a root alternative stands behind its tag as it is, one beyond the root as an open type
     rows += [("encode_alternative", "", "81ff"), ("encode_alternative_beyond_the_root", "", "b201ff")]
     # no scope is open: nothing is appended

@@ -1,5 +1,5 @@
-//! The calls for the type that a word of the program names. That the octets are those of the word's type is promised of the types
-//! that have functions of their own, and tested of the others.
+//! The calls for the type that a word of the program names. That the octets are those of the word's type is promised of `seq1` and
+//! `seq2`, and tested of the others, whose own functions promise it.
 ghost use Rattle.std.specs.Prelude.{◌≡◌, codes};
 ghost use Rattle.oer_calls.specs.Answers.{IsAnsweredByWord, IsCanonicalisedBy, IsCheckedBy, IsCheckedByWord, IsConvertedBy, IsFramedIfAny, options_for};
 
@@ -98,7 +98,7 @@ fn converted(
     }
 }
 
-/// `canonicalise` of the word's type, by numbers. Of a word of `types.rt` it promises what that type's function does.
+/// `canonicalise` of the word's type, by numbers. Of `seq1` and `seq2` it promises what the type's function does.
 #[tactic(auto, using(crate::proofs::Promises::is_answered))]
 pub fn canonicalise_by_word(
     alloc: Global,
@@ -124,7 +124,7 @@ pub fn canonicalise_by_word(
     }
 }
 
-/// `check` of the word's type, by numbers. Of a word of `types.rt` it promises what that type's function does.
+/// `check` of the word's type, by numbers. Of `seq1` and `seq2` it promises what the type's function does.
 #[tactic(auto, using(crate::proofs::Promises::is_checked))]
 pub fn check_by_word(alloc: Global, word: &[u8], mode: u32, levels: usize, input: &[u8]) -> Answer
     ensures answered { IsCheckedByWord (options_for mode levels) result }
@@ -143,7 +143,7 @@ pub fn check_by_word(alloc: Global, word: &[u8], mode: u32, levels: usize, input
     }
 }
 
-/// `convert` from one word's type to another's, by numbers. Of words of `types.rt` it promises what that function does.
+/// `convert` from one word's type to another's, by numbers. Of `seq2` as `seq1` it promises what that function does.
 #[tactic(auto, using(crate::proofs::Promises::is_converted))]
 pub fn convert_by_words(
     alloc: Global,

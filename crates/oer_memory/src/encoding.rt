@@ -31,6 +31,10 @@ fn plain(alloc: Global, word: &str, d: &mut Decoder<'_>, e: &mut Encoder<'_>) ->
             begin(alloc)?;
             e.encode_enumerated(Tag::ENUMERATED, &value)
         }
+        "encode_enumerated_number" => {
+            begin(alloc)?;
+            e.encode_enumerated_number(Tag::ENUMERATED, 1000)
+        }
         _ => return numbers_and_strings(alloc, word, d, e),
     };
     Ok(Some(done))

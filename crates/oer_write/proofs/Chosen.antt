@@ -1,5 +1,5 @@
 -- From what the closure of a choice writes to what the choice writes.
-use Rattle.std.proofs.Common.{◌≡◌, ℕ, suc, ◌+◌, ◌^◌, ◌<◌, ◌≤◌, Bool, true, false, not, ◌&&◌, List, ◌++◌, length, take, drop, refl, ap, sym, subst, ◌∙◌, arith, append_assoc, inl, inr}
+use Rattle.std.proofs.Common.{◌≡◌, ℕ, suc, ◌^◌, ◌<◌, ◌≤◌, Bool, true, false, not, ◌&&◌, List, ◌++◌, length, refl, ap, sym, subst, ◌∙◌, arith, append_assoc, inl, inr}
 use Rattle.std.specs.Prelude.{nat_lt, Result, Ok, Err, OnOk}
 use Rattle.std.proofs.lemmas.List.{append_cancel_left}
 use Rattle.asn1_core.specs.Octets.{Octets, usize_max}
@@ -13,9 +13,9 @@ use Rattle.oer_spec.specs.Leaves.{Failure, BadValue, BadSize, BadIdentifier, Bad
 use Rattle.oer_spec.specs.Lengths.{behind_length, tag_octets}
 use Rattle.oer_spec.specs.Places.{choice_octets}
 use Rattle.oer_spec.specs.Tree.{Tree, Choice}
-use Rattle.oer_write.specs.Choices.{Picks, ContentDone, Appended, AppendedOpen, ChoiceDone, ChoiceBroken, alternative_octets, IsKnownToPick}
+use Rattle.oer_write.specs.Choices.{Picks, ChoiceDone, ChoiceBroken, alternative_octets, IsKnownToPick}
 use Rattle.oer_write.specs.Rows.{IsOpenEncodable, open_type}
-use Rattle.oer_write.specs.Written.{Written, Keeps, append, Encodes, Refused}
+use Rattle.oer_write.specs.Written.{Written, append, Encodes, Refused}
 use Rattle.oer_write.proofs.Items.{or_false, or_left}
 use Rattle.oer_write.proofs.Keeping.{keeps_then}
 use Rattle.oer_write.proofs.Nesting.{keeps_append}

@@ -1,6 +1,6 @@
 -- How a scope's additions are closed.
-use Rattle.std.proofs.Common.{◌≡◌, ℕ, ◌+◌, ◌-◌, ◌<◌, ◌≤◌, Bool, true, false, cond, not, ◌&&◌, List, [], ◌∷◌, ◌++◌, length, take, drop, refl, ap, ap₂, sym, ◌∙◌, arith, append_assoc, append-nil, length-append, length-drop}
-use Rattle.std.proofs.lemmas.List.{take-append-le, drop-append-le, take-append-drop, length-take-le, take_at, drop_at, drop-drop, drop-take, take_all, drop_all, take-take, append_cancel_left}
+use Rattle.std.proofs.Common.{◌≡◌, ℕ, ◌-◌, ◌<◌, ◌≤◌, Bool, true, false, cond, not, ◌&&◌, List, [], ◌∷◌, ◌++◌, length, take, drop, refl, ap, ap₂, sym, ◌∙◌, arith, append_assoc, append-nil}
+use Rattle.std.proofs.lemmas.List.{take-append-le, drop-append-le, take-append-drop, length-take-le, take_all, drop_all, take-take}
 use Rattle.asn1_core.specs.Octets.{Octets}
 use Rattle.oer_spec.specs.Lengths.{counted_bits}
 use Rattle.oer_spec.specs.Writing.{BeginsWith}
@@ -9,7 +9,7 @@ use Rattle.oer_write.specs.Closed.{ClosedOff, FrontLeft}
 use Rattle.oer_write.specs.Scopes.{IsNew, any_true, extension_of}
 use Rattle.oer_write.specs.declared.region.Region.{Region}
 use Rattle.oer_write.specs.declared.scope.Scope.{Scope}
-use Rattle.oer_write.specs.Seen.{around, within, opens_in, IsLaid, region_at}
+use Rattle.oer_write.specs.Seen.{around, within, opens_in, IsLaid}
 use Rattle.oer_write.specs.Written.{Written, WriteFrame, fresh}
 use Rattle.oer_write.proofs.Layouts.{ascends_le, ascends_join, spread_split, filled_at}
 use Rattle.oer_write.proofs.Regions.{opened_around, same_region, later_of, places, append_split}

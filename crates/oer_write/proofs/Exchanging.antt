@@ -1,11 +1,11 @@
 -- What was written behind additions changes places with them.
 use Rattle.std.proofs.Common.{◌≡◌, ℕ, ◌+◌, ◌-◌, ◌<◌, ◌≤◌, List, [], ◌∷◌, ◌++◌, length, take, drop, refl, ap, ap₂, sym, ◌∙◌, subst, arith, append_assoc, append-nil, length-append, length-drop}
-use Rattle.std.proofs.lemmas.List.{take-append-le, drop-append-le, take-append-drop, length-take-le, take_at, drop_at, drop-drop, drop-take, take_all, drop_all, take-take}
+use Rattle.std.proofs.lemmas.List.{take-append-le, drop-append-le, take-append-drop, length-take-le, take_at, drop_at, drop-drop, take_all, drop_all, take-take}
 use Rattle.asn1_core.specs.Octets.{Octets}
 use Rattle.oer_write.specs.Layout.{Piece, free_at, spread, total, Ascends}
 use Rattle.oer_write.specs.declared.region.Region.{Region}
 use Rattle.oer_write.specs.Seen.{around, within, IsLaid}
-use Rattle.oer_write.proofs.Layouts.{ascends_le, ascends_join, ascends_more, spread_append, spread_length, spread_more, total_append, drop_parts}
+use Rattle.oer_write.proofs.Layouts.{ascends_join, ascends_more, spread_append, spread_length, spread_more, total_append}
 use Rattle.oer_write.proofs.Regions.{later_of, places}
 
 -- the additions, the bitmap's slot but for, and what follows

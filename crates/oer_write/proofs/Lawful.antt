@@ -1,15 +1,14 @@
 -- Elements that are written by the law of their type.
-use Rattle.std.proofs.Common.{◌≡◌, ◌≢◌, ℕ, zero, ◌+◌, ◌<◌, ◌≤◌, Bool, true, false, cond, List, [], ◌∷◌, ◌++◌, ◌⊎◌, inl, inr, length, refl, ap, sym, ◌∙◌, subst, arith, Ok, Err, append-nil, length-append}
+use Rattle.std.proofs.Common.{◌≡◌, ◌≢◌, ℕ, ◌+◌, ◌<◌, Bool, true, false, cond, List, [], ◌∷◌, ◌⊎◌, inl, inr, length, refl, ap, sym, ◌∙◌, subst, arith, Err, append-nil, length-append}
 use Rattle.asn1_core.specs.Octets.{Octets}
 use Rattle.asn1_core.specs.declared.error.EncodeError.{EncodeError}
 use Rattle.asn1_core.specs.declared.error.EncodeErrorKind.TheVariants.{TooManyEmptyElements}
 use Rattle.asn1_core.specs.declared.codec.Codec.TheVariants.{Coer}
 use Rattle.oer_spec.specs.Encoding.{IsEncodable, canonical_octets}
 use Rattle.oer_spec.specs.Tree.{Tree}
-use Rattle.oer_write.specs.Held.{length_within, pieces_in}
-use Rattle.oer_write.specs.Layout.{total}
+use Rattle.oer_write.specs.Held.{length_within}
 use Rattle.oer_write.specs.Lists.{ByLaw, is_nil, WroteElement, ElementDone, ElementTooMany, ElementsBroken, ListBroken}
-use Rattle.oer_write.specs.Written.{Written, WriteFrame, append, no_scope, Keeps, Encodes, Refused}
+use Rattle.oer_write.specs.Written.{Written, append, no_scope, Keeps, Encodes, Refused}
 use Rattle.oer_write.proofs.Keeping.{keeps_then}
 
 -- the same octets where no scope is open
@@ -23,9 +22,9 @@ keeps_appended : (old middle : Written) (o : Octets) → middle ≡ append o old
 keeps_appended old middle o e = subst (λ (w : Written). Keeps old w) (sym e) (record { octets = (o, refl); is_open = refl; is_set = refl; extensible = refl; start = refl; outer = refl })
 
 -- how many octets are written, where some are appended
-pub written_more : (old new : Written) (o : Octets) → new ≡ append o old → length new.octets + length_within new.frame + total (pieces_in new.outer) ≡ (length old.octets + length_within old.frame + total (pieces_in old.outer)) + length o
+pub written_more : (old new : Written) (o : Octets) → new ≡ append o old → length new.octets + length_within new.frame ≡ (length old.octets + length_within old.frame) + length o
 written_more old new o e =
-    ap (λ (w : Written). length w.octets + length_within w.frame + total (pieces_in w.outer)) e ∙ omega (arith, length-append old.octets o)
+    ap (λ (w : Written). length w.octets + length_within w.frame) e ∙ omega (arith, length-append old.octets o)
 
 nil_of : (o : Octets) → length o ≡ 0 → is_nil o ≡ true
 nil_of [] e = refl

@@ -1,10 +1,9 @@
 -- An output with octets that belong at places of it.
-use Rattle.std.proofs.Common.{◌≡◌, ℕ, zero, suc, ◌+◌, ◌-◌, ◌<◌, ◌≤◌, List, [], ◌∷◌, ◌++◌, length, take, drop, map, set, refl, ap, ap₂, sym, ◌∙◌, get_or, append_assoc, append-nil, arith, length-append, length-drop}
-use Rattle.std.proofs.lemmas.List.{take-append-le, drop-append-le, take-take, drop-take, length-take-le, take_at, drop_at, drop_all, take_all, drop-drop, take-append-drop, map-set, get_or-map, take-map, map-append, length-map, drop_more}
+use Rattle.std.proofs.Common.{◌≡◌, ℕ, zero, suc, ◌+◌, ◌-◌, ◌<◌, ◌≤◌, List, [], ◌∷◌, ◌++◌, length, take, drop, refl, ap, sym, ◌∙◌, get_or, append_assoc, append-nil, arith, length-append, length-drop}
+use Rattle.std.proofs.lemmas.List.{take-append-le, drop-append-le, drop-take, length-take-le, drop_at, take_all, drop-drop, take-append-drop}
 use Rattle.std.proofs.Common.{take-add}
 use Rattle.asn1_core.specs.Octets.{Octets}
-use Rattle.oer_spec.specs.Writing.{BeginsWith}
-use Rattle.oer_write.specs.Layout.{Piece, free_at, spread, total, top, Ascends, filled, Adds}
+use Rattle.oer_write.specs.Layout.{Piece, spread, total, top, Ascends, filled}
 
 -- ---- places ascend
 

@@ -26,3 +26,4 @@ pub mod Passing
 pub mod Holding
 pub mod Nesting
 pub mod Exchanging
+pub mod Opened

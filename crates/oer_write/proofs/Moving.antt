@@ -1,6 +1,6 @@
 -- Octets that are moved or put one by one, from the rear.
-use Rattle.std.proofs.Common.{◌≡◌, ℕ, zero, suc, ◌+◌, ◌-◌, ◌/◌, ◌%◌, ◌<◌, ◌≤◌, List, [], ◌∷◌, ◌++◌, length, take, drop, set, refl, ap, ap₂, sym, ◌∙◌, get_or, append_assoc, arith, length-append, length-drop}
-use Rattle.std.proofs.lemmas.List.{take-take, take-set-le, drop-set, take_more, length-take-le, get_or-take, get_or-drop}
+use Rattle.std.proofs.Common.{◌≡◌, ℕ, zero, suc, ◌+◌, ◌-◌, ◌/◌, ◌%◌, ◌<◌, ◌≤◌, [], ◌∷◌, ◌++◌, length, take, drop, set, ap, sym, ◌∙◌, get_or, append_assoc, arith, length-drop}
+use Rattle.std.proofs.lemmas.List.{take-take, take-set-le, drop-set, take_more, get_or-take, get_or-drop}
 use Rattle.asn1_core.specs.Numbers.{low_octets}
 use Rattle.asn1_core.specs.Octets.{Octets}
 

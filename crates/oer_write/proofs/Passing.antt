@@ -1,10 +1,10 @@
 -- The pass from the rear.
-use Rattle.std.proofs.Common.{take-add, append_assoc, ◌≡◌, ℕ, ◌+◌, ◌-◌, ◌<◌, ◌≤◌, List, [], ◌∷◌, ◌++◌, length, take, drop, refl, ap, ap₂, sym, ◌∙◌, get_or, append-nil, arith, length-append, length-drop}
-use Rattle.std.proofs.lemmas.List.{take_at, take-append-le, take-take, drop-take, length-take-le, drop_all, take_all, take_more, drop_more, take-append-drop}
+use Rattle.std.proofs.Common.{take-add, append_assoc, ◌≡◌, ℕ, ◌+◌, ◌-◌, ◌<◌, ◌≤◌, List, [], ◌∷◌, ◌++◌, length, take, drop, refl, ap, ap₂, sym, ◌∙◌, get_or, append-nil, arith}
+use Rattle.std.proofs.lemmas.List.{take_at, take-take, drop-take, length-take-le, drop_all, take_all, take_more, drop_more, take-append-drop}
 use Rattle.asn1_core.specs.Octets.{Octets}
 use Rattle.oer_write.specs.Layout.{Piece, spread, total, Ascends}
 use Rattle.oer_write.specs.Inserted.{Passed}
-use Rattle.oer_write.proofs.Layouts.{spread_from, ascends_lower, ascends_last, ascends_le, total_append}
+use Rattle.oer_write.proofs.Layouts.{spread_from, ascends_lower, ascends_last, total_append}
 
 pub passed_first : (start : ℕ) (out : Octets) (is : List Piece) (more written : ℕ) → length out ≡ written + (total is + more) → Ascends start is written → Passed start (take written out) out is more (length is) written (length out) (length out)
 passed_first start out is more written f a =

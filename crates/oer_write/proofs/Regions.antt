@@ -1,15 +1,15 @@
 -- A scope's octets and additions in the output, with its insertions in their places.
-use Rattle.std.proofs.Common.{◌≡◌, ℕ, ◌+◌, ◌-◌, ◌<◌, ◌≤◌, Bool, true, false, cond, not, ◌&&◌, ◌||◌, List, [], ◌∷◌, ◌++◌, map, length, take, drop, refl, ap, ap₂, sym, ◌∙◌, subst, arith, append_assoc, append-nil, length-append, length-drop}
-use Rattle.std.proofs.lemmas.List.{take-append-le, drop-append-le, take-append-drop, length-take-le, take_at, drop_at, drop-drop, drop-take, take_all, drop_all}
+use Rattle.std.proofs.Common.{◌≡◌, ℕ, ◌+◌, ◌-◌, ◌<◌, ◌≤◌, Bool, true, false, cond, not, ◌&&◌, ◌||◌, List, [], ◌∷◌, ◌++◌, length, take, drop, refl, ap, ap₂, sym, ◌∙◌, subst, arith, append_assoc, append-nil, length-append}
+use Rattle.std.proofs.lemmas.List.{take-take, take-append-le, drop-append-le, take-append-drop, length-take-le, take_at, drop_at, drop-take, take_all, drop_all}
 use Rattle.asn1_core.specs.Octets.{Octets}
 use Rattle.oer_spec.specs.Writing.{BeginsWith}
 use Rattle.oer_write.specs.declared.region.Region.{Region}
 use Rattle.oer_write.specs.declared.scope.Scope.{Scope}
-use Rattle.oer_write.specs.Held.{marks, pieces_in, frame_at, lent_frame, shut_at, Holds, Leaves, Kept}
-use Rattle.oer_write.specs.Layout.{Piece, free_at, slots, filled, spread, total, top, Ascends, Adds}
-use Rattle.oer_write.specs.Seen.{around, within, IsLaid, IsSound, frame_of, opens_in, region_at}
-use Rattle.oer_write.specs.Written.{Written, WriteFrame, Keeps, append, fresh}
-use Rattle.oer_write.proofs.Layouts.{filled_at, ascends_le, ascends_join, ascends_top, ascends_more, spread_append, spread_more, spread_length, total_append}
+use Rattle.oer_write.specs.Held.{marks, shut_at}
+use Rattle.oer_write.specs.Layout.{Piece, free_at, slots, filled, spread, total, top, merged, Ascends, Adds}
+use Rattle.oer_write.specs.Seen.{around, shown, view_of, within, IsLaid, IsSound, opens_in, region_at}
+use Rattle.oer_write.specs.Written.{append, fresh, no_scope}
+use Rattle.oer_write.proofs.Layouts.{filled_at, ascends_le, ascends_join, ascends_top, ascends_more, spread_more, spread_length, total_append}
 
 -- ---- no additions yet
 
@@ -58,9 +58,10 @@ none_laid b n w is h e =
       begun = λ k. absurd (omega (arith, k));
     }
 
-pub none_sound : (s : Scope) (l i : Bool) (w b n : ℕ) (is : List Piece) → s.region ≡ region_at b n → b ≤ w → n ≡ length is → (i ≡ false → is ≡ []) → (i ≡ true → (s.is_open || l) ≡ true) → ((s.is_open || l) ≡ false → b ≡ 0) → (s.is_open ≡ true → i ≡ true) → IsSound s l i w is
-none_sound s l i w b n is r h e a k z y = record {
+pub none_sound : (s : Scope) (l i : Bool) (w b n : ℕ) (is : List Piece) → s.region ≡ region_at b n → b ≤ w → n ≡ length is → (i ≡ false → is ≡ []) → (i ≡ true → (s.is_open || l) ≡ true) → ((s.is_open || l) ≡ false → b ≡ 0) → (s.is_open ≡ true → i ≡ true) → Ascends 0 is b → IsSound s l i w is
+none_sound s l i w b n is r h e a k z y m = record {
   laid = subst (λ (x : Region). IsLaid x w is) (sym r) (none_laid b n w is h e);
+  before = (let f : take n is ≡ is = take_all n is (omega (arith, e)) in subst (λ (x : Region). Ascends 0 (take x.first is) x.base) (sym r) (subst (λ (ps : List Piece). Ascends 0 ps b) (sym f) m));
   shut = λ _. ap (λ (x : Region). x.last) r ∙ sym (ap (λ (x : Region). x.first) r);
   alone = a;
   set = λ _. ap (λ (x : Region). x.last) r ∙ sym (ap (λ (x : Region). x.first) r);
@@ -129,18 +130,56 @@ grown_laid r o x p is js l a =
       begun = λ k. let b = l.begun k in (b.0, ap (drop r.opens) fewer ∙ b.1);
     }
 
+pub first_within : (r : Region) (w : ℕ) (is : List Piece) → IsLaid r w is → r.first ≤ length is
+first_within r w is l = let a = l.first in let b = l.opens in let c = l.last in omega (arith, a, b, c)
+
 pub grown_sound : (s : Scope) (l i : Bool) (o x p : Octets) (is js : List Piece) → IsSound s l i (length o) is → Adds x o is p js → (i ≡ false → js ≡ []) → IsSound s l i (length p) js
-grown_sound s l i o x p is js h a k = record { laid = grown_laid s.region o x p is js h.laid a; shut = h.shut; alone = k; set = h.set; inner = h.inner; origin = h.origin; opened = h.opened }
+grown_sound s l i o x p is js h a k = record { laid = grown_laid s.region o x p is js h.laid a; before = subst (λ (ps : List Piece). Ascends 0 ps s.region.base) (sym (grown_front s.region.first o x p is js (first_within s.region (length o) is h.laid) a)) h.before; shut = h.shut; alone = k; set = h.set; inner = h.inner; origin = h.origin; opened = h.opened }
+
+-- ---- what stands in front, with its pieces
+
+pub around_long : (r : Region) (o : Octets) (is : List Piece) → IsLaid r (length o) is → r.base ≤ length (around r o is)
+unfolding around
+around_long r o is l =
+    let q = places r (length o) is l in
+    let n : length (take r.base o) ≡ r.base = length-take-le r.base o (omega (arith, q.0, q.1.0, q.1.1)) in
+    let rest : Octets = spread r.base (take r.start o) (drop r.first (take r.opens is)) ++ spread r.end o (drop r.last is) in
+    omega (arith, n, length-append (take r.base o) rest)
+
+pub shown_more : (b : ℕ) (ps : List Piece) (o x : Octets) → b ≤ length o → shown b ps (o ++ x) ≡ shown b ps o ++ x
+unfolding shown
+shown_more b ps o x h = ap₂ (λ (y z : Octets). merged y ps ++ z) (take-append-le b o x h) (drop-append-le b o x h) ∙ sym (append_assoc (merged (take b o) ps) (drop b o) x)
+
+pub shown_all : (b : ℕ) (ps : List Piece) (o : Octets) → b ≡ length o → shown b ps o ≡ merged o ps
+unfolding shown
+shown_all b ps o h = ap₂ (λ (y z : Octets). merged y ps ++ z) (take_all b o (omega (arith, h))) (drop_all b o (omega (arith, h))) ∙ append-nil (merged o ps)
+
+pub shown_none : (b : ℕ) (o : Octets) → shown b [] o ≡ o
+unfolding shown
+shown_none b o = take-append-drop b o
+
+-- an encoder's output and pieces ascend
+pub laid_ascends : (r : Region) (w : ℕ) (is : List Piece) → IsLaid r w is → Ascends 0 (take r.first is) r.base → Ascends 0 is w
+laid_ascends r w is l f =
+    let first : r.first ≤ r.opens = l.first in
+    let opens : r.opens ≤ r.last = l.opens in
+    let a : Ascends 0 (take r.first (take r.opens is)) r.base = rw (take-take r.first r.opens is first) f in
+    let b : Ascends 0 (take r.opens is) r.start = rw (take-append-drop r.first (take r.opens is)) at (ascends_join 0 r.base r.start (take r.first (take r.opens is)) (drop r.first (take r.opens is)) a l.roots) in
+    let c : Ascends 0 (take r.opens (take r.last is)) r.start = rw (take-take r.opens r.last is opens) b in
+    let d : Ascends 0 (take r.last is) r.end = rw (take-append-drop r.opens (take r.last is)) at (ascends_join 0 r.start r.end (take r.opens (take r.last is)) (drop r.opens (take r.last is)) c l.added) in
+    rw (take-append-drop r.last is) at (ascends_join 0 r.end w (take r.last is) (drop r.last is) d (later_of r w is l))
+
+pub sound_ascends : (s : Scope) (l i : Bool) (o : Octets) (is : List Piece) → IsSound s l i (length o) is → Ascends 0 is (length o)
+sound_ascends s l i o is h = laid_ascends s.region (length o) is h.laid h.before
 
 -- an encoder over what was added to
-pub grown_seen : (s : Scope) (l i : Bool) (o x p : Octets) (is js : List Piece) → IsSound s l i (length o) is → Adds x o is p js
-    → ◌≡◌ {A = Written} (record { octets = around s.region p js; frame = frame_of p js s; outer = marks l i (take s.region.first js) })
-    (append x (record { octets = around s.region o is; frame = frame_of o is s; outer = marks l i (take s.region.first is) }))
+pub grown_seen : (s : Scope) (l i : Bool) (o x p : Octets) (is js : List Piece) → IsSound s l i (length o) is → Adds x o is p js → view_of s l i p js ≡ append x (view_of s l i o is)
 grown_seen s l i o x p is js h a =
     let g : around s.region p js ≡ around s.region o is ++ x = grown_around s.region o x p is js h.laid a in
     let w : within s.region p js ≡ within s.region o is = grown_within s.region o x p is js h.laid a in
-    let f : take s.region.first js ≡ take s.region.first is = grown_front s.region.first o x p is js (let b = h.laid.first in let c = h.laid.opens in let d = h.laid.last in omega (arith, b, c, d)) a in
-    rw (g, w, f) refl
+    let f : take s.region.first js ≡ take s.region.first is = grown_front s.region.first o x p is js (first_within s.region (length o) is h.laid) a in
+    let m = shown_more s.region.base (take s.region.first is) (around s.region o is) x (around_long s.region o is h.laid) in
+    rw (g, w, f, m) refl
 
 -- ---- octets alone
 
@@ -149,6 +188,9 @@ alone_adds o x is = record { rear = []; begins = (x, refl); more = sym (append-n
 
 pub more_around : (r : Region) (o x : Octets) (is : List Piece) → IsLaid r (length o) is → around r (o ++ x) is ≡ around r o is ++ x
 more_around r o x is l = grown_around r o x (o ++ x) is is l (alone_adds o x is)
+
+pub more_shown : (r : Region) (o x : Octets) (is : List Piece) → IsLaid r (length o) is → shown r.base (take r.first is) (around r (o ++ x) is) ≡ shown r.base (take r.first is) (around r o is) ++ x
+more_shown r o x is l = ap (shown r.base (take r.first is)) (more_around r o x is l) ∙ shown_more r.base (take r.first is) (around r o is) x (around_long r o is l)
 
 pub more_within : (r : Region) (o x : Octets) (is : List Piece) → IsLaid r (length o) is → within r (o ++ x) is ≡ within r o is
 more_within r o x is l = grown_within r o x (o ++ x) is is l (alone_adds o x is)
@@ -189,8 +231,8 @@ module _ (r : Region) (o : Octets) (is js : List Piece) (n k m : ℕ) (l : IsLai
   none_behind : drop m js ≡ []
   none_behind = drop_all m js (omega (arith, i))
 
-  whole : take m js ≡ js
-  whole = take_all m js (omega (arith, i))
+  everything : take m js ≡ js
+  everything = take_all m js (omega (arith, i))
 
   pub begun_around : around next o js ≡ around r o is
   unfolding around
@@ -208,7 +250,7 @@ module _ (r : Region) (o : Octets) (is js : List Piece) (n k m : ℕ) (l : IsLai
       let c : within r o is ≡ [] = ap (λ (x : Region). within x o is) (same_region r (length o) is l e) ∙ none_within r.base r.first o is in
       let d : within next o js ≡ spread n (take n o) (drop k (take m js)) = refl in
       let z : n - n ≡ 0 = omega arith in
-      d ∙ rw (whole, slot, b, z) refl ∙ sym c
+      d ∙ rw (everything, slot, b, z) refl ∙ sym c
 
   pub begun_laid : IsLaid next (length o) js
   begun_laid =
@@ -221,37 +263,49 @@ module _ (r : Region) (o : Octets) (is js : List Piece) (n k m : ℕ) (l : IsLai
         opens = omega (arith, long, g, i);
         last = omega (arith, i);
         roots = rw kept roots;
-        added = rw (whole, slot) (omega arith, omega arith);
+        added = rw (everything, slot) (omega arith, omega arith);
         later = rw none_behind (omega arith);
         inside = rw none_behind (omega (arith, f));
         none = λ (x : m ≡ r.first). absurd (omega (arith, x, first, long, i));
-        begun = λ _. ([], ap (drop k) whole ∙ slot);
+        begun = λ _. ([], ap (drop k) everything ∙ slot);
       }
 
 -- ---- an encoder that is lent
 
-pub lent_seen : (s : Scope) (i : Bool) (o : Octets) (is : List Piece) (b n : ℕ) → s.region ≡ region_at b n → b ≡ length o → n ≡ length is → s.is_open ≡ false → s.is_set ≡ false → s.extensible ≡ false → s.presence ≡ [] → s.components ≡ [] → s.bitmap ≡ [] → s.opens.items ≡ []
-    → ◌≡◌ {A = Written} (record { octets = around s.region o is; frame = frame_of o is s; outer = marks true i (take s.region.first is) }) (record { octets = o; frame = shut_at (length o); outer = marks true i is })
-lent_seen s i o is b n r e f g h j k m p q =
-    let a : around s.region o is ≡ o = ap (λ (x : Region). around x o is) r ∙ none_around b n o is (omega (arith, f)) in
+pub merged_length : (o : Octets) (is : List Piece) → Ascends 0 is (length o) → length (merged o is) ≡ length o + total is
+merged_length o is h = let l = spread_length 0 o is h in omega (arith, l)
+
+pub lent_seen : (s : Scope) (i : Bool) (o : Octets) (is : List Piece) (b n : ℕ) → s.region ≡ region_at b n → b ≡ length o → n ≡ length is → s.is_open ≡ false → s.is_set ≡ false → s.extensible ≡ false → s.presence ≡ [] → s.components ≡ [] → s.bitmap ≡ [] → s.opens.items ≡ [] → Ascends 0 is (length o)
+    → view_of s true i o is ≡ record { octets = merged o is; frame = shut_at (length (merged o is)); outer = marks true i is }
+lent_seen s i o is b n r e f g h j k m p q asc =
     let t : take s.region.first is ≡ is = take_all s.region.first is (omega (arith, f, ap (λ (x : Region). x.first) r)) in
-    let z : s.region.base ≡ length o = ap (λ (x : Region). x.base) r ∙ e in
-    rw (a, t, z, g, h, j, k, m, p, q) refl
+    let a : shown s.region.base is (around s.region o is) ≡ merged o is = ap (λ (x : Region). shown x.base is (around x o is)) r ∙ ap (shown b is) (none_around b n o is (omega (arith, f))) ∙ shown_all b is o e in
+    let z : s.region.base + total is ≡ length (merged o is) = (let y = ap (λ (x : Region). x.base) r in let w = merged_length o is asc in omega (arith, y, e, w)) in
+    rw (t, a, z, g, h, j, k, m, p, q) refl
+
+-- an encoder over a buffer
+pub bare_seen : (s : Scope) (o : Octets) (is : List Piece) → s.region ≡ region_at 0 0 → is ≡ [] → s.is_open ≡ false → s.is_set ≡ false → s.extensible ≡ false → s.presence ≡ [] → s.components ≡ [] → s.bitmap ≡ [] → s.opens.items ≡ []
+    → view_of s false false o is ≡ record { octets = o; frame = no_scope; outer = [] }
+bare_seen s o is r e g h j k m p q =
+    let t : take s.region.first is ≡ [] = ap (take s.region.first) e ∙ take_all s.region.first [] (omega arith) in
+    let a : shown s.region.base [] (around s.region o is) ≡ o = shown_none s.region.base (around s.region o is) ∙ ap (λ (x : Region). around x o is) r ∙ none_around 0 0 o is (omega (arith, ap length e)) in
+    let z : s.region.base ≡ 0 = ap (λ (x : Region). x.base) r in
+    rw (t, a, z, g, h, j, k, m, p, q) refl
 
 either : (c : Bool) (x y : Octets) → x ≡ [] → y ≡ [] → cond c x y ≡ []
 either true x y e f = e
 either false x y e f = f
 
-pub opened_seen : (s : Scope) (is_set extensible : Bool) (o : Octets) (is : List Piece) (b n : ℕ) → s.region ≡ region_at b n → b ≡ length o → n ≡ length is → s.is_open ≡ true → s.is_set ≡ is_set → s.extensible ≡ extensible → s.presence ≡ [] → s.components ≡ [] → s.bitmap ≡ [] → s.opens.items ≡ []
-    → ◌≡◌ {A = Written} (record { octets = around s.region o is; frame = frame_of o is s; outer = marks false true (take s.region.first is) }) (record { octets = o; frame = fresh is_set extensible (length o); outer = marks false true is })
+pub opened_seen : (s : Scope) (is_set extensible : Bool) (o : Octets) (is : List Piece) (b n : ℕ) → s.region ≡ region_at b n → b ≡ length o → n ≡ length is → s.is_open ≡ true → s.is_set ≡ is_set → s.extensible ≡ extensible → s.presence ≡ [] → s.components ≡ [] → s.bitmap ≡ [] → s.opens.items ≡ [] → Ascends 0 is (length o)
+    → view_of s false true o is ≡ record { octets = merged o is; frame = fresh is_set extensible (length (merged o is)); outer = marks false true is }
 unfolding within
-opened_seen s is_set extensible o is b n r e f g h j k m p q =
-    let a : around s.region o is ≡ o = ap (λ (x : Region). around x o is) r ∙ none_around b n o is (omega (arith, f)) in
+opened_seen s is_set extensible o is b n r e f g h j k m p q asc =
     let w : within s.region o is ≡ [] = ap (λ (x : Region). within x o is) r ∙ none_within b n o is in
     let t : take s.region.first is ≡ is = take_all s.region.first is (omega (arith, f, ap (λ (x : Region). x.first) r)) in
-    let z : s.region.base ≡ length o = ap (λ (x : Region). x.base) r ∙ e in
+    let a : shown s.region.base is (around s.region o is) ≡ merged o is = ap (λ (x : Region). shown x.base is (around x o is)) r ∙ ap (shown b is) (none_around b n o is (omega (arith, f))) ∙ shown_all b is o e in
+    let z : s.region.base + total is ≡ length (merged o is) = (let y = ap (λ (x : Region). x.base) r in let v = merged_length o is asc in omega (arith, y, e, v)) in
     let v : opens_in o is s ≡ [] = either (s.is_open && not s.is_set) (within s.region o is) s.opens.items w q in
-    rw (a, t, z, v, g, h, j, k, m, p) refl
+    rw (t, a, z, v, g, h, j, k, m, p) refl
 
 -- ---- a scope that is closed fills its slot
 
@@ -346,7 +400,7 @@ module _ (r : Region) (o x p : Octets) (is js : List Piece) (n m : ℕ) (l : IsL
       let asc : Ascends r.start (drop r.opens is) (length o) = rw (all_is, e) at l.added in
       let u : drop m js ≡ [] = drop_all m js (omega (arith, k)) in
       let b = l.begun g in
-      let whole : drop r.opens is ≡ free_at r.start ∷ b.0 = ap (drop r.opens) (sym all_is) ∙ b.1 in
+      let everything : drop r.opens is ≡ free_at r.start ∷ b.0 = ap (drop r.opens) (sym all_is) ∙ b.1 in
       record {
         first = l.first;
         opens = omega (arith, opens_within, long_js, k);
@@ -356,7 +410,7 @@ module _ (r : Region) (o x p : Octets) (is js : List Piece) (n m : ℕ) (l : IsL
         later = rw u (omega arith);
         inside = rw u (omega (arith, h));
         none = λ (z : m ≡ r.first). absurd (omega (arith, z, g, f, long_js, k));
-        begun = λ _. (b.0 ++ a.rear, ap (drop r.opens) all_js ∙ rear ∙ ap (λ (z : List Piece). z ++ a.rear) whole);
+        begun = λ _. (b.0 ++ a.rear, ap (drop r.opens) all_js ∙ rear ∙ ap (λ (z : List Piece). z ++ a.rear) everything);
       }
 
 -- a scope's slot is free

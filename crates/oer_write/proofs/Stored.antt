@@ -3,10 +3,10 @@ use Rattle.std.specs.Prelude.{nat_lt, min, OnOk, IfErr}
 use Rattle.std.proofs.Common.{Result, Ok, Err}
 use Rattle.asn1_core.specs.declared.error.EncodeErrorKind.{EncodeErrorKind}
 use Rattle.asn1_core.specs.declared.error.EncodeErrorKind.TheVariants.{OutOfMemory}
-use Rattle.std.proofs.Common.{◌≡◌, ℕ, zero, suc, ◌+◌, ◌-◌, ◌<◌, ◌≤◌, Bool, true, false, cond, List, [], ◌∷◌, ◌++◌, length, take, drop, map, set, refl, ap, ap₂, sym, ◌∙◌, get_or, arith, length-append, length-drop, subst}
+use Rattle.std.proofs.Common.{◌≡◌, ℕ, zero, suc, ◌+◌, ◌<◌, ◌≤◌, cond, List, [], ◌∷◌, ◌++◌, length, take, drop, map, set, refl, ap, ap₂, sym, ◌∙◌, get_or, arith, length-append, length-drop, subst}
 use Rattle.std.proofs.Common.{◌⊎◌, inl, inr, ltb}
 use Rattle.std.proofs.lemmas.Bool.{cases_Bool, cond-true, cond-false, lt-ltb, le-ltb, ltb-true, ltb-false}
-use Rattle.std.proofs.lemmas.List.{take-append-le, drop-append-le, length-take-le, drop_more, drop_at, drop_all, take_all, take-append-drop, take-map, drop-map, length-map, map-append}
+use Rattle.std.proofs.lemmas.List.{take-append-le, drop-append-le, length-take-le, drop_more, drop_at, drop_all, take_all, take-append-drop, drop-map, length-map, map-append}
 use Rattle.asn1_core.specs.Numbers.{low_octets}
 use Rattle.asn1_core.specs.Octets.{Octets}
 use Rattle.asn1_core.proofs.Fixed.{low_length}

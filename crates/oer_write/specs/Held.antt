@@ -1,8 +1,8 @@
 -- What an encoder that was lent gives back: the output, and the pieces that belong there.
-use Rattle.std.specs.Prelude.{◌≡◌, ◌≤◌, List, [], ◌∷◌, ◌++◌, cond, true, not, ◌&&◌, map, Bool, length, take, ℕ}
+use Rattle.std.specs.Prelude.{◌≡◌, ◌≤◌, ◌+◌, List, [], ◌∷◌, ◌++◌, cond, true, not, ◌&&◌, map, Bool, length, take, ℕ}
 use Rattle.asn1_core.specs.Octets.{Octets}
 use Rattle.oer_spec.specs.Writing.{BeginsWith}
-use Rattle.oer_write.specs.Layout.{Piece, spread, Ascends}
+use Rattle.oer_write.specs.Layout.{Piece, spread, total, merged, Ascends}
 use Rattle.oer_write.specs.Written.{Written, WriteFrame, no_scope}
 
 -- A piece that belongs in front of a scope, as what is known of the scopes around it.
@@ -33,16 +33,29 @@ length_within f = cond (f.is_open && not f.is_set) (length f.opens) 0
 -- the output, and the pieces behind those in front, are what is seen
 pub record Holds (e : Written) (o : Octets) (is : List Piece) : Type 0 where
   pub rear : List Piece
+  pub base : ℕ
   pub front : is ≡ pieces_in e.outer ++ rear
-  pub inside : e.frame.start ≤ length o
-  pub ascends : Ascends e.frame.start rear (length o)
-  pub octets : e.octets ≡ take e.frame.start o ++ spread e.frame.start o rear
+  pub start : e.frame.start ≡ base + total (pieces_in e.outer)
+  pub inside : base ≤ length o
+  pub before : Ascends 0 (pieces_in e.outer) base
+  pub ascends : Ascends base rear (length o)
+  pub octets : e.octets ≡ merged (take base o) (pieces_in e.outer) ++ spread base o rear
 
 -- of what refused: the octets and the pieces in front are there
 pub record Leaves (e : Written) (o : Octets) (is : List Piece) : Type 0 where
   pub rear : List Piece
+  pub base : ℕ
   pub front : is ≡ pieces_in e.outer ++ rear
-  pub begins : BeginsWith (take e.frame.start e.octets) o
+  pub start : e.frame.start ≡ base + total (pieces_in e.outer)
+  pub inside : base ≤ length o
+  pub before : Ascends 0 (pieces_in e.outer) base
+  pub octets : take e.frame.start e.octets ≡ merged (take base o) (pieces_in e.outer)
+
+-- the octets in front of the scope, without the pieces that belong there
+pub record IsInFront (e : Written) (o : Octets) : Type 0 where
+  pub start : e.frame.start ≡ length o + total (pieces_in e.outer)
+  pub before : Ascends 0 (pieces_in e.outer) (length o)
+  pub octets : take e.frame.start e.octets ≡ merged o (pieces_in e.outer)
 
 -- what refused left the front of an output and its pieces
 pub record Kept (old : Octets) (kept : List Piece) (new : Octets) (left : List Piece) : Type 0 where

@@ -17,6 +17,10 @@ abbrev pub spread : ℕ → Octets → List Piece → Octets
 spread p o [] = drop p o
 spread p o (i ∷ is) = take (i.place - p) (drop p o) ++ (i.octets ++ spread i.place o is)
 
+-- the whole output, with its pieces in their places
+abbrev pub merged : Octets → List Piece → Octets
+merged o is = spread 0 o is
+
 -- how many octets they have
 abbrev pub total : List Piece → ℕ
 total [] = 0

@@ -8,7 +8,7 @@ ghost use Rattle.oer_spec.specs.Spelled.{IsConsistent};
 ghost use Rattle.oer_spec.specs.Writing.{BeginsWith};
 ghost use Rattle.oer_spec.specs.Tree.{NoRows, Present, Absent, slot_of, present_unless};
 ghost use Rattle.oer_write.specs.Held.{Kept};
-ghost use Rattle.oer_write.specs.Layout.{Adds};
+ghost use Rattle.oer_write.specs.Layout.{Ascends};
 ghost use Rattle.oer_write.specs.Rows.{RowsDone, SetDone, RowsRefused, IsOpenEncodable, optional, defaulted, open_type};
 ghost use Rattle.oer_write.specs.Seen.{around, within, IsLaid};
 ghost use Rattle.oer_write.specs.Written.{Keeps, WantsMemory};
@@ -16,16 +16,14 @@ ghost use Rattle.oer_write.specs.Written.{Keeps, WantsMemory};
 use crate::encode::Encode;
 use crate::encoder::Encoder;
 use crate::insertions::Insertions;
-use crate::opens::close_open;
+use crate::opening::{Composite, Leaf, WritesOpen, is_leaf, put_open};
 use crate::region::{Region, begin};
-use crate::rows::append_within;
-use crate::scopes::open_scope;
 use asn1_core::{AsnType, Constraints, EncodeError, EncodeErrorKind, Tag};
 use std::alloc::Global;
 use std::marker::PhantomData;
 
 /// The constraints that an addition is written under.
-trait Rule: Drop {
+trait WrittenUnder: Drop {
     ghost use Rattle.asn1_core.specs.declared.constraints.Constraints.{Constraints};
 
     ghost bounds: { Self → Constraints };
@@ -35,7 +33,7 @@ trait Rule: Drop {
 }
 
 /// Such as are handed in.
-impl Rule for Constraints {
+impl WrittenUnder for Constraints {
     ghost bounds = { λ c. c };
 
     #[inline(always)]
@@ -48,7 +46,7 @@ impl Rule for Constraints {
 #[derive(Drop)]
 struct Own<E>(PhantomData<E>);
 
-impl<E: AsnType> Rule for Own<E> {
+impl<E: AsnType> WrittenUnder for Own<E> {
     ghost bounds = { λ o. E.CONSTRAINTS };
 
     #[inline(always)]
@@ -57,81 +55,9 @@ impl<E: AsnType> Rule for Own<E> {
     }
 }
 
-/// Appends an open type (X.696, 30): the value, and in front of it its length.
-#[inline(always)]
-fn write_open<E: Encode>(
-    alloc: Global,
-    is_inside: bool,
-    tag: Tag,
-    constraints: Constraints,
-    value: &E,
-    out: &mut Vec<u8>,
-    insertions: &mut Insertions,
-) -> Result<(), EncodeError>
-    requires consistent { IsConsistent constraints }
-    requires alone { is_inside ≡ false → insertions.old ≡ [] }
-    ensures short { OnOk result (IsOpenEncodable (E.tree constraints value.now)) }
-    ensures done { OnOk result (Adds (open_type (canonical_octets (E.tree constraints value.now))) out.old.items insertions.old out.new.items insertions.new) }
-    ensures value { OnOk result (E.IsValue value.now) }
-    ensures refused { IfErr result (λ x. (x.kind ≡ OutOfMemory) ⊎ Fails (E.tree constraints value.now) x.kind) }
-    ensures mode { IfErr result (λ x. x.codec ≡ Coer) }
-    ensures kept { Kept out.old.items insertions.old out.new.items insertions.new }
-    ensures alone { is_inside ≡ false → OnOk result (insertions.new ≡ []) }
-{
-    let start = out.len();
-    let slot = insertions.len();
-    let before = insertions.inserted();
-    open_scope(alloc, is_inside, &mut *out, &mut *insertions)?;
-    append_within(alloc, tag, constraints, value, &mut *out, &mut *insertions)?;
-    close_open(is_inside, start, slot, before, out, insertions)?;
-    Ok(())
-}
-
-/// Appends an open type; where it refuses, the octets and the insertions are as before.
-#[inline(always)]
-pub(crate) fn put_open<E: Encode>(
-    alloc: Global,
-    is_inside: bool,
-    tag: Tag,
-    constraints: Constraints,
-    value: &E,
-    out: &mut Vec<u8>,
-    insertions: &mut Insertions,
-) -> Result<(), EncodeError>
-    requires consistent { IsConsistent constraints }
-    requires alone { is_inside ≡ false → insertions.old ≡ [] }
-    ensures short { OnOk result (IsOpenEncodable (E.tree constraints value.now)) }
-    ensures done { OnOk result (Adds (open_type (canonical_octets (E.tree constraints value.now))) out.old.items insertions.old out.new.items insertions.new) }
-    ensures value { OnOk result (E.IsValue value.now) }
-    ensures refused { IfErr result (λ x. (x.kind ≡ OutOfMemory) ⊎ Fails (E.tree constraints value.now) x.kind) }
-    ensures mode { IfErr result (λ x. x.codec ≡ Coer) }
-    ensures unchanged { OnErr result (out.new.items ≡ out.old.items) }
-    ensures kept { OnErr result (insertions.new ≡ insertions.old) }
-    ensures alone { is_inside ≡ false → OnOk result (insertions.new ≡ []) }
-{
-    let start = out.len();
-    let slot = insertions.len();
-    match write_open(
-        alloc,
-        is_inside,
-        tag,
-        constraints,
-        value,
-        &mut *out,
-        &mut *insertions,
-    ) {
-        Ok(()) => Ok(()),
-        Err(e) => {
-            out.truncate(start);
-            insertions.cut_apart(alloc, slot);
-            Err(e)
-        }
-    }
-}
-
 /// Appends an open type to octets that stand apart, all in their places.
 #[inline(never)]
-fn put_apart<E: Encode, C: Rule>(
+fn put_apart<E: Encode, C: WrittenUnder>(
     alloc: Global,
     tag: Tag,
     rule: C,
@@ -147,7 +73,7 @@ fn put_apart<E: Encode, C: Rule>(
     ensures unchanged { OnErr result (out.new.items ≡ out.old.items) }
 {
     let mut insertions = Insertions::new(alloc);
-    put_open(
+    put_open::<E, Composite>(
         alloc,
         false,
         tag,
@@ -160,7 +86,7 @@ fn put_apart<E: Encode, C: Rule>(
 
 /// Appends an open type to the additions that lie in the output; where it refuses, these are as before.
 #[inline(never)]
-fn put_behind<E: Encode, C: Rule>(
+fn put_behind<E: Encode, C: WrittenUnder, W: WritesOpen>(
     alloc: Global,
     tag: Tag,
     rule: C,
@@ -171,6 +97,7 @@ fn put_behind<E: Encode, C: Rule>(
 ) -> Result<(), EncodeError>
     requires consistent { IsConsistent (C.bounds rule) }
     requires laid { IsLaid region.old (length out.old.items) insertions.old }
+    requires before { Ascends 0 (take region.old.first insertions.old) region.old.base }
     ensures short { OnOk result (IsOpenEncodable (E.tree (C.bounds rule) value.now)) }
     ensures done { OnOk result (within region.new out.new.items insertions.new ≡ within region.old out.old.items insertions.old ++ open_type (canonical_octets (E.tree (C.bounds rule) value.now))) }
     ensures value { OnOk result (E.IsValue value.now) }
@@ -184,7 +111,7 @@ fn put_behind<E: Encode, C: Rule>(
     ensures front { take region.old.first insertions.new ≡ take region.old.first insertions.old }
 {
     begin(alloc, region, insertions, out)?;
-    put_open(
+    put_open::<E, W>(
         alloc,
         true,
         tag,
@@ -196,6 +123,38 @@ fn put_behind<E: Encode, C: Rule>(
     region.end = out.len();
     region.last = insertions.len();
     Ok(())
+}
+
+/// The same by the value's sort: each has a call of its own, so that a value is inlined once.
+#[inline(always)]
+fn put_by_sort<E: Encode, C: WrittenUnder>(
+    alloc: Global,
+    tag: Tag,
+    rule: C,
+    value: &E,
+    region: &mut Region,
+    out: &mut Vec<u8>,
+    insertions: &mut Insertions,
+) -> Result<(), EncodeError>
+    requires consistent { IsConsistent (C.bounds rule) }
+    requires laid { IsLaid region.old (length out.old.items) insertions.old }
+    requires before { Ascends 0 (take region.old.first insertions.old) region.old.base }
+    ensures short { OnOk result (IsOpenEncodable (E.tree (C.bounds rule) value.now)) }
+    ensures done { OnOk result (within region.new out.new.items insertions.new ≡ within region.old out.old.items insertions.old ++ open_type (canonical_octets (E.tree (C.bounds rule) value.now))) }
+    ensures value { OnOk result (E.IsValue value.now) }
+    ensures refused { IfErr result (λ x. (x.kind ≡ OutOfMemory) ⊎ Fails (E.tree (C.bounds rule) value.now) x.kind) }
+    ensures mode { IfErr result (λ x. x.codec ≡ Coer) }
+    ensures octets { around region.new out.new.items insertions.new ≡ around region.old out.old.items insertions.old }
+    ensures unchanged { OnErr result (within region.new out.new.items insertions.new ≡ within region.old out.old.items insertions.old) }
+    ensures laid { IsLaid region.new (length out.new.items) insertions.new }
+    ensures base { region.new.base ≡ region.old.base }
+    ensures first { region.new.first ≡ region.old.first }
+    ensures front { take region.old.first insertions.new ≡ take region.old.first insertions.old }
+{
+    if is_leaf(E::TAG) {
+        return put_behind::<E, C, Leaf>(alloc, tag, rule, value, region, out, insertions);
+    }
+    put_behind::<E, C, Composite>(alloc, tag, rule, value, region, out, insertions)
 }
 
 impl<'buffer> Encoder<'buffer> {
@@ -279,7 +238,7 @@ impl<'buffer> Encoder<'buffer> {
 
     /// Records whether an addition is present, and writes one that is.
     #[inline(always)]
-    fn add<E: Encode, C: Rule>(
+    fn add<E: Encode, C: WrittenUnder>(
         &mut self,
         tag: Tag,
         rule: C,
@@ -300,7 +259,7 @@ impl<'buffer> Encoder<'buffer> {
 
     /// Writes an addition as an open type: in a sequence straight into the output.
     #[inline(always)]
-    fn put_addition<E: Encode, C: Rule>(
+    fn put_addition<E: Encode, C: WrittenUnder>(
         &mut self,
         tag: Tag,
         rule: C,
@@ -323,7 +282,7 @@ impl<'buffer> Encoder<'buffer> {
 
     /// Writes an addition straight into the output.
     #[inline(always)]
-    fn put_within<E: Encode, C: Rule>(
+    fn put_within<E: Encode, C: WrittenUnder>(
         &mut self,
         tag: Tag,
         rule: C,
@@ -339,7 +298,7 @@ impl<'buffer> Encoder<'buffer> {
         let mut region = self.scope.region;
         let empty = Insertions::new(self.alloc);
         let mut pieces = std::mem::replace(&mut self.insertions, empty);
-        let answer = put_behind(
+        let answer = put_by_sort(
             self.alloc,
             tag,
             rule,

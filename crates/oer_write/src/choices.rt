@@ -8,7 +8,7 @@ ghost use Rattle.oer_spec.specs.Lengths.{behind_length, tag_octets};
 ghost use Rattle.oer_spec.specs.Tree.{Tree, Choice};
 ghost use Rattle.oer_spec.specs.Writing.{BeginsWith};
 ghost use Rattle.oer_write.specs.Held.{Kept};
-ghost use Rattle.oer_write.specs.Layout.{Adds};
+ghost use Rattle.oer_write.specs.Layout.{Adds, Ascends};
 ghost use Rattle.asn1_core.specs.declared.codec.Codec.TheVariants.{Coer};
 ghost use Rattle.asn1_core.specs.declared.error.EncodeErrorKind.TheVariants.{OutOfMemory};
 ghost use Rattle.oer_spec.specs.Encoding.{canonical_octets};
@@ -17,10 +17,10 @@ ghost use Rattle.oer_write.specs.Rows.{IsOpenEncodable, open_type};
 ghost use Rattle.oer_write.specs.Choices.{PromisePick, PicksTag, ContentDone, ContentRefused, Appended, AppendedOpen, alternative_octets, ChoiceDone, ChoiceBroken, IsKnownToPick};
 ghost use Rattle.oer_write.specs.Written.{Written, Keeps, Encodes, Refused, WantsMemory, append};
 
-use crate::additions::put_open;
 use crate::encode::Encode;
 use crate::encoder::Encoder;
 use crate::insertions::Insertions;
+use crate::opening::{Composite, Leaf, WritesOpen, is_leaf, put_open};
 use crate::opens::close_open;
 use crate::scopes::open_scope;
 use asn1_core::{Choice, Constraints, EncodeError, EncodeErrorKind, Tag};
@@ -71,6 +71,7 @@ fn pick_into<F: FnOnce(&mut Encoder<'_>) -> Result<Tag, EncodeError>>(
     requires callable { (lent : Written) → lent.frame.is_open ≡ false → FnOnceTakesAtMut F.FnOnce f lent }
     requires picks { PicksTag (PromisePick F.FnOnce f) tag }
     requires alone { is_inside ≡ false → insertions.old ≡ [] }
+    requires ascends { Ascends 0 insertions.old (length out.old.items) }
     ensures done { OnOk result ((o : Octets) × ContentDone (PromisePick F.FnOnce f) o × Adds o out.old.items insertions.old out.new.items insertions.new) }
     ensures refused { IfErr result (λ x. ContentRefused (PromisePick F.FnOnce f) x) }
     ensures kept { Kept out.old.items insertions.old out.new.items insertions.new }
@@ -99,6 +100,7 @@ fn pick_open<F: FnOnce(&mut Encoder<'_>) -> Result<Tag, EncodeError>>(
     requires callable { (lent : Written) → lent.frame.is_open ≡ false → FnOnceTakesAtMut F.FnOnce f lent }
     requires picks { PicksTag (PromisePick F.FnOnce f) tag }
     requires alone { is_inside ≡ false → insertions.old ≡ [] }
+    requires ascends { Ascends 0 insertions.old (length out.old.items) }
     ensures done { OnOk result ((o : Octets) × ContentDone (PromisePick F.FnOnce f) o × (length o < 2 ^ 64) × Adds (behind_length o) out.old.items insertions.old out.new.items insertions.new) }
     ensures refused { IfErr result (λ x. WantsMemory x ⊎ ContentRefused (PromisePick F.FnOnce f) x) }
     ensures kept { Kept out.old.items insertions.old out.new.items insertions.new }
@@ -127,6 +129,7 @@ fn write_choice<F: FnOnce(&mut Encoder<'_>) -> Result<Tag, EncodeError>>(
     requires callable { (lent : Written) → lent.frame.is_open ≡ false → FnOnceTakesAtMut F.FnOnce f lent }
     requires picks { PicksTag (PromisePick F.FnOnce f) tag }
     requires alone { is_inside ≡ false → insertions.old ≡ [] }
+    requires ascends { Ascends 0 insertions.old (length out.old.items) }
     ensures done { OnOk result ((o : Octets) × ContentDone (PromisePick F.FnOnce f) o × (is_root ≡ false → length o < 2 ^ 64) × Adds (tag_octets tag ++ alternative_octets is_root o) out.old.items insertions.old out.new.items insertions.new) }
     ensures refused { IfErr result (λ x. WantsMemory x ⊎ ContentRefused (PromisePick F.FnOnce f) x) }
     ensures kept { Kept out.old.items insertions.old out.new.items insertions.new }
@@ -153,6 +156,7 @@ fn put_choice<F: FnOnce(&mut Encoder<'_>) -> Result<Tag, EncodeError>>(
     requires callable { (lent : Written) → lent.frame.is_open ≡ false → FnOnceTakesAtMut F.FnOnce f lent }
     requires picks { PicksTag (PromisePick F.FnOnce f) tag }
     requires alone { is_inside ≡ false → insertions.old ≡ [] }
+    requires ascends { Ascends 0 insertions.old (length out.old.items) }
     ensures done { OnOk result ((o : Octets) × ContentDone (PromisePick F.FnOnce f) o × (is_root ≡ false → length o < 2 ^ 64) × Adds (tag_octets tag ++ alternative_octets is_root o) out.old.items insertions.old out.new.items insertions.new) }
     ensures refused { IfErr result (λ x. WantsMemory x ⊎ ContentRefused (PromisePick F.FnOnce f) x) }
     ensures unchanged { OnErr result (out.new.items ≡ out.old.items) }
@@ -181,7 +185,7 @@ fn put_choice<F: FnOnce(&mut Encoder<'_>) -> Result<Tag, EncodeError>>(
 
 /// Appends a value as an open type under its type's own constraints: out of line, where these are folded away.
 #[inline(never)]
-fn put_own<T: Encode>(
+fn put_own<T: Encode, W: WritesOpen>(
     alloc: Global,
     is_inside: bool,
     tag: Tag,
@@ -189,7 +193,8 @@ fn put_own<T: Encode>(
     out: &mut Vec<u8>,
     insertions: &mut Insertions,
 ) -> Result<(), EncodeError>
-    requires { is_inside ≡ false → insertions.old ≡ [] }
+    requires alone { is_inside ≡ false → insertions.old ≡ [] }
+    requires ascends { Ascends 0 insertions.old (length out.old.items) }
     ensures short { OnOk result (IsOpenEncodable (T.tree T.CONSTRAINTS value.now)) }
     ensures done { OnOk result (Adds (open_type (canonical_octets (T.tree T.CONSTRAINTS value.now))) out.old.items insertions.old out.new.items insertions.new) }
     ensures value { OnOk result (T.IsValue value.now) }
@@ -199,7 +204,7 @@ fn put_own<T: Encode>(
     ensures kept { OnErr result (insertions.new ≡ insertions.old) }
     ensures alone { is_inside ≡ false → OnOk result (insertions.new ≡ []) }
 {
-    put_open(
+    put_open::<T, W>(
         alloc,
         is_inside,
         tag,
@@ -208,6 +213,33 @@ fn put_own<T: Encode>(
         out,
         insertions,
     )
+}
+
+/// The same by the value's sort: each has a call of its own, so that a value is inlined once.
+#[inline(always)]
+fn put_own_by_sort<T: Encode>(
+    alloc: Global,
+    is_inside: bool,
+    tag: Tag,
+    value: &T,
+    out: &mut Vec<u8>,
+    insertions: &mut Insertions,
+) -> Result<(), EncodeError>
+    requires alone { is_inside ≡ false → insertions.old ≡ [] }
+    requires ascends { Ascends 0 insertions.old (length out.old.items) }
+    ensures short { OnOk result (IsOpenEncodable (T.tree T.CONSTRAINTS value.now)) }
+    ensures done { OnOk result (Adds (open_type (canonical_octets (T.tree T.CONSTRAINTS value.now))) out.old.items insertions.old out.new.items insertions.new) }
+    ensures value { OnOk result (T.IsValue value.now) }
+    ensures refused { IfErr result (λ x. (x.kind ≡ OutOfMemory) ⊎ Fails (T.tree T.CONSTRAINTS value.now) x.kind) }
+    ensures mode { IfErr result (λ x. x.codec ≡ Coer) }
+    ensures unchanged { OnErr result (out.new.items ≡ out.old.items) }
+    ensures kept { OnErr result (insertions.new ≡ insertions.old) }
+    ensures alone { is_inside ≡ false → OnOk result (insertions.new ≡ []) }
+{
+    if is_leaf(T::TAG) {
+        return put_own::<T, Leaf>(alloc, is_inside, tag, value, out, insertions);
+    }
+    put_own::<T, Composite>(alloc, is_inside, tag, value, out, insertions)
 }
 
 impl<'buffer> Encoder<'buffer> {
@@ -261,14 +293,13 @@ impl<'buffer> Encoder<'buffer> {
         Ok(())
     }
 
-    #[tactic(auto, using(crate::proofs::Regions::more_around, crate::proofs::Regions::more_within))]
+    #[tactic(auto, using(crate::proofs::Regions::more_shown, crate::proofs::Regions::more_within))]
     #[inline(always)]
     fn put_tag(&mut self, tag: Tag) -> Result<(), EncodeErrorKind>
         ensures done { OnOk result (self.new ≡ append (tag_octets tag) self.old) }
         ensures refused { IfErr result (λ k. (k ≡ OutOfMemory) × Keeps self.old self.new) }
     {
-        write_tag(tag, &mut *self.output)?;
-        Ok(())
+        write_tag(tag, &mut *self.output)
     }
 
     /// Writes a CHOICE (X.696, 20) whose alternative with that tag is the value: a root alternative straight behind the tag,
@@ -285,20 +316,10 @@ impl<'buffer> Encoder<'buffer> {
         ensures value { OnOk result (T.IsValue value.now) }
         ensures refused { IfErr result (λ x. Refused (Choice E.root_tags E.addition_tags tag (T.tree T.CONSTRAINTS value.now)) x self.old self.new) }
     {
-        if is_among(E::root_tags(), tag) {
-            return self.root_alternative(tag, value);
-        }
-        self.open_alternative(tag, value)
-    }
-
-    /// Writes the tag, and behind it the value as an open type.
-    #[inline(always)]
-    fn open_alternative<T: Encode>(&mut self, tag: Tag, value: &T) -> Result<(), EncodeError>
-        ensures done { (roots additions : List Label) → holds roots tag ≡ false → OnOk result (Encodes (Choice roots additions tag (T.tree T.CONSTRAINTS value.now)) self.old self.new) }
-        ensures value { OnOk result (T.IsValue value.now) }
-        ensures refused { (roots additions : List Label) → IfErr result (λ x. Refused (Choice roots additions tag (T.tree T.CONSTRAINTS value.now)) x self.old self.new) }
-    {
         self.put_tag(tag)?;
+        if is_among(E::root_tags(), tag) {
+            return value.encode(self);
+        }
         self.put_own_open(tag, value)
     }
 
@@ -312,7 +333,7 @@ impl<'buffer> Encoder<'buffer> {
     {
         let empty = Insertions::new(self.alloc);
         let mut pieces = std::mem::replace(&mut self.insertions, empty);
-        let answer = put_own(
+        let answer = put_own_by_sort(
             self.alloc,
             self.is_inside,
             tag,
@@ -323,16 +344,5 @@ impl<'buffer> Encoder<'buffer> {
         self.insertions = pieces;
         answer?;
         Ok(())
-    }
-
-    /// Writes the tag and the value straight behind it.
-    #[inline(always)]
-    fn root_alternative<T: Encode>(&mut self, tag: Tag, value: &T) -> Result<(), EncodeError>
-        ensures done { (roots additions : List Label) → holds roots tag ≡ true → OnOk result (Encodes (Choice roots additions tag (T.tree T.CONSTRAINTS value.now)) self.old self.new) }
-        ensures value { OnOk result (T.IsValue value.now) }
-        ensures refused { (roots additions : List Label) → IfErr result (λ x. Refused (Choice roots additions tag (T.tree T.CONSTRAINTS value.now)) x self.old self.new) }
-    {
-        self.put_tag(tag)?;
-        value.encode(self)
     }
 }

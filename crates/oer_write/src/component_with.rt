@@ -1,12 +1,12 @@
 //! Components of the open scope that a closure writes.
-ghost use Rattle.std.specs.Prelude.{◌≡◌, ◌⊎◌, ◌++◌, [], ◌∷◌, true, false, OnOk, IfErr};
+ghost use Rattle.std.specs.Prelude.{◌≡◌, ◌⊎◌, ◌++◌, [], ◌∷◌, true, false, length, OnOk, IfErr};
 ghost use Rattle.std.specs.Fn.{FnOnceTakesAtMut};
 ghost use Rattle.asn1_core.specs.Octets.{Octets};
 ghost use Rattle.oer_spec.specs.Places.{needed};
 ghost use Rattle.oer_spec.specs.Tree.{Tree, NoRows};
 ghost use Rattle.oer_spec.specs.Writing.{BeginsWith};
 ghost use Rattle.oer_write.specs.ByClosure.{AppendedBy, RefusedInside, PutBy, KeptBy, ComponentBroken, IsKnownToWriteTree};
-ghost use Rattle.oer_write.specs.Layout.{Adds};
+ghost use Rattle.oer_write.specs.Layout.{Adds, Ascends};
 ghost use Rattle.oer_write.specs.Lists.{WroteElement, IsOrderlyHere};
 ghost use Rattle.oer_write.specs.Rows.{RowsDone, SetDone, RowsRefused, required};
 ghost use Rattle.oer_write.specs.Scopes.{Promise};
@@ -59,6 +59,7 @@ fn put_into<F: FnOnce(&mut Encoder<'_>) -> Result<(), EncodeError>>(
     requires callable { (lent : Written) → lent.frame.is_open ≡ false → FnOnceTakesAtMut F.FnOnce f lent }
     requires orderly { IsOrderlyHere (Promise F.FnOnce f) }
     requires alone { is_inside ≡ false → insertions.old ≡ [] }
+    requires ascends { Ascends 0 insertions.old (length out.old.items) }
     ensures done { OnOk result ((o : Octets) × WroteElement (Promise F.FnOnce f) o × Adds o out.old.items insertions.old out.new.items insertions.new) }
     ensures refused { IfErr result (λ x. RefusedInside (Promise F.FnOnce f) x) }
     ensures grown { (o : Octets) × Adds o out.old.items insertions.old out.new.items insertions.new }

@@ -1,12 +1,12 @@
 //! The encoder.
 ghost use Rattle.std.specs.Prelude.{◌≡◌, ◌≤◌, ◌+◌, ◌<◌, ◌^◌, ◌&&◌, not, true, false, List, [], ◌∷◌, ◌++◌, length, take, drop, cond, OnOk, IfOk, IfErr};
-ghost use Rattle.asn1_core.specs.Octets.{pack};
+ghost use Rattle.asn1_core.specs.Octets.{Octets, pack};
 ghost use Rattle.oer_spec.specs.Places.{extension_bit};
 ghost use Rattle.asn1_core.specs.declared.codec.Codec.TheVariants.{Coer};
 ghost use Rattle.asn1_core.specs.declared.error.EncodeErrorKind.TheVariants.{OutOfMemory};
 ghost use Rattle.oer_spec.specs.Writing.{AppendsOrMemory, BeginsWith};
-ghost use Rattle.oer_write.specs.Held.{length_within, Holds, Leaves, lent_frame, marks, pieces_in, shut_at};
-ghost use Rattle.oer_write.specs.Layout.{total};
+ghost use Rattle.oer_write.specs.Held.{length_within, Holds, IsInFront, Leaves, lent_frame, marks, pieces_in, shut_at};
+ghost use Rattle.oer_write.specs.Layout.{Ascends, merged};
 ghost use Rattle.oer_write.specs.Preambles.{IsSized, preamble_octets};
 ghost use Rattle.oer_write.specs.Scopes.{any_true, extension_of, set_octets};
 ghost use Rattle.oer_write.specs.Seen.{around, frame_of, opens_in, IsLaid, IsSound};
@@ -84,8 +84,9 @@ impl<'buffer> Encoder<'buffer> {
         insertions: Insertions,
         output: &'buffer mut Vec<u8>,
     ) -> Encoder<'buffer>
-        requires { is_inside ≡ false → insertions ≡ [] }
-        ensures { result ≡ record { octets = output.old.items; frame = shut_at (length output.old.items); outer = marks true is_inside insertions } }
+        requires alone { is_inside ≡ false → insertions ≡ [] }
+        requires ascends { Ascends 0 insertions (length output.old.items) }
+        ensures { result ≡ record { octets = merged output.old.items insertions; frame = shut_at (length (merged output.old.items insertions)); outer = marks true is_inside insertions } }
     {
         let start = output.len();
         let first = insertions.len();
@@ -110,7 +111,8 @@ impl<'buffer> Encoder<'buffer> {
         insertions: Insertions,
         output: &'buffer mut Vec<u8>,
     ) -> Encoder<'buffer>
-        ensures { result ≡ record { octets = output.old.items; frame = fresh is_set extensible (length output.old.items); outer = marks false true insertions } }
+        requires { Ascends 0 insertions (length output.old.items) }
+        ensures { result ≡ record { octets = merged output.old.items insertions; frame = fresh is_set extensible (length (merged output.old.items insertions)); outer = marks false true insertions } }
     {
         let start = output.len();
         let first = insertions.len();
@@ -151,7 +153,7 @@ impl<'buffer> Encoder<'buffer> {
     /// How many octets are written, with those of all insertions.
     #[inline(always)]
     pub(crate) fn written(&self) -> u128
-        ensures { result ≡ length self.now.octets + length_within self.now.frame + total (pieces_in self.now.outer) }
+        ensures { result ≡ length self.now.octets + length_within self.now.frame }
     {
         self.output.len() as u128 + self.insertions.inserted() as u128
     }
@@ -185,7 +187,7 @@ impl<'buffer> Encoder<'buffer> {
     /// The output cut at `start`, and behind it its open set; what is written afterwards is lost.
     pub(crate) fn close_set(&mut self) -> (Vec<u8>, Insertions, Result<(), EncodeErrorKind>)
         requires set { self.old.frame.is_set ≡ true }
-        ensures written { AppendsOrMemory result.2 (set_octets self.old.frame) (take self.old.frame.start self.old.octets) result.0.items }
+        ensures written { (front : Octets) × IsInFront self.old front × AppendsOrMemory result.2 (set_octets self.old.frame) front result.0.items }
         ensures kept { result.1 ≡ pieces_in self.old.outer }
         ensures counted { length self.old.frame.bitmap < 2 ^ 64 }
     {

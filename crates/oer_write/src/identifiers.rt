@@ -23,7 +23,7 @@ impl<'buffer> Encoder<'buffer> {
         self.put_arcs(value)
     }
 
-    #[tactic(auto, using(crate::proofs::Regions::more_around, crate::proofs::Regions::more_within), unfolding(oer_spec::specs::Spelled::identifier, oer_spec::specs::Encoding::canonical_octets, oer_spec::specs::Encoding::fails))]
+    #[tactic(auto, using(crate::proofs::Regions::more_shown, crate::proofs::Regions::more_within), unfolding(oer_spec::specs::Spelled::identifier, oer_spec::specs::Encoding::canonical_octets, oer_spec::specs::Encoding::fails))]
     fn put_arcs(&mut self, value: &[u32]) -> Result<(), EncodeError>
         ensures done { OnOk result (Encodes (identifier value.now) self.old self.new) }
         ensures value { OnOk result (IsIdentifier value.now) }

@@ -31,8 +31,8 @@ pub(crate) struct Insertions {
     long: Vec<u8>,
 }
 
-/// Room for so many insertions is asked for at once.
-const ROOM: usize = 8;
+/// Room for so many insertions is asked for at once, and for four times as many as there are where more come.
+const ROOM: usize = 40;
 
 impl Model for Insertions {
     ghost use Rattle.std.specs.Prelude.{List};
@@ -52,7 +52,7 @@ fn push_behind(items: &mut Vec<Insertion>, insertion: Insertion) -> Result<(), E
     ensures done { OnOk result (items.new.items ≡ items.old.items ++ (insertion ∷ [])) }
     ensures refused { IfErr result (λ k. (k ≡ OutOfMemory) × (items.new.items ≡ items.old.items)) }
 {
-    items.reserve(ROOM)?;
+    items.reserve(items.len().saturating_mul(3).max(ROOM))?;
     items.push_reserved(insertion);
     Ok(())
 }

@@ -14,7 +14,7 @@ impl<'buffer> Encoder<'buffer> {
     /// Writes a BOOLEAN (X.696, 9): FF for true, 00 for false.
     ///
     /// Refused for want of memory alone.
-    #[tactic(auto, using(crate::proofs::Regions::more_around, crate::proofs::Regions::more_within), unfolding(oer_spec::specs::Spelled::boolean, oer_spec::specs::Encoding::canonical_octets, oer_spec::specs::Encoding::fails))]
+    #[tactic(auto, using(crate::proofs::Regions::more_shown, crate::proofs::Regions::more_within), unfolding(oer_spec::specs::Spelled::boolean, oer_spec::specs::Encoding::canonical_octets, oer_spec::specs::Encoding::fails))]
     #[inline(always)]
     pub fn encode_bool(&mut self, _tag: Tag, value: bool) -> Result<(), EncodeError>
         ensures done { OnOk result (Encodes (boolean value) self.old self.new) }
@@ -41,16 +41,27 @@ impl<'buffer> Encoder<'buffer> {
     /// octets of the number.
     ///
     /// Refused for want of memory alone.
-    #[tactic(auto, using(crate::proofs::Regions::more_around, crate::proofs::Regions::more_within), unfolding(oer_spec::specs::Spelled::enumerated, oer_spec::specs::Encoding::canonical_octets, oer_spec::specs::Encoding::fails))]
+    #[inline(always)]
     pub fn encode_enumerated<E: Enumerated>(
         &mut self,
-        _tag: Tag,
+        tag: Tag,
         value: &E,
     ) -> Result<(), EncodeError>
         ensures done { OnOk result (Encodes (enumerated (E.number value.now)) self.old self.new) }
         ensures refused { IfErr result (λ x. WantsMemory x × Keeps self.old self.new) }
     {
-        write_enumerated(value.discriminant(), &mut *self.output)?;
+        self.encode_enumerated_number(tag, value.discriminant())
+    }
+
+    /// Writes an ENUMERATED value by its number, as `encode_enumerated` does: for a type that has values of newer versions.
+    ///
+    /// Refused for want of memory alone.
+    #[tactic(auto, using(crate::proofs::Regions::more_shown, crate::proofs::Regions::more_within), unfolding(oer_spec::specs::Spelled::enumerated, oer_spec::specs::Encoding::canonical_octets, oer_spec::specs::Encoding::fails))]
+    pub fn encode_enumerated_number(&mut self, _tag: Tag, number: isize) -> Result<(), EncodeError>
+        ensures done { OnOk result (Encodes (enumerated number) self.old self.new) }
+        ensures refused { IfErr result (λ x. WantsMemory x × Keeps self.old self.new) }
+    {
+        write_enumerated(number, &mut *self.output)?;
         Ok(())
     }
 
@@ -73,7 +84,7 @@ impl<'buffer> Encoder<'buffer> {
         self.put_integer(constraints, value)
     }
 
-    #[tactic(auto, using(crate::proofs::Regions::more_around, crate::proofs::Regions::more_within), unfolding(oer_spec::specs::Spelled::integer, oer_spec::specs::Encoding::canonical_octets, oer_spec::specs::Encoding::fails))]
+    #[tactic(auto, using(crate::proofs::Regions::more_shown, crate::proofs::Regions::more_within), unfolding(oer_spec::specs::Spelled::integer, oer_spec::specs::Encoding::canonical_octets, oer_spec::specs::Encoding::fails))]
     #[inline(always)]
     fn put_integer<I: IntegerType>(
         &mut self,

@@ -6,7 +6,7 @@ ghost use Rattle.oer_spec.specs.Lengths.{quantity_octets};
 ghost use Rattle.oer_spec.specs.Spelled.{list_of, EachValue};
 ghost use Rattle.oer_spec.specs.Tree.{Tree};
 ghost use Rattle.oer_spec.specs.Writing.{BeginsWith};
-ghost use Rattle.oer_write.specs.Layout.{Adds};
+ghost use Rattle.oer_write.specs.Layout.{Adds, Ascends};
 ghost use Rattle.oer_write.specs.Lists.{ByLaw, is_nil, TakesElement, PromiseAt, WroteElement, IsOrderlyAt, IsOrderlyHere, ElementDone, ElementTooMany, ElementsDone, ElementsBroken, ListDone, ListBroken, IsKnownToWriteAt, IsByFirst};
 ghost use Rattle.oer_write.specs.Written.{append, no_scope, Keeps, Encodes, Refused, WritesTree};
 
@@ -149,6 +149,7 @@ fn put_elements_into<E, F: Fn(&mut Encoder<'_>, &E) -> Result<(), EncodeError>>(
     requires callable { (x : E) → Contains value.now x → TakesElement F.Fn f.now x }
     requires orderly { IsOrderlyAt (PromiseAt F.Fn f.now) value.now }
     requires alone { is_inside ≡ false → insertions.old ≡ [] }
+    requires ascends { Ascends 0 insertions.old (length out.old.items) }
     ensures done { OnOk result ((o : Octets) × ElementsDone (PromiseAt F.Fn f.now) value.now [] o × Adds o out.old.items insertions.old out.new.items insertions.new) }
     ensures refused { IfErr result (λ x. ElementsBroken (PromiseAt F.Fn f.now) value.now x) }
     ensures grown { (o : Octets) × Adds o out.old.items insertions.old out.new.items insertions.new }
@@ -205,7 +206,7 @@ impl<'buffer> Encoder<'buffer> {
     }
 
     /// Writes a quantity, and makes room for an octet of each element.
-    #[tactic(auto, using(crate::proofs::Regions::more_around, crate::proofs::Regions::more_within))]
+    #[tactic(auto, using(crate::proofs::Regions::more_shown, crate::proofs::Regions::more_within))]
     #[inline(always)]
     fn put_quantity(&mut self, count: usize) -> Result<(), EncodeErrorKind>
         ensures done { OnOk result (self.new ≡ append (quantity_octets count) self.old) }

@@ -40,9 +40,10 @@ fn short_length(size: usize) -> Packed
 
 /// A length of 128 octets or more (X.696, 8.6); no memory has room for one of 2^56.
 #[inline(never)]
-fn long_length(size: usize) -> Result<Packed, EncodeErrorKind>
+pub(crate) fn long_length(size: usize) -> Result<Packed, EncodeErrorKind>
     requires { 128 ≤ size }
     ensures few { IfOk result (λ p. p.octets ≤ 8) }
+    ensures some { IfOk result (λ p. 0 < p.octets) }
     ensures number { IfOk result (λ p. low_octets p.octets p.number ≡ length_octets size) }
     ensures refused { IfErr result (λ k. k ≡ OutOfMemory) }
 {

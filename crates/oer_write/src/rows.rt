@@ -9,7 +9,7 @@ ghost use Rattle.oer_spec.specs.Tree.{NoRows, Present, Absent, slot_of, present_
 ghost use Rattle.oer_spec.specs.Failures.{Fails};
 ghost use Rattle.oer_spec.specs.Writing.{BeginsWith};
 ghost use Rattle.oer_write.specs.Held.{Kept};
-ghost use Rattle.oer_write.specs.Layout.{Adds};
+ghost use Rattle.oer_write.specs.Layout.{Adds, Ascends};
 ghost use Rattle.oer_write.specs.Rows.{RowsDone, SetDone, RowsRefused, required, optional, defaulted};
 ghost use Rattle.oer_write.specs.Written.{Keeps, Encodes, Refused, WantsMemory};
 
@@ -59,7 +59,8 @@ pub(crate) fn append_within<E: Encode>(
     out: &mut Vec<u8>,
     insertions: &mut Insertions,
 ) -> Result<(), EncodeError>
-    requires { IsConsistent constraints }
+    requires consistent { IsConsistent constraints }
+    requires ascends { Ascends 0 insertions.old (length out.old.items) }
     ensures done { OnOk result (IsEncodable (E.tree constraints value.now) × Adds (canonical_octets (E.tree constraints value.now)) out.old.items insertions.old out.new.items insertions.new) }
     ensures value { OnOk result (E.IsValue value.now) }
     ensures refused { IfErr result (λ x. (x.kind ≡ OutOfMemory) ⊎ Fails (E.tree constraints value.now) x.kind) }

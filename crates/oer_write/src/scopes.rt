@@ -9,7 +9,7 @@ ghost use Rattle.oer_spec.specs.Writing.{BeginsWith};
 ghost use Rattle.oer_write.specs.Rows.{IsKnownToWrite};
 ghost use Rattle.oer_write.specs.Scopes.{Promise, IsNew, IsOrderly, RanInScope, Closed, Stopped, Broken, sequence_octets};
 ghost use Rattle.oer_write.specs.Held.{Kept};
-ghost use Rattle.oer_write.specs.Layout.{Adds, slots};
+ghost use Rattle.oer_write.specs.Layout.{Adds, Ascends, slots};
 ghost use Rattle.asn1_core.specs.Numbers.{low_octets};
 ghost use Rattle.oer_write.specs.Preambles.{IsSized, preamble_octets};
 ghost use Rattle.oer_write.specs.Seen.{around, frame_of, IsSound};
@@ -23,7 +23,7 @@ use asn1_core::{Constructed, EncodeError, EncodeErrorKind, Tag};
 use std::alloc::Global;
 
 /// Room that an outermost scope asks for at once, so that the octets of a small value take one request for memory.
-pub(crate) const ROOM: usize = 32;
+pub(crate) const ROOM: usize = 96;
 
 /// Lends an encoder to a closure.
 #[inline(always)]
@@ -156,6 +156,7 @@ fn write_sequence<F: FnOnce(&mut Encoder<'_>) -> Result<(), EncodeError>>(
     requires callable { (lent : Written) → IsNew false extensible lent → FnOnceTakesAtMut F.FnOnce f lent }
     requires orderly { IsOrderly false extensible (Promise F.FnOnce f) }
     requires alone { is_inside ≡ false → insertions.old ≡ [] }
+    requires ascends { Ascends 0 insertions.old (length output.old.items) }
     ensures done { OnOk result ((frame : WriteFrame) × (o : Octets) × RanInScope (Promise F.FnOnce f) false extensible frame o × Adds (sequence_octets frame o) output.old.items insertions.old output.new.items insertions.new) }
     ensures refused { IfErr result (λ x. WantsMemory x ⊎ Stopped (Promise F.FnOnce f) false extensible x) }
     ensures kept { Kept output.old.items insertions.old output.new.items insertions.new }
@@ -192,6 +193,7 @@ fn put_sequence<F: FnOnce(&mut Encoder<'_>) -> Result<(), EncodeError>>(
     requires callable { (lent : Written) → IsNew false extensible lent → FnOnceTakesAtMut F.FnOnce f lent }
     requires orderly { IsOrderly false extensible (Promise F.FnOnce f) }
     requires alone { is_inside ≡ false → insertions.old ≡ [] }
+    requires ascends { Ascends 0 insertions.old (length output.old.items) }
     ensures done { OnOk result ((frame : WriteFrame) × (o : Octets) × RanInScope (Promise F.FnOnce f) false extensible frame o × Adds (sequence_octets frame o) output.old.items insertions.old output.new.items insertions.new) }
     ensures refused { IfErr result (λ x. WantsMemory x ⊎ Stopped (Promise F.FnOnce f) false extensible x) }
     ensures unchanged { OnErr result (output.new.items ≡ output.old.items) }
@@ -241,7 +243,7 @@ impl<'buffer> Encoder<'buffer> {
         self.sequence(C::IS_EXTENSIBLE, f)
     }
 
-    #[tactic(auto, using(crate::proofs::Regions::more_around, crate::proofs::Regions::more_within))]
+    #[tactic(auto, using(crate::proofs::Regions::more_shown, crate::proofs::Regions::more_within))]
     #[inline(always)]
     fn sequence<F: FnOnce(&mut Encoder<'_>) -> Result<(), EncodeError>>(
         &mut self,

@@ -1,5 +1,5 @@
 //! Sets: root components in the order of their tags, whatever the order in which they are handed in.
-ghost use Rattle.std.specs.Prelude.{◌≡◌, ◌++◌, ◌⊎◌, List, [], true, map, OnOk, OnErr, IfErr};
+ghost use Rattle.std.specs.Prelude.{◌≡◌, ◌++◌, ◌⊎◌, List, [], true, length, map, OnOk, OnErr, IfErr};
 ghost use Rattle.std.specs.Fn.{FnOnceTakesAtMut};
 ghost use Rattle.asn1_core.specs.Octets.{Octets};
 ghost use Rattle.asn1_core.specs.declared.error.EncodeErrorKind.TheVariants.{OutOfMemory};
@@ -11,7 +11,7 @@ ghost use Rattle.oer_write.specs.Rows.{IsKnownToWriteSet};
 ghost use Rattle.oer_write.specs.Scopes.{Promise, IsNew, IsOrderly, IsSameInAnyOrder, RanInScope, SetClosed, Stopped, Broken, set_octets};
 ghost use Rattle.oer_write.specs.Seen.{frame_of};
 ghost use Rattle.oer_write.specs.Written.{Written, WriteFrame, Encodes, Refused, WantsMemory};
-ghost use Rattle.oer_write.specs.Layout.{Piece};
+ghost use Rattle.oer_write.specs.Layout.{Ascends, Piece};
 
 use crate::bits::Bits;
 use crate::component::{Component, Components, body_of};
@@ -98,6 +98,7 @@ fn write_set<F: FnOnce(&mut Encoder<'_>) -> Result<(), EncodeError>>(
 ) -> Result<(), EncodeError>
     requires callable { (lent : Written) → IsNew true extensible lent → FnOnceTakesAtMut F.FnOnce f lent }
     requires orderly { IsOrderly true extensible (Promise F.FnOnce f) }
+    requires ascends { Ascends 0 insertions.old (length output.old.items) }
     ensures done { OnOk result ((frame : WriteFrame) × (o : Octets) × RanInScope (Promise F.FnOnce f) true extensible frame o × (output.new.items ≡ output.old.items ++ set_octets frame)) }
     ensures refused { IfErr result (λ x. WantsMemory x ⊎ Stopped (Promise F.FnOnce f) true extensible x) }
     ensures begins { BeginsWith output.old.items output.new.items }
@@ -129,6 +130,7 @@ fn put_set<F: FnOnce(&mut Encoder<'_>) -> Result<(), EncodeError>>(
 ) -> Result<(), EncodeError>
     requires callable { (lent : Written) → IsNew true extensible lent → FnOnceTakesAtMut F.FnOnce f lent }
     requires orderly { IsOrderly true extensible (Promise F.FnOnce f) }
+    requires ascends { Ascends 0 insertions.old (length output.old.items) }
     ensures done { OnOk result ((frame : WriteFrame) × (o : Octets) × RanInScope (Promise F.FnOnce f) true extensible frame o × (output.new.items ≡ output.old.items ++ set_octets frame)) }
     ensures refused { IfErr result (λ x. WantsMemory x ⊎ Stopped (Promise F.FnOnce f) true extensible x) }
     ensures unchanged { OnErr result (output.new.items ≡ output.old.items) }
@@ -167,7 +169,7 @@ impl<'buffer> Encoder<'buffer> {
         self.set(C::IS_EXTENSIBLE, f)
     }
 
-    #[tactic(auto, using(crate::proofs::Regions::more_around, crate::proofs::Regions::more_within))]
+    #[tactic(auto, using(crate::proofs::Regions::more_shown, crate::proofs::Regions::more_within))]
     fn set<F: FnOnce(&mut Encoder<'_>) -> Result<(), EncodeError>>(
         &mut self,
         extensible: bool,

@@ -36,7 +36,7 @@ impl<'buffer> Encoder<'buffer> {
         self.put_bits(constraints, value)
     }
 
-    #[tactic(auto, using(crate::proofs::Regions::more_around, crate::proofs::Regions::more_within), unfolding(oer_spec::specs::Spelled::bit_string, oer_spec::specs::Encoding::canonical_octets, oer_spec::specs::Encoding::fails))]
+    #[tactic(auto, using(crate::proofs::Regions::more_shown, crate::proofs::Regions::more_within), unfolding(oer_spec::specs::Spelled::bit_string, oer_spec::specs::Encoding::canonical_octets, oer_spec::specs::Encoding::fails))]
     #[inline(always)]
     fn put_bits(&mut self, constraints: Constraints, value: &BitString) -> Result<(), EncodeError>
         ensures done { OnOk result (Encodes (bit_string constraints value.now) self.old self.new) }
@@ -65,7 +65,7 @@ impl<'buffer> Encoder<'buffer> {
         self.put_octets(constraints, value)
     }
 
-    #[tactic(auto, using(crate::proofs::Regions::more_around, crate::proofs::Regions::more_within), unfolding(oer_spec::specs::Spelled::text, oer_spec::specs::Encoding::canonical_octets, oer_spec::specs::Encoding::fails))]
+    #[tactic(auto, using(crate::proofs::Regions::more_shown, crate::proofs::Regions::more_within), unfolding(oer_spec::specs::Spelled::text, oer_spec::specs::Encoding::canonical_octets, oer_spec::specs::Encoding::fails))]
     #[inline(always)]
     fn put_octets(&mut self, constraints: Constraints, value: &[u8]) -> Result<(), EncodeError>
         ensures done { OnOk result (Encodes (text AnyOctets constraints value.now) self.old self.new) }
@@ -87,7 +87,7 @@ impl<'buffer> Encoder<'buffer> {
         self.put_any(value)
     }
 
-    #[tactic(auto, using(crate::proofs::Regions::more_around, crate::proofs::Regions::more_within), unfolding(oer_spec::specs::Spelled::unsized_text, oer_spec::specs::Encoding::canonical_octets, oer_spec::specs::Encoding::fails))]
+    #[tactic(auto, using(crate::proofs::Regions::more_shown, crate::proofs::Regions::more_within), unfolding(oer_spec::specs::Spelled::unsized_text, oer_spec::specs::Encoding::canonical_octets, oer_spec::specs::Encoding::fails))]
     #[inline(always)]
     fn put_any(&mut self, value: &Any) -> Result<(), EncodeError>
         ensures done { OnOk result (Encodes (unsized_text AnyOctets value.now) self.old self.new) }
@@ -116,7 +116,7 @@ impl<'buffer> Encoder<'buffer> {
         self.put_utf8(constraints, value)
     }
 
-    #[tactic(auto, using(crate::proofs::Regions::more_around, crate::proofs::Regions::more_within), unfolding(oer_spec::specs::Spelled::text, oer_spec::specs::Encoding::canonical_octets, oer_spec::specs::Encoding::fails))]
+    #[tactic(auto, using(crate::proofs::Regions::more_shown, crate::proofs::Regions::more_within), unfolding(oer_spec::specs::Spelled::text, oer_spec::specs::Encoding::canonical_octets, oer_spec::specs::Encoding::fails))]
     #[inline(always)]
     fn put_utf8(&mut self, constraints: Constraints, value: &str) -> Result<(), EncodeError>
         ensures done { OnOk result (Encodes (text Utf8 constraints value.now) self.old self.new) }
@@ -278,7 +278,7 @@ impl<'buffer> Encoder<'buffer> {
         self.put_text::<BmpCharacters>(constraints, value)
     }
 
-    #[tactic(auto, using(crate::proofs::Regions::more_around, crate::proofs::Regions::more_within), unfolding(oer_spec::specs::Spelled::text, oer_spec::specs::Encoding::canonical_octets, oer_spec::specs::Encoding::fails))]
+    #[tactic(auto, using(crate::proofs::Regions::more_shown, crate::proofs::Regions::more_within), unfolding(oer_spec::specs::Spelled::text, oer_spec::specs::Encoding::canonical_octets, oer_spec::specs::Encoding::fails))]
     #[inline(always)]
     fn put_text<C: CharacterSet>(
         &mut self,

@@ -56,7 +56,7 @@ impl<'buffer> Encoder<'buffer> {
     }
 
     /// Writes a value by its text.
-    #[tactic(auto, using(crate::proofs::Regions::more_around, crate::proofs::Regions::more_within), unfolding(oer_spec::specs::Spelled::time, oer_spec::specs::Encoding::canonical_octets, oer_spec::specs::Encoding::fails))]
+    #[tactic(auto, using(crate::proofs::Regions::more_shown, crate::proofs::Regions::more_within), unfolding(oer_spec::specs::Spelled::time, oer_spec::specs::Encoding::canonical_octets, oer_spec::specs::Encoding::fails))]
     fn put_time<T: TimeType>(&mut self, value: &T) -> Result<(), EncodeError>
         ensures done { (fields : List ℕ) → OnOk result (Encodes (time T.rule (T.text value.now) fields) self.old self.new) }
         ensures refused { (fields : List ℕ) → IfErr result (λ x. RefusedLeaf (Text T.rule None (time_content (T.text value.now) fields)) x self.old self.new) }

@@ -200,7 +200,7 @@ impl<'buffer> Encoder<'buffer> {
     }
 
     /// Writes a quantity, and contents in ascending order.
-    #[tactic(auto, using(crate::proofs::Regions::more_around, crate::proofs::Regions::more_within))]
+    #[tactic(auto, using(crate::proofs::Regions::more_shown, crate::proofs::Regions::more_within))]
     fn put_sorted(&mut self, contents: &Contents, count: usize) -> Result<(), EncodeErrorKind>
         ensures done { OnOk result (self.new ≡ append (quantity_octets count ++ joined (sorted (parts contents.now.sizes.items contents.now.octets.items))) self.old) }
         ensures refused { IfErr result (λ k. (k ≡ OutOfMemory) × Keeps self.old self.new) }

@@ -1,5 +1,4 @@
-use Rattle.std.proofs.Common.{◌≡◌, refl, sym}
-use Rattle.std.proofs.lemmas.Result.{on_ok_weaker}
+use Rattle.std.proofs.Common.{refl, sym}
 use Rattle.oer_write.proofs.Nesting.{adds_alone_ok}
 use Rattle.oer_write.proofs.additions.put_apart.Goals as goal
 

@@ -1,4 +1,4 @@
-use Rattle.std.proofs.Common.{rules, ◌≡◌, ◌+◌, ◌-◌, ◌*◌, ◌/◌, ◌%◌, ◌^◌, ◌<◌, ◌≤◌, [], ◌∷◌, ◌++◌, ℕ, arith, ap, ap₂, refl, sym, ◌∙◌}
+use Rattle.std.proofs.Common.{◌≡◌, ◌+◌, ◌*◌, ◌/◌, ◌%◌, ◌^◌, ◌<◌, ◌≤◌, ◌∷◌, ℕ, arith, ap, ap₂, refl, ◌∙◌}
 use Rattle.asn1_core.specs.Numbers.{low_octets}
 use Rattle.oer_write.proofs.Words.{fronted}
 use Rattle.oer_write.proofs.bits.behind_count.Goals as goal

@@ -1,5 +1,6 @@
-use Rattle.std.proofs.Common.{◌≡◌, ap, ◌∙◌, rules}
+use Rattle.std.proofs.Common.{◌≡◌, rules, List, length, subst, sym}
 use Rattle.std.proofs.lemmas.Result.{on_ok_weaker}
+use Rattle.oer_write.specs.Layout.{Piece, Ascends}
 use Rattle.oer_write.proofs.Nesting.{lent_adds, lent_kept}
 use Rattle.oer_write.proofs.choices.pick_into.Goals as goal
 
@@ -9,11 +10,11 @@ returns-clause-done g c =
     on_ok_weaker c.pick-answer.result (λ h. (
       h.content,
       h.done,
-      lent_adds c.args.is_inside c.lent-inner.result c.args.out.now.items c.replace-pieces.result c.args.insertions.now c.lent-inner.ensures q
+      lent_adds c.args.is_inside c.lent-inner.result c.args.out.now.items c.replace-pieces.result c.args.insertions.now c.lent-inner.ensures q (subst (λ (z : List Piece). Ascends 0 z (length c.args.out.now.items)) (sym q) c.requires.ascends)
           c.pick-answer.new.encoder c.into_parts-octets.result.0.items c.into_parts-octets.result.1 c.pick-answer.ensures.keeps c.into_parts-octets.ensures.holds h.content h.appended,
     )) c.pick-answer.ensures.done
 
 pub returns-clause-kept : goal.returns-clause-kept
 returns-clause-kept g c =
     let q : c.replace-pieces.result ≡ c.args.insertions.now = search rules in
-    lent_kept c.args.is_inside c.lent-inner.result c.args.out.now.items c.replace-pieces.result c.args.insertions.now c.lent-inner.ensures q c.pick-answer.new.encoder c.into_parts-octets.result.0.items c.into_parts-octets.result.1 c.pick-answer.ensures.keeps c.into_parts-octets.ensures.holds
+    lent_kept c.args.is_inside c.lent-inner.result c.args.out.now.items c.replace-pieces.result c.args.insertions.now c.lent-inner.ensures q (subst (λ (z : List Piece). Ascends 0 z (length c.args.out.now.items)) (sym q) c.requires.ascends) c.pick-answer.new.encoder c.into_parts-octets.result.0.items c.into_parts-octets.result.1 c.pick-answer.ensures.keeps c.into_parts-octets.ensures.holds

@@ -1,8 +1,7 @@
-use Rattle.std.proofs.Common.{◌≡◌, ◌++◌, length, ap, ◌∙◌, rules}
-use Rattle.asn1_core.specs.Octets.{Octets}
+use Rattle.std.proofs.Common.{◌≡◌, ◌++◌, length, ◌∙◌}
 use Rattle.oer_write.specs.Layout.{slots}
 use Rattle.oer_write.proofs.Holding.{kept_added}
-use Rattle.oer_write.proofs.Nesting.{adds_alike, kept_same, kept_less, kept_alike, taken_adds}
+use Rattle.oer_write.proofs.Nesting.{adds_alike, kept_same, taken_adds, taken_ascends}
 use Rattle.oer_write.proofs.choices.pick_open.Goals as goal
 
 pub returns-in_err-open_scope-clause-kept : goal.returns-in_err-open_scope-clause-kept
@@ -26,3 +25,6 @@ returns-clause-done g c =
 
 pub returns-clause-kept : goal.returns-clause-kept
 returns-clause-kept g c = let done = returns-clause-done g c in kept_added _ _ _ _ _ done.3
+
+pub pick_into-requires-clause-ascends : goal.pick_into-requires-clause-ascends
+pick_into-requires-clause-ascends g c = taken_ascends c.args.is_inside c.args.out.now.items c.open_scope.new.output.items c.args.insertions.now c.open_scope.new.insertions c.requires.ascends c.in_ok-open_scope.ensures.unchanged c.in_ok-open_scope.ensures.done

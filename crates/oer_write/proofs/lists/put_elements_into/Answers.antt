@@ -1,6 +1,7 @@
-use Rattle.std.proofs.Common.{◌≡◌, refl, ap, ◌∙◌, rules}
+use Rattle.std.proofs.Common.{◌≡◌, refl, rules, List, length, subst, sym}
 use Rattle.std.proofs.lemmas.Result.{on_ok_weaker}
 use Rattle.asn1_core.specs.Octets.{joined}
+use Rattle.oer_write.specs.Layout.{Piece, Ascends}
 use Rattle.oer_write.proofs.Nesting.{lent_adds}
 use Rattle.oer_write.proofs.lists.put_elements_into.Goals as goal
 
@@ -10,7 +11,7 @@ returns-clause-done g c =
     on_ok_weaker c.put_elements-answer.result (λ h. (
       joined h.contents,
       record { contents = h.contents; each = h.each; few = h.few; appended = refl },
-      lent_adds c.args.is_inside c.lent-inner.result c.args.out.now.items c.replace-pieces.result c.args.insertions.now c.lent-inner.ensures q
+      lent_adds c.args.is_inside c.lent-inner.result c.args.out.now.items c.replace-pieces.result c.args.insertions.now c.lent-inner.ensures q (subst (λ (z : List Piece). Ascends 0 z (length c.args.out.now.items)) (sym q) c.requires.ascends)
           c.put_elements-answer.new.encoder c.into_parts-octets.result.0.items c.into_parts-octets.result.1 c.put_elements-answer.ensures.keeps c.into_parts-octets.ensures.holds (joined h.contents) h.appended,
     )) c.put_elements-answer.ensures.done
 
@@ -18,4 +19,4 @@ pub returns-clause-grown : goal.returns-clause-grown
 returns-clause-grown g c =
     let q : c.replace-pieces.result ≡ c.args.insertions.now = search rules in
     let k = c.put_elements-answer.ensures.keeps in
-    (k.octets.0, lent_adds c.args.is_inside c.lent-inner.result c.args.out.now.items c.replace-pieces.result c.args.insertions.now c.lent-inner.ensures q c.put_elements-answer.new.encoder c.into_parts-octets.result.0.items c.into_parts-octets.result.1 k c.into_parts-octets.ensures.holds k.octets.0 k.octets.1)
+    (k.octets.0, lent_adds c.args.is_inside c.lent-inner.result c.args.out.now.items c.replace-pieces.result c.args.insertions.now c.lent-inner.ensures q (subst (λ (z : List Piece). Ascends 0 z (length c.args.out.now.items)) (sym q) c.requires.ascends) c.put_elements-answer.new.encoder c.into_parts-octets.result.0.items c.into_parts-octets.result.1 k c.into_parts-octets.ensures.holds k.octets.0 k.octets.1)

@@ -1,4 +1,4 @@
-use Rattle.std.proofs.Common.{◌≡◌, ◌≢◌, ◌+◌, ◌<◌, length, arith, inl, inr, ap, sym, ◌∙◌, ℕ}
+use Rattle.std.proofs.Common.{◌≡◌, length, arith, inr}
 use Rattle.oer_spec.specs.Encoding.{canonical_octets}
 use Rattle.oer_write.proofs.Lawful.{written_more, element_some, element_none, element_many}
 use Rattle.oer_write.proofs.lists.put_value.Goals as goal

@@ -1,6 +1,5 @@
-use Rattle.std.proofs.Common.{◌≡◌, refl, ◌∙◌, arith, sym, ap}
+use Rattle.std.proofs.Common.{refl, ◌∙◌, arith, ap}
 use Rattle.std.proofs.lemmas.Result.{err_from_is_err_and}
-use Rattle.asn1_core.specs.Octets.{Octets}
 use Rattle.oer_write.specs.Written.{Written}
 use Rattle.oer_write.proofs.Elements.{one_more, broken_at}
 use Rattle.oer_write.proofs.Keeping.{keeps_then}

@@ -1,6 +1,6 @@
-use Rattle.std.proofs.Common.{◌≡◌, ◌<◌, take}
+use Rattle.std.proofs.Common.{◌≡◌, take}
 use Rattle.oer_write.specs.Lists.{ByLaw, AppendedSoFar}
-use Rattle.oer_write.specs.Written.{Written, Keeps}
+use Rattle.oer_write.specs.Written.{Keeps}
 use Rattle.oer_write.proofs.lists.put_values.Given as goal
 
 abbrev pub invariant-loop-x : goal.invariant-loop-x

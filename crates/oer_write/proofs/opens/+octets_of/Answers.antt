@@ -1,4 +1,4 @@
-use Rattle.std.proofs.Common.{arith, ◌≡◌, ◌/◌, ◌<◌, ◌≤◌, length}
+use Rattle.std.proofs.Common.{arith, ◌/◌, ◌<◌}
 use Rattle.oer_spec.proofs.Written.{few_digits}
 use Rattle.oer_write.proofs.Mapped.{one_digit, more_digits}
 use Rattle.oer_write.proofs.opens.+octets_of.Goals as goal

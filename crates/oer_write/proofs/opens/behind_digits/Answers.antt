@@ -1,4 +1,4 @@
-use Rattle.std.proofs.Common.{◌≡◌, ◌+◌, ◌<◌, arith, refl}
+use Rattle.std.proofs.Common.{arith, refl}
 use Rattle.oer_write.proofs.Mapped.{length_is}
 use Rattle.oer_write.proofs.opens.behind_digits.Goals as goal
 

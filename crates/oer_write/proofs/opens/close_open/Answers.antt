@@ -1,9 +1,9 @@
-use Rattle.std.proofs.Common.{◌≡◌, ◌+◌, ◌-◌, ◌<◌, ◌≤◌, ◌++◌, ◌^◌, ◌%◌, cond, [], ◌∷◌, length, take, ap, sym, ◌∙◌, arith, rules, ℕ, subst, List}
+use Rattle.std.proofs.Common.{◌≡◌, ◌<◌, ◌++◌, ◌^◌, length, ap, ◌∙◌, arith, rules, ℕ, subst, List}
 use Rattle.std.proofs.lemmas.Result.{on_ok_weaker}
 use Rattle.asn1_core.specs.Numbers.{low_octets}
 use Rattle.asn1_core.specs.Octets.{Octets}
 use Rattle.oer_spec.specs.Lengths.{length_octets, behind_length}
-use Rattle.oer_write.specs.Layout.{Piece, Adds, slots, total}
+use Rattle.oer_write.specs.Layout.{Piece, Adds}
 use Rattle.oer_write.proofs.Regions.{adds_length}
 use Rattle.oer_write.proofs.opens.close_open.Goals as goal
 

@@ -1,4 +1,4 @@
-use Rattle.std.proofs.Common.{◌≡◌, ◌+◌, ◌-◌, ◌≤◌, ◌++◌, length, take, drop, map, arith, ap, sym, ◌∙◌, subst, rules, ℕ, List, refl}
+use Rattle.std.proofs.Common.{◌≡◌, ◌+◌, ◌-◌, length, map, arith, ap, sym, ◌∙◌, subst, rules, ℕ, List}
 use Rattle.asn1_core.specs.Numbers.{low_octets}
 use Rattle.asn1_core.specs.Octets.{Octets}
 use Rattle.asn1_core.proofs.Fixed.{low_length}

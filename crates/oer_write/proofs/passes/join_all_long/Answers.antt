@@ -1,7 +1,5 @@
-use Rattle.std.proofs.Common.{◌≡◌, ◌+◌, ◌-◌, ◌≤◌, ◌++◌, length, take, drop, map, arith, ap, sym, ◌∙◌, subst, rules, ℕ, List, refl}
-use Rattle.asn1_core.specs.Numbers.{low_octets}
+use Rattle.std.proofs.Common.{◌≡◌, ◌+◌, ◌-◌, length, map, arith, ap, sym, ◌∙◌, subst, rules, ℕ, List, refl}
 use Rattle.asn1_core.specs.Octets.{Octets}
-use Rattle.asn1_core.proofs.Fixed.{low_length}
 use Rattle.oer_write.specs.Inserted.{Passed, piece}
 use Rattle.oer_write.specs.Layout.{Piece}
 use Rattle.oer_write.proofs.Passing.{grown_whole, passed_last}

@@ -1,4 +1,4 @@
-use Rattle.std.proofs.Common.{List, [], ◌∷◌, zero, suc, ◌≡◌, ◌+◌, ◌-◌, ◌<◌, ◌≤◌, ◌++◌, take, drop, length, arith, refl, ℕ, ◌∙◌, get_or}
+use Rattle.std.proofs.Common.{List, [], ◌∷◌, zero, suc, ◌≡◌, ◌-◌, ◌<◌, ◌≤◌, length, arith, refl, ℕ, ◌∙◌, get_or}
 use Rattle.std.proofs.lemmas.List.{length-set}
 use Rattle.oer_write.proofs.Moving.{front_next, moved_next}
 use Rattle.oer_write.proofs.passes.move_few.Goals as goal

@@ -1,4 +1,4 @@
-use Rattle.std.proofs.Common.{◌≡◌, ◌+◌, ◌-◌, ◌%◌, ◌<◌, ◌≤◌, ◌++◌, take, drop, length, arith, ◌∙◌}
+use Rattle.std.proofs.Common.{◌-◌, ◌%◌, ◌<◌, ◌≤◌, length, arith, ◌∙◌}
 use Rattle.std.proofs.lemmas.List.{length-set}
 use Rattle.oer_write.proofs.Moving.{front_next, number_next}
 use Rattle.oer_write.proofs.passes.put_number.Goals as goal

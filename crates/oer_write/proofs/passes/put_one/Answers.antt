@@ -1,4 +1,4 @@
-use Rattle.std.proofs.Common.{◌≡◌, ◌+◌, ◌-◌, ◌≤◌, arith, ◌∙◌}
+use Rattle.std.proofs.Common.{arith, ◌∙◌}
 use Rattle.oer_write.proofs.Passing.{front_same}
 use Rattle.oer_write.proofs.passes.put_one.Goals as goal
 

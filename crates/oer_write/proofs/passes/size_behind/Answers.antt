@@ -1,4 +1,4 @@
-use Rattle.std.proofs.Common.{◌≡◌, ◌+◌, ◌-◌, ◌<◌, ◌≤◌, ◌^◌, length, drop, arith, ap, sym, ◌∙◌, inl, inr, get_or, ℕ, List}
+use Rattle.std.proofs.Common.{◌≡◌, ◌+◌, ◌-◌, ◌<◌, ◌≤◌, length, drop, arith, ap, sym, ◌∙◌, inl, inr, get_or, ℕ, List}
 use Rattle.std.proofs.lemmas.List.{drop_all}
 use Rattle.oer_write.specs.Inserted.{counts}
 use Rattle.oer_write.specs.declared.insertions.Insertion.{Insertion}

@@ -1,7 +1,7 @@
-use Rattle.std.proofs.Common.{◌≡◌, ◌+◌, ◌≤◌, ◌++◌, length, take, drop, map, arith, ap, sym, ◌∙◌, subst, rules, ℕ, List}
+use Rattle.std.proofs.Common.{◌≡◌, ◌≤◌, ◌++◌, length, take, drop, map, arith, ap, sym, ◌∙◌, subst, rules, ℕ, List}
 use Rattle.asn1_core.specs.Octets.{Octets}
 use Rattle.oer_write.specs.Inserted.{Passed, piece}
-use Rattle.oer_write.specs.Layout.{Piece, Ascends, total}
+use Rattle.oer_write.specs.Layout.{Piece, Ascends}
 use Rattle.oer_write.proofs.Passing.{grown_whole, grown_base}
 use Rattle.oer_write.proofs.Stored.{total_counts}
 use Rattle.oer_write.proofs.passes.spread_all.Goals as goal

@@ -1,8 +1,7 @@
-use Rattle.std.proofs.Common.{◌≡◌, ◌+◌, ◌-◌, ◌<◌, ◌≤◌, ◌++◌, take, drop, map, length, get_or, arith, ap, sym, ◌∙◌, subst, ℕ, List}
+use Rattle.std.proofs.Common.{◌≡◌, ◌+◌, ◌-◌, ◌≤◌, take, map, length, get_or, arith, subst, ℕ, List}
 use Rattle.std.proofs.lemmas.List.{get_or-map, length-map}
 use Rattle.asn1_core.specs.Octets.{Octets}
 use Rattle.oer_write.specs.Inserted.{Passed, piece, octets_in, IsThere, AreThere}
-use Rattle.oer_write.specs.Layout.{Piece, Ascends}
 use Rattle.oer_write.specs.declared.insertions.Insertion.{Insertion}
 use Rattle.oer_write.proofs.Passing.{passed_first, passed_next, next_room}
 use Rattle.oer_write.proofs.Stored.{there_at, length_in}

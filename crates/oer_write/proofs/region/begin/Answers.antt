@@ -1,5 +1,4 @@
-use Rattle.std.proofs.Common.{◌≡◌, ◌+◌, length, rules, arith, [], ◌∷◌, ◌++◌, ap, ◌∙◌, List}
-use Rattle.oer_write.specs.Layout.{Piece, free_at}
+use Rattle.std.proofs.Common.{◌≡◌, length, rules}
 use Rattle.oer_write.proofs.Regions.{begun_around, begun_within, begun_laid}
 use Rattle.oer_write.proofs.region.begin.Goals as goal
 

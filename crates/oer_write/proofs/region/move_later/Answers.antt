@@ -1,5 +1,5 @@
-use Rattle.std.proofs.Common.{◌≡◌, ℕ, ◌+◌, ◌-◌, ◌≤◌, [], ◌∷◌, ◌++◌, length, take, drop, ap, sym, ◌∙◌, arith, rules, List}
-use Rattle.oer_write.specs.Layout.{Piece, free_at, total}
+use Rattle.std.proofs.Common.{◌≡◌, ℕ, ◌+◌, ◌-◌, [], length, take, drop, ap, ◌∙◌, arith, rules}
+use Rattle.oer_write.specs.Layout.{total}
 use Rattle.oer_write.proofs.Exchanging.{behind_less, kept_slot, opens_are, asc_rest, long1, long_two, moved_around, moved_within, moved_laid, moved_last, moved_front}
 use Rattle.oer_write.proofs.Regions.{places}
 use Rattle.oer_write.proofs.region.move_later.Goals as goal

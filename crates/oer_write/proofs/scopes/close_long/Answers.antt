@@ -1,4 +1,3 @@
-use Rattle.std.proofs.Common.{rules}
 use Rattle.std.proofs.lemmas.Result.{on_ok_weaker}
 use Rattle.oer_write.proofs.Regions.{filled_adds, slot_free}
 use Rattle.oer_write.proofs.scopes.close_long.Goals as goal

@@ -1,4 +1,3 @@
-use Rattle.std.proofs.Common.{rules}
 use Rattle.std.proofs.lemmas.Result.{on_ok_weaker}
 use Rattle.asn1_core.specs.Numbers.{low_octets}
 use Rattle.oer_write.proofs.Regions.{filled_adds, slot_free}

@@ -1,11 +1,8 @@
-use Rattle.std.proofs.Common.{◌≡◌, ◌++◌, true, false, Ok, refl, ap, ap₂, sym, ◌∙◌, subst, rules, length, take, List}
-use Rattle.std.proofs.lemmas.List.{take_at}
+use Rattle.std.proofs.Common.{◌≡◌, ◌++◌, true, Ok, refl, ap, sym, ◌∙◌, subst, rules, length, List}
 use Rattle.asn1_core.specs.Octets.{Octets}
 use Rattle.oer_spec.specs.Writing.{AppendsOrMemory}
-use Rattle.oer_write.specs.Held.{marks, pieces_in}
-use Rattle.oer_write.specs.Layout.{Piece}
+use Rattle.oer_write.specs.Layout.{Piece, Ascends}
 use Rattle.oer_write.specs.Scopes.{Promise, set_octets}
-use Rattle.oer_write.specs.Written.{Written, WriteFrame, Keeps, fresh}
 use Rattle.oer_write.proofs.Closing.{opened_new}
 use Rattle.oer_write.proofs.Nesting.{set_front, set_begins, set_pieces}
 use Rattle.oer_write.proofs.sets.write_set.Goals as goal
@@ -15,8 +12,11 @@ lend-answer-requires-clause-orderly g c = λ r left p. c.requires.orderly _ left
 
 pub returns-in_err-answer-clause-begins : goal.returns-in_err-answer-clause-begins
 returns-in_err-answer-clause-begins g c =
-    let front = set_front true c.args.extensible c.open-inner.result c.lend-answer.new.encoder c.args.output.now.items c.replace-pieces.result c.open-inner.ensures c.lend-answer.ensures.keeps in
-    set_begins c.close_set-octets.result.2 (set_octets c.lend-answer.new.encoder.frame) c.args.output.now.items _ c.close_set-octets.result.0.items front c.close_set-octets.ensures.written
+    let q : c.replace-pieces.result ≡ c.args.insertions.now = search rules in
+    let asc : Ascends 0 c.replace-pieces.result (length c.args.output.now.items) = subst (λ (z : List Piece). Ascends 0 z (length c.args.output.now.items)) (sym q) c.requires.ascends in
+    let w = c.close_set-octets.ensures.written in
+    let front = set_front true c.args.extensible c.open-inner.result c.lend-answer.new.encoder w.0 c.args.output.now.items c.replace-pieces.result c.open-inner.ensures c.lend-answer.ensures.keeps asc w.1 in
+    set_begins c.close_set-octets.result.2 (set_octets c.lend-answer.new.encoder.frame) c.args.output.now.items w.0 c.close_set-octets.result.0.items front w.2
 
 pub returns-in_err-answer-clause-kept : goal.returns-in_err-answer-clause-kept
 returns-in_err-answer-clause-kept g c =
@@ -37,8 +37,11 @@ pub returns-clause-done : goal.returns-clause-done
 returns-clause-done g c =
     let answered : c.lend-answer.result ≡ Ok tt = search rules in
     let closed : c.close_set-octets.result.2 ≡ Ok tt = search rules in
-    let front = set_front true c.args.extensible c.open-inner.result c.lend-answer.new.encoder c.args.output.now.items c.replace-pieces.result c.open-inner.ensures c.lend-answer.ensures.keeps in
-    let written : c.close_set-octets.result.0.items ≡ take c.lend-answer.new.encoder.frame.start c.lend-answer.new.encoder.octets ++ set_octets c.lend-answer.new.encoder.frame = subst (λ r. AppendsOrMemory r (set_octets c.lend-answer.new.encoder.frame) (take c.lend-answer.new.encoder.frame.start c.lend-answer.new.encoder.octets) c.close_set-octets.result.0.items) closed c.close_set-octets.ensures.written in (
+    let q : c.replace-pieces.result ≡ c.args.insertions.now = search rules in
+    let asc : Ascends 0 c.replace-pieces.result (length c.args.output.now.items) = subst (λ (z : List Piece). Ascends 0 z (length c.args.output.now.items)) (sym q) c.requires.ascends in
+    let w = c.close_set-octets.ensures.written in
+    let front = set_front true c.args.extensible c.open-inner.result c.lend-answer.new.encoder w.0 c.args.output.now.items c.replace-pieces.result c.open-inner.ensures c.lend-answer.ensures.keeps asc w.1 in
+    let written : c.close_set-octets.result.0.items ≡ w.0 ++ set_octets c.lend-answer.new.encoder.frame = subst (λ r. AppendsOrMemory r (set_octets c.lend-answer.new.encoder.frame) w.0 c.close_set-octets.result.0.items) closed w.2 in (
       c.lend-answer.new.encoder.frame,
       c.lend-answer.ensures.keeps.octets.0,
       record {
@@ -52,3 +55,19 @@ returns-clause-done g c =
       },
       written ∙ ap (λ (o : Octets). o ++ set_octets c.lend-answer.new.encoder.frame) front,
     )
+
+pub returns-in_err-closed-clause-begins : goal.returns-in_err-closed-clause-begins
+returns-in_err-closed-clause-begins g c =
+    let q : c.replace-pieces.result ≡ c.args.insertions.now = search rules in
+    let asc : Ascends 0 c.replace-pieces.result (length c.args.output.now.items) = subst (λ (z : List Piece). Ascends 0 z (length c.args.output.now.items)) (sym q) c.requires.ascends in
+    let w = c.close_set-octets.ensures.written in
+    let front = set_front true c.args.extensible c.open-inner.result c.lend-answer.new.encoder w.0 c.args.output.now.items c.replace-pieces.result c.open-inner.ensures c.lend-answer.ensures.keeps asc w.1 in
+    set_begins c.close_set-octets.result.2 (set_octets c.lend-answer.new.encoder.frame) c.args.output.now.items w.0 c.close_set-octets.result.0.items front w.2
+
+pub returns-clause-begins : goal.returns-clause-begins
+returns-clause-begins g c =
+    let q : c.replace-pieces.result ≡ c.args.insertions.now = search rules in
+    let asc : Ascends 0 c.replace-pieces.result (length c.args.output.now.items) = subst (λ (z : List Piece). Ascends 0 z (length c.args.output.now.items)) (sym q) c.requires.ascends in
+    let w = c.close_set-octets.ensures.written in
+    let front = set_front true c.args.extensible c.open-inner.result c.lend-answer.new.encoder w.0 c.args.output.now.items c.replace-pieces.result c.open-inner.ensures c.lend-answer.ensures.keeps asc w.1 in
+    set_begins c.close_set-octets.result.2 (set_octets c.lend-answer.new.encoder.frame) c.args.output.now.items w.0 c.close_set-octets.result.0.items front w.2

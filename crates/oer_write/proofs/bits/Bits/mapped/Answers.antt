@@ -1,4 +1,4 @@
-use Rattle.std.proofs.Common.{rules, ◌≡◌, ◌+◌, ◌<◌, ◌≤◌, length, ℕ, arith, ap, sym, ◌∙◌}
+use Rattle.std.proofs.Common.{◌≤◌, length, arith, ap, sym, ◌∙◌}
 use Rattle.oer_write.proofs.Words.{length_all}
 use Rattle.oer_write.proofs.Mapped.{mapped_is}
 use Rattle.oer_write.proofs.bits.Bits.mapped.Goals as goal

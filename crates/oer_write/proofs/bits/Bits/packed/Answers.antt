@@ -1,4 +1,4 @@
-use Rattle.std.proofs.Common.{rules, ◌≡◌, ◌+◌, ◌<◌, ◌≤◌, ◌++◌, false, List, Bool, [], ◌∷◌, length, ℕ, arith, ap, refl, sym, ◌∙◌, subst, append-nil}
+use Rattle.std.proofs.Common.{rules, ◌≡◌, ◌++◌, false, List, Bool, [], ◌∷◌, length, ℕ, arith, ap, refl, sym, ◌∙◌, subst, append-nil}
 use Rattle.oer_spec.specs.Places.{extension_bit}
 use Rattle.oer_write.specs.Bits.{low_bits, ArePacked}
 use Rattle.oer_write.proofs.bits.Bits.packed.Goals as goal

@@ -1,7 +1,5 @@
-use Rattle.std.proofs.Common.{◌≡◌, ◌&&◌, true, not, ap, sym, ◌∙◌, subst, rules}
+use Rattle.std.proofs.Common.{◌≡◌, ◌&&◌, true, not, ap, ◌∙◌, subst, rules}
 use Rattle.std.proofs.lemmas.Result.{on_ok_weaker, IfErr-weaker}
-use Rattle.asn1_core.specs.Octets.{Octets}
-use Rattle.oer_write.specs.Closed.{ClosedOff, FrontLeft}
 use Rattle.oer_write.specs.Held.{Holds, Leaves}
 use Rattle.oer_write.specs.Scopes.{extension_of}
 use Rattle.oer_write.specs.Written.{Written, append}

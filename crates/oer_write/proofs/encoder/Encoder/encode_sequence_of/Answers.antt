@@ -1,4 +1,3 @@
-use Rattle.std.proofs.Common.{rules}
 use Rattle.std.proofs.lemmas.Result.{on_ok_weaker, IfErr-weaker}
 use Rattle.oer_write.proofs.Elements.{each_value, list_done, list_refused, first_refused}
 use Rattle.oer_write.proofs.encoder.Encoder.encode_sequence_of.Goals as goal

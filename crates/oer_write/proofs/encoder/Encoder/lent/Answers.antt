@@ -6,4 +6,4 @@ pub returns : goal.returns
 returns c =
     let n : c.len-start.result ≡ length c.args.output.now.items = search rules in
     let e = c.none.ensures in
-    lent_seen c.none.result c.args.is_inside c.args.output.now.items c.args.insertions c.len-start.result c.len-first.result e.region n c.len-first.ensures e.is_open e.is_set e.extensible e.presence e.components e.bitmap e.opens
+    lent_seen c.none.result c.args.is_inside c.args.output.now.items c.args.insertions c.len-start.result c.len-first.result e.region n c.len-first.ensures e.is_open e.is_set e.extensible e.presence e.components e.bitmap e.opens c.requires.ascends

@@ -6,4 +6,4 @@ pub returns : goal.returns
 returns c =
     let n : c.len-start.result ≡ length c.args.output.now.items = search rules in
     let e = c.open.ensures in
-    opened_seen c.open.result c.args.is_set c.args.extensible c.args.output.now.items c.args.insertions c.len-start.result c.len-first.result e.region n c.len-first.ensures e.is_open e.is_set e.extensible e.presence e.components e.bitmap e.opens
+    opened_seen c.open.result c.args.is_set c.args.extensible c.args.output.now.items c.args.insertions c.len-start.result c.len-first.result e.region n c.len-first.ensures e.is_open e.is_set e.extensible e.presence e.components e.bitmap e.opens c.requires

@@ -1,6 +1,6 @@
 use Rattle.std.proofs.Common.{◌≡◌, false, [], ap, sym, ◌∙◌, rules}
 use Rattle.oer_write.specs.Written.{Written}
-use Rattle.oer_write.proofs.Holding.{outermost_around, outermost_seen, outermost_sound}
+use Rattle.oer_write.proofs.Holding.{outermost_around, outermost_seen}
 use Rattle.oer_write.proofs.encoder.Encoder.output.Goals as goal
 
 pub returns-clause-taken : goal.returns-clause-taken

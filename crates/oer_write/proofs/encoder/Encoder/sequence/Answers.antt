@@ -1,14 +1,13 @@
 use Rattle.std.proofs.lemmas.Result.{err_from_is_err_and}
-use Rattle.oer_write.specs.Held.{marks}
-use Rattle.oer_write.specs.Layout.{Piece}
-use Rattle.oer_write.specs.Seen.{around, frame_of}
+use Rattle.oer_write.specs.Layout.{Piece, Ascends}
+use Rattle.oer_write.specs.Seen.{view_of}
 use Rattle.oer_write.proofs.Lawful.{keeps_all}
-use Rattle.std.proofs.Common.{List, take, ap₂, subst, Ok, ◌≡◌, ◌++◌, ap, sym, ◌∙◌, rules}
+use Rattle.std.proofs.Common.{List, ap₂, subst, Ok, ◌≡◌, ap, sym, ◌∙◌, rules, length}
 use Rattle.asn1_core.specs.Octets.{Octets}
-use Rattle.oer_write.specs.Scopes.{Closed, sequence_octets}
+use Rattle.oer_write.specs.Scopes.{sequence_octets}
 use Rattle.oer_write.specs.Written.{Written, append, Keeps}
 use Rattle.oer_write.proofs.Keeping.{ok_of}
-use Rattle.oer_write.proofs.Regions.{adds_from, grown_seen, grown_sound}
+use Rattle.oer_write.proofs.Regions.{adds_from, grown_seen, grown_sound, sound_ascends}
 use Rattle.oer_write.proofs.encoder.Encoder.sequence.Goals as goal
 
 pub invariant_of-self-2 : goal.invariant_of-self-2
@@ -35,5 +34,10 @@ returns-in_err-answer-clause-refused g c =
     let p = err_from_is_err_and c.from_residual.result c.from_residual.ensures.1 in
     let q : c.replace-pieces.result ≡ c.self.inside.insertions = search rules in
     let s = c.self.inside.scope in
-    let e = ap₂ (λ (o : Octets) (is : List Piece). let w : Written = record { octets = around s.region o is; frame = frame_of o is s; outer = marks c.self.inside.is_lent c.self.inside.is_inside (take s.region.first is) } in w) c.in_err-answer.ensures.unchanged (c.in_err-answer.ensures.kept ∙ q) ∙ c.self.view_is in
+    let e = ap₂ (λ (o : Octets) (is : List Piece). view_of s c.self.inside.is_lent c.self.inside.is_inside o is) c.in_err-answer.ensures.unchanged (c.in_err-answer.ensures.kept ∙ q) ∙ c.self.view_is in
     rw (p.1, p.2) (record { keeps = subst (λ (w : Written). Keeps c.args.self.now w) (sym e) (keeps_all c.args.self.now); reason = c.in_err-answer.ensures.refused })
+
+pub put_sequence-answer-requires-clause-ascends : goal.put_sequence-answer-requires-clause-ascends
+put_sequence-answer-requires-clause-ascends g c =
+    let q : c.replace-pieces.result ≡ c.self.inside.insertions = search rules in
+    subst (λ (z : List Piece). Ascends 0 z (length c.self.inside.output.now.items)) (sym q) (sound_ascends c.self.inside.scope c.self.inside.is_lent c.self.inside.is_inside c.self.inside.output.now.items c.self.inside.insertions c.self.invariant)

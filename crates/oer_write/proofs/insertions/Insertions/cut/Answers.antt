@@ -1,4 +1,4 @@
-use Rattle.std.proofs.Common.{◌≡◌, ◌+◌, ◌-◌, ◌≤◌, map, ap, sym, ◌∙◌, take, drop, length, subst, arith, List}
+use Rattle.std.proofs.Common.{◌≡◌, map, ap, sym, ◌∙◌, take, drop, length, subst, arith, List}
 use Rattle.std.proofs.lemmas.List.{take-map}
 use Rattle.oer_write.specs.Layout.{Piece}
 use Rattle.oer_write.specs.Inserted.{AreThere, counts, piece}

@@ -1,4 +1,4 @@
-use Rattle.std.proofs.Common.{◌≡◌, ◌+◌, ◌<◌, ◌≤◌, arith, ap, sym, ◌∙◌, ℕ}
+use Rattle.std.proofs.Common.{◌≡◌, ◌+◌, arith, ap, sym, ◌∙◌, ℕ}
 use Rattle.asn1_core.specs.Numbers.{low_octets}
 use Rattle.oer_write.specs.declared.insertions.Insertion.{Insertion}
 use Rattle.oer_write.proofs.Stored.{filled_pieces, filled_counts, filled_there, octets_few}

@@ -1,6 +1,6 @@
-use Rattle.std.proofs.Common.{◌≡◌, ◌+◌, ◌<◌, ◌≤◌, ◌++◌, length, map, set, refl, arith, ap, sym, ◌∙◌, subst, ℕ, rules}
+use Rattle.std.proofs.Common.{◌≡◌, ◌+◌, ◌++◌, length, map, set, refl, ap, sym, ◌∙◌, subst, ℕ, rules}
 use Rattle.asn1_core.specs.Octets.{Octets}
-use Rattle.oer_write.specs.Inserted.{AreThere, AreCounted, counts, piece}
+use Rattle.oer_write.specs.Inserted.{AreThere, piece}
 use Rattle.oer_write.specs.declared.insertions.Insertion.{Insertion}
 use Rattle.oer_write.proofs.Stored.{filled_pieces, filled_counts, filled_there, long_there, long_octets, long_more, pieces_more}
 use Rattle.oer_write.proofs.insertions.Insertions.fill_long.Goals as goal

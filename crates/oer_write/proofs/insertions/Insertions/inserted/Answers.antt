@@ -1,4 +1,4 @@
-use Rattle.std.proofs.Common.{◌≡◌, ap, sym, ◌∙◌}
+use Rattle.std.proofs.Common.{ap, sym, ◌∙◌}
 use Rattle.oer_write.specs.Layout.{total}
 use Rattle.oer_write.proofs.Stored.{total_counts}
 use Rattle.oer_write.proofs.insertions.Insertions.inserted.Goals as goal

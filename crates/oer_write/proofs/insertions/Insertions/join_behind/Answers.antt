@@ -1,4 +1,4 @@
-use Rattle.std.proofs.Common.{◌≡◌, ◌≤◌, ◌++◌, length, take, drop, map, ap, ap₂, sym, ◌∙◌, subst, rules, ℕ, List}
+use Rattle.std.proofs.Common.{◌≡◌, ◌++◌, length, take, drop, map, ap, ap₂, sym, ◌∙◌, subst, rules, List}
 use Rattle.std.specs.Prelude.{min}
 use Rattle.std.proofs.lemmas.List.{drop-map}
 use Rattle.asn1_core.specs.Octets.{Octets}

@@ -1,6 +1,5 @@
-use Rattle.std.proofs.Common.{◌≡◌, length, ap, sym, ◌∙◌, subst, List}
+use Rattle.std.proofs.Common.{◌≡◌, length, ap, sym, ◌∙◌, subst}
 use Rattle.oer_write.specs.Inserted.{AreThere, counts}
-use Rattle.oer_write.specs.declared.insertions.Insertion.{Insertion}
 use Rattle.oer_write.proofs.Stored.{opened_counts, opened_there, pushed_counted}
 use Rattle.oer_write.proofs.insertions.Insertions.open.Goals as goal
 

@@ -1,4 +1,4 @@
-use Rattle.std.proofs.Common.{◌≡◌, ◌+◌, ◌<◌, ◌≤◌, arith, refl, ap, sym, ◌∙◌, ℕ}
+use Rattle.std.proofs.Common.{◌≡◌, ◌+◌, arith, refl, ap, sym, ◌∙◌}
 use Rattle.oer_write.specs.Inserted.{counts}
 use Rattle.oer_write.specs.declared.insertions.Insertion.{Insertion}
 use Rattle.oer_write.proofs.Stored.{placed_pieces, filled_counts, filled_there, slot_count}

@@ -1,4 +1,4 @@
-use Rattle.std.proofs.Common.{◌≡◌, drop, ap, sym, ◌∙◌, List}
+use Rattle.std.proofs.Common.{drop, ap, sym, ◌∙◌, List}
 use Rattle.oer_write.specs.Layout.{Piece, total}
 use Rattle.oer_write.specs.Inserted.{counts}
 use Rattle.oer_write.specs.declared.insertions.Insertion.{Insertion}

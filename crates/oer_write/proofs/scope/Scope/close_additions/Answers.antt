@@ -1,11 +1,7 @@
-use Rattle.std.proofs.Common.{◌≡◌, ◌++◌, [], length, drop, take, refl, ap, sym, ◌∙◌, append-nil, true, false, rules}
+use Rattle.std.proofs.Common.{◌≡◌, [], refl, sym, append-nil, true, false, rules}
 use Rattle.std.proofs.lemmas.Result.{on_ok_weaker, err_from_is_err_and, IfErr-weaker}
-use Rattle.asn1_core.specs.Octets.{Octets}
-use Rattle.oer_write.specs.Layout.{Piece}
 use Rattle.oer_write.specs.Scopes.{any_true}
-use Rattle.oer_write.specs.Closed.{ClosedOff, FrontLeft}
-use Rattle.oer_write.specs.Seen.{IsLaid}
-use Rattle.oer_write.proofs.Closing.{bitmap_free, closed_filled, closed_alike, closed_cut, closed_none, front_left, front_again}
+use Rattle.oer_write.proofs.Closing.{bitmap_free, closed_filled, closed_alike, closed_cut, closed_none, front_left}
 use Rattle.oer_write.proofs.scope.Scope.close_additions.Goals as goal
 
 pub returns-in_err-begin-clause-refused : goal.returns-in_err-begin-clause-refused

@@ -1,4 +1,4 @@
-use Rattle.std.proofs.Common.{◌≡◌, [], sym, append-nil}
+use Rattle.std.proofs.Common.{[], sym, append-nil}
 use Rattle.std.proofs.lemmas.Result.{IfErr-weaker}
 use Rattle.oer_write.proofs.Closing.{closed_front}
 use Rattle.oer_write.proofs.scope.Scope.close_sequence.Goals as goal

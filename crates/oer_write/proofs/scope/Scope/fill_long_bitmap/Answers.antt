@@ -1,4 +1,4 @@
-use Rattle.std.proofs.Common.{◌≡◌, ap, sym, ◌∙◌}
+use Rattle.std.proofs.Common.{ap, ◌∙◌}
 use Rattle.oer_spec.specs.Lengths.{counted_bits}
 use Rattle.oer_write.proofs.Mapped.{many_counted}
 use Rattle.oer_write.proofs.scope.Scope.fill_long_bitmap.Goals as goal
