@@ -201,3 +201,34 @@ pub fn write_integer<I: IntegerType>(
     }
     write_bounded(&constraints, value, out)
 }
+
+/// Appends an integer by its constraint, in a call of its own.
+#[inline(never)]
+fn write_bounded_apart<I: IntegerType>(
+    constraints: &Constraints,
+    value: &I,
+    out: &mut Vec<u8>,
+) -> Result<(), EncodeErrorKind>
+    ensures { AppendsLeaf result (Int (value_bounds constraints.now) (I.number value.now)) out.old.items out.new.items }
+{
+    write_bounded(constraints, value, out)
+}
+
+/// Appends an integer as `write_integer` does, of a type that is seldom constrained: a range's layout is a call of its own. In
+/// line it would make functions of several such components larger than what the compiler inlines.
+#[inline(always)]
+pub fn write_wide_integer<I: IntegerType>(
+    constraints: Constraints,
+    value: &I,
+    out: &mut Vec<u8>,
+) -> Result<(), EncodeErrorKind>
+    ensures { AppendsLeaf result (Int (value_bounds constraints) (I.number value.now)) out.old.items out.new.items }
+{
+    if constraints.value.is_none() {
+        return write_free(value, out);
+    }
+    match write_bounded_apart(&constraints, value, out) {
+        Ok(()) => Ok(()),
+        Err(kind) => Err(kind),
+    }
+}

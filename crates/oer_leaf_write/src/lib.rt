@@ -21,7 +21,7 @@ pub use bit_strings::write_bit_string;
 pub use booleans::write_bool;
 pub use enums::write_enumerated;
 pub use identifiers::write_object_identifier;
-pub use integers::write_integer;
+pub use integers::{write_integer, write_wide_integer};
 pub use lengths::{write_content, write_length};
 pub use places::{write_bitmap, write_preamble};
 pub use quantities::write_quantity;

@@ -153,10 +153,10 @@ impl Encode for Integer {
     fn encode_with_tag_and_constraints(
         &self,
         encoder: &mut Encoder<'_>,
-        tag: Tag,
+        _tag: Tag,
         constraints: Constraints,
     ) -> Result<(), EncodeError> {
-        encoder.encode_integer(tag, constraints, self)
+        encoder.encode_wide_integer(constraints, self)
     }
 }
 

@@ -8,7 +8,7 @@ ghost use Rattle.oer_write.specs.Written.{Encodes, Keeps, Refused, RefusedLeaf, 
 use crate::encoder::Encoder;
 use asn1_core::{Constraints, EncodeError, Enumerated, Tag};
 use asn1_ints::IntegerType;
-use oer_leaf_write::{write_bool, write_enumerated, write_integer};
+use oer_leaf_write::{write_bool, write_enumerated, write_integer, write_wide_integer};
 
 impl<'buffer> Encoder<'buffer> {
     /// Writes a BOOLEAN (X.696, 9): FF for true, 00 for false.
@@ -97,6 +97,37 @@ impl<'buffer> Encoder<'buffer> {
     {
         let _admitted = value.is_negative();
         write_integer(constraints, value, &mut *self.output)?;
+        Ok(())
+    }
+
+    /// Writes an INTEGER as `encode_integer` does, of a type that is seldom constrained: the layout by a range is a call.
+    #[inline(always)]
+    pub(crate) fn encode_wide_integer<I: IntegerType>(
+        &mut self,
+        constraints: Constraints,
+        value: &I,
+    ) -> Result<(), EncodeError>
+        ensures done { OnOk result (Encodes (integer constraints (I.number value.now)) self.old self.new) }
+        ensures value { I.admits (I.number value.now) ≡ true }
+        ensures refused { IfErr result (λ x. RefusedLeaf (Int (value_bounds constraints) (I.number value.now)) x self.old self.new) }
+        ensures law { IfErr result (λ x. Refused (integer constraints (I.number value.now)) x self.old self.new) }
+    {
+        self.put_wide_integer(constraints, value)
+    }
+
+    #[tactic(auto, using(crate::proofs::Regions::more_shown, crate::proofs::Regions::more_within), unfolding(oer_spec::specs::Spelled::integer, oer_spec::specs::Encoding::canonical_octets, oer_spec::specs::Encoding::fails))]
+    #[inline(always)]
+    fn put_wide_integer<I: IntegerType>(
+        &mut self,
+        constraints: Constraints,
+        value: &I,
+    ) -> Result<(), EncodeError>
+        ensures done { OnOk result (Encodes (integer constraints (I.number value.now)) self.old self.new) }
+        ensures value { I.admits (I.number value.now) ≡ true }
+        ensures refused { IfErr result (λ x. RefusedLeaf (Int (value_bounds constraints) (I.number value.now)) x self.old self.new) }
+    {
+        let _admitted = value.is_negative();
+        write_wide_integer(constraints, value, &mut *self.output)?;
         Ok(())
     }
 }
