@@ -1,10 +1,10 @@
 //! Lists of themselves.
-ghost use Rattle.std.specs.Prelude.{◌≡◌, ◌<◌, suc, [], length, IfOk, IfErr};
+ghost use Rattle.std.specs.Prelude.{◌≡◌, ◌<◌, ◌≤◌, ◌-◌, suc, [], length, IfOk, IfErr};
 ghost use Rattle.oer_read.specs.Law.{Decodes};
 ghost use Rattle.oer_read.specs.Lists.{ListRead, ListRefused};
 ghost use Rattle.oer_read.specs.State.{apart};
 ghost use Rattle.oer_knots.specs.Answering.{KnotAnswers};
-ghost use Rattle.oer_knots.specs.OwnLists.{own_list, OwnElement, Pushed, NotPushed};
+ghost use Rattle.oer_knots.specs.OwnLists.{own_list, OwnElement, LiesWithin, Pushed, NotPushed};
 
 use crate::held::Bare;
 use crate::knots::Knot;
@@ -85,8 +85,27 @@ fn read_own<'a, B: Knot<K>, K: Knot<ListOf<B>>>(
     }
 }
 
+/// How many lists of one list each stand around the innermost list at the front of these octets, and the octets from that one on.
+/// A list that is refused stops the search: who reads it says why.
+fn find_innermost<'a>(codec: Codec, levels: usize, input: &'a [u8]) -> (usize, &'a [u8])
+    ensures within { LiesWithin (apart codec levels input.entry.now) result.0 (apart codec (levels - result.0) result.1.now) }
+    ensures levels { result.0 ≤ levels }
+    ensures takes { length result.1.now ≤ length input.entry.now }
+{
+    let mut inner: &'a [u8] = input;
+    for around in 0..levels {
+        match Decoder::apart(inner, codec, levels - around).open_list() {
+            Ok((1, start)) => inner = start,
+            _ => return (around, inner),
+        }
+    }
+    (levels, inner)
+}
+
 /// Reads a value from the front of these octets, as an element of a list of so many, puts it behind those that were read, and
 /// answers what is left. No decoder and no value is handed on, since both would lie in memory at each level.
+///
+/// Lists of one list each are gone through by loops, there and back: a call for each would take longer than all the rest.
 ///
 /// Refused as `decode_list_of_itself` refuses, and as `OutOfMemory` for the value that was read.
 #[cycle(own_elements)]
@@ -102,11 +121,19 @@ fn push_element<'a, B: Knot<K>, K: Knot<ListOf<B>>>(
     ensures takes { IfOk result (λ rest. length rest.now < length input.entry.now) }
     ensures refused { IfErr result (λ e. NotPushed (OwnElement (B.tree B.CONSTRAINTS) B.IsValue B.content K.content (suc levels)) (apart codec levels input.entry.now) e) }
 {
-    let list: Decoder<'a> = Decoder::apart(input, codec, levels);
+    let (around, inner) = find_innermost(codec, levels, input);
+    let list: Decoder<'a> = Decoder::apart(inner, codec, levels - around);
     let mut own: Vec<B> = Vec::new(alloc);
     match read_own::<B, K>(alloc, &list, &mut own) {
         Err(e) => Err(e),
         Ok(rest) => {
+            for i in 0..around {
+                let lone = B::from_content(K::from_content(ListOf(own)));
+                own = Vec::new(alloc);
+                if keep(&mut own, lone, 1, 1, 0).is_err() {
+                    return Err(DecodeErrorKind::OutOfMemory.with_codec(codec));
+                }
+            }
             let element = B::from_content(K::from_content(ListOf(own)));
             match keep(items, element, quantity, input.len(), rest.len()) {
                 Ok(()) => Ok(rest),
