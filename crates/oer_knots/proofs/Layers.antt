@@ -1,6 +1,6 @@
 -- A type that contains itself is read as its content, and promises of its answers what that does.
 use Rattle.std.specs.Result.{OnOk, IfErr}
-use Rattle.std.proofs.Common.{◌≡◌, ◌≤◌, ℕ, suc, Result, Ok, Err, refl, sym, ap, ◌∙◌, subst}
+use Rattle.std.proofs.Common.{◌≡◌, ℕ, suc, Result, Ok, Err, refl, sym, ap, ◌∙◌, subst}
 use Rattle.asn1_core.specs.declared.error.DecodeError.{DecodeError}
 use Rattle.asn1_core.specs.declared.error.EncodeError.{EncodeError}
 use Rattle.oer_write.specs.Written.{Written, Encodes, Refused}

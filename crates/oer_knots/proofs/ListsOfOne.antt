@@ -1,5 +1,5 @@
 -- Lists of one list each, which are gone through by a loop: as the innermost is read, so is the outermost.
-use Rattle.std.proofs.Common.{◌≡◌, ◌-◌, ℕ, zero, suc, ◌<◌, Ok, Err, List, [], ◌∷◌, length, refl, sym, ◌∙◌, ap, subst, arith}
+use Rattle.std.proofs.Common.{◌≡◌, ◌-◌, ℕ, zero, suc, ◌<◌, true, Ok, List, [], ◌∷◌, length, refl, sym, ◌∙◌, ap, subst, arith}
 use Rattle.asn1_core.specs.Octets.{Octets}
 use Rattle.asn1_core.specs.declared.codec.Codec.{Codec}
 use Rattle.asn1_core.specs.declared.error.DecodeError.{DecodeError}
@@ -12,7 +12,7 @@ use Rattle.oer_read.specs.State.{State}
 use Rattle.oer_read.proofs.ListLaw.{list_opens, list_takes}
 use Rattle.oer_knots.specs.Answering.{Beside}
 use Rattle.oer_knots.specs.Knots.{IsLayered}
-use Rattle.oer_knots.specs.OwnLists.{OwnElement, HoldsOne, LiesWithin, NotPushed, NotRead, NoMemory}
+use Rattle.oer_knots.specs.OwnLists.{OwnElement, LiesWithin, NotPushed, NotRead, NoMemory}
 use Rattle.oer_knots.proofs.PushedElements.{read_more, own_read, own_stopped, not_pushed_also, element_more, element_read, element_stops}
 
 -- they are read by the same rules

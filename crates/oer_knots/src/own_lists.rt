@@ -130,8 +130,9 @@ fn push_element<'a, B: Knot<K>, K: Knot<ListOf<B>>>(
             for i in 0..around {
                 let lone = B::from_content(K::from_content(ListOf(own)));
                 own = Vec::new(alloc);
-                if keep(&mut own, lone, 1, 1, 0).is_err() {
-                    return Err(DecodeErrorKind::OutOfMemory.with_codec(codec));
+                match keep(&mut own, lone, 1, 1, 0) {
+                    Ok(()) => {}
+                    Err(_) => return Err(DecodeErrorKind::OutOfMemory.with_codec(codec)),
                 }
             }
             let element = B::from_content(K::from_content(ListOf(own)));

@@ -1,9 +1,10 @@
-use Rattle.std.proofs.Common.{◌≡◌, ◌≤◌, ◌<◌, ◌-◌, suc, length, refl, ap, arith}
+use Rattle.std.proofs.Common.{◌≡◌, ◌<◌, ◌-◌, ◌+◌, ℕ, zero, suc, length, refl, ◌∙◌, ap, subst, arith}
 use Rattle.std.proofs.lemmas.List.{length_push}
 use Rattle.oer_read.specs.Lists.{Stopped}
 use Rattle.oer_read.specs.State.{State, apart}
 use Rattle.oer_read.proofs.ListLaw.{list_opens, list_takes}
-use Rattle.oer_knots.specs.OwnLists.{NotRead, NoMemory}
+use Rattle.oer_knots.specs.OwnLists.{LiesWithin, NotRead}
+use Rattle.oer_knots.proofs.ListsOfOne.{ReadWithin, read_outermost, refused_within, no_memory_within, read_around}
 use Rattle.oer_knots.proofs.PushedElements.{read_more, own_read, own_stopped, pushed_also, not_pushed_also, element_more, element_read, element_stops}
 use Rattle.oer_knots.proofs.own_lists.+own_elements.Goals as goal
 
@@ -48,22 +49,59 @@ read_own-returns-after-loop-i-clause-takes g t c =
     let less = list_takes c.args.list.now c.in-Ok.count c.in-Ok.start.now (list_opens c.args.list.now c.in-Ok.count c.in-Ok.start.now c.in-Ok.ensures.octets c.in-Ok.ensures.quantity) in
     rw c.remaining.ensures (omega (arith, within, less))
 
+pub push_element-loop-i-init : goal.push_element-loop-i-init
+push_element-loop-i-init g t c =
+    let outer = apart c.args.codec c.args.levels c.args.input.now in
+    let inner = apart c.args.codec (c.args.levels - c.find_innermost-around.result.0) c.find_innermost-around.result.1.now in
+    let all : c.find_innermost-around.result.0 ≡ c.find_innermost-around.result.0 - 0 = omega arith in
+    record {
+      read = record {
+        inner = inner;
+        within = subst (λ (n : ℕ). LiesWithin outer n inner) all c.find_innermost-around.ensures.within;
+        read = rw c.apart-list.ensures at c.in-Ok.ensures.read;
+        takes = rw c.apart-list.ensures at c.in-Ok.ensures.takes;
+      };
+    }
+
+pub push_element-loop-i-preserved : goal.push_element-loop-i-preserved
+push_element-loop-i-preserved g t c =
+    let outer = apart c.args.codec c.args.levels c.args.input.now in
+    let left = c.find_innermost-around.result.0 - (c.loop-i.i + 1) in
+    let one_more : c.find_innermost-around.result.0 - c.loop-i.i ≡ suc left = omega (arith, c.loop-i-test.true) in
+    let k = subst (λ (n : ℕ). ReadWithin (g.B.Spelled.tree g.B.AsnType.CONSTRAINTS) g.B.Spelled.IsValue g.B.Knot.content g.K.Knot.content outer n c.loop-i.own.items c.in-Ok.rest.now) one_more c.loop-i.invariant.read in
+    let holds = ap g.K.Knot.content c.from_content-lone.ensures ∙ c.from_content.ensures in
+    let around = read_around _ _ _ _ _ _ (g.B.Spelled.is_tree g.B.AsnType.CONSTRAINTS g.B.AsnType.consistent) g.met.K.Knot.layered g.met.B.Knot.layered outer left c.loop-i.own.items c.in-Ok.rest.now c.from_content-lone.result k holds in
+    record { read = rw (c.in-Ok-keep.ensures.kept, c.new-own-in-loop-i.ensures.items) around }
+
+pub push_element-returns-in-Err-keep-clause-refused : goal.push_element-returns-in-Err-keep-clause-refused
+push_element-returns-in-Err-keep-clause-refused g t c =
+    let outer = apart c.args.codec c.args.levels c.args.input.now in
+    let holds = ap g.K.Knot.content c.from_content-lone.ensures ∙ c.from_content.ensures in
+    rw c.with_codec.ensures (no_memory_within _ _ _ _ _ _ (g.B.Spelled.is_tree g.B.AsnType.CONSTRAINTS g.B.AsnType.consistent) g.met.K.Knot.layered g.met.B.Knot.layered outer _ c.loop-i.own.items c.in-Ok.rest.now c.from_content-lone.result _ c.loop-i.invariant.read holds (refl, refl))
+
 pub push_element-returns-in-Err-clause-refused : goal.push_element-returns-in-Err-clause-refused
 push_element-returns-in-Err-clause-refused g t c =
+    let outer = apart c.args.codec c.args.levels c.args.input.now in
+    let inner = apart c.args.codec (c.args.levels - c.find_innermost-around.result.0) c.find_innermost-around.result.1.now in
+    let is_tree = g.B.Spelled.is_tree g.B.AsnType.CONSTRAINTS g.B.AsnType.consistent in
     let bad = rw c.apart-list.ensures at c.in-Err.ensures.refused in
-    NotRead (apart c.args.codec c.args.levels c.args.input.now) (element_stops _ _ _ _ _ _ (g.B.Spelled.is_tree g.B.AsnType.CONSTRAINTS g.B.AsnType.consistent) g.met.K.Knot.layered _ _ _ g.met.B.Knot.layered _ refl bad)
+    refused_within _ _ _ _ _ _ is_tree g.met.K.Knot.layered g.met.B.Knot.layered c.find_innermost-around.result.0 outer inner c.in-Err.e c.find_innermost-around.ensures.within
+    (NotRead inner (element_stops _ _ _ _ _ _ is_tree g.met.K.Knot.layered _ _ _ g.met.B.Knot.layered _ refl bad))
 
-pub push_element-returns-in-Ok-keep-clause-read : goal.push_element-returns-in-Ok-keep-clause-read
-push_element-returns-in-Ok-keep-clause-read g t c =
-    let list = rw c.apart-list.ensures at c.in-Ok.ensures.read in
+pub push_element-returns-in-Ok-keep-2-clause-read : goal.push_element-returns-in-Ok-keep-2-clause-read
+push_element-returns-in-Ok-keep-2-clause-read g t c =
+    let outer = apart c.args.codec c.args.levels c.args.input.now in
+    let none : c.find_innermost-around.result.0 - c.loop-i.i ≡ zero = omega (arith, c.loop-i-test.false, c.loop-i.auto.i-end) in
+    let k = subst (λ (n : ℕ). ReadWithin (g.B.Spelled.tree g.B.AsnType.CONSTRAINTS) g.B.Spelled.IsValue g.B.Knot.content g.K.Knot.content outer n c.loop-i.own.items c.in-Ok.rest.now) none c.loop-i.invariant.read in
+    let list = read_outermost _ _ _ _ outer c.loop-i.own.items c.in-Ok.rest.now k in
     record {
       value = c.from_content-element.result;
-      kept = c.in-Ok-keep.ensures.kept;
-      read = element_read _ _ _ _ _ _ (g.B.Spelled.is_tree g.B.AsnType.CONSTRAINTS g.B.AsnType.consistent) g.met.K.Knot.layered _ _ _ g.met.B.Knot.layered _ _ _ c.from_content-element.ensures c.from_content.ensures list;
+      kept = c.in-Ok-keep-2.ensures.kept;
+      read = element_read _ _ _ _ _ _ (g.B.Spelled.is_tree g.B.AsnType.CONSTRAINTS g.B.AsnType.consistent) g.met.K.Knot.layered _ _ _ g.met.B.Knot.layered _ _ _ c.from_content-element.ensures c.from_content-in-Ok.ensures list;
     }
 
 pub push_element-returns-clause-refused : goal.push_element-returns-clause-refused
 push_element-returns-clause-refused g t c =
-    let list = rw c.apart-list.ensures at c.in-Ok.ensures.read in
-    let read = element_read _ _ _ _ _ _ (g.B.Spelled.is_tree g.B.AsnType.CONSTRAINTS g.B.AsnType.consistent) g.met.K.Knot.layered _ _ _ g.met.B.Knot.layered _ _ _ c.from_content-element.ensures c.from_content.ensures list in
-    rw c.with_codec.ensures (NoMemory c.from_content-element.result (apart c.args.codec c.args.levels c.in-Ok.rest.now) read (refl, refl))
+    let outer = apart c.args.codec c.args.levels c.args.input.now in
+    let holds = ap g.K.Knot.content c.from_content-element.ensures ∙ c.from_content-in-Ok.ensures in
+    rw c.with_codec-in-Err-keep-2.ensures (no_memory_within _ _ _ _ _ _ (g.B.Spelled.is_tree g.B.AsnType.CONSTRAINTS g.B.AsnType.consistent) g.met.K.Knot.layered g.met.B.Knot.layered outer _ c.loop-i.own.items c.in-Ok.rest.now c.from_content-element.result _ c.loop-i.invariant.read holds (refl, refl))

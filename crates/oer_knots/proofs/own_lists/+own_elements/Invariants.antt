@@ -1,6 +1,8 @@
-use Rattle.std.proofs.Common.{◌≡◌, ◌≤◌, ◌+◌, ◌*◌, length}
+use Rattle.std.proofs.Common.{◌≡◌, ◌≤◌, ◌+◌, ◌*◌, ◌-◌, length}
 use Rattle.oer_read.specs.Lists.{lent_element, RanEach}
+use Rattle.oer_read.specs.State.{apart}
 use Rattle.oer_knots.specs.OwnLists.{OwnElement}
+use Rattle.oer_knots.proofs.ListsOfOne.{ReadWithin}
 use Rattle.oer_knots.proofs.own_lists.+own_elements.Given as goal
 
 abbrev pub decreases-read_own : goal.decreases-read_own
@@ -15,4 +17,9 @@ invariant-read_own-loop-i g l = record {
   lends : l.lent ≡ lent_element l.fn.list l.lent.input;
   ran : RanEach (OwnElement (g.B.Spelled.tree g.B.AsnType.CONSTRAINTS) g.B.Spelled.IsValue g.B.Knot.content g.K.Knot.content l.fn.list.levels) l.fn.list l.initial.lent.input 0 l.own.items l.lent.input 0;
   within : length l.lent.input ≤ length l.initial.lent.input;
+}
+
+abbrev pub invariant-push_element-loop-i : goal.invariant-push_element-loop-i
+invariant-push_element-loop-i g l = record {
+  read : ReadWithin (g.B.Spelled.tree g.B.AsnType.CONSTRAINTS) g.B.Spelled.IsValue g.B.Knot.content g.K.Knot.content (apart l.fn.codec l.fn.levels l.fn.input) (l.around - l.i) l.own.items l.rest;
 }

@@ -1,9 +1,9 @@
-use Rattle.std.proofs.Common.{Ok, ◌≡◌, ◌<◌, ◌≤◌, ◌-◌, ◌+◌, suc, length, refl, sym, ap, subst, arith, ℕ}
-use Rattle.asn1_core.specs.Octets.{Octets, AreOctets}
+use Rattle.std.proofs.Common.{Ok, ◌≡◌, ◌<◌, ◌-◌, ◌+◌, suc, ap, subst, arith, ℕ}
+use Rattle.asn1_core.specs.Octets.{AreOctets}
 use Rattle.oer_read.specs.Lists.{list_opened_at}
-use Rattle.oer_read.specs.State.{State, apart}
+use Rattle.oer_read.specs.State.{apart}
 use Rattle.oer_read.proofs.ListLaw.{list_opens, list_takes}
-use Rattle.oer_knots.specs.OwnLists.{LiesWithin, HoldsOne}
+use Rattle.oer_knots.specs.OwnLists.{LiesWithin}
 use Rattle.oer_knots.proofs.own_lists.find_innermost.Goals as goal
 
 pub loop-around-init : goal.loop-around-init

@@ -1,7 +1,7 @@
 use Rattle.std.proofs.Common.{◌<◌}
 use Rattle.oer_read.proofs.Levels.{opened_levels}
 use Rattle.oer_read.proofs.Promises.{promise_of}
-use Rattle.std.specs.Result.{IfOk, IfErr}
+use Rattle.std.specs.Result.{IfOk}
 use Rattle.oer_rows.specs.Schema.{IsOf}
 use Rattle.oer_rows.proofs.Chained.{schema_law}
 use Rattle.oer_rows.proofs.RowRefusals.{row_answers}
