@@ -87,7 +87,8 @@ fn read_own<'a, B: Knot<K>, K: Knot<ListOf<B>>>(
 
 /// How many lists of one list each stand around the innermost list at the front of these octets, and the octets from that one on.
 /// A list that is refused stops the search: who reads it says why.
-fn find_innermost<'a>(codec: Codec, levels: usize, input: &'a [u8]) -> (usize, &'a [u8])
+#[inline(never)]
+fn seek_innermost<'a>(codec: Codec, levels: usize, input: &'a [u8]) -> (usize, &'a [u8])
     ensures within { LiesWithin (apart codec levels input.entry.now) result.0 (apart codec (levels - result.0) result.1.now) }
     ensures levels { result.0 ≤ levels }
     ensures takes { length result.1.now ≤ length input.entry.now }
@@ -100,6 +101,19 @@ fn find_innermost<'a>(codec: Codec, levels: usize, input: &'a [u8]) -> (usize, &
         }
     }
     (levels, inner)
+}
+
+/// The same. What doesn't begin as canonical octets of such a list is taken for the innermost: it is read as well, by a call more.
+#[inline(always)]
+fn find_innermost<'a>(codec: Codec, levels: usize, input: &'a [u8]) -> (usize, &'a [u8])
+    ensures within { LiesWithin (apart codec levels input.entry.now) result.0 (apart codec (levels - result.0) result.1.now) }
+    ensures levels { result.0 ≤ levels }
+    ensures takes { length result.1.now ≤ length input.entry.now }
+{
+    match input {
+        [1, 1, ..] => seek_innermost(codec, levels, input),
+        _ => (0, input),
+    }
 }
 
 /// Reads a value from the front of these octets, as an element of a list of so many, puts it behind those that were read, and

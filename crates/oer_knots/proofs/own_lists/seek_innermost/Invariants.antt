@@ -1,7 +1,7 @@
 use Rattle.std.proofs.Common.{◌≤◌, ◌-◌, length}
 use Rattle.oer_read.specs.State.{apart}
 use Rattle.oer_knots.specs.OwnLists.{LiesWithin}
-use Rattle.oer_knots.proofs.own_lists.find_innermost.Given as goal
+use Rattle.oer_knots.proofs.own_lists.seek_innermost.Given as goal
 
 abbrev pub invariant-loop-around : goal.invariant-loop-around
 invariant-loop-around l = record {
