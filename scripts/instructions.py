@@ -38,6 +38,7 @@ ROWS = {
     "choice": ("choice", "8002014d"),
     "foo": ("foo", "e0010701060105"),
     "nest": ("nest", digits("nest", 20)),
+    "nest_of_two": ("nest", "01020100" * 10 + "0100"),
     "link": (type_of("link"), digits("link", 10)),
     "times": (type_of("times"), digits("times", 10)),
     "colors": (type_of("colors"), digits("colors", 10)),

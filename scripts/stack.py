@@ -20,7 +20,8 @@ from speed_values import digits  # noqa: E402
 STEP, MOST = 4, 1 << 16
 # of each type its word, its levels each time that it contains itself, and the octets of a value of so many of itself
 TYPES = {
-    "Nest": ("nest", 1, lambda n: digits("nest", n - 1)),
+    # (lists of two, since lists of one take no stack)
+    "Nest": ("nest", 1, lambda n: "01020100" * (n - 1) + "0100"),
     "Link": ("Link", 2, lambda n: digits("link", n)),
     "TopLevel": ("toplevel", 2, lambda n: "0182" * (n - 1) + "0280"),
     "Bush": ("Bush", 2, lambda n: "01050101" * (n - 1) + "01050100"),
