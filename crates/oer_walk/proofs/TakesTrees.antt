@@ -11,12 +11,12 @@ use Rattle.asn1_core.specs.declared.tag.Tag.{Tag}
 use Rattle.oer_leaf_read.proofs.ReadPlaces.{preamble_reads, bitmap_reads}
 use Rattle.oer_leaf_read.proofs.ReadQuantities.{quantity_reads}
 use Rattle.oer_leaf_read.proofs.ReadTags.{tag_reads}
-use Rattle.oer_spec.specs.Encoding.{IsTree, AreRows, AreSlot, AreTrees, IsEncoding, AreItems, IsItem, AreElements, canonical_octets, canonical_elements, list_fails, empties}
+use Rattle.oer_spec.specs.Encoding.{IsTree, AreRows, AreSlot, AreTrees, IsEncoding, AreItems, IsItem, AreElements, canonical_octets, canonical_elements, list_fails, empties, row_tags}
 use Rattle.oer_spec.specs.Leaves.{Width, Fixed as FixedWidth, Counted as CountedWidth, TooManyEmpty, width_of, unit_of}
 use Rattle.oer_spec.specs.Lengths.{IsQuantity, IsTag}
 use Rattle.oer_spec.specs.Mode.{Lenient}
 use Rattle.oer_spec.specs.Orders.{Stands, Reorders}
-use Rattle.oer_spec.specs.Places.{Item, present, presence, bodies, extension_bit, IsExtension, SpellsStruct, IsInOrder, IsAlternative}
+use Rattle.oer_spec.specs.Places.{Item, present, presence, bodies, extension_bit, IsExtension, SpellsStruct, IsInOrder, IsAlternative, in_writing_order}
 use Rattle.oer_spec.specs.Reading.{◌>>=◌, quantity_at}
 use Rattle.oer_spec.specs.ReadingBits.{preamble_at, bitmap_at}
 use Rattle.oer_spec.specs.Same.{EachTree, OnSlot}
@@ -38,7 +38,8 @@ use Rattle.oer_walk.specs.declared.table.Parts.{Parts}
 use Rattle.oer_walk.proofs.Leaves.{leaf_taken}
 use Rattle.oer_walk.proofs.Steps.{value_leaf, value_scope}
 use Rattle.oer_walk.proofs.Takes.{TakesPart, TakesValue, Takes, takes_behind, takes_read, takes_read_part, takes_from, takes_closed, takes_open}
-use Rattle.oer_walk.proofs.TakesRows.{BodyTaken, AllTaken, elements_taken, RootsTaken, roots_counted, roots_taken, AdditionsTaken, additions_taken}
+use Rattle.oer_walk.proofs.TagOrder.{PlacedRoots, placed_none, placed_more, roots_in_order, spelled_in_order}
+use Rattle.oer_walk.proofs.TakesRows.{BodyTaken, AllTaken, elements_taken, RootTaken, RootsTaken, roots_counted, roots_taken, AdditionsTaken, additions_taken}
 
 -- ---- leaves
 width_is : (w : Width) → is_leaf (width_form w) ≡ true
@@ -149,32 +150,37 @@ module _ (ws : List ℕ) (none : form_of ws nothing ≡ Nothing) where
   marked_there : (x : Item) → x.marked ≡ true → x.marked ≡ false → x.bit ≡ true
   marked_there x e f = absurd (cc (sym e ∙ f))
 
-  roots_are : (r : Rows) (d i k : ℕ) (ps : Parts) (is : List Item) → EachRow Taken r → AreRows r → DescribesRoots ws ps i k r → AreItems Lenient d is r → RootsTaken ws d ps i k is
+  slot_tag : (s : Slot) (d : ℕ) (g : Tag) (x : Item) → IsItem Lenient d g x s → x.tag ≡ g
+  unfolding Rattle.oer_spec.specs.Encoding.IsEncoding
+  slot_tag Absent d g x h = ap (λ (z : Item). z.tag) h
+  slot_tag (Present t) d g x h = ap (λ (z : Item). z.tag) h.0
+
+  roots_are : (r : Rows) (d : ℕ) (ns : List ℕ) (ps : Parts) (is : List Item) → EachRow Taken r → AreRows r → DescribesRoots ws ps ns r → AreItems Lenient d is r → PlacedRoots ws d ps is (row_tags r) ns
   unfolding Rattle.oer_spec.specs.Encoding.IsTree Rattle.oer_spec.specs.Encoding.IsEncoding Rattle.oer_walk.specs.Described.Describes
-  roots_are NoRows d i k ps is p a f h = subst (RootsTaken ws d ps i k) (sym h) f
-  roots_are (Required g t r) d i zero ps is p a f h = absurd f
-  roots_are (Required g t r) d i (suc k) ps [] p a f h = absurd h
-  roots_are (Required g t r) d i (suc k) ps (x ∷ is) p a f h = (
-    record {
-      marked = f.0 ∙ sym (ap (λ (z : Item). z.marked) h.0);
-      there = λ e. ap (λ (z : Item). z.bit) h.0;
-      body = item_body d (component_of ws ps i).type_number g x true (ap (λ (z : Item). z.bit) h.0) (λ rest. p.0 d (component_of ws ps i).type_number x.octets rest a.0 f.1 h.1);
-    },
-    roots_are r d (i + 1) k ps is p.1 a.1 f.2 h.2,
-  )
-  roots_are (Optional g s r) d i zero ps is p a f h = absurd f
-  roots_are (Optional g s r) d i (suc k) ps [] p a f h = absurd h
-  roots_are (Optional g s r) d i (suc k) ps (x ∷ is) p a f h =
+  roots_are NoRows d [] ps is p a f h = placed_none ws d ps is h
+  roots_are NoRows d (i ∷ ns) ps is p a f h = absurd f
+  roots_are (Required g t r) d [] ps is p a f h = absurd f
+  roots_are (Required g t r) d (i ∷ ns) ps [] p a f h = absurd h
+  roots_are (Required g t r) d (i ∷ ns) ps (x ∷ is) p a f h =
+      let root : RootTaken ws d ps i x = record {
+        marked = f.0 ∙ sym (ap (λ (z : Item). z.marked) h.0);
+        there = λ e. ap (λ (z : Item). z.bit) h.0;
+        body = item_body d (component_of ws ps i).type_number g x true (ap (λ (z : Item). z.bit) h.0) (λ rest. p.0 d (component_of ws ps i).type_number x.octets rest a.0 f.1 h.1);
+      } in
+      placed_more ws d ps i x g is (row_tags r) ns (ap (λ (z : Item). z.tag) h.0) root (roots_are r d ns ps is p.1 a.1 f.2 h.2)
+  roots_are (Optional g s r) d [] ps is p a f h = absurd f
+  roots_are (Optional g s r) d (i ∷ ns) ps [] p a f h = absurd h
+  roots_are (Optional g s r) d (i ∷ ns) ps (x ∷ is) p a f h =
       let b = slot_body s d (component_of ws ps i).type_number g x p.0 a.0 f.1 h.0 in
-      (record { marked = f.0 ∙ sym b.0; there = marked_there x b.0; body = b.1 }, roots_are r d (i + 1) k ps is p.1 a.1 f.2 h.1)
-  roots_are (Default g u s r) d i zero ps is p a f h = absurd f
-  roots_are (Default g u s r) d i (suc k) ps [] p a f h = absurd h
-  roots_are (Default g u s r) d i (suc k) ps (x ∷ is) p a f (inl h, more) =
+      placed_more ws d ps i x g is (row_tags r) ns (slot_tag s d g x h.0) (record { marked = f.0 ∙ sym b.0; there = marked_there x b.0; body = b.1 }) (roots_are r d ns ps is p.1 a.1 f.2 h.1)
+  roots_are (Default g u s r) d [] ps is p a f h = absurd f
+  roots_are (Default g u s r) d (i ∷ ns) ps [] p a f h = absurd h
+  roots_are (Default g u s r) d (i ∷ ns) ps (x ∷ is) p a f (inl h, more) =
       let b = slot_body s d (component_of ws ps i).type_number g x p.1 a.1 f.2 h in
-      (record { marked = f.0 ∙ sym b.0; there = marked_there x b.0; body = b.1 }, roots_are r d (i + 1) k ps is p.2 a.3 f.3 more)
-  roots_are (Default g u s r) d i (suc k) ps (x ∷ is) p a f (inr h, more) =
+      placed_more ws d ps i x g is (row_tags r) ns (slot_tag s d g x h) (record { marked = f.0 ∙ sym b.0; there = marked_there x b.0; body = b.1 }) (roots_are r d ns ps is p.2 a.3 f.3 more)
+  roots_are (Default g u s r) d (i ∷ ns) ps (x ∷ is) p a f (inr h, more) =
       let b = spelled_body u d (component_of ws ps i).type_number g x p.0 a.0 f.1 h.2 h.3 in
-      (record { marked = f.0 ∙ sym b.0; there = marked_there x b.0; body = b.1 }, roots_are r d (i + 1) k ps is p.2 a.3 f.3 more)
+      placed_more ws d ps i x g is (row_tags r) ns (ap (λ (z : Item). z.tag) h.2) (record { marked = f.0 ∙ sym b.0; there = marked_there x b.0; body = b.1 }) (roots_are r d ns ps is p.2 a.3 f.3 more)
 
   additions_are : (r : Rows) (d i k : ℕ) (ps : Parts) (is : List Item) → EachRow Taken r → AreRows r → DescribesAdditions ws ps i k r → AreItems Lenient d is r → AdditionsTaken ws d ps i k is
   unfolding Rattle.oer_spec.specs.Encoding.IsTree Rattle.oer_spec.specs.Encoding.IsEncoding Rattle.oer_walk.specs.Described.Describes
@@ -264,8 +270,10 @@ module _ (ws : List ℕ) (none : form_of ws nothing ≡ Nothing) where
   -- ---- all trees
   struct : (set extensible : Bool) (r a : Rows) → EachRow Taken r → EachRow Taken a → Taken (Struct set extensible r a)
   unfolding Rattle.oer_spec.specs.Encoding.IsTree Rattle.oer_spec.specs.Encoding.IsEncoding Rattle.oer_walk.specs.Described.Describes scope_by
-  struct set extensible r a pr pa d m o rest i (ps, form, is_set, ext, roots, adds) (deep, is, js, ri, ai, s) =
-      scope_taken d m (Sequence ps) (o ++ rest) rest form refl deep (λ sc n. sequence_taken (d - 1) ps sc extensible is js o n rest ext (roots_are r (d - 1) 0 ps.roots ps is pr i.0 roots ri) (additions_are a (d - 1) 0 ps.additions ps js pa i.1 adds ai) (subst (λ (b : Bool). SpellsStruct Lenient o b extensible is js) is_set s))
+  struct set extensible r a pr pa d m o rest i (ps, form, ext, ns, turn, roots, adds) (deep, is, js, ri, ai, s) =
+      let taken = roots_in_order ws (d - 1) ps set ps.roots is (row_tags r) ns turn (roots_are r (d - 1) ns ps is pr i.0 roots ri) in
+      let spelled = spelled_in_order Lenient o set extensible is js s in
+      scope_taken d m (Sequence ps) (o ++ rest) rest form refl deep (λ sc n. sequence_taken (d - 1) ps sc extensible (in_writing_order set is) js o n rest ext taken (additions_are a (d - 1) 0 ps.additions ps js pa i.1 adds ai) spelled)
 
   items : (ordered : Bool) (ts : Trees) → EachTree Taken ts → Taken (ListOf ordered ts)
   unfolding Rattle.oer_spec.specs.Encoding.IsTree Rattle.oer_spec.specs.Encoding.IsEncoding Rattle.oer_walk.specs.Described.Describes scope_by
