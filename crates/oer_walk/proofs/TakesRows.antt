@@ -33,8 +33,8 @@ module _ (ws : List ℕ) (d : ℕ) where
   abbrev pub AllTaken : ℕ → List Octets → Type 0
   AllTaken m os = AllByRecursion (λ (o : Octets). (rest : Octets) → Takes ws d m (o ++ rest) rest) os
 
-  few_taken : (at : ℕ) (o : Option ℕ) (e : ℕ) (f : ℕ → Walk Octets) (rest : Octets) → o ≡ Some e → TakesPart (f e) rest → TakesPart (if_few at o f) rest
-  few_taken at o e f rest same h = subst (λ (z : Option ℕ). TakesPart (if_few at z f) rest) (sym same) h
+  few_taken : (most n at : ℕ) (o : Option ℕ) (e : ℕ) (f : ℕ → Walk Octets) (rest : Octets) → o ≡ Some e → TakesPart most n (f e) rest → TakesPart most n (if_few at o f) rest
+  few_taken most n at o e f rest same h = subst (λ (z : Option ℕ). TakesPart most n (if_few at z f) rest) (sym same) h
 
   empty_more : (n empty : ℕ) (mid : Octets) → empty < 65536 → with_empty (length mid == length ([] ++ mid)) empty ≡ Some (empty + 1)
   empty_more n empty mid lt = ap (λ b. with_empty b empty) (eq-eqb (length mid) (length mid) refl) ∙ ap (λ b. cond b (Some (empty + 1)) None) (lt-ltb empty 65536 lt)
@@ -42,21 +42,21 @@ module _ (ws : List ℕ) (d : ℕ) where
   none_more : (empty x : ℕ) (o mid : Octets) → with_empty (length mid == length ((x ∷ o) ++ mid)) empty ≡ Some empty
   none_more empty x o mid = ap (λ b. with_empty b empty) (ne_eqb (length mid) (length ((x ∷ o) ++ mid)) (λ e. absurd (omega (arith, e, length-append (x ∷ o) mid))))
 
-  pub elements_taken : (s : Scope) (m : ℕ) (own : List Octets) (empty n : ℕ) (rest : Octets) → AllTaken m own → empty + empties own ≤ 65536 → TakesPart (elements_by (part_at ws d) s (inside s m nothing false) (length own) empty n (joined own ++ rest)) rest
+  pub elements_taken : (s : Scope) (m : ℕ) (own : List Octets) (empty n : ℕ) (rest : Octets) → AllTaken m own → empty + empties own ≤ 65536 → TakesPart s.most n (elements_by (part_at ws d) s (inside s m nothing false) (length own) empty n (joined own ++ rest)) rest
   unfolding elements_by
   elements_taken s m [] empty n rest h few = inl refl
   elements_taken s m ([] ∷ os) empty n rest h few =
-      takes_behind n (part_at ws d (inside s m nothing false) n (joined os ++ rest)) (λ k left. if_few s.start (with_empty (length left == length (joined os ++ rest)) empty) (λ e. elements_by (part_at ws d) s (inside s m nothing false) (length os) e k left)) (joined os ++ rest) rest
+      takes_behind s.most n (part_at ws d (inside s m nothing false) n (joined os ++ rest)) (λ k left. if_few s.start (with_empty (length left == length (joined os ++ rest)) empty) (λ e. elements_by (part_at ws d) s (inside s m nothing false) (length os) e k left)) (joined os ++ rest) rest
       (takes_closed ws d (inside s m nothing false) n (joined os ++ rest) (joined os ++ rest) refl (h.0 (joined os ++ rest)))
-      (λ k. few_taken s.start (with_empty (length (joined os ++ rest) == length (joined os ++ rest)) empty) (empty + 1) (λ e. elements_by (part_at ws d) s (inside s m nothing false) (length os) e k (joined os ++ rest)) rest (empty_more n empty (joined os ++ rest) (omega arith))
+      (λ k. few_taken s.most k s.start (with_empty (length (joined os ++ rest) == length (joined os ++ rest)) empty) (empty + 1) (λ e. elements_by (part_at ws d) s (inside s m nothing false) (length os) e k (joined os ++ rest)) rest (empty_more n empty (joined os ++ rest) (omega arith))
       (elements_taken s m os (empty + 1) k rest h.1 (omega arith)))
   elements_taken s m ((x ∷ o) ∷ os) empty n rest h few =
       let whole : Octets = (x ∷ o) ++ (joined os ++ rest) in
       let regrouped : ((x ∷ o) ++ joined os) ++ rest ≡ (x ∷ o) ++ (joined os ++ rest) = append_assoc (x ∷ o) (joined os) rest in
-      subst (λ (z : Octets). TakesPart (elements_by (part_at ws d) s (inside s m nothing false) (length ((x ∷ o) ∷ os)) empty n z) rest) (sym regrouped)
-      (takes_behind n (part_at ws d (inside s m nothing false) n ((x ∷ o) ++ (joined os ++ rest))) (λ k left. if_few s.start (with_empty (length left == length ((x ∷ o) ++ (joined os ++ rest))) empty) (λ e. elements_by (part_at ws d) s (inside s m nothing false) (length os) e k left)) (joined os ++ rest) rest
+      subst (λ (z : Octets). TakesPart s.most n (elements_by (part_at ws d) s (inside s m nothing false) (length ((x ∷ o) ∷ os)) empty n z) rest) (sym regrouped)
+      (takes_behind s.most n (part_at ws d (inside s m nothing false) n ((x ∷ o) ++ (joined os ++ rest))) (λ k left. if_few s.start (with_empty (length left == length ((x ∷ o) ++ (joined os ++ rest))) empty) (λ e. elements_by (part_at ws d) s (inside s m nothing false) (length os) e k left)) (joined os ++ rest) rest
       (takes_closed ws d (inside s m nothing false) n ((x ∷ o) ++ (joined os ++ rest)) (joined os ++ rest) refl (h.0 (joined os ++ rest)))
-      (λ k. few_taken s.start (with_empty (length (joined os ++ rest) == length ((x ∷ o) ++ (joined os ++ rest))) empty) empty (λ e. elements_by (part_at ws d) s (inside s m nothing false) (length os) e k (joined os ++ rest)) rest (none_more empty x o (joined os ++ rest))
+      (λ k. few_taken s.most k s.start (with_empty (length (joined os ++ rest) == length ((x ∷ o) ++ (joined os ++ rest))) empty) empty (λ e. elements_by (part_at ws d) s (inside s m nothing false) (length os) e k (joined os ++ rest)) rest (none_more empty x o (joined os ++ rest))
       (elements_taken s m os empty k rest h.1 few)))
 
   module _ (ps : Parts) where
@@ -86,22 +86,22 @@ module _ (ws : List ℕ) (d : ℕ) where
         let m : optionals ws ps (i + 1) ≡ cond x.marked (suc (optionals ws ps i)) (optionals ws ps i) = optional_more i ∙ ap (λ b. cond b (suc (optionals ws ps i)) (optionals ws ps i)) h.0.marked in
         marked_more x.marked x.bit (presence is) (optionals ws ps i) (optionals ws ps (i + 1)) m ∙ roots_counted (i + 1) k is h.1 ∙ ap (optionals ws ps) e
 
-    if_taken : (b : Bool) (o : Octets) (p : Place) (n : ℕ) (mid : Octets) → p.is_open ≡ false → BodyTaken p.type_number b o → TakesPart (part_if b (part_at ws d) p n (o ++ mid)) mid
+    if_taken : (b : Bool) (o : Octets) (p : Place) (n : ℕ) (mid : Octets) → p.is_open ≡ false → BodyTaken p.type_number b o → TakesPart p.most n (part_if b (part_at ws d) p n (o ++ mid)) mid
     if_taken true o p n mid closed h = takes_closed ws d p n (o ++ mid) mid closed (h mid)
     if_taken false o p n mid closed h = inl (ap (λ (z : Octets). Ok (z ++ mid)) h)
 
-    pub roots_taken : (s : Scope) (i k : ℕ) (is : List Item) (bits later : List Bool) (n : ℕ) (rest : Octets) → RootsTaken i k is → bits ≡ presence is ++ later → TakesPart (components_by (part_at ws d) ws ps s k i bits n (bodies is ++ rest)) rest
+    pub roots_taken : (s : Scope) (i k : ℕ) (is : List Item) (bits later : List Bool) (n : ℕ) (rest : Octets) → RootsTaken i k is → bits ≡ presence is ++ later → TakesPart s.most n (components_by (part_at ws d) ws ps s k i bits n (bodies is ++ rest)) rest
     unfolding components_by
-    roots_taken s i k [] bits later n rest h e = subst (λ (z : ℕ). TakesPart (components_by (part_at ws d) ws ps s z i bits n rest) rest) (sym h) (inl refl)
+    roots_taken s i k [] bits later n rest h e = subst (λ (z : ℕ). TakesPart s.most n (components_by (part_at ws d) ws ps s z i bits n rest) rest) (sym h) (inl refl)
     roots_taken s i zero (x ∷ is) bits later n rest h e = absurd h
     roots_taken s i (suc k) (x ∷ is) bits later n rest h e =
         let c : Component = component_of ws ps i in
         let p : Place = inside s (component_of ws ps i).type_number (component_of ws ps i).name false in
         let b = present_is c.may_be_absent x.marked x.bit (presence is) bits later h.0.marked h.0.there e in
         let regrouped : (x.octets ++ bodies is) ++ rest ≡ x.octets ++ (bodies is ++ rest) = append_assoc x.octets (bodies is) rest in
-        subst (λ (z : Octets). TakesPart (components_by (part_at ws d) ws ps s (suc k) i bits n z) rest) (sym regrouped)
-        (takes_behind n (part_if (is_present c bits) (part_at ws d) p n (x.octets ++ (bodies is ++ rest))) (λ m left. components_by (part_at ws d) ws ps s k (i + 1) (later_bits c bits) m left) (bodies is ++ rest) rest
-        (subst (λ (z : Bool). TakesPart (part_if z (part_at ws d) p n (x.octets ++ (bodies is ++ rest))) (bodies is ++ rest)) (sym b.0) (if_taken x.bit x.octets p n (bodies is ++ rest) refl h.0.body))
+        subst (λ (z : Octets). TakesPart s.most n (components_by (part_at ws d) ws ps s (suc k) i bits n z) rest) (sym regrouped)
+        (takes_behind s.most n (part_if (is_present c bits) (part_at ws d) p n (x.octets ++ (bodies is ++ rest))) (λ m left. components_by (part_at ws d) ws ps s k (i + 1) (later_bits c bits) m left) (bodies is ++ rest) rest
+        (subst (λ (z : Bool). TakesPart s.most n (part_if z (part_at ws d) p n (x.octets ++ (bodies is ++ rest))) (bodies is ++ rest)) (sym b.0) (if_taken x.bit x.octets p n (bodies is ++ rest) refl h.0.body))
         (λ m. roots_taken s (i + 1) k is (later_bits c bits) later m rest h.1 b.1))
 
     -- ---- additions
@@ -110,20 +110,20 @@ module _ (ws : List ℕ) (d : ℕ) where
     AdditionsTaken i zero (x ∷ is) = ⊥
     AdditionsTaken i (suc k) (x ∷ is) = BodyTaken (component_of ws ps (ps.roots + i)).type_number x.bit x.octets × AdditionsTaken (i + 1) k is
 
-    addition_taken : (b : Bool) (f o mid : Octets) (p : Place) (n : ℕ) (rest : Octets) → p.is_open ≡ true → BodyTaken p.type_number b f → IsAddition Lenient b f o mid → TakesPart (part_if b (part_at ws d) p n (o ++ rest)) (mid ++ rest)
+    addition_taken : (b : Bool) (f o mid : Octets) (p : Place) (n : ℕ) (rest : Octets) → p.is_open ≡ true → BodyTaken p.type_number b f → IsAddition Lenient b f o mid → TakesPart p.most n (part_if b (part_at ws d) p n (o ++ rest)) (mid ++ rest)
     addition_taken false f o mid p n rest is_open h e = inl (ap (λ (z : Octets). Ok (z ++ rest)) e)
     addition_taken true f o mid p n rest is_open h (g, e, (content, left, at, split, strict)) =
         let regrouped : o ++ rest ≡ g ++ (mid ++ rest) = ap (λ (z : Octets). z ++ rest) e ∙ append_assoc g mid rest in
-        subst (λ (z : Octets). TakesPart (part_at ws d p n z) (mid ++ rest)) (sym regrouped)
+        subst (λ (z : Octets). TakesPart p.most n (part_at ws d p n z) (mid ++ rest)) (sym regrouped)
         (takes_open ws d p n g (mid ++ rest) content left is_open at (subst (λ (z : Octets). Takes ws d p.type_number z left) (sym split) (h left)))
 
-    pub additions_taken : (s : Scope) (i k : ℕ) (is : List Item) (bits : List Bool) (n : ℕ) (o rest : Octets) → form_of ws nothing ≡ Nothing → AdditionsTaken i k is → AreAdditions Lenient bits o is → TakesPart (known_by (part_at ws d) ws ps s k i bits n (o ++ rest)) rest
+    pub additions_taken : (s : Scope) (i k : ℕ) (is : List Item) (bits : List Bool) (n : ℕ) (o rest : Octets) → form_of ws nothing ≡ Nothing → AdditionsTaken i k is → AreAdditions Lenient bits o is → TakesPart s.most n (known_by (part_at ws d) ws ps s k i bits n (o ++ rest)) rest
     unfolding known_by
-    additions_taken s i k [] bits n o rest none h a = subst (λ (z : ℕ). TakesPart (known_by (part_at ws d) ws ps s z i bits n (o ++ rest)) rest) (sym h) (takes_unknown ws d s bits n o rest none a)
+    additions_taken s i k [] bits n o rest none h a = subst (λ (z : ℕ). TakesPart s.most n (known_by (part_at ws d) ws ps s z i bits n (o ++ rest)) rest) (sym h) (takes_unknown ws d s bits n o rest none a)
     additions_taken s i zero (x ∷ is) bits n o rest none h a = absurd h
     additions_taken s i (suc k) (x ∷ is) bits n o rest none h (bit, mid, one, more) =
         let c : Component = component_of ws ps (ps.roots + i) in
         let p : Place = inside s (component_of ws ps (ps.roots + i)).type_number (component_of ws ps (ps.roots + i)).name true in
-        takes_behind n (part_if (get_or bits 0 false) (part_at ws d) p n (o ++ rest)) (λ m left. known_by (part_at ws d) ws ps s k (i + 1) (drop 1 bits) m left) (mid ++ rest) rest
-        (subst (λ (z : Bool). TakesPart (part_if z (part_at ws d) p n (o ++ rest)) (mid ++ rest)) (sym bit) (addition_taken x.bit x.octets o mid p n rest refl h.0 one))
+        takes_behind s.most n (part_if (get_or bits 0 false) (part_at ws d) p n (o ++ rest)) (λ m left. known_by (part_at ws d) ws ps s k (i + 1) (drop 1 bits) m left) (mid ++ rest) rest
+        (subst (λ (z : Bool). TakesPart s.most n (part_if z (part_at ws d) p n (o ++ rest)) (mid ++ rest)) (sym bit) (addition_taken x.bit x.octets o mid p n rest refl h.0 one))
         (λ m. additions_taken s (i + 1) k is (drop 1 bits) m mid rest none h.1 more)

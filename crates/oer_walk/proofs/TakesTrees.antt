@@ -108,15 +108,15 @@ module _ (ws : List ℕ) (none : form_of ws nothing ≡ Nothing) where
       let form : form_of ws s.type_number ≡ leaf_form l = ap (form_of ws) e ∙ f in
       let t = leaf_taken l o rest i h in
       let read : leaf_at (form_of ws s.type_number) (o ++ rest) ≡ Ok (t.0, rest) = ap (λ (z : Form). leaf_at z (o ++ rest)) form ∙ t.1 in
-      subst (λ (z : Walk (ℕ × Octets)). TakesValue z rest) (sym (value_leaf ws d s n (o ++ rest) (ap is_leaf form ∙ leaf_is l)))
-      (takes_read s.start (leaf_at (form_of ws s.type_number) (o ++ rest)) (t.0, rest) (λ x. done (s.end - length x.0, x.1)) rest read (inl (s.end - length t.0, refl)))
+      subst (λ (z : Walk (ℕ × Octets)). TakesValue s.most n z rest) (sym (value_leaf ws d s n (o ++ rest) (ap is_leaf form ∙ leaf_is l)))
+      (takes_read s.most n s.start (leaf_at (form_of ws s.type_number) (o ++ rest)) (t.0, rest) (λ x. done (s.end - length x.0, x.1)) rest read (inl (s.end - length t.0, refl)))
 
   -- what is inside a list, a sequence or a choice
-  scope_taken : (d m : ℕ) (form : Form) (input rest : Octets) → form_of ws m ≡ form → is_leaf form ≡ false → 1 ≤ d → ((s : Scope) (n : ℕ) → TakesValue (scope_by (part_at ws (d - 1)) ws form s n input) rest) → Takes ws d m input rest
+  scope_taken : (d m : ℕ) (form : Form) (input rest : Octets) → form_of ws m ≡ form → is_leaf form ≡ false → 1 ≤ d → ((s : Scope) (n : ℕ) → TakesValue s.most n (scope_by (part_at ws (d - 1)) ws form s n input) rest) → Takes ws d m input rest
   scope_taken d m form input rest f leaf deep h = λ s n e.
       let is : form_of ws s.type_number ≡ form = ap (form_of ws) e ∙ f in
-      subst (λ (z : Walk (ℕ × Octets)). TakesValue z rest) (sym (value_scope ws d (d - 1) s n input (ap is_leaf is ∙ leaf) (omega arith)))
-      (subst (λ (z : Form). TakesValue (scope_by (part_at ws (d - 1)) ws z s n input) rest) (sym is) (h s n))
+      subst (λ (z : Walk (ℕ × Octets)). TakesValue s.most n z rest) (sym (value_scope ws d (d - 1) s n input (ap is_leaf is ∙ leaf) (omega arith)))
+      (subst (λ (z : Form). TakesValue s.most n (scope_by (part_at ws (d - 1)) ws z s n input) rest) (sym is) (h s n))
 
   -- ---- lists
   each_taken : (ts : Trees) (d m : ℕ) (own : List Octets) → EachTree Taken ts → AreTrees ts → DescribesTrees ws m ts → AreElements Lenient d own ts → AllTaken ws d m own
@@ -125,12 +125,12 @@ module _ (ws : List ℕ) (none : form_of ws nothing ≡ Nothing) where
   each_taken (More t ts) d m [] p i f h = absurd h
   each_taken (More t ts) d m (o ∷ own) p i f h = ((λ rest. p.0 d m o rest i.0 f.0 h.0), each_taken ts d m own p.1 i.1 f.1 h.1)
 
-  list_taken : (d m : ℕ) (q : Octets) (own : List Octets) (rest : Octets) (s : Scope) (n : ℕ) → IsQuantity Lenient q (length own) → AllTaken ws d m own → empties own ≤ 65536 → TakesValue (list_by (part_at ws d) m s n (q ++ (joined own ++ rest))) rest
+  list_taken : (d m : ℕ) (q : Octets) (own : List Octets) (rest : Octets) (s : Scope) (n : ℕ) → IsQuantity Lenient q (length own) → AllTaken ws d m own → empties own ≤ 65536 → TakesValue s.most n (list_by (part_at ws d) m s n (q ++ (joined own ++ rest))) rest
   unfolding list_by
   list_taken d m q own rest s n h all few =
-      takes_read s.start (quantity_at Oer (q ++ (joined own ++ rest))) (length own, joined own ++ rest) (λ x. from (s.end - length x.1) (elements_by (part_at ws d) s (inside s m nothing false) x.0 0 n x.1)) rest
+      takes_read s.most n s.start (quantity_at Oer (q ++ (joined own ++ rest))) (length own, joined own ++ rest) (λ x. from (s.end - length x.1) (elements_by (part_at ws d) s (inside s m nothing false) x.0 0 n x.1)) rest
       ((quantity_reads Oer).again q (joined own ++ rest) (length own) h)
-      (takes_from (s.end - length (joined own ++ rest)) (elements_by (part_at ws d) s (inside s m nothing false) (length own) 0 n (joined own ++ rest)) rest (elements_taken ws d s m own 0 n rest all (omega arith)))
+      (takes_from s.most n (s.end - length (joined own ++ rest)) (elements_by (part_at ws d) s (inside s m nothing false) (length own) 0 n (joined own ++ rest)) rest (elements_taken ws d s m own 0 n rest all (omega arith)))
 
   -- ---- sequences
   body_of : (d m : ℕ) (g : Tag) (t : Tree) (o : Octets) → Taken t → IsTree t → Describes ws m t → IsEncoding Lenient d o t → BodyTaken ws d m true o
@@ -211,24 +211,24 @@ module _ (ws : List ℕ) (none : form_of ws nothing ≡ Nothing) where
   front_bit ps false false bits h only = ap (λ (b : Bool). b && get_or bits 0 false) h
   front_bit ps false true bits h only = absurd (cc (only refl))
 
-  rest_taken : (d : ℕ) (ps : Parts) (s : Scope) (extended : Bool) (o : Octets) (js : List Item) (n : ℕ) (rest : Octets) → AdditionsTaken ws d ps 0 ps.additions js → IsExtension Lenient extended o js → TakesPart (cond extended (additions_by (part_at ws d) ws ps s n (o ++ rest)) (done (o ++ rest))) rest
+  rest_taken : (d : ℕ) (ps : Parts) (s : Scope) (extended : Bool) (o : Octets) (js : List Item) (n : ℕ) (rest : Octets) → AdditionsTaken ws d ps 0 ps.additions js → IsExtension Lenient extended o js → TakesPart s.most n (cond extended (additions_by (part_at ws d) ws ps s n (o ++ rest)) (done (o ++ rest))) rest
   unfolding additions_by
   rest_taken d ps s false o js n rest all h = inl (ap (λ (z : Octets). Ok (z ++ rest)) h.0)
   rest_taken d ps s true o js n rest all (q, later, b, whole, bitmap, more, own) =
       let regrouped : o ++ rest ≡ q ++ (later ++ rest) = ap (λ (z : Octets). z ++ rest) whole ∙ append_assoc q later rest in
-      subst (λ (z : Octets). TakesPart (additions_by (part_at ws d) ws ps s n z) rest) (sym regrouped)
-      (takes_read_part s.start (bitmap_at Oer (q ++ (later ++ rest))) (b, later ++ rest) (λ x. known_by (part_at ws d) ws ps s ps.additions 0 x.0 n x.1) rest ((bitmap_reads Oer).again q (later ++ rest) b bitmap)
+      subst (λ (z : Octets). TakesPart s.most n (additions_by (part_at ws d) ws ps s n z) rest) (sym regrouped)
+      (takes_read_part s.most n s.start (bitmap_at Oer (q ++ (later ++ rest))) (b, later ++ rest) (λ x. known_by (part_at ws d) ws ps s ps.additions 0 x.0 n x.1) rest ((bitmap_reads Oer).again q (later ++ rest) b bitmap)
       (additions_taken ws d ps s 0 ps.additions js b n later rest none all more))
 
-  body_taken : (d : ℕ) (ps : Parts) (s : Scope) (e x : Bool) (is js : List Item) (o : Octets) (n : ℕ) (rest : Octets) → ps.is_extensible ≡ e → (x ≡ true → e ≡ true) → RootsTaken ws d ps 0 ps.roots is → AdditionsTaken ws d ps 0 ps.additions js → IsExtension Lenient x o js → TakesPart (body_by (part_at ws d) ws ps s (extension_bit e x ++ presence is) n (bodies is ++ (o ++ rest))) rest
+  body_taken : (d : ℕ) (ps : Parts) (s : Scope) (e x : Bool) (is js : List Item) (o : Octets) (n : ℕ) (rest : Octets) → ps.is_extensible ≡ e → (x ≡ true → e ≡ true) → RootsTaken ws d ps 0 ps.roots is → AdditionsTaken ws d ps 0 ps.additions js → IsExtension Lenient x o js → TakesPart s.most n (body_by (part_at ws d) ws ps s (extension_bit e x ++ presence is) n (bodies is ++ (o ++ rest))) rest
   unfolding body_by
   body_taken d ps s e x is js o n rest ext only roots adds h =
       let bits : List Bool = extension_bit e x ++ presence is in
-      takes_behind n (components_by (part_at ws d) ws ps s ps.roots 0 (drop (extension_count ps) (extension_bit e x ++ presence is)) n (bodies is ++ (o ++ rest))) (λ m left. cond (ps.is_extensible && get_or (extension_bit e x ++ presence is) 0 false) (additions_by (part_at ws d) ws ps s m left) (done left)) (o ++ rest) rest
+      takes_behind s.most n (components_by (part_at ws d) ws ps s ps.roots 0 (drop (extension_count ps) (extension_bit e x ++ presence is)) n (bodies is ++ (o ++ rest))) (λ m left. cond (ps.is_extensible && get_or (extension_bit e x ++ presence is) 0 false) (additions_by (part_at ws d) ws ps s m left) (done left)) (o ++ rest) rest
       (roots_taken ws d ps s 0 ps.roots is (drop (extension_count ps) (extension_bit e x ++ presence is)) [] n (o ++ rest) roots (front_dropped ps e x (presence is) ext ∙ sym (append-nil (presence is))))
-      (λ m. subst (λ (z : Bool). TakesPart (cond z (additions_by (part_at ws d) ws ps s m (o ++ rest)) (done (o ++ rest))) rest) (sym (front_bit ps e x (presence is) ext only)) (rest_taken d ps s x o js m rest adds h))
+      (λ m. subst (λ (z : Bool). TakesPart s.most m (cond z (additions_by (part_at ws d) ws ps s m (o ++ rest)) (done (o ++ rest))) rest) (sym (front_bit ps e x (presence is) ext only)) (rest_taken d ps s x o js m rest adds h))
 
-  sequence_taken : (d : ℕ) (ps : Parts) (s : Scope) (e : Bool) (is js : List Item) (o : Octets) (n : ℕ) (rest : Octets) → ps.is_extensible ≡ e → RootsTaken ws d ps 0 ps.roots is → AdditionsTaken ws d ps 0 ps.additions js → SpellsStruct Lenient o false e is js → TakesValue (sequence_by (part_at ws d) ws ps s n (o ++ rest)) rest
+  sequence_taken : (d : ℕ) (ps : Parts) (s : Scope) (e : Bool) (is js : List Item) (o : Octets) (n : ℕ) (rest : Octets) → ps.is_extensible ≡ e → RootsTaken ws d ps 0 ps.roots is → AdditionsTaken ws d ps 0 ps.additions js → SpellsStruct Lenient o false e is js → TakesValue s.most n (sequence_by (part_at ws d) ws ps s n (o ++ rest)) rest
   unfolding sequence_by
   sequence_taken d ps s e is js o n rest ext roots adds h =
       let left : Octets = bodies is ++ (h.extension ++ rest) in
@@ -236,18 +236,18 @@ module _ (ws : List ℕ) (none : form_of ws nothing ≡ Nothing) where
       let regrouped : o ++ rest ≡ h.preamble ++ (bodies is ++ (h.extension ++ rest)) = ap (λ (z : Octets). z ++ rest) h.whole ∙ append_assoc h.preamble (bodies is ++ h.extension) rest ∙ ap (λ (z : Octets). h.preamble ++ z) (append_assoc (bodies is) h.extension rest) in
       let counted = roots_counted ws d ps 0 ps.roots is roots in
       let many : length (extension_bit e h.extended ++ presence is) ≡ extension_count ps + optionals ws ps ps.roots = omega (arith, length-append (extension_bit e h.extended) (presence is), front_count ps e h.extended ext, counted ∙ ap (optionals ws ps) (zero_more ps.roots)) in
-      subst (λ (z : Octets). TakesValue (sequence_by (part_at ws d) ws ps s n z) rest) (sym regrouped)
-      (takes_read s.start (preamble_at (extension_count ps + optionals ws ps ps.roots) (h.preamble ++ (bodies is ++ (h.extension ++ rest)))) (extension_bit e h.extended ++ presence is, bodies is ++ (h.extension ++ rest)) (λ b. from (s.end - length b.1) (body_by (part_at ws d) ws ps s b.0 n b.1)) rest
+      subst (λ (z : Octets). TakesValue s.most n (sequence_by (part_at ws d) ws ps s n z) rest) (sym regrouped)
+      (takes_read s.most n s.start (preamble_at (extension_count ps + optionals ws ps ps.roots) (h.preamble ++ (bodies is ++ (h.extension ++ rest)))) (extension_bit e h.extended ++ presence is, bodies is ++ (h.extension ++ rest)) (λ b. from (s.end - length b.1) (body_by (part_at ws d) ws ps s b.0 n b.1)) rest
       ((preamble_reads (extension_count ps + optionals ws ps ps.roots)).again h.preamble (bodies is ++ (h.extension ++ rest)) (extension_bit e h.extended ++ presence is) (h.bits, many))
-      (takes_from (s.end - length (bodies is ++ (h.extension ++ rest))) (body_by (part_at ws d) ws ps s (extension_bit e h.extended ++ presence is) n (bodies is ++ (h.extension ++ rest))) rest
+      (takes_from s.most n (s.end - length (bodies is ++ (h.extension ++ rest))) (body_by (part_at ws d) ws ps s (extension_bit e h.extended ++ presence is) n (bodies is ++ (h.extension ++ rest))) rest
       (body_taken d ps s e h.extended is js h.extension n rest ext h.only roots adds h.rest)))
     where
       zero_more : (k : ℕ) → 0 + k ≡ k
       zero_more k = omega arith
 
   -- ---- choices
-  alternative_taken : (d : ℕ) (p : Place) (n : ℕ) (root : Bool) (r f rest : Octets) → p.is_open ≡ not root → BodyTaken ws d p.type_number true f → IsAlternative Lenient root r f → TakesPart (part_at ws d p n (r ++ rest)) rest
-  alternative_taken d p n true r f rest is_open h e = subst (λ (z : Octets). TakesPart (part_at ws d p n (z ++ rest)) rest) (sym e) (takes_closed ws d p n (f ++ rest) rest is_open (h rest))
+  alternative_taken : (d : ℕ) (p : Place) (n : ℕ) (root : Bool) (r f rest : Octets) → p.is_open ≡ not root → BodyTaken ws d p.type_number true f → IsAlternative Lenient root r f → TakesPart p.most n (part_at ws d p n (r ++ rest)) rest
+  alternative_taken d p n true r f rest is_open h e = subst (λ (z : Octets). TakesPart p.most n (part_at ws d p n (z ++ rest)) rest) (sym e) (takes_closed ws d p n (f ++ rest) rest is_open (h rest))
   alternative_taken d p n false r f rest is_open h (content, left, at, split, strict) =
       takes_open ws d p n r rest content left is_open at (subst (λ (z : Octets). Takes ws d p.type_number z left) (sym split) (h left))
 
@@ -260,11 +260,11 @@ module _ (ws : List ℕ) (none : form_of ws nothing ≡ Nothing) where
   tagged ps i g q rest small tag alternative =
       ap (λ (z : Result (Tag × Octets) DecodeErrorKind). z >>= λ (t : Tag × Octets). found ps t.0 t.1 (alternative_of ws ps t.0)) ((tag_reads Oer).again q rest g (small, tag)) ∙ ap (found ps g rest) alternative
 
-  choice_taken : (d : ℕ) (ps : Parts) (i : ℕ) (s : Scope) (g : Tag) (root : Bool) (q r f : Octets) (n : ℕ) (rest : Octets) → g.value < 2 ^ 32 → alternative_of ws ps g ≡ Some i → nat_lt i ps.roots ≡ root → BodyTaken ws d (alternative_at ws ps i).type_number true f → IsTag Lenient q g → IsAlternative Lenient root r f → TakesValue (choice_by (part_at ws d) ws ps s n (q ++ (r ++ rest))) rest
+  choice_taken : (d : ℕ) (ps : Parts) (i : ℕ) (s : Scope) (g : Tag) (root : Bool) (q r f : Octets) (n : ℕ) (rest : Octets) → g.value < 2 ^ 32 → alternative_of ws ps g ≡ Some i → nat_lt i ps.roots ≡ root → BodyTaken ws d (alternative_at ws ps i).type_number true f → IsTag Lenient q g → IsAlternative Lenient root r f → TakesValue s.most n (choice_by (part_at ws d) ws ps s n (q ++ (r ++ rest))) rest
   unfolding choice_by
   choice_taken d ps i s g root q r f n rest small alternative less h tag is =
-      takes_read s.start (tagged_at ws ps (q ++ (r ++ rest))) (i, r ++ rest) (λ t. from (s.end - length t.1) (chosen (part_at ws d) ws ps s t.0 n t.1)) rest (tagged ps i g q (r ++ rest) small tag alternative)
-      (takes_from (s.end - length (r ++ rest)) (chosen (part_at ws d) ws ps s i n (r ++ rest)) rest
+      takes_read s.most n s.start (tagged_at ws ps (q ++ (r ++ rest))) (i, r ++ rest) (λ t. from (s.end - length t.1) (chosen (part_at ws d) ws ps s t.0 n t.1)) rest (tagged ps i g q (r ++ rest) small tag alternative)
+      (takes_from s.most n (s.end - length (r ++ rest)) (chosen (part_at ws d) ws ps s i n (r ++ rest)) rest
       (alternative_taken d (inside s (alternative_at ws ps i).type_number (alternative_at ws ps i).name (nat_le ps.roots i)) n root r f rest (not_less i ps.roots root less) h is))
 
   -- ---- all trees
@@ -284,14 +284,14 @@ module _ (ws : List ℕ) (none : form_of ws nothing ≡ Nothing) where
       let as_many = same_empties (d - 1) own ts i elements in
       let again = reordered_empties read own mixed in
       let all : AllTaken ws (d - 1) element read = Reorders-all (λ (o : Octets). (rest : Octets) → Takes ws (d - 1) element (o ++ rest) rest) read own mixed (each_taken ts (d - 1) element own p i each elements) in
-      scope_taken d m (ListForm element) (o ++ rest) rest form refl deep (λ s n. subst (λ (z : Octets). TakesValue (list_by (part_at ws (d - 1)) element s n z) rest) (sym regrouped)
+      scope_taken d m (ListForm element) (o ++ rest) rest form refl deep (λ s n. subst (λ (z : Octets). TakesValue s.most n (list_by (part_at ws (d - 1)) element s n z) rest) (sym regrouped)
       (list_taken (d - 1) element q read rest s n (subst (IsQuantity Lenient q) (sym (Reorders-length read own mixed)) many) all (omega arith)))
 
   choice : (roots additions : List Tag) (g : Tag) (t : Tree) → Taken t → Taken (ChoiceTree roots additions g t)
   unfolding Rattle.oer_spec.specs.Encoding.IsTree Rattle.oer_spec.specs.Encoding.IsEncoding Rattle.oer_walk.specs.Described.Describes scope_by
   choice roots additions g t p d m o rest i (ps, k, form, small, alternative, less, described) (deep, f, inner, (q, r, whole, tag, is)) =
       let regrouped : o ++ rest ≡ q ++ (r ++ rest) = ap (λ (z : Octets). z ++ rest) whole ∙ append_assoc q r rest in
-      scope_taken d m (Choice ps) (o ++ rest) rest form refl deep (λ s n. subst (λ (z : Octets). TakesValue (choice_by (part_at ws (d - 1)) ws ps s n z) rest) (sym regrouped)
+      scope_taken d m (Choice ps) (o ++ rest) rest form refl deep (λ s n. subst (λ (z : Octets). TakesValue s.most n (choice_by (part_at ws (d - 1)) ws ps s n z) rest) (sym regrouped)
       (choice_taken (d - 1) ps k s g (holds roots g) q r f n rest small alternative less (λ later. p (d - 1) (alternative_at ws ps k).type_number f later i.0 described inner) tag is))
 
   pub tree_taken : (t : Tree) → Taken t
@@ -307,18 +307,20 @@ nothing_is ws fits = ap (λ (b : Bool). form_if ws (cond b (Some (word ws (nothi
     first [] f = omega arith
     first (u ∷ us) f = let l = f 0 in omega (arith, l)
 
-pub walk_takes : (ws us : List ℕ) (levels : ℕ) (p : Place) (input o rest : Octets) (t : Tree) → ws ≡ us → ((k : ℕ) → Fits w32 (get_or us k 0)) → p.is_open ≡ false → input ≡ o ++ rest → IsTree t → Describes us p.type_number t → IsEncoding Lenient levels o t → TakesPart (part_at ws levels p 0 input) rest
+pub walk_takes : (ws us : List ℕ) (levels : ℕ) (p : Place) (input o rest : Octets) (t : Tree) → ws ≡ us → ((k : ℕ) → Fits w32 (get_or us k 0)) → p.is_open ≡ false → input ≡ o ++ rest → IsTree t → Describes us p.type_number t → IsEncoding Lenient levels o t → TakesPart p.most 0 (part_at ws levels p 0 input) rest
 walk_takes ws us levels p input o rest t same fits closed e i f h =
-    subst (λ (z : Octets). TakesPart (part_at ws levels p 0 z) rest) (sym e)
-    (subst (λ (z : List ℕ). TakesPart (part_at z levels p 0 (o ++ rest)) rest) (sym same)
+    subst (λ (z : Octets). TakesPart p.most 0 (part_at ws levels p 0 z) rest) (sym e)
+    (subst (λ (z : List ℕ). TakesPart p.most 0 (part_at z levels p 0 (o ++ rest)) rest) (sym same)
     (takes_closed us levels p 0 (o ++ rest) rest closed (tree_taken us (nothing_is us fits) t levels p.type_number o rest i f h)))
 
-pub took_ok : (input o rest left : Octets) (w : Walk Octets) (consumed : ℕ) → input ≡ o ++ rest → w.answer ≡ Ok left → consumed ≡ length input - length left → TakesPart w rest → ((◌≡◌ {A = Option DecodeErrorKind} None None) × (consumed ≡ length o)) ⊎ (◌≡◌ {A = Option DecodeErrorKind} None (Some TooManyEmptyElements))
-took_ok input o rest left w consumed e is c (inl f) =
+pub took_ok : (limit most nodes : ℕ) (input o rest left : Octets) (w : Walk Octets) (consumed : ℕ) → input ≡ o ++ rest → w.answer ≡ Ok left → consumed ≡ length input - length left → most ≡ limit → TakesPart most 0 w rest → ((◌≡◌ {A = Option DecodeErrorKind} None None) × (consumed ≡ length o)) ⊎ ((◌≡◌ {A = Option DecodeErrorKind} None (Some TooManyEmptyElements)) × (limit ≤ nodes))
+took_ok limit most nodes input o rest left w consumed e is c same_most (inl f) =
     let same : left ≡ rest = cc (sym is ∙ f) in
     inl (refl, let l = ap length same in let m = ap length e in let n = length-append o rest in omega (arith, c, l, m, n))
-took_ok input o rest left w consumed e is c (inr (at, f)) = absurd (cc (sym is ∙ f))
+took_ok limit most nodes input o rest left w consumed e is c same_most (inr (at, f, many)) = absurd (cc (sym is ∙ f))
 
-pub took_err : (o rest : Octets) (stop : Stop) (w : Walk Octets) (consumed : ℕ) → w.answer ≡ Err stop → TakesPart w rest → ((Some stop.kind ≡ None) × (consumed ≡ length o)) ⊎ (Some stop.kind ≡ Some TooManyEmptyElements)
-took_err o rest stop w consumed is (inl f) = absurd (cc (sym is ∙ f))
-took_err o rest stop w consumed is (inr (at, f)) = let same : stop ≡ record { place = at; kind = TooManyEmptyElements } = cc (sym is ∙ f) in inr (ap (λ (z : Stop). Some z.kind) same)
+pub took_err : (limit most nodes : ℕ) (o rest : Octets) (stop : Stop) (w : Walk Octets) (consumed : ℕ) → w.answer ≡ Err stop → nodes ≡ 0 + length w.nodes → most ≡ limit → TakesPart most 0 w rest → ((Some stop.kind ≡ None) × (consumed ≡ length o)) ⊎ ((Some stop.kind ≡ Some TooManyEmptyElements) × (limit ≤ nodes))
+took_err limit most nodes o rest stop w consumed is count same_most (inl f) = absurd (cc (sym is ∙ f))
+took_err limit most nodes o rest stop w consumed is count same_most (inr (at, f, many)) =
+    let same : stop ≡ record { place = at; kind = TooManyEmptyElements } = cc (sym is ∙ f) in
+    inr (ap (λ (z : Stop). Some z.kind) same, omega (arith, count, many, same_most))

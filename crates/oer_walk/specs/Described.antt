@@ -1,5 +1,5 @@
 -- Which trees are of a table's type, and that a walk takes their encodings.
-use Rattle.std.specs.Prelude.{◌≡◌, ℕ, Bool, zero, suc, ◌+◌, ◌^◌, ◌<◌, true, false, List, [], ◌∷◌, map, nat_lt, Some, None, ◌⊎◌, ⊤, ◌++◌, length}
+use Rattle.std.specs.Prelude.{◌≡◌, ℕ, Bool, zero, suc, ◌+◌, ◌^◌, ◌<◌, ◌≤◌, true, false, List, [], ◌∷◌, map, nat_lt, Some, None, ◌⊎◌, ⊤, ◌++◌, length}
 use Rattle.asn1_core.specs.Octets.{Octets}
 use Rattle.asn1_core.specs.Tags.{holds, by_tag}
 use Rattle.asn1_core.specs.declared.error.DecodeErrorKind.TheVariants.{TooManyEmptyElements}
@@ -9,6 +9,7 @@ use Rattle.oer_spec.specs.Mode.{Lenient}
 use Rattle.oer_spec.specs.Tree.{Tree, Primitive, Struct, ListOf, Choice as ChoiceTree, Rows, NoRows, Required, Optional, Default, Slot, Absent, Present, Trees, NoTrees, More}
 use Rattle.oer_walk.specs.Forms.{leaf_form}
 use Rattle.oer_walk.specs.Tables.{form_of, component_of, alternative_at, alternative_of}
+use Rattle.oer_walk.specs.Walks.{most_of}
 use Rattle.oer_walk.specs.declared.table.Form.TheVariants.{List as ListForm, Sequence, Choice}
 use Rattle.oer_walk.specs.declared.table.Parts.{Parts}
 use Rattle.oer_walk.specs.declared.walks.Walked.{Walked}
@@ -70,10 +71,10 @@ unfoldable mutual
   DescribesTrees ws n NoTrees = ⊤
   DescribesTrees ws n (More t ts) = Describes ws n t × DescribesTrees ws n ts
 
--- a walk took so many octets, or there were too many parts
-abbrev pub Took : ℕ → Walked → Type 0
-Took k w = ((w.refusal ≡ None) × (w.consumed ≡ k)) ⊎ (w.refusal ≡ Some TooManyEmptyElements)
+-- a walk took so many octets, or came to as many parts as there may be at most
+abbrev pub Took : ℕ → ℕ → Walked → Type 0
+Took most k w = ((w.refusal ≡ None) × (w.consumed ≡ k)) ⊎ ((w.refusal ≡ Some TooManyEmptyElements) × (most ≤ w.nodes))
 
--- Where an encoding of a tree of the type is in front, in any mode's lenient reading, the walk takes exactly that.
+-- Where an encoding of a tree of the type is in front, as lenient reading takes it, the walk takes exactly that, or there were too many parts.
 abbrev pub TakesEncodings : List ℕ → ℕ → ℕ → Octets → Walked → Type 0
-TakesEncodings ws type_number levels input w = (t : Tree) (o rest : Octets) → input ≡ o ++ rest → IsTree t → Describes ws type_number t → IsEncoding Lenient levels o t → Took (length o) w
+TakesEncodings ws type_number levels input w = (t : Tree) (o rest : Octets) → input ≡ o ++ rest → IsTree t → Describes ws type_number t → IsEncoding Lenient levels o t → Took (most_of (length input)) (length o) w
