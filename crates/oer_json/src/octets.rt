@@ -5,9 +5,9 @@ ghost use Rattle.oer_json.specs.Whole.{IsWalkedWhole};
 use crate::components::{Member, has_component};
 use crate::json::Json;
 use crate::refusals::{Refusal, refusal_of};
-use crate::tables::{SEQUENCE, Tables};
+use crate::tables::Tables;
 use crate::values::{Source, put_value};
-use oer_walk::walk;
+use oer_walk::{Kind, walk};
 use std::alloc::Global;
 
 /// How many sequences, sets, lists and choices may be nested.
@@ -33,7 +33,7 @@ fn is_line(tables: &Tables, type_number: u32, members: &[Member]) -> bool {
         [octets, value] => {
             octets.0.as_str() == "octets"
                 && value.0.as_str() == "value"
-                && !(tables.kind_of(type_number) == SEQUENCE
+                && !(tables.kind_of(type_number) == Some(Kind::Sequence)
                     && has_component(tables, type_number, "octets"))
         }
         _ => false,

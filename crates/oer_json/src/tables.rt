@@ -1,6 +1,10 @@
 //! Tables of types with their names, as `scripts/tables.py --lines` writes them.
+ghost use Rattle.std.specs.Prelude.{◌≡◌};
+ghost use Rattle.oer_walk.specs.Kinds.{kind_numbered};
+ghost use Rattle.oer_walk.specs.Tables.{kind_of};
 
 use crate::json::Json;
+use oer_walk::{Kind, kind_in};
 use std::alloc::{AllocError, AllocFailed, Global};
 use thiserror::Error;
 
@@ -101,8 +105,6 @@ pub struct Tables {
     pub standards: Vec<Standard>,
 }
 
-/// The kind of sequences and sets.
-pub const SEQUENCE: u32 = 11;
 /// The name of the types of groups of extension additions.
 const GROUP: &str = "group";
 
@@ -268,9 +270,11 @@ impl Tables {
         self.words.get(at).copied()
     }
 
-    /// The number of a type's kind; `u32::MAX` if the table has no such type.
-    pub fn kind_of(&self, type_number: u32) -> u32 {
-        self.described(type_number, 0).unwrap_or(u32::MAX)
+    /// The kind of a type, if the table has the type.
+    pub fn kind_of(&self, type_number: u32) -> Option<Kind>
+        ensures { result ≡ kind_numbered (kind_of self.now.words.items type_number) }
+    {
+        kind_in(self.words.as_slice(), type_number)
     }
 
     /// A word that goes with a type's kind, the first of them being 0; 0 where there is none.
@@ -310,7 +314,7 @@ impl Tables {
 
     /// Whether a type is a group of extension additions.
     pub fn is_group(&self, type_number: u32) -> bool {
-        self.kind_of(type_number) == SEQUENCE && self.type_name(type_number) == GROUP
+        self.kind_of(type_number) == Some(Kind::Sequence) && self.type_name(type_number) == GROUP
     }
 
     /// The range of a type, where it has one.

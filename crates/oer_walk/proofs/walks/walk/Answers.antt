@@ -2,9 +2,13 @@ use Rattle.std.proofs.Common.{◌-◌, ◌^◌, false, length, refl, sym, subst,
 use Rattle.oer_spec.proofs.Steps.{are_octets}
 use Rattle.oer_walk.specs.Parts.{ArePlaced}
 use Rattle.oer_walk.specs.Walks.{most_of, part_at}
-use Rattle.oer_walk.proofs.Everywhere.{walk_placed}
+use Rattle.oer_walk.proofs.Everywhere.{walk_placed, answered_ok}
 use Rattle.oer_walk.proofs.TakesTrees.{walk_takes, took_ok, took_err}
 use Rattle.oer_walk.proofs.walks.walk.Goals as goal
+
+pub returns-in-Ok-clause-answer : goal.returns-in-Ok-clause-answer
+returns-in-Ok-clause-answer c =
+    answered_ok c.new.result.words.now c.args.table.now c.args.type_number c.args.levels c.most_nodes.result c.args.input.now c.in-Ok.rest.now _ c.new.ensures c.most_nodes.ensures (are_octets c.args.input.now c.type_inv.input) c.in-Ok.ensures.answer c.in-Ok.ensures.count c.saturating_sub.ensures refl
 
 pub returns-in-Ok-clause-parts : goal.returns-in-Ok-clause-parts
 returns-in-Ok-clause-parts c =
