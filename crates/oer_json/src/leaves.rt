@@ -1,4 +1,6 @@
 //! Values without parts (X.697).
+ghost use Rattle.oer_json.specs.Readings.{Puts, boolean_in, null_in, reading_of_kind};
+ghost use Rattle.std.specs.Prelude.{Some};
 
 use crate::json::Json;
 use crate::numbers::{put_counted, put_fixed, put_long, put_name};
@@ -21,15 +23,19 @@ fn wrong_sort(sort: &'static str) -> Fault {
 }
 
 /// Appends a BOOLEAN.
-fn put_boolean(json: &Json, out: &mut Vec<u8>) -> Result<(), Fault> {
+fn put_boolean(json: &Json, out: &mut Vec<u8>) -> Result<(), Fault>
+    ensures { Puts (boolean_in json.now) result out.old.items out.new.items }
+{
     match json {
         Json::Bool(is_true) => Ok(write_bool(*is_true, out)?),
         _ => Err(wrong_sort("true or false")),
     }
 }
 
-/// Refused where a value is no NULL, which has no octets.
-fn check_null(json: &Json) -> Result<(), Fault> {
+/// Appends a NULL, which has no octets.
+fn put_null(json: &Json, out: &mut Vec<u8>) -> Result<(), Fault>
+    ensures { Puts (null_in json.now) result out.old.items out.new.items }
+{
     match json {
         Json::Null => Ok(()),
         _ => Err(wrong_sort("null")),
@@ -327,10 +333,12 @@ pub fn put_leaf(
     kind: Kind,
     json: &Json,
     out: &mut Vec<u8>,
-) -> Result<(), Fault> {
+) -> Result<(), Fault>
+    ensures { Puts (reading_of_kind tables.now type_number (Some kind) json.now) result out.old.items out.new.items }
+{
     match kind {
         Kind::Boolean => put_boolean(json, out),
-        Kind::Null => check_null(json),
+        Kind::Null => put_null(json, out),
         Kind::FixedInteger | Kind::Integer | Kind::Enumerated => {
             put_number(alloc, tables, type_number, kind, json, out)
         }

@@ -1,4 +1,5 @@
 //! Values of every type: lists, sequences, sets and choices, and what is in them (X.696, 16 to 20).
+ghost use Rattle.oer_json.specs.Readings.{Puts, reading_of};
 
 use crate::components::{
     Member, UNKNOWN, alternative_of, check_members, has_any_of, is_extensible, member, members_of,
@@ -58,7 +59,9 @@ pub fn put_value(
     json: &Json,
     path: &mut Vec<Step>,
     out: &mut Vec<u8>,
-) -> Result<(), Fault> {
+) -> Result<(), Fault>
+    ensures { Puts (reading_of source.entry.tables.now type_number json.now) result out.old.items out.new.items }
+{
     let Some(kind) = source.tables.kind_of(type_number) else {
         return Err(Fault::Misfit(Misfit::UnknownType));
     };
