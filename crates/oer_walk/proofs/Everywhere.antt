@@ -167,7 +167,7 @@ overlay_at room (x ∷ ns) n (suc j) lt le =
     let e : n + suc j ≡ (n + 1) + j = omega arith in
     ap (node_at (overlay (set room n x) (n + 1) ns)) e ∙ overlay_at (set room n x) ns (n + 1) j (omega (arith, length-set room n x)) (omega arith)
 
-shown_at : (room ns : List Node) (i : ℕ) → i < length room → i < length ns → node_at (overlay room 0 ns) i ≡ node_at ns i
+pub shown_at : (room ns : List Node) (i : ℕ) → i < length room → i < length ns → node_at (overlay room 0 ns) i ≡ node_at ns i
 shown_at room ns i lt le = let e : i ≡ 0 + i = omega arith in ap (node_at (overlay room 0 ns)) e ∙ overlay_at room ns 0 i (omega arith) le
 
 room_placed : (most : ℕ) (room ns : List Node) (k : ℕ) → k ≤ length room → k ≤ length ns → Good ns most 0 (0 + length ns) → ArePlaced most k (overlay room 0 ns)

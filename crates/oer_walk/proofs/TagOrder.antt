@@ -7,7 +7,9 @@ use Rattle.asn1_core.specs.declared.tag.Tag.{Tag}
 use Rattle.oer_spec.specs.Mode.{Mode}
 use Rattle.oer_spec.specs.Places.{Item, put_by_tag as put_item, by_tag as items_by_tag, in_writing_order, SpellsStruct}
 use Rattle.oer_walk.specs.Described.{from_on, with_places, AreInTurn}
+use Rattle.oer_walk.specs.declared.nodes.Node.{Node}
 use Rattle.oer_walk.specs.declared.table.Parts.{Parts}
+use Rattle.oer_walk.proofs.Takes.{Joins}
 use Rattle.oer_walk.proofs.TakesRows.{RootTaken, RootsTaken}
 
 -- ---- lists in the order of tags
@@ -70,19 +72,19 @@ tagged_places : (qs : List Placed) → map (λ (x : Tag × ℕ). x.1) (map tagge
 tagged_places [] = refl
 tagged_places (q ∷ qs) = ap (λ (ns : List ℕ). q.1 ∷ ns) (tagged_places qs)
 
-module _ (ws : List ℕ) (d : ℕ) (ps : Parts) where
+module _ (all : Octets) (Q : List Node → Type 0) (joins : Joins Q) (ws : List ℕ) (d : ℕ) (ps : Parts) where
   -- what is taken of items at their places
   pub record PlacedRoots (is : List Item) (gs : List Tag) (ns : List ℕ) : Type 0 where
     pub placed : List Placed
     pub items : map item_of placed ≡ is
     pub places : map place_of placed ≡ ns
     pub tags : map tagged_place placed ≡ with_places gs ns
-    pub taken : AllByRecursion (λ (q : Placed). RootTaken ws d ps q.1 q.0) placed
+    pub taken : AllByRecursion (λ (q : Placed). RootTaken all Q joins ws d ps q.1 q.0) placed
 
   pub placed_none : (is : List Item) → is ≡ [] → PlacedRoots is [] []
   placed_none is e = record { placed = []; items = sym e; places = refl; tags = refl; taken = tt }
 
-  pub placed_more : (i : ℕ) (x : Item) (g : Tag) (is : List Item) (gs : List Tag) (ns : List ℕ) → x.tag ≡ g → RootTaken ws d ps i x → PlacedRoots is gs ns → PlacedRoots (x ∷ is) (g ∷ gs) (i ∷ ns)
+  pub placed_more : (i : ℕ) (x : Item) (g : Tag) (is : List Item) (gs : List Tag) (ns : List ℕ) → x.tag ≡ g → RootTaken all Q joins ws d ps i x → PlacedRoots is gs ns → PlacedRoots (x ∷ is) (g ∷ gs) (i ∷ ns)
   placed_more i x g is gs ns e h r = record {
     placed = (x, i) ∷ r.placed;
     items = ap (λ (z : List Item). x ∷ z) r.items;
@@ -91,20 +93,20 @@ module _ (ws : List ℕ) (d : ℕ) (ps : Parts) where
     taken = (h, r.taken);
   }
 
-  in_turn : (qs : List Placed) (i k : ℕ) → map place_of qs ≡ from_on i k → AllByRecursion (λ (q : Placed). RootTaken ws d ps q.1 q.0) qs → RootsTaken ws d ps i k (map item_of qs)
+  in_turn : (qs : List Placed) (i k : ℕ) → map place_of qs ≡ from_on i k → AllByRecursion (λ (q : Placed). RootTaken all Q joins ws d ps q.1 q.0) qs → RootsTaken all Q joins ws d ps i k (map item_of qs)
   in_turn [] i zero e h = refl
   in_turn [] i (suc k) e h = absurd cc
   in_turn (q ∷ qs) i zero e h = absurd cc
   in_turn (q ∷ qs) i (suc k) e h =
       let first : q.1 ≡ i = cc e in
       let rest : map place_of qs ≡ from_on (i + 1) k = cc e in
-      (subst (λ (z : ℕ). RootTaken ws d ps z q.0) first h.0, in_turn qs (i + 1) k rest h.1)
+      (subst (λ (z : ℕ). RootTaken all Q joins ws d ps z q.0) first h.0, in_turn qs (i + 1) k rest h.1)
 
-  pub roots_in_order : (set : Bool) (k : ℕ) (is : List Item) (gs : List Tag) (ns : List ℕ) → AreInTurn set k gs ns → PlacedRoots is gs ns → RootsTaken ws d ps 0 k (in_writing_order set is)
-  roots_in_order false k is gs ns e r = subst (RootsTaken ws d ps 0 k) r.items (in_turn r.placed 0 k (r.places ∙ e) r.taken)
+  pub roots_in_order : (set : Bool) (k : ℕ) (is : List Item) (gs : List Tag) (ns : List ℕ) → AreInTurn set k gs ns → PlacedRoots is gs ns → RootsTaken all Q joins ws d ps 0 k (in_writing_order set is)
+  roots_in_order false k is gs ns e r = subst (RootsTaken all Q joins ws d ps 0 k) r.items (in_turn r.placed 0 k (r.places ∙ e) r.taken)
   roots_in_order true k is gs ns e r =
       let sorted : List Placed = by_tag (λ (q : Placed). q.0.tag) r.placed in
       let places : map place_of sorted ≡ from_on 0 k =
       sym (tagged_places sorted) ∙ ap (map (λ (x : Tag × ℕ). x.1)) (map_sorted tagged_place (λ (x : Tag × ℕ). x.0) r.placed ∙ ap (by_tag (λ (x : Tag × ℕ). x.0)) r.tags) ∙ e in
       let items : map item_of sorted ≡ items_by_tag is = map_sorted item_of (λ (x : Item). x.tag) r.placed ∙ ap (by_tag (λ (x : Item). x.tag)) r.items ∙ items_same is in
-      subst (RootsTaken ws d ps 0 k) items (in_turn sorted 0 k places (all_sorted (λ (q : Placed). q.0.tag) (λ (q : Placed). RootTaken ws d ps q.1 q.0) r.placed r.taken))
+      subst (RootsTaken all Q joins ws d ps 0 k) items (in_turn sorted 0 k places (all_sorted (λ (q : Placed). q.0.tag) (λ (q : Placed). RootTaken all Q joins ws d ps q.1 q.0) r.placed r.taken))
