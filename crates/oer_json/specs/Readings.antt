@@ -1,8 +1,8 @@
--- What a value in JSON stands for (X.697), by a table of types. It is said of BOOLEAN, NULL and INTEGER, and of no other type.
-use Rattle.std.specs.Prelude.{◌≡◌, ◌⊎◌, ⊤, ◌++◌, ◌+◌, ◌-◌, ◌^◌, ◌&&◌, ◌==◌, ℕ, ℤ, pos, negsuc, int_le, Bool, true, false, cond, nat_lt, min, Option, Some, None, option_and_then, unwrap_or, Result, MatchResult, IsErr, List, Vec, slice_get}
+-- What a value in JSON stands for (X.697), by a table of types. It is said of BOOLEAN, NULL, and INTEGER behind a length, and of no other type.
+use Rattle.std.specs.Prelude.{◌≡◌, ◌⊎◌, ⊤, ◌++◌, ◌+◌, ◌-◌, ◌^◌, ◌&&◌, ◌==◌, ℕ, ℤ, pos, int_le, Bool, true, false, cond, nat_lt, min, Option, Some, None, option_and_then, unwrap_or, Result, MatchResult, IsErr, List, Vec, slice_get}
 use Rattle.std.specs.List.{find}
 use Rattle.std.specs.declared.alloc.Global.{Global}
-use Rattle.asn1_core.specs.Bounds.{is_from, is_to}
+use Rattle.asn1_core.specs.Bounds.{Range, is_from, is_to}
 use Rattle.asn1_core.specs.Octets.{Octets}
 use Rattle.oer_json.specs.Whole.{HasTooManyParts}
 use Rattle.oer_json.specs.declared.json.Json.{Json, Null, Bool as Truth, Number, Text}
@@ -57,10 +57,33 @@ abbrev pub null_in : Json → Reading
 null_in Null = Stands (Primitive NullLeaf)
 null_in _ = Misfits
 
+-- a number behind a length, with a sign or without; in hexadecimal stand those past 128 bits
+abbrev pub free_range : Bool → Range
+free_range true = None
+free_range false = Some (Some (pos 0), None)
+
+abbrev pub is_free : Bool → ℤ → Bool
+is_free true n = true
+is_free false n = int_le (pos 0) n
+
+abbrev pub counted_of : Bool → Option Bounds → Json → Reading
+counted_of is_signed range (Number n) = cond (allowed range n && is_free is_signed n) (Stands (Primitive (Int (free_range is_signed) n))) Misfits
+counted_of is_signed range (Text s) = Unsaid
+counted_of is_signed range _ = Misfits
+
+abbrev pub counted_in : Tables → ℕ → Json → Reading
+counted_in tables n json = counted_of (word_of tables.words.items n 0 == 1) (range_of tables.ranges.items n) json
+
+-- of the kinds of numbers
+abbrev pub number_in : Tables → ℕ → Kind → Json → Reading
+number_in tables n kinds.Integer json = counted_in tables n json
+number_in tables n _ json = Unsaid
+
 -- of a type of that kind; none is of a type that the table doesn't have
 abbrev pub reading_of_kind : Tables → ℕ → Option Kind → Json → Reading
 reading_of_kind tables n (Some kinds.Boolean) json = boolean_in json
 reading_of_kind tables n (Some kinds.Null) json = null_in json
+reading_of_kind tables n (Some kinds.Integer) json = counted_in tables n json
 reading_of_kind tables n (Some _) json = Unsaid
 reading_of_kind tables n None json = Misfits
 

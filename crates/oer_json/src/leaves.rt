@@ -1,5 +1,5 @@
 //! Values without parts (X.697).
-ghost use Rattle.oer_json.specs.Readings.{Puts, boolean_in, null_in, reading_of_kind};
+ghost use Rattle.oer_json.specs.Readings.{Puts, boolean_in, null_in, number_in, reading_of_kind};
 ghost use Rattle.std.specs.Prelude.{Some};
 
 use crate::json::Json;
@@ -309,7 +309,9 @@ fn put_number(
     kind: Kind,
     json: &Json,
     out: &mut Vec<u8>,
-) -> Result<(), Fault> {
+) -> Result<(), Fault>
+    ensures { Puts (number_in tables.now type_number kind json.now) result out.old.items out.new.items }
+{
     match (kind, json) {
         (Kind::FixedInteger, Json::Number(number)) => put_fixed(tables, type_number, *number, out),
         (Kind::Integer, Json::Number(number)) => put_counted(tables, type_number, *number, out),

@@ -1,5 +1,6 @@
 //! Tables of types with their names, as `scripts/tables.py --lines` writes them.
 ghost use Rattle.std.specs.Prelude.{◌≡◌};
+ghost use Rattle.oer_json.specs.Readings.{allows, described, word_of, range_of};
 ghost use Rattle.oer_walk.specs.Kinds.{kind_numbered};
 ghost use Rattle.oer_walk.specs.Tables.{kind_of};
 
@@ -61,7 +62,9 @@ pub struct Bounds {
 
 impl Bounds {
     /// Whether a number is among them.
-    pub fn allows(self, number: i128) -> bool {
+    pub fn allows(self, number: i128) -> bool
+        ensures { result ≡ allows self number }
+    {
         self.low.is_none_or(|low| low <= number) && self.high.is_none_or(|high| number <= high)
     }
 }
@@ -261,7 +264,9 @@ impl Tables {
     }
 
     /// A word of a type's description, the number of its kind being the first; nothing where there is none.
-    fn described(&self, type_number: u32, index: usize) -> Option<u32> {
+    fn described(&self, type_number: u32, index: usize) -> Option<u32>
+        ensures { result ≡ described self.now.words.items type_number index }
+    {
         if type_number >= self.words.first().copied().unwrap_or(0) {
             return None;
         }
@@ -278,7 +283,9 @@ impl Tables {
     }
 
     /// A word that goes with a type's kind, the first of them being 0; 0 where there is none.
-    pub fn word_of(&self, type_number: u32, index: usize) -> u32 {
+    pub fn word_of(&self, type_number: u32, index: usize) -> u32
+        ensures { result ≡ word_of self.now.words.items type_number index }
+    {
         self.described(type_number, index.saturating_add(1))
             .unwrap_or(0)
     }
@@ -318,11 +325,15 @@ impl Tables {
     }
 
     /// The range of a type, where it has one.
-    pub fn range_of(&self, type_number: u32) -> Option<Bounds> {
-        self.ranges
-            .iter()
-            .find(|it| it.type_number == type_number)
-            .copied()
+    pub fn range_of(&self, type_number: u32) -> Option<Bounds>
+        ensures { result ≡ range_of self.now.ranges.items type_number }
+    {
+        for it in self.ranges.iter() {
+            if it.type_number == type_number {
+                return Some(*it);
+            }
+        }
+        None
     }
 
     /// The sizes of a type, where it has some.

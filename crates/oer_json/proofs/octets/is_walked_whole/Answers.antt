@@ -1,6 +1,5 @@
-use Rattle.std.proofs.Common.{◌≡◌, ℕ, Bool, true, length, Option, Some, None, sym, ap, ◌∙◌, inl, inr, ◌⊎◌, eq-eqb}
+use Rattle.std.proofs.Common.{length, sym, ap, ◌∙◌, inl, inr, eq-eqb}
 use Rattle.std.specs.Option.{is_some}
-use Rattle.oer_json.specs.Whole.{HasTooManyParts}
 use Rattle.oer_json.proofs.Whole.{taken_or_full}
 use Rattle.oer_json.proofs.octets.is_walked_whole.Goals as goal
 
