@@ -1,2 +1,3 @@
--- What is said of the octets that are answered.
+-- The definitions that contracts cite: which octets a walk takes whole, and what a value in JSON stands for.
 pub mod Whole
+pub mod Readings

@@ -1,4 +1,6 @@
 //! Values without parts (X.697).
+ghost use Rattle.oer_json.specs.Readings.{Puts, boolean_in, null_in, number_in, reading_of_kind};
+ghost use Rattle.std.specs.Prelude.{Some};
 
 use crate::json::Json;
 use crate::numbers::{put_counted, put_fixed, put_long, put_name};
@@ -10,6 +12,7 @@ use asn1_strings::{
 };
 use asn1_times::{Date, GeneralizedTime, UtcTime};
 use oer_leaf_write::{write_bool, write_content, write_length, write_object_identifier};
+use oer_walk::Kind;
 use std::alloc::Global;
 
 /// What a text that stands for octets, bits and open types is.
@@ -17,6 +20,26 @@ const HEXADECIMAL: &str = "a text in hexadecimal";
 
 fn wrong_sort(sort: &'static str) -> Fault {
     Fault::Misfit(Misfit::WrongSort(sort))
+}
+
+/// Appends a BOOLEAN.
+fn put_boolean(json: &Json, out: &mut Vec<u8>) -> Result<(), Fault>
+    ensures { Puts (boolean_in json.now) result out.old.items out.new.items }
+{
+    match json {
+        Json::Bool(is_true) => Ok(write_bool(*is_true, out)?),
+        _ => Err(wrong_sort("true or false")),
+    }
+}
+
+/// Appends a NULL, which has no octets.
+fn put_null(json: &Json, out: &mut Vec<u8>) -> Result<(), Fault>
+    ensures { Puts (null_in json.now) result out.old.items out.new.items }
+{
+    match json {
+        Json::Null => Ok(()),
+        _ => Err(wrong_sort("null")),
+    }
 }
 
 /// The octets that a text has in hexadecimal.
@@ -283,21 +306,23 @@ fn put_number(
     alloc: Global,
     tables: &Tables,
     type_number: u32,
-    kind: u32,
+    kind: Kind,
     json: &Json,
     out: &mut Vec<u8>,
-) -> Result<(), Fault> {
+) -> Result<(), Fault>
+    ensures { Puts (number_in tables.now type_number kind json.now) result out.old.items out.new.items }
+{
     match (kind, json) {
-        (2, Json::Number(number)) => put_fixed(tables, type_number, *number, out),
-        (3, Json::Number(number)) => put_counted(tables, type_number, *number, out),
-        (3, Json::Text(text)) => {
+        (Kind::FixedInteger, Json::Number(number)) => put_fixed(tables, type_number, *number, out),
+        (Kind::Integer, Json::Number(number)) => put_counted(tables, type_number, *number, out),
+        (Kind::Integer, Json::Text(text)) => {
             let octets = octets_in(alloc, text.as_str())?;
             put_long(tables, type_number, octets.as_slice(), out)
         }
-        (4, Json::Text(name)) => put_name(tables, type_number, name.as_str(), out),
-        (4, Json::Number(_)) => Err(Fault::Misfit(Misfit::UnknownName)),
+        (Kind::Enumerated, Json::Text(name)) => put_name(tables, type_number, name.as_str(), out),
+        (Kind::Enumerated, Json::Number(_)) => Err(Fault::Misfit(Misfit::UnknownName)),
         (_, Json::OtherNumber) => Err(Fault::Misfit(Misfit::NumberTooLarge)),
-        (4, _) => Err(wrong_sort("a name")),
+        (Kind::Enumerated, _) => Err(wrong_sort("a name")),
         _ => Err(wrong_sort("an integer")),
     }
 }
@@ -307,20 +332,22 @@ pub fn put_leaf(
     alloc: Global,
     tables: &Tables,
     type_number: u32,
-    kind: u32,
+    kind: Kind,
     json: &Json,
     out: &mut Vec<u8>,
-) -> Result<(), Fault> {
-    match (kind, json) {
-        (0, Json::Bool(is_true)) => Ok(write_bool(*is_true, out)?),
-        (0, _) => Err(wrong_sort("true or false")),
-        (1, Json::Null) => Ok(()),
-        (1, _) => Err(wrong_sort("null")),
-        (2..=4, _) => put_number(alloc, tables, type_number, kind, json, out),
-        (5, _) => put_fixed_bits(alloc, tables, type_number, json, out),
-        (6, _) => put_bits(alloc, tables, type_number, json, out),
-        (7, _) => put_fixed_string(alloc, tables, type_number, json, out),
-        (8, _) => put_string(alloc, tables, type_number, json, out),
-        _ => Err(Fault::Misfit(Misfit::UnknownType)),
+) -> Result<(), Fault>
+    ensures { Puts (reading_of_kind tables.now type_number (Some kind) json.now) result out.old.items out.new.items }
+{
+    match kind {
+        Kind::Boolean => put_boolean(json, out),
+        Kind::Null => put_null(json, out),
+        Kind::FixedInteger | Kind::Integer | Kind::Enumerated => {
+            put_number(alloc, tables, type_number, kind, json, out)
+        }
+        Kind::FixedBitString => put_fixed_bits(alloc, tables, type_number, json, out),
+        Kind::BitString => put_bits(alloc, tables, type_number, json, out),
+        Kind::FixedString => put_fixed_string(alloc, tables, type_number, json, out),
+        Kind::String => put_string(alloc, tables, type_number, json, out),
+        Kind::List | Kind::Sequence | Kind::Choice => Err(Fault::Misfit(Misfit::UnknownType)),
     }
 }

@@ -15,6 +15,6 @@ mod tests;
 mod values;
 
 pub use json::Json;
-pub use octets::octets_of;
+pub use octets::{octets_of, octets_of_json};
 pub use refusals::{Misfit, Refusal};
 pub use tables::{Bounds, Standard, TableError, Tables, ValueName};

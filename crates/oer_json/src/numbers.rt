@@ -1,4 +1,9 @@
 //! Numbers: INTEGER and ENUMERATED (X.696, 10 and 11).
+ghost use Rattle.std.specs.Prelude.{◌≡◌, true, false, MatchResult};
+ghost use Rattle.asn1_core.specs.Bounds.{value_bounds};
+ghost use Rattle.oer_json.specs.Readings.{Puts, Stands, allowed, range_of, free_range, is_free, counted_in};
+ghost use Rattle.oer_spec.specs.Tree.{Primitive, Int};
+ghost use Rattle.oer_json.specs.declared.json.Json.{Number};
 
 use crate::refusals::{Fault, Misfit};
 use crate::tables::{Bounds, Tables};
@@ -7,7 +12,9 @@ use asn1_ints::{has_superfluous_sign, has_superfluous_zero, i128_of};
 use oer_leaf_write::{write_content, write_enumerated, write_integer};
 
 /// Refused where a number is outside a type's range.
-fn check_range(tables: &Tables, type_number: u32, number: i128) -> Result<(), Fault> {
+fn check_range(tables: &Tables, type_number: u32, number: i128) -> Result<(), Fault>
+    ensures { MatchResult result (λ _. allowed (range_of tables.now.ranges.items type_number) number ≡ true) (λ _. allowed (range_of tables.now.ranges.items type_number) number ≡ false) }
+{
     match tables.range_of(type_number) {
         Some(bounds) if !bounds.allows(number) => Err(out_of_range(bounds)),
         _ => Ok(()),
@@ -71,7 +78,9 @@ pub fn put_fixed(
 }
 
 /// The constraints of a number that lies behind a length.
-fn free_constraints(is_signed: bool) -> Constraints {
+fn free_constraints(is_signed: bool) -> Constraints
+    ensures { value_bounds result ≡ free_range is_signed }
+{
     if is_signed {
         return Constraints::NONE;
     }
@@ -87,22 +96,41 @@ fn free_constraints(is_signed: bool) -> Constraints {
     }
 }
 
+/// Whether a number is one with a sign, or one without.
+fn is_free(is_signed: bool, number: i128) -> bool
+    ensures { result ≡ is_free is_signed number }
+{
+    is_signed || number >= 0
+}
+
+/// Appends a number behind a length, whatever its range.
+fn write_free(is_signed: bool, number: i128, out: &mut Vec<u8>) -> Result<(), Fault>
+    ensures { Puts (Stands (Primitive (Int (free_range is_signed) number))) result out.old.items out.new.items }
+{
+    match write_integer(free_constraints(is_signed), &number, out) {
+        Ok(()) => Ok(()),
+        Err(kind) => Err(Fault::from(kind)),
+    }
+}
+
 /// Appends a number behind a length.
 pub fn put_counted(
     tables: &Tables,
     type_number: u32,
     number: i128,
     out: &mut Vec<u8>,
-) -> Result<(), Fault> {
+) -> Result<(), Fault>
+    ensures { Puts (counted_in tables.now type_number (Number number)) result out.old.items out.new.items }
+{
     check_range(tables, type_number, number)?;
     let is_signed = tables.word_of(type_number, 0) == 1;
-    if !is_signed && number < 0 {
+    if !is_free(is_signed, number) {
         return Err(Fault::Misfit(Misfit::OutOfRange {
             low: Some(0),
             high: None,
         }));
     }
-    Ok(write_integer(free_constraints(is_signed), &number, out)?)
+    write_free(is_signed, number, out)
 }
 
 /// Whether the unsigned number of octets, the first of which isn't zero, is past the greatest of 128 bits with a sign.

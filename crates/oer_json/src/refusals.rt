@@ -1,4 +1,5 @@
 //! Why JSON has no octets, and where in it.
+ghost use Rattle.std.specs.Prelude.{◌≡◌, IfOk};
 
 use crate::tables::Tables;
 use asn1_core::EncodeErrorKind;
@@ -161,6 +162,10 @@ impl fmt::Display for Refusal {
 impl Error for Refusal {}
 
 impl From<AllocError> for Refusal {
+    ghost use Rattle.oer_json.specs.declared.refusals.Refusal.TheVariants.{OutOfMemory};
+
+    ghost from_gives = { λ _ e. e ≡ OutOfMemory };
+
     fn from(_e: AllocError) -> Refusal {
         Refusal::OutOfMemory
     }
@@ -182,18 +187,31 @@ impl From<Misfit> for Fault {
 }
 
 impl From<AllocError> for Fault {
+    ghost use Rattle.oer_json.specs.declared.refusals.Fault.TheVariants.{OutOfMemory};
+
+    ghost from_gives = { λ _ e. e ≡ OutOfMemory };
+
     fn from(_e: AllocError) -> Fault {
         Fault::OutOfMemory
     }
 }
 
 impl<T: Drop> From<AllocFailed<T>> for Fault {
+    ghost use Rattle.oer_json.specs.declared.refusals.Fault.TheVariants.{OutOfMemory};
+
+    ghost from_gives = { λ _ e. e ≡ OutOfMemory };
+
     fn from(_e: AllocFailed<T>) -> Fault {
         Fault::OutOfMemory
     }
 }
 
 impl From<EncodeErrorKind> for Fault {
+    ghost use Rattle.asn1_core.specs.declared.error.EncodeErrorKind.TheVariants as encode;
+    ghost use Rattle.oer_json.specs.declared.refusals.Fault.TheVariants.{OutOfMemory};
+
+    ghost from_gives = { λ kind e. kind ≡ encode.OutOfMemory → e ≡ OutOfMemory };
+
     fn from(kind: EncodeErrorKind) -> Fault {
         match kind {
             EncodeErrorKind::OutOfMemory => Fault::OutOfMemory,
@@ -233,7 +251,9 @@ pub fn refusal_of(
     tables: &Tables,
     steps: &[Step],
     fault: Fault,
-) -> Result<Refusal, AllocError> {
+) -> Result<Refusal, AllocError>
+    ensures { IfOk result (λ refusal. fault ≡ Fault.OutOfMemory → refusal ≡ Refusal.OutOfMemory) }
+{
     let path = path_of(alloc, tables, steps)?;
     match fault {
         Fault::OutOfMemory => Ok(Refusal::OutOfMemory),

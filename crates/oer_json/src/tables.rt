@@ -1,6 +1,11 @@
 //! Tables of types with their names, as `scripts/tables.py --lines` writes them.
+ghost use Rattle.std.specs.Prelude.{◌≡◌};
+ghost use Rattle.oer_json.specs.Readings.{allows, described, word_of, range_of};
+ghost use Rattle.oer_walk.specs.Kinds.{kind_numbered};
+ghost use Rattle.oer_walk.specs.Tables.{kind_of};
 
 use crate::json::Json;
+use oer_walk::{Kind, kind_in};
 use std::alloc::{AllocError, AllocFailed, Global};
 use thiserror::Error;
 
@@ -57,7 +62,9 @@ pub struct Bounds {
 
 impl Bounds {
     /// Whether a number is among them.
-    pub fn allows(self, number: i128) -> bool {
+    pub fn allows(self, number: i128) -> bool
+        ensures { result ≡ allows self number }
+    {
         self.low.is_none_or(|low| low <= number) && self.high.is_none_or(|high| number <= high)
     }
 }
@@ -101,8 +108,6 @@ pub struct Tables {
     pub standards: Vec<Standard>,
 }
 
-/// The kind of sequences and sets.
-pub const SEQUENCE: u32 = 11;
 /// The name of the types of groups of extension additions.
 const GROUP: &str = "group";
 
@@ -259,7 +264,9 @@ impl Tables {
     }
 
     /// A word of a type's description, the number of its kind being the first; nothing where there is none.
-    fn described(&self, type_number: u32, index: usize) -> Option<u32> {
+    fn described(&self, type_number: u32, index: usize) -> Option<u32>
+        ensures { result ≡ described self.now.words.items type_number index }
+    {
         if type_number >= self.words.first().copied().unwrap_or(0) {
             return None;
         }
@@ -268,13 +275,17 @@ impl Tables {
         self.words.get(at).copied()
     }
 
-    /// The number of a type's kind; `u32::MAX` if the table has no such type.
-    pub fn kind_of(&self, type_number: u32) -> u32 {
-        self.described(type_number, 0).unwrap_or(u32::MAX)
+    /// The kind of a type, if the table has the type.
+    pub fn kind_of(&self, type_number: u32) -> Option<Kind>
+        ensures { result ≡ kind_numbered (kind_of self.now.words.items type_number) }
+    {
+        kind_in(self.words.as_slice(), type_number)
     }
 
     /// A word that goes with a type's kind, the first of them being 0; 0 where there is none.
-    pub fn word_of(&self, type_number: u32, index: usize) -> u32 {
+    pub fn word_of(&self, type_number: u32, index: usize) -> u32
+        ensures { result ≡ word_of self.now.words.items type_number index }
+    {
         self.described(type_number, index.saturating_add(1))
             .unwrap_or(0)
     }
@@ -310,15 +321,19 @@ impl Tables {
 
     /// Whether a type is a group of extension additions.
     pub fn is_group(&self, type_number: u32) -> bool {
-        self.kind_of(type_number) == SEQUENCE && self.type_name(type_number) == GROUP
+        self.kind_of(type_number) == Some(Kind::Sequence) && self.type_name(type_number) == GROUP
     }
 
     /// The range of a type, where it has one.
-    pub fn range_of(&self, type_number: u32) -> Option<Bounds> {
-        self.ranges
-            .iter()
-            .find(|it| it.type_number == type_number)
-            .copied()
+    pub fn range_of(&self, type_number: u32) -> Option<Bounds>
+        ensures { result ≡ range_of self.now.ranges.items type_number }
+    {
+        for it in self.ranges.iter() {
+            if it.type_number == type_number {
+                return Some(*it);
+            }
+        }
+        None
     }
 
     /// The sizes of a type, where it has some.

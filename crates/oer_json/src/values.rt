@@ -1,4 +1,5 @@
 //! Values of every type: lists, sequences, sets and choices, and what is in them (X.696, 16 to 20).
+ghost use Rattle.oer_json.specs.Readings.{Puts, reading_of};
 
 use crate::components::{
     Member, UNKNOWN, alternative_of, check_members, has_any_of, is_extensible, member, members_of,
@@ -9,14 +10,8 @@ use crate::refusals::{Fault, Misfit, Step};
 use crate::tables::{Part, Tables};
 use asn1_core::{Class, Tag};
 use oer_leaf_write::{write_bitmap, write_content, write_preamble, write_quantity, write_tag};
+use oer_walk::Kind;
 use std::alloc::Global;
-
-/// The kinds of types with parts.
-const LIST: u32 = 10;
-
-const SEQUENCE: u32 = 11;
-
-const CHOICE: u32 = 12;
 
 /// The table that values are written by.
 #[derive(Clone, Copy)]
@@ -64,17 +59,21 @@ pub fn put_value(
     json: &Json,
     path: &mut Vec<Step>,
     out: &mut Vec<u8>,
-) -> Result<(), Fault> {
-    let kind = source.tables.kind_of(type_number);
-    if !matches!(kind, LIST..=CHOICE) {
+) -> Result<(), Fault>
+    ensures { Puts (reading_of source.entry.tables.now type_number json.now) result out.old.items out.new.items }
+{
+    let Some(kind) = source.tables.kind_of(type_number) else {
+        return Err(Fault::Misfit(Misfit::UnknownType));
+    };
+    if !kind.has_parts() {
         return put_leaf(source.alloc, source.tables, type_number, kind, json, out);
     }
     if levels == 0 {
         return Err(Fault::Misfit(Misfit::TooDeep));
     }
     match kind {
-        LIST => put_list(source, type_number, levels - 1, json, path, out),
-        SEQUENCE => put_sequence(
+        Kind::List => put_list(source, type_number, levels - 1, json, path, out),
+        Kind::Sequence => put_sequence(
             source,
             type_number,
             levels - 1,

@@ -1,5 +1,5 @@
 -- Each part of a walk has its place, whatever the table and the octets.
-use Rattle.std.proofs.Common.{◌≡◌, ℕ, zero, suc, ◌+◌, ◌-◌, ◌<◌, ◌≤◌, ◌⊎◌, Bool, true, false, cond, List, [], ◌∷◌, length, get_or, drop, set, Option, Some, None, Ok, inl, inr, refl, sym, ap, subst, ◌∙◌, arith}
+use Rattle.std.proofs.Common.{◌≡◌, ℕ, zero, suc, ◌+◌, ◌-◌, ◌<◌, ◌≤◌, ◌⊎◌, Bool, true, false, cond, List, [], ◌∷◌, length, get_or, drop, set, Option, Some, None, Result, Ok, inl, inr, refl, sym, ap, ap₂, subst, ◌∙◌, arith}
 use Rattle.std.specs.Prelude.{nat_lt, nat_le, ◌==◌, ◌&&◌}
 use Rattle.std.proofs.lemmas.List.{get_or-set_same, get_or-set_other, length-set}
 use Rattle.asn1_core.specs.Octets.{Octets, AreOctets}
@@ -11,15 +11,17 @@ use Rattle.oer_spec.specs.Reading.{quantity_at}
 use Rattle.oer_spec.specs.ReadingBits.{preamble_at, bitmap_at}
 use Rattle.oer_walk.specs.Parts.{IsUnfinished, IsInside, HasPlace, ArePlaced, node_at, blank}
 use Rattle.oer_walk.specs.Tables.{nothing, form_of, component_of, alternative_at, optionals}
-use Rattle.oer_walk.specs.Walks.{Walk, PartWalk, ValueWalk, done, stopped, reads, scope_of, inside, noded, is_nothing, leaving, open_content, open_by, within_by, part_by, part_if, with_empty, if_few, elements_by, extension_count, is_present, later_bits, components_by, unknown_by, known_by, additions_by, body_by, sequence_by, tagged_at, chosen, choice_by, list_by, is_leaf, leaf_at, scope_by, value_by, value_at, part_at, behind_length_at, overlay}
+use Rattle.oer_walk.specs.Walks.{Walk, PartWalk, ValueWalk, done, stopped, reads, scope_of, inside, noded, is_nothing, leaving, open_content, open_by, within_by, part_by, part_if, with_empty, if_few, elements_by, extension_count, is_present, later_bits, components_by, unknown_by, known_by, additions_by, body_by, sequence_by, tagged_at, chosen, choice_by, list_by, is_leaf, leaf_at, scope_by, value_by, value_at, part_at, behind_length_at, overlay, Came, most_of, outermost, walk_of, IsAnswer}
 use Rattle.oer_walk.specs.declared.nodes.Node.{Node}
 use Rattle.oer_walk.specs.declared.places.Place.{Place}
 use Rattle.oer_walk.specs.declared.places.Scope.{Scope}
+use Rattle.oer_walk.specs.declared.places.Stop.{Stop}
 use Rattle.oer_walk.specs.declared.table.Form.{Form}
 use Rattle.oer_walk.specs.declared.table.Form.TheVariants.{Fixed, Counted, Enumerated, List as ListForm, Sequence, Choice, Nothing}
 use Rattle.oer_walk.specs.declared.table.Parts.{Parts}
-use Rattle.oer_walk.proofs.Placed.{Good, Claim, claim_done, claim_stopped, claim_behind, claim_read, ValueClaim, value_stopped, value_done, value_read, from_claim, value_leaving, PartClaim, part_claim, part_stopped, claim_of_part, stand_all}
-use Rattle.oer_walk.proofs.Suffixes.{rear_read, behind_split, leaf_rears, tagged_rear}
+use Rattle.oer_walk.specs.declared.walks.Walked.{Walked}
+use Rattle.oer_walk.proofs.Placed.{Base, Left, Good, Claim, claim_done, claim_stopped, claim_behind, claim_read, ValueClaim, value_stopped, value_done, value_read, from_claim, value_leaving, PartClaim, part_claim, part_stopped, claim_of_part, stand_all}
+use Rattle.oer_walk.proofs.Suffixes.{IsRear, rear_length, rear_read, behind_split, leaf_rears, tagged_rear}
 
 module _ (xs : List Node) (most : ℕ) (ws : List ℕ) where
   module _ (part : PartWalk) (placed : (p : Place) (n : ℕ) (input : Octets) → PartClaim xs most ws p n input (part p n input)) where
@@ -165,7 +167,7 @@ overlay_at room (x ∷ ns) n (suc j) lt le =
     let e : n + suc j ≡ (n + 1) + j = omega arith in
     ap (node_at (overlay (set room n x) (n + 1) ns)) e ∙ overlay_at (set room n x) ns (n + 1) j (omega (arith, length-set room n x)) (omega arith)
 
-shown_at : (room ns : List Node) (i : ℕ) → i < length room → i < length ns → node_at (overlay room 0 ns) i ≡ node_at ns i
+pub shown_at : (room ns : List Node) (i : ℕ) → i < length room → i < length ns → node_at (overlay room 0 ns) i ≡ node_at ns i
 shown_at room ns i lt le = let e : i ≡ 0 + i = omega arith in ap (node_at (overlay room 0 ns)) e ∙ overlay_at room ns 0 i (omega arith) le
 
 room_placed : (most : ℕ) (room ns : List Node) (k : ℕ) → k ≤ length room → k ≤ length ns → Good ns most 0 (0 + length ns) → ArePlaced most k (overlay room 0 ns)
@@ -187,6 +189,12 @@ room_placed most room ns k a b g i lt = at (g i (omega arith) (omega arith))
       behind = λ m. subst (λ (z : Node). z.start ≤ (node_at ns i).start) (sym (shown_at room ns (i - 1) (omega arith) (omega arith))) (p.behind m);
     }))
 
+walk_base : (ws : List ℕ) (levels : ℕ) (p : Place) (input : Octets) → p.end ≡ length input → AreOctets input → Base (part_at ws levels p 0 input).nodes p.end p.end 0 input (part_at ws levels p 0 input).nodes
+walk_base ws levels p input e a = record { octets = a; fits = omega (arith, e); stand = stand_all ns p.end 0 ns (λ j lt. let i : 0 + j ≡ j = omega arith in ap (node_at ns) i); before = λ lt. absurd (omega arith) }
+  where
+    ns : List Node
+    ns = (part_at ws levels p 0 input).nodes
+
 pub walk_placed : (ws : List ℕ) (levels : ℕ) (p : Place) (input : Octets) (room : List Node) (k : ℕ) → p.end ≡ length input → AreOctets input → k ≤ length room → k ≤ length (part_at ws levels p 0 input).nodes → ArePlaced p.end k (overlay room 0 (part_at ws levels p 0 input).nodes)
 walk_placed ws levels p input room k e a l m = room_placed p.end room ns k l m good
   where
@@ -194,6 +202,26 @@ walk_placed ws levels p input room k e a l m = room_placed p.end room ns k l m g
     ns = (part_at ws levels p 0 input).nodes
 
     good : Good ns p.end 0 (0 + length ns)
-    good = (node_claim ns p.end ws (value_at ws levels) (value_claim ns p.end ws levels) p 0 input).good
-        (record { octets = a; fits = omega (arith, e); stand = stand_all ns p.end 0 ns (λ j lt. let i : 0 + j ≡ j = omega arith in ap (node_at ns) i); before = λ lt. absurd (omega arith) })
-        (omega arith) (λ lt. absurd (omega arith))
+    good = (node_claim ns p.end ws (value_at ws levels) (value_claim ns p.end ws levels) p 0 input).good (walk_base ws levels p input e a) (omega arith) (λ lt. absurd (omega arith))
+
+-- what a walk leaves is the rear of its octets
+pub walk_rear : (ws : List ℕ) (levels : ℕ) (p : Place) (input rest : Octets) → p.end ≡ length input → AreOctets input → (part_at ws levels p 0 input).answer ≡ Ok rest → IsRear input rest
+walk_rear ws levels p input rest e a is = (subst (Left ns p.end p.end (0 + length ns) input) is ((node_claim ns p.end ws (value_at ws levels) (value_claim ns p.end ws levels) p 0 input).left (walk_base ws levels p input e a))).0
+  where
+    ns : List Node
+    ns = (part_at ws levels p 0 input).nodes
+
+-- the walk of the whole value, where the place of the value is put together from these
+pub walk_is : (ws us : List ℕ) (type_number levels most : ℕ) (input : Octets) → ws ≡ us → most ≡ most_of (length input) → part_at ws levels (record (outermost type_number (length input)) { most = most }) 0 input ≡ walk_of us type_number levels input
+unfolding walk_of
+walk_is ws us type_number levels most input e f = ap₂ (λ (z : List ℕ) (m : ℕ). part_at z levels (record (outermost type_number (length input)) { most = m }) 0 input) e f
+
+-- what it answers where it isn't refused
+pub answered_ok : (ws us : List ℕ) (type_number levels most : ℕ) (input rest : Octets) (w : Walked) → ws ≡ us → most ≡ most_of (length input) → AreOctets input → (part_at ws levels (record (outermost type_number (length input)) { most = most }) 0 input).answer ≡ Ok rest
+    → w.nodes ≡ 0 + length (part_at ws levels (record (outermost type_number (length input)) { most = most }) 0 input).nodes → w.consumed ≡ length input - length rest → w.refusal ≡ None → IsAnswer (length input) (walk_of us type_number levels input) w
+answered_ok ws us type_number levels most input rest w e f a is count taken none =
+    let left : length rest ≤ length input = rear_length input rest (walk_rear ws levels (record (outermost type_number (length input)) { most = most }) input rest refl a is) in
+    subst (λ (z : Walk Octets). IsAnswer (length input) z w) (walk_is ws us type_number levels most input e f) (record {
+      count = omega (arith, count);
+      answer = subst (λ (z : Result Octets Stop). Came (length input) z w) (sym is) (omega (arith, taken, left), none);
+    })

@@ -2,6 +2,9 @@
 use Rattle.std.specs.Prelude.{ℕ, zero, suc, ◌+◌, ◌-◌, ◌*◌, ◌/◌, ◌^◌, Bool, cond, not, ◌&&◌, ◌==◌, nat_lt, List, length, Option, Some, None, slice_index_or}
 use Rattle.asn1_core.specs.Tags.{class_number}
 use Rattle.asn1_core.specs.declared.tag.Tag.{Tag}
+use Rattle.oer_walk.specs.Kinds.{kind_numbered}
+use Rattle.oer_walk.specs.declared.kinds.Kind.{Kind}
+use Rattle.oer_walk.specs.declared.kinds.Kind.TheVariants.{Boolean, Null, FixedInteger, Integer, Enumerated as EnumeratedKind, FixedBitString, BitString, FixedString, String, List as ListKind, Sequence as SequenceKind, Choice as ChoiceKind}
 use Rattle.oer_walk.specs.declared.table.Form.{Form}
 use Rattle.oer_walk.specs.declared.table.Form.TheVariants.{Fixed, Counted, Enumerated, List as ListForm, Sequence, Choice, Nothing}
 use Rattle.oer_walk.specs.declared.table.Parts.{Parts}
@@ -34,23 +37,24 @@ count_at ws i = cond (nat_lt (word ws i) (length ws)) (word ws i) (length ws)
 unfoldable pub parts_at : List ℕ → ℕ → Parts
 parts_at ws i = record { is_extensible = word ws (i + 1) == 1; roots = count_at ws (i + 2); additions = count_at ws (i + 3); place = i }
 
--- how the type whose kind stands there lies in octets
+-- how a type of that kind, which stands there, lies in octets
+abbrev pub form_of_kind : List ℕ → ℕ → Option Kind → Form
+form_of_kind ws i (Some Boolean) = Fixed 1
+form_of_kind ws i (Some Null) = Fixed 0
+form_of_kind ws i (Some FixedInteger) = Fixed (word ws (i + 1))
+form_of_kind ws i (Some Integer) = Counted
+form_of_kind ws i (Some EnumeratedKind) = Enumerated
+form_of_kind ws i (Some FixedBitString) = Fixed ((word ws (i + 1) + 7) / 8)
+form_of_kind ws i (Some BitString) = Counted
+form_of_kind ws i (Some FixedString) = Fixed (word ws (i + 1))
+form_of_kind ws i (Some String) = Counted
+form_of_kind ws i (Some ListKind) = ListForm (word ws (i + 2))
+form_of_kind ws i (Some SequenceKind) = Sequence (parts_at ws i)
+form_of_kind ws i (Some ChoiceKind) = Choice (parts_at ws i)
+form_of_kind ws i None = Nothing
+
 unfoldable pub form_at : List ℕ → ℕ → Form
-form_at ws i =
-    let kind = word ws i in
-    let first = word ws (i + 1) in
-    cond (kind == 0) (Fixed 1)
-    (cond (kind == 1) (Fixed 0)
-    (cond (kind == 2) (Fixed first)
-    (cond (kind == 3) Counted
-    (cond (kind == 4) Enumerated
-    (cond (kind == 5) (Fixed ((first + 7) / 8))
-    (cond (kind == 6) Counted
-    (cond (kind == 7) (Fixed first)
-    (cond (kind == 8) Counted
-    (cond (kind == 10) (ListForm (word ws (i + 2)))
-    (cond (kind == 11) (Sequence (parts_at ws i))
-    (cond (kind == 12) (Choice (parts_at ws i)) Nothing)))))))))))
+form_at ws i = form_of_kind ws i (kind_numbered (word ws i))
 
 abbrev pub form_if : List ℕ → Option ℕ → Form
 form_if ws (Some i) = form_at ws i

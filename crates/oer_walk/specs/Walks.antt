@@ -264,9 +264,9 @@ abbrev pub overlay : List Node → ℕ → List Node → List Node
 overlay room n [] = room
 overlay room n (x ∷ xs) = overlay (slice_set room n x) (n + 1) xs
 
--- what the walk of so many octets came to
+-- what the walk of so many octets came to: those that it took and those that are left are all
 abbrev pub Came : ℕ → Result Octets Stop → Walked → Type 0
-Came octets (Ok rest) w = (w.consumed ≡ octets - length rest) × (w.refusal ≡ None)
+Came octets (Ok rest) w = (w.consumed + length rest ≡ octets) × (w.refusal ≡ None)
 Came octets (Err s) w = (w.consumed ≡ s.place) × (w.refusal ≡ Some s.kind)
 
 pub record IsAnswer (octets : ℕ) (w : Walk Octets) (r : Walked) : Type 0 where

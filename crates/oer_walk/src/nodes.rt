@@ -10,7 +10,7 @@ pub struct Node {
     pub name: u32,
     /// The number of the part's type; `u32::MAX` if the table doesn't have it.
     pub type_number: u32,
-    /// The number of the type's kind.
+    /// The number of the type's [`Kind`](crate::Kind).
     pub kind: u32,
     /// How many parts are around it.
     pub level: u32,

@@ -1,13 +1,14 @@
 //! Tables of types in words, as `scripts/tables.py` makes them.
 //!
 //! The first word is the number of types. One word a type follows: the place in the table where the type's kind stands, with
-//! what goes with the kind behind it. A kind is a number of [`Form`]'s comments. Any words are a table: what isn't there is
-//! read as `u32::MAX`.
+//! what goes with the kind behind it ([`Kind`]). Any words are a table: what isn't there is read as `u32::MAX`.
 ghost use Rattle.std.specs.Prelude.{◌≡◌, ◌<◌, ◌^◌, IfSome};
 ghost use Rattle.asn1_core.specs.Tags.{class_number};
+ghost use Rattle.oer_walk.specs.Kinds.{kind_numbered};
 ghost use Rattle.oer_walk.specs.Walks.{is_leaf, is_nothing};
 ghost use Rattle.oer_walk.specs.Tables.{word, place_of, kind_of, count_at, form_at, form_of, parts_at, component_of, alternative_at, is_of, alternative_of, optionals};
 
+use crate::kinds::Kind;
 use asn1_core::{Class, Tag};
 
 /// A table.
@@ -19,18 +20,17 @@ pub struct Table<'t> {
 /// How a type lies in octets.
 #[derive(Debug, Clone, Copy, PartialEq, Eq)]
 pub enum Form {
-    /// So many octets. Kinds 0 BOOLEAN, 1 NULL, 2 INTEGER: `octets signed`, 5 BIT STRING: `bits`, 7 octets or characters:
-    /// `octets text`.
+    /// So many octets.
     Fixed(usize),
-    /// A length, and so many octets (X.696, 8.6). Kinds 3 INTEGER: `signed`, 6 BIT STRING, 8 octets or characters: `text`.
+    /// A length, and so many octets (X.696, 8.6).
     Counted,
-    /// An octet below 128, or a count of octets and the octets (X.696, 11). Kind 4.
+    /// An octet below 128, or a count of octets and the octets (X.696, 11).
     Enumerated,
-    /// A quantity, and elements of that type (X.696, 17). Kind 10: `is_set element`.
+    /// A quantity, and elements of that type (X.696, 17).
     List(u32),
-    /// Components (X.696, 16). Kind 11: `extensible roots additions`, then `name may_be_absent type` of each.
+    /// Components (X.696, 16).
     Sequence(Parts),
-    /// Alternatives (X.696, 20). Kind 12: `extensible roots additions`, then `name class number type` of each.
+    /// Alternatives (X.696, 20).
     Choice(Parts),
     /// None: the table has no such type.
     Nothing,
@@ -113,6 +113,13 @@ impl Alternative {
     }
 }
 
+/// The kind of the type with that number in a table, if the table has the type.
+pub fn kind_in(table: &[u32], type_number: u32) -> Option<Kind>
+    ensures { result ≡ kind_numbered (kind_of table.now type_number) }
+{
+    Kind::of(Table::new(table).kind_of(type_number))
+}
+
 impl<'t> Table<'t> {
     /// The table of these words.
     pub fn new(words: &'t [u32]) -> Table<'t>
@@ -168,22 +175,18 @@ impl<'t> Table<'t> {
     fn form_at(self, at: u32) -> Form
         ensures { result ≡ form_at self.entry.words.now at }
     {
-        let kind = self.word(at as usize);
         let first = self.word(at as usize + 1) as usize;
-        match kind {
-            0 => Form::Fixed(1),
-            1 => Form::Fixed(0),
-            2 => Form::Fixed(first),
-            3 => Form::Counted,
-            4 => Form::Enumerated,
-            5 => Form::Fixed((first + 7) / 8),
-            6 => Form::Counted,
-            7 => Form::Fixed(first),
-            8 => Form::Counted,
-            10 => Form::List(self.word(at as usize + 2)),
-            11 => Form::Sequence(self.parts_at(at)),
-            12 => Form::Choice(self.parts_at(at)),
-            _ => Form::Nothing,
+        match Kind::of(self.word(at as usize)) {
+            Some(Kind::Boolean) => Form::Fixed(1),
+            Some(Kind::Null) => Form::Fixed(0),
+            Some(Kind::FixedInteger | Kind::FixedString) => Form::Fixed(first),
+            Some(Kind::Integer | Kind::BitString | Kind::String) => Form::Counted,
+            Some(Kind::Enumerated) => Form::Enumerated,
+            Some(Kind::FixedBitString) => Form::Fixed((first + 7) / 8),
+            Some(Kind::List) => Form::List(self.word(at as usize + 2)),
+            Some(Kind::Sequence) => Form::Sequence(self.parts_at(at)),
+            Some(Kind::Choice) => Form::Choice(self.parts_at(at)),
+            None => Form::Nothing,
         }
     }
 

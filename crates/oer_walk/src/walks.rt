@@ -4,6 +4,7 @@ ghost use Rattle.oer_leaf_read.specs.Views.{bits_left};
 ghost use Rattle.oer_spec.specs.Reading.{Gives};
 ghost use Rattle.oer_walk.specs.Described.{TakesEncodings};
 ghost use Rattle.oer_walk.specs.Parts.{ArePlaced};
+ghost use Rattle.oer_walk.specs.Shown.{ShowsEncodings};
 ghost use Rattle.oer_walk.specs.Tables.{nothing};
 ghost use Rattle.oer_walk.specs.Walks.{IsWalk, IsAnswer, overlay, walk_of, most_of, inside, node_of, part_if, part_at, within_by, behind_length_at, open_by, leaf_at, value_at, scope_by, list_by, elements_by, tagged_at, choice_by, sequence_by, body_by, components_by, additions_by, known_by, unknown_by, with_empty, extension_count, is_present, later_bits};
 ghost use Rattle.oer_walk.specs.declared.places.Stop.{Stop};
@@ -42,6 +43,7 @@ pub fn walk(table: &[u32], type_number: u32, levels: u32, input: &[u8], room: &m
     ensures shown { result.shown ≡ min result.nodes (length room.new) }
     ensures parts { ArePlaced (length input.now) result.shown room.new }
     ensures takes { TakesEncodings table.now type_number levels input.now result }
+    ensures shows { ShowsEncodings table.now type_number levels input.now result room.new }
 {
     let size = room.len();
     let place = Place {

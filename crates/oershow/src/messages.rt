@@ -3,7 +3,7 @@
 use crate::values::{hex_of, leaf_of, push_quoted};
 use anyhow::{Error, Result};
 use oer_json::Tables;
-use oer_walk::{Node, Walked, walk};
+use oer_walk::{Kind, Node, Walked, walk};
 use std::alloc::Global;
 
 /// The most nodes that are shown of a message.
@@ -12,10 +12,6 @@ const MOST_NODES: usize = 1_048_576;
 const FIRST_NODES: usize = 256;
 /// How many sequences, sets, lists and choices may be nested.
 const LEVELS: u32 = 1024;
-/// The first of the kinds that have parts.
-const LIST: u32 = 10;
-/// The last of them.
-const CHOICE: u32 = 12;
 /// No line of a tree is further to the right than a part so deep.
 const MOST_INDENT: u32 = 60;
 /// The type of a group of extension additions, which is no part of its own in JSON (X.697).
@@ -89,7 +85,7 @@ pub struct Message<'m> {
 
 /// Whether a part has parts.
 fn is_scope(node: Node) -> bool {
-    node.kind >= LIST && node.kind <= CHOICE
+    Kind::of(node.kind).is_some_and(|kind| kind.has_parts())
 }
 
 /// Whether octets are all of one value of the type with that number.
@@ -360,7 +356,7 @@ impl<'m> Message<'m> {
                 self.alloc, &mut *out,
             );
         }
-        let is_list = node.kind == LIST;
+        let is_list = Kind::of(node.kind) == Some(Kind::List);
         out.push(if is_list { '[' } else { '{' })?;
         Ok(ends.push(if is_list { ']' } else { '}' })?)
     }

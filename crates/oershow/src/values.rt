@@ -2,7 +2,7 @@
 
 use anyhow::Result;
 use oer_json::Tables;
-use oer_walk::Node;
+use oer_walk::{Kind, Node};
 use std::alloc::Global;
 
 /// What a part is that has no parts.
@@ -26,9 +26,6 @@ pub enum Leaf {
     /// Octets that are no text of a string type, in hexadecimal.
     NoText(String),
 }
-
-/// The kind of enumerated types.
-const ENUMERATED: u32 = 4;
 
 /// The number that octets are, big end first; nothing past 128 bits.
 fn number_of(octets: &[u8], is_signed: bool) -> Option<i128> {
@@ -57,7 +54,9 @@ fn number_leaf(
         return Ok(Leaf::Hex(hex_of(alloc, octets)?));
     };
     match tables.value_name(node.type_number, number) {
-        Some(name) if node.kind == ENUMERATED => Ok(Leaf::Name(String::from_str(alloc, name)?)),
+        Some(name) if Kind::of(node.kind) == Some(Kind::Enumerated) => {
+            Ok(Leaf::Name(String::from_str(alloc, name)?))
+        }
         Some(name) => Ok(Leaf::NamedNumber(number, String::from_str(alloc, name)?)),
         None => Ok(Leaf::Number(number)),
     }
@@ -190,20 +189,20 @@ fn octets_leaf(alloc: Global, octets: &[u8], text: u32) -> Result<Leaf> {
 /// What a part is, by its content.
 pub fn leaf_of(alloc: Global, tables: &Tables, node: Node, octets: &[u8]) -> Result<Leaf> {
     let word = |index: usize| tables.word_of(node.type_number, index);
-    match node.kind {
-        0 => Ok(Leaf::Truth(octets.first().copied().unwrap_or(0) != 0)),
-        1 => Ok(Leaf::Nothing),
-        2 => number_leaf(alloc, tables, node, octets, word(1) == 1),
-        3 => number_leaf(alloc, tables, node, octets, word(0) == 1),
-        4 => enumerated_leaf(alloc, tables, node, octets),
-        5 => {
+    match Kind::of(node.kind) {
+        Some(Kind::Boolean) => Ok(Leaf::Truth(octets.first().copied().unwrap_or(0) != 0)),
+        Some(Kind::Null) => Ok(Leaf::Nothing),
+        Some(Kind::FixedInteger) => number_leaf(alloc, tables, node, octets, word(1) == 1),
+        Some(Kind::Integer) => number_leaf(alloc, tables, node, octets, word(0) == 1),
+        Some(Kind::Enumerated) => enumerated_leaf(alloc, tables, node, octets),
+        Some(Kind::FixedBitString) => {
             let names = names_of(alloc, tables, node, octets)?;
             let digits = hex_of(alloc, octets)?;
             Ok(Leaf::FixedBits(word(0) as usize, digits, names))
         }
-        6 => bits_leaf(alloc, tables, node, octets),
-        7 => octets_leaf(alloc, octets, word(1)),
-        8 => octets_leaf(alloc, octets, word(0)),
+        Some(Kind::BitString) => bits_leaf(alloc, tables, node, octets),
+        Some(Kind::FixedString) => octets_leaf(alloc, octets, word(1)),
+        Some(Kind::String) => octets_leaf(alloc, octets, word(0)),
         _ => Ok(Leaf::Hex(hex_of(alloc, octets)?)),
     }
 }
