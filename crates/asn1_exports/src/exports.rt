@@ -132,11 +132,9 @@ pub fn push_exports(alloc: Global, name: &str, output: &mut Output) -> Result<()
     if output.types.is_empty() {
         return Ok(());
     }
-    let files = export_files(alloc, name, output.types.as_slice())?;
+    let mut files = export_files(alloc, name, output.types.as_slice())?;
     let line = export_line(alloc, name, output.types.as_slice())?;
-    for file in files {
-        output.files.push(file)?;
-    }
     output.lines.push_str(line.as_str())?;
+    output.files.append(&mut files)?;
     Ok(())
 }
