@@ -1,4 +1,6 @@
 //! A SEQUENCE or a SET: its struct, its row, its tables and its conversions.
+ghost use Rattle.std.specs.Prelude.{◌≡◌, true, IfOk};
+ghost use Rattle.asn1_printer.specs.SetOrder.{AreInTagOrder, class_order, roots_from};
 
 use crate::cells::{Cell, Names, Place, cell_of, group_cell, see_name};
 use crate::chains::{Chain, push_row};
@@ -156,7 +158,9 @@ fn push_members(alloc: Global, out: &mut Text, doc: &str, of: Chain<'_>, is_set:
 }
 
 /// The place of a class in the order of tags (X.680, 8.6).
-fn class_order(class: Class) -> u8 {
+fn class_order(class: Class) -> u8
+    ensures { result ≡ class_order class }
+{
     match class {
         Class::Universal => 0,
         Class::Application => 1,
@@ -165,17 +169,28 @@ fn class_order(class: Class) -> u8 {
     }
 }
 
-/// The root components of a SET in the order of their tags, as places among all.
-fn in_tag_order(alloc: Global, parts: &[Part<'_>]) -> Result<Vec<usize>, AllocError> {
-    let mut order = BTreeMap::new(alloc);
+/// The root components that have a tag: the class and the number of each, and its place among all.
+fn tagged_roots(alloc: Global, parts: &[Part<'_>]) -> Result<Vec<(u8, u32, usize)>, AllocError>
+    ensures { IfOk result (λ roots. roots.items ≡ roots_from 0 parts.now) }
+{
+    let mut roots = Vec::new(alloc);
     for (at, part) in parts.iter().enumerate() {
         if let Some(row) = part.row {
             if let (Position::Root, Some(tag)) = (row.position, row.tag) {
-                order.insert((class_order(tag.class), tag.value), at)?;
+                roots.push((class_order(tag.class), tag.value, at))?;
             }
         }
     }
-    order.values().copied().collect(alloc)
+    Ok(roots)
+}
+
+/// The root components of a SET in the order of their tags, as places among all.
+fn in_tag_order(alloc: Global, parts: &[Part<'_>]) -> Result<Vec<usize>, AllocError>
+    ensures { IfOk result (λ places. AreInTagOrder parts.now places.items) }
+{
+    let mut roots = tagged_roots(alloc, parts)?;
+    roots.sort()?;
+    roots.iter().map(|root| root.2).collect(alloc)
 }
 
 /// The components that stand at a position, as places among all.
@@ -291,7 +306,9 @@ pub fn root_places(
     alloc: Global,
     parts: &[Part<'_>],
     is_set: bool,
-) -> Result<Vec<usize>, AllocError> {
+) -> Result<Vec<usize>, AllocError>
+    ensures { is_set ≡ true → IfOk result (λ places. AreInTagOrder parts.now places.items) }
+{
     if is_set {
         in_tag_order(alloc, parts)
     } else {
