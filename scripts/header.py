@@ -10,7 +10,7 @@ import sys
 
 top = pathlib.Path(__file__).resolve().parent.parent
 EXPORT = re.compile(r'#\[unsafe\(no_mangle\)\]\npub extern "C" fn (\w+)\((.*?)\) -> (\w+)\s', re.S)
-PROTOTYPE = re.compile(r"^(\w+) (jilgomt_\w+)\(([^;]*?)\);", re.M | re.S)
+PROTOTYPE = re.compile(r"^(\w+) (\w+)\(([^;]*?)\);", re.M | re.S)
 # A type of Rattle, as the types that C has for it: behind a slice's pointer comes its length.
 TYPES = {"Global": (), "u32": ("uint32_t ",), "usize": ("size_t ",), "isize": ("intptr_t ",), "&[u8]": ("const uint8_t *", "size_t "), "&[u32]": ("const uint32_t *", "size_t "),
          "&mut [u8]": ("uint8_t *", "size_t "), "&mut [Node]": ("jilgomt_node *", "size_t "), "&mut Answer": ("jilgomt_answer *",)}
@@ -31,10 +31,21 @@ def in_c(declared):
     return found
 
 
+def exported_by(source):
+    """Each function that a crate's files export: its parameters, and its result."""
+    text = "".join(it.read_text(encoding="utf-8") for it in sorted(source.rglob("*.rt")))
+    return {name: (in_c(parameters.split(",")), TYPES[result][0].strip()) for name, parameters, result in EXPORT.findall(text)}
+
+
+def declared_by(text):
+    """The same of a header's text."""
+    text = re.sub(r"/\*.*?\*/", "", text, flags=re.S).replace("\\\n", " ").replace("JILGOMT_RESTRICT ", "")
+    return {name: ([" ".join(it.split()) for it in parameters.split(",")], result) for result, name, parameters in PROTOTYPE.findall(text)}
+
+
 def exported():
-    """Each exported function: its parameters, and its result."""
-    text = "".join(it.read_text(encoding="utf-8") for it in sorted((top / "crates/jilgomt/src").rglob("*.rt")))
-    found = {name: (in_c(parameters.split(",")), TYPES[result][0].strip()) for name, parameters, result in EXPORT.findall(text)}
+    """Each exported function and each struct."""
+    found = exported_by(top / "crates/jilgomt/src")
     return found | {c: (in_c(re.findall(r"pub (\w+: \w+),", re.search(f"pub struct {name} {{(.*?)^}}", read(file), re.M | re.S)[1])), "struct") for c, (file, name) in STRUCTS.items()}
 
 
@@ -44,8 +55,7 @@ def declared():
     of_one = re.search(r"#define JILGOMT_TYPE\(word\)(.*)", text)[1].replace(";", ";\n")
     words = re.findall(r"X\((\w+)\)", re.search(r"#define JILGOMT_TYPES\(X\)(.*)", text)[1])
     text += "\n" + "".join(re.sub(r"(?m)^ +", "", of_one.replace("##word##", it)) for it in words)
-    found = {name: ([" ".join(it.split()) for it in parameters.split(",")], result) for result, name, parameters in PROTOTYPE.findall(text)}
-    return found | {name: ([" ".join(it.split()) for it in fields.split(";") if it.strip()], "struct") for fields, name in re.findall(r"typedef struct \w+ {(.*?)} (\w+);", text, re.S)}
+    return declared_by(text) | {name: ([" ".join(it.split()) for it in fields.split(";") if it.strip()], "struct") for fields, name in re.findall(r"typedef struct \w+ {(.*?)} (\w+);", text, re.S)}
 
 
 def main():

@@ -1,8 +1,9 @@
 #!/usr/bin/env python3
 """Says where crates/sample_types or crates/recursive_types, or the line of one in crates.txt, isn't what oergen prints of its module
 in crates/oergen/data, where types of made modules are put into other crates than they should be, or lack names, comments, constants
-or boxes that they should have, where of the published modules in scripts/v2x.d a type is left out or isn't listed as listed.txt there has it, where the types of scripts/printed.d/circle.asn, which contain each other, aren't printed with the definitions beside it, and
-where what is printed of long.asn, which has long names and wide choices, or of comments, isn't in the layout that `rt fmt` leaves as it is.
+or boxes that they should have, where of the published modules in scripts/v2x.d a type is left out or isn't listed as listed.txt there has it, where the types of scripts/printed.d/circle.asn, which contain each other, aren't printed with the definitions beside it,
+where what is printed of long.asn, which has long names and wide choices, or of comments, isn't in the layout that `rt fmt` leaves as it is, and
+where the library for C of a BOOLEAN hasn't the functions that crates/jilgomt has of `bool`, by other names.
 
 usage: printed.py PROGRAM, for example: printed.py crates/oergen/out/oergen
 
@@ -211,6 +212,27 @@ def undefined(program):
     return faults
 
 
+# the library for C of one type: the lines for crates.txt, the files, and what stands for the names of the type in crates/jilgomt
+LAMP = "Lamp ::= BOOLEAN"
+LAMP_LINES = "lamps: rasn_oer\nlamps_c staticlib: lamps oer_calls rasn_oer oer_read oer_spec asn1_core\n"
+LAMP_FILES = ["lamps/src/lib.rt", "lamps/src/types_01.rt", "lamps_c/include/lamps_c.h", "lamps_c/src/lib.rt", "lamps_c/src/types_01.rt"]
+LAMP_NAMES = (("jilgomt_bool_", "lamps_Lamp_"), ("<bool", "<lamps::Lamp"), ("`bool`", "`Lamp`"))
+
+
+def unexported(program):
+    """Where the library for C of one type isn't that of a type of crates/jilgomt by other names."""
+    with tempfile.TemporaryDirectory() as folder, tempfile.NamedTemporaryFile("w", suffix=".asn") as module:
+        module.write(MADE.format(LAMP))
+        module.flush()
+        lines, files = printed(program, folder, "lamps", module.name, ("--c",))
+    wanted = [it for it in (top / "crates/jilgomt/src/types/leaves.rt").read_text(encoding="utf-8").split("\n\n") if "jilgomt_bool_" in it]
+    for own, other in LAMP_NAMES:
+        wanted = [it.replace(own, other) for it in wanted]
+    found = files.get("lamps_c/src/types_01.rt", "").rstrip("\n").split("\n\n")
+    faults = [] if (lines, sorted(files)) == (LAMP_LINES, LAMP_FILES) else [f"{LAMP}: {lines!r}, {sorted(files)}"]
+    return faults + ([] if len(wanted) == 2 and found[-2:] == wanted else [f"{LAMP}: the functions for C are {found[-2:]}, and not {wanted}"])
+
+
 def unformatted(program):
     """Which files of long.asn, and of what has comments, aren't in the layout."""
     rattle = pathlib.Path(shutil.which("rt")).resolve().parent / "rattle"
@@ -218,14 +240,14 @@ def unformatted(program):
         noted = pathlib.Path(folder) / "noted.asn"
         noted.write_text(MADE.format(NOTED), newline="")
         for module in (DATA / "long.asn", noted):
-            printed(program, folder, module.stem, module)
+            printed(program, folder, module.stem, module, ("--c",))
         files = sorted(pathlib.Path(folder).rglob("*.rt"))
         ran = subprocess.run([rattle, "fmt", "--check", *files], capture_output=True, text=True, timeout=60, check=False)
     return [f"not in the layout: {line}" for line in (ran.stdout + ran.stderr).splitlines()] if ran.returncode else []
 
 
 def main(program):
-    faults = misplaced(program) + misprinted(program) + unread(program) + undefined(program) + unformatted(program)
+    faults = misplaced(program) + misprinted(program) + unread(program) + undefined(program) + unformatted(program) + unexported(program)
     for fault in faults:
         print(f"printed: {fault}")
     status = 1 if faults else 0

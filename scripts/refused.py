@@ -139,6 +139,9 @@ NAMELESS = (
 )
 
 
+FOR_C = "m: rasn_oer\nm_c staticlib: m oer_calls rasn_oer oer_read oer_spec asn1_core\n"
+
+
 def folders():
     """What lies where a crate is to be written: of another's making, of an earlier print, or nothing that matters."""
     root, types = ("crates/m/src/lib.rt", HEAD), "crates/m/src/types_02.rt"
@@ -150,10 +153,14 @@ def folders():
         ((root, (weights, "")), f"{weights}: {LEFT}"),
         ((("crates/m_1/src/lib.rt", HEAD),), f"crates/m_1: {EARLIER}"),
     )
+    header, of_c = "crates/m_c/include/n_c.h", ("crates/m_c/src/lib.rt", HEAD)
+    lie_for_c = (((("crates/m_c/notes.txt", ""),), FOREIGN.replace("m:", "m_c:")), ((of_c, (header, "")), f"{header}: {LEFT}"))
     null = module_of("A ::= NULL")
-    cases = [Case(PRINT, null, ("", message, 1, len(files)), before=files) for files, message in lie]
+    cases = [Case(PRINT, null, ("", message, 1, len(files)), before=files) for files, message in (*lie, ((of_c,), f"crates/m_c: {EARLIER}"))]
+    cases += [Case((*PRINT, "--c"), null, ("", message, 1, len(files)), before=files) for files, message in lie_for_c]
+    cases.append(Case((*PRINT, "--c"), null, (FOR_C, "", 0, 5), before=(root, of_c)))
     cases.append(Case(PRINT, null, ("m: rasn_oer\n", "", 0, 4), before=(root, ("crates/m/out/x", ""), ("crates/m_1/src/lib.rt", ""))))
-    for name in ("std", "core", "rasn_oer", "oer_write", "asn1_core", "M", "1m", ""):
+    for name in ("std", "core", "rasn_oer", "oer_write", "asn1_core", "oer_calls", "oer_read", "oer_spec", "M", "1m", ""):
         cases.append(Case(("--out", "crates", "--name", name), null, ("", NAMELESS, 2, 0)))
     cases.append(Case((*LIST, *PRINT), null, ("", NAMELESS, 2, 0)))
     return cases
@@ -164,7 +171,7 @@ def unhelpful(program):
     ran = subprocess.run([program, "--help"], capture_output=True, text=True, timeout=60, check=False)
     lines = [line.split() for line in ran.stdout.splitlines()]
     told = {line[0] for line in lines if line and len(line) > 4}
-    faults = [f"--help says nothing of {it}" for it in ("--list", "--out", "--name", "--leave-out", "<MODULE.asn>...") if it not in told]
+    faults = [f"--help says nothing of {it}" for it in ("--list", "--out", "--name", "--leave-out", "--c", "<MODULE.asn>...") if it not in told]
     return faults + ([] if (ran.returncode, ran.stderr) == (0, "") else [f"--help: status {ran.returncode}, {ran.stderr!r}"])
 
 

@@ -1,6 +1,15 @@
 -- Tags under AUTOMATIC TAGS (X.680, 25.7 to 25.9 and 29.5): those of the root's components are [0], [1] and so on, as they are written,
 -- and those of the additions go on behind them.
-use Rattle.std.specs.Prelude.{ℕ, ◌+◌, Bool, true, false, cond, List, [], ◌∷◌, count_by, Some}
+use Rattle.std.specs.Prelude.{◌≡◌, ℕ, ◌+◌, ◌<◌, ◌^◌, ◌⊎◌, Bool, true, false, cond, List, [], ◌∷◌, length, count_by, Some, Vec}
+use Rattle.std.specs.List.{All}
+use Rattle.std.specs.Global.{Global}
+use Rattle.asn1_modules.specs.declared.ast.Body.{Body}
+use Rattle.asn1_modules.specs.declared.ast.Body.TheVariants.{Sequence, Set, Choice}
+use Rattle.asn1_modules.specs.declared.ast.Component.{Component}
+use Rattle.asn1_modules.specs.declared.ast.Member.{Member}
+use Rattle.asn1_modules.specs.declared.ast.Member.TheVariants.{Component as in_member}
+use Rattle.asn1_modules.specs.declared.ast.Module.{Module}
+use Rattle.asn1_modules.specs.declared.ast.Tagging.TheVariants.{Automatic}
 use Rattle.asn1_core.specs.declared.tag.Class.TheVariants.{Context}
 use Rattle.asn1_layouts.specs.declared.rows.Row.{Row}
 use Rattle.asn1_layouts.specs.declared.rows.Position.TheVariants.{Root, Addition, Group}
@@ -22,3 +31,26 @@ tags_from root addition (row ∷ rows) =
 
 abbrev pub automatic_tags : List Row → List Row
 automatic_tags rows = tags_from 0 (count_by is_root rows) rows
+
+-- what AUTOMATIC TAGS give is what they give again
+pub record IsAutomatic (rows : List Row) : Type 0 where
+  pub are_automatic : length rows < 2 ^ 31 → rows ≡ automatic_tags rows
+
+-- modules, each of which has AUTOMATIC TAGS
+pub record AreAutomatic (modules : List Module) : Type 0 where
+  pub is_any : 0 < length modules
+  pub each_is : All (λ one. one.tagging ≡ Automatic) modules
+
+-- the members of a SEQUENCE, a SET or a CHOICE
+pub record AreMembers (body : Body) (members : List Member) : Type 0 where
+  pub all : Vec Member Global
+  pub are_all : members ≡ all.items
+  pub stand_in : (body ≡ Choice all) ⊎ (body ≡ Sequence all) ⊎ (body ≡ Set all)
+
+-- no tag stands in front of a component's type
+pub record IsUntagged (member : Member) : Type 0 where
+  pub is_untagged : (one : Component) → member ≡ in_member one → one.of.tags.items ≡ []
+
+-- a SEQUENCE, a SET or a CHOICE, of which no member is written with a tag
+pub record HasUntagged (body : Body) : Type 0 where
+  pub are_untagged : (members : List Member) → AreMembers body members → All IsUntagged members

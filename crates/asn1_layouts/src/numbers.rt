@@ -1,11 +1,13 @@
 //! The values that names and literals stand for.
-ghost use Rattle.std.specs.Prelude.{IfSome};
-ghost use Rattle.asn1_layouts.specs.Enumerations.{IsLeastFree};
+ghost use Rattle.std.specs.Prelude.{◌≡◌, IfOk, IfSome, IsNone, is_some, length, map, take};
+ghost use Rattle.std.specs.List.{filter_map};
+ghost use Rattle.asn1_layouts.specs.Enumerations.{AreNumbered, AreNumbersOf, AreTakenFrom, IsGiven, IsLeastFree, bound_of, next_behind};
 
 use crate::scope::Scope;
 use asn1_modules::ast::{Body, Numbered, Reference, Type, Value};
 use asn1_modules::lexer::{Kind, TokenId};
 use asn1_modules::refusal::Refusal;
+use std::alloc::{AllocError, Global};
 use std::collections::BTreeMap;
 
 /// How many names may stand for one another in a row.
@@ -164,15 +166,104 @@ pub fn number_of<'m>(scope: Scope<'m, '_>, spot: Spot<'m>) -> Result<i128, Refus
     }
 }
 
-/// The numbers that are written in the root of an ENUMERATED.
-fn taken_numbers<'m>(scope: Scope<'m, '_>, root: &'m [Numbered]) -> Result<Vec<i128>, Refusal> {
-    let mut taken = Vec::new(scope.alloc);
-    for item in root.iter() {
-        if let Some(number) = written_number(scope, item)? {
-            taken.push(number)?;
-        }
+/// The numbers that are written behind the names of an ENUMERATED, as they are read; none where none is written.
+fn written_numbers<'m>(
+    scope: Scope<'m, '_>,
+    items: &'m [Numbered],
+) -> Result<Vec<Option<i128>>, Refusal>
+    ensures { IfOk result (λ all. map is_some all.items ≡ map (λ item. is_some item.number) items.now) }
+{
+    let mut all = Vec::new(scope.alloc);
+    for item in items.iter() {
+        all.push(written_number(scope, item)?)?;
     }
-    Ok(taken)
+    Ok(all)
+}
+
+/// The numbers that are written in the root of an ENUMERATED.
+fn taken_numbers(
+    alloc: Global,
+    written: &[Option<i128>],
+    root: usize,
+) -> Result<Vec<i128>, AllocError>
+    ensures { IfOk result (λ all. all.items ≡ filter_map (λ own. own) (take root written.now)) }
+{
+    written
+        .iter()
+        .take(root)
+        .filter_map(|own| *own)
+        .collect(alloc)
+}
+
+/// The number of a value: the one that is written, else the least from `next` on that isn't taken; nothing past i128.
+fn given_number(own: Option<i128>, taken: &[i128], next: Option<i128>) -> Option<i128>
+    ensures given { IfSome result (IsGiven taken.now (bound_of next) own) }
+    ensures none { IsNone result → AreTakenFrom taken.now (bound_of next) }
+{
+    match own {
+        Some(number) => Some(number),
+        None => free_number(taken, next?),
+    }
+}
+
+/// From which one on the next number is given, nothing past i128: behind a value of the root whose number is written that stays as it
+/// was. So many values of the root are left.
+fn next_behind(left: usize, next: Option<i128>, own: Option<i128>, number: i128) -> Option<i128>
+    ensures { bound_of result ≡ next_behind left (bound_of next) own number }
+{
+    if own.is_some() && left > 0 {
+        next
+    } else {
+        number.checked_add(1)
+    }
+}
+
+/// The numbers of an ENUMERATED's values by those that are written: where none is, the least that the root leaves free, behind those
+/// that were given before (X.680, 20.3 to 20.6).
+fn given_numbers<'m>(
+    scope: Scope<'m, '_>,
+    items: &'m [Numbered],
+    written: &[Option<i128>],
+    root: usize,
+) -> Result<Vec<i128>, Refusal>
+    requires { length items.now ≡ length written.now }
+    ensures numbers { IfOk result (λ all. AreNumbered root written.now all.items) }
+    ensures each { IfOk result (λ all. length all.items ≡ length written.now) }
+{
+    let taken = taken_numbers(scope.alloc, written, root)?;
+    let mut all = Vec::new(scope.alloc);
+    let mut next = Some(0i128);
+    for (at, own) in written.iter().enumerate() {
+        let Some(number) = given_number(*own, taken.as_slice(), next) else {
+            return Err(scope.refused(items[at].name, NUMBER));
+        };
+        next = next_behind(root.saturating_sub(at), next, *own, number);
+        all.push(number)?;
+    }
+    Ok(all)
+}
+
+/// Names with their numbers. Refused where two numbers are the same.
+fn named_numbers<'m>(
+    scope: Scope<'m, '_>,
+    items: &'m [Numbered],
+    numbers: &[i128],
+) -> Result<Vec<(TokenId, i128)>, Refusal>
+    requires { length items.now ≡ length numbers.now }
+    ensures names { IfOk result (λ all. map (λ one. one.0) all.items ≡ map (λ item. item.name) items.now) }
+    ensures numbers { IfOk result (λ all. map (λ one. one.1) all.items ≡ numbers.now) }
+{
+    let mut seen: BTreeMap<i128, TokenId> = BTreeMap::new(scope.alloc);
+    let mut all = Vec::new(scope.alloc);
+    for (at, number) in numbers.iter().enumerate() {
+        let name = items[at].name;
+        if let Some(other) = seen.get(number) {
+            return Err(same_number(scope, name, *other, *number));
+        }
+        seen.insert(*number, name)?;
+        all.push((name, *number))?;
+    }
+    Ok(all)
 }
 
 /// The numbers of an ENUMERATED's values, each with its name: where none is written, the least that the root leaves free, behind
@@ -181,27 +272,13 @@ pub fn enumerated_numbers<'m>(
     scope: Scope<'m, '_>,
     items: &'m [Numbered],
     root: usize,
-) -> Result<Vec<(TokenId, i128)>, Refusal> {
-    let front = items.get(..root).unwrap_or(items);
-    let taken = taken_numbers(scope, front)?;
-    let mut seen: BTreeMap<i128, TokenId> = BTreeMap::new(scope.alloc);
-    let mut numbers = Vec::new(scope.alloc);
-    let mut next = 0i128;
-    for (at, item) in items.iter().enumerate() {
-        let written = written_number(scope, item)?;
-        let Some(number) = written.or(free_number(taken.as_slice(), next)) else {
-            return Err(scope.refused(item.name, NUMBER));
-        };
-        if written.is_none() || at >= root {
-            next = number.saturating_add(1);
-        }
-        if let Some(other) = seen.get(&number) {
-            return Err(same_number(scope, item.name, *other, number));
-        }
-        seen.insert(number, item.name)?;
-        numbers.push((item.name, number))?;
-    }
-    Ok(numbers)
+) -> Result<Vec<(TokenId, i128)>, Refusal>
+    ensures names { IfOk result (λ all. map (λ one. one.0) all.items ≡ map (λ item. item.name) items.now) }
+    ensures numbers { IfOk result (λ all. AreNumbersOf items.now root (map (λ one. one.1) all.items)) }
+{
+    let written = written_numbers(scope, items)?;
+    let numbers = given_numbers(scope, items, written.as_slice(), root)?;
+    named_numbers(scope, items, numbers.as_slice())
 }
 
 /// The refusal of a name of an ENUMERATED that has another's number.
@@ -218,23 +295,24 @@ fn same_number(scope: Scope<'_, '_>, own: TokenId, other: TokenId, number: i128)
 }
 
 /// The number that is written behind a name of an ENUMERATED.
-fn written_number<'m>(scope: Scope<'m, '_>, item: &'m Numbered) -> Result<Option<i128>, Refusal> {
+fn written_number<'m>(scope: Scope<'m, '_>, item: &'m Numbered) -> Result<Option<i128>, Refusal>
+    ensures { IfOk result (λ own. is_some own ≡ is_some item.now.number) }
+{
     match &item.number {
         Some(value) => Ok(Some(number_of(scope, Spot { value, names: &[] })?)),
         None => Ok(None),
     }
 }
 
-/// The least number from `next` on that isn't taken; nothing past i128.
+/// The least number from `next` on that isn't taken; nothing where all of them are.
 fn free_number(taken: &[i128], next: i128) -> Option<i128>
-    ensures { IfSome result (IsLeastFree taken.now next) }
+    ensures free { IfSome result (IsLeastFree taken.now next) }
+    ensures none { IsNone result → AreTakenFrom taken.now next }
 {
-    let mut number = next;
-    'tried: for _ in 0..taken.len().saturating_add(1) {
+    for number in next..=i128::MAX {
         if !taken.contains(&number) {
             return Some(number);
         }
-        number = number.checked_add(1)?;
     }
     None
 }

@@ -1,6 +1,7 @@
 //! The components of a SEQUENCE or a SET, and the alternatives of a CHOICE: each with its place and its tag.
-ghost use Rattle.std.specs.Prelude.{◌≡◌, ◌<◌, ◌^◌, IfOk, length};
-ghost use Rattle.asn1_layouts.specs.Tags.{automatic_tags, is_root, with_tag};
+ghost use Rattle.std.specs.Prelude.{◌≡◌, ◌<◌, ◌^◌, false, IfOk, IfSome, length};
+ghost use Rattle.std.specs.List.{All};
+ghost use Rattle.asn1_layouts.specs.Tags.{AreAutomatic, AreMembers, HasUntagged, IsAutomatic, IsUntagged, automatic_tags, is_root, with_tag};
 
 use crate::numbers::{Spot, number_of};
 use crate::scope::Scope;
@@ -78,7 +79,9 @@ impl Walk {
 }
 
 /// The members of a SEQUENCE, a SET or a CHOICE.
-pub fn members_of<'m>(of: &'m Type) -> Option<&'m [Member]> {
+pub fn members_of<'m>(of: &'m Type) -> Option<&'m [Member]>
+    ensures { IfSome result (λ members. AreMembers of.now.body members.now) }
+{
     match &of.body {
         Body::Choice(members) | Body::Sequence(members) | Body::Set(members) => {
             Some(members.as_slice())
@@ -172,7 +175,9 @@ fn taken_rows<'m>(
 
 /// Whether a member is a component with a tag in front of its type, and written with it: no tag of what a parameter or the name of a
 /// type with parameters stands for (X.680, 25.3).
-fn is_tagged(scope: Scope<'_, '_>, member: &Member) -> bool {
+fn is_tagged(scope: Scope<'_, '_>, member: &Member) -> bool
+    ensures { IsUntagged member.now → result ≡ false }
+{
     match member {
         Member::Component(component) => {
             let (name, first) = (scope.token(component.name), scope.token(component.of.first));
@@ -180,6 +185,18 @@ fn is_tagged(scope: Scope<'_, '_>, member: &Member) -> bool {
         }
         Member::Mark(_) | Member::Opens(_) | Member::Closes(_) | Member::ComponentsOf(_) => false,
     }
+}
+
+/// Whether one of a type's members is written with a tag.
+fn has_tagged(scope: Scope<'_, '_>, members: &[Member]) -> bool
+    ensures { All IsUntagged members.now → result ≡ false }
+{
+    for member in members.iter() {
+        if is_tagged(scope, member) {
+            return true;
+        }
+    }
+    false
 }
 
 /// The number of a tag, which is a u32.
@@ -271,7 +288,8 @@ impl<'m> Row<'m> {
 
 /// The rows with tags from 0: the root components first, then the additions (X.680, 25.7 to 25.9 and 29.5).
 fn numbered_rows<'m>(alloc: Global, rows: &[Row<'m>]) -> Result<Vec<Row<'m>>, AllocError>
-    ensures { length rows.now < 2 ^ 31 → IfOk result (λ all. all.items ≡ automatic_tags rows.now) }
+    ensures tags { length rows.now < 2 ^ 31 → IfOk result (λ all. all.items ≡ automatic_tags rows.now) }
+    ensures each { IfOk result (λ all. length all.items ≡ length rows.now) }
 {
     let mut all = Vec::new(alloc);
     let roots = rows.iter().filter(|row| row.is_root()).count();
@@ -297,6 +315,38 @@ fn tagged_rows<'m>(scope: Scope<'m, '_>, rows: &[Row<'m>]) -> Result<Vec<Row<'m>
         all.push(Row { tag, ..*row })?;
     }
     Ok(all)
+}
+
+/// The rows with their tags: numbers where the module's tags are automatic and none is written, else those of their types.
+fn with_tags<'m>(
+    scope: Scope<'m, '_>,
+    of: &'m Type,
+    members: &'m [Member],
+    rows: &[Row<'m>],
+) -> Result<Vec<Row<'m>>, Refusal>
+    ensures { AreAutomatic scope.entry.modules.now → All IsUntagged members.now → IfOk result (λ all. IsAutomatic all.items) }
+{
+    if scope.tagging_of(of.first) == Tagging::Automatic && !has_tagged(scope, members) {
+        return Ok(numbered_rows(scope.alloc, rows)?);
+    }
+    tagged_rows(scope, rows)
+}
+
+/// Refuses what can't be tagged as it is, by what the type is.
+fn require_rows<'m>(
+    scope: Scope<'m, '_>,
+    of: &'m Type,
+    members: &'m [Member],
+    rows: &[Row<'m>],
+) -> Result<(), Refusal> {
+    let is_choice = matches!(of.body, Body::Choice(_));
+    if is_choice {
+        require_alternatives(scope, rows, members)?;
+    }
+    if is_choice || matches!(of.body, Body::Set(_)) {
+        require_tags(scope, rows, is_choice)?;
+    }
+    Ok(())
 }
 
 /// The row that has a tag.
@@ -387,23 +437,14 @@ fn require_alternatives<'m>(
 }
 
 /// The components or alternatives of a type with members; none of another.
-pub fn rows_of<'m>(scope: Scope<'m, '_>, of: &'m Type) -> Result<Vec<Row<'m>>, Refusal> {
+pub fn rows_of<'m>(scope: Scope<'m, '_>, of: &'m Type) -> Result<Vec<Row<'m>>, Refusal>
+    ensures { AreAutomatic scope.entry.modules.now → HasUntagged of.now.body → IfOk result (λ rows. IsAutomatic rows.items) }
+{
     let Some(members) = members_of(of) else {
         return Ok(Vec::new(scope.alloc));
     };
     let written = written_rows(scope, members, MAX_NESTING)?;
-    let is_automatic = scope.tagging_of(of.first) == Tagging::Automatic;
-    let rows = if is_automatic && !members.iter().any(|m| is_tagged(scope, m)) {
-        numbered_rows(scope.alloc, written.as_slice())?
-    } else {
-        tagged_rows(scope, written.as_slice())?
-    };
-    let is_choice = matches!(of.body, Body::Choice(_));
-    if is_choice {
-        require_alternatives(scope, rows.as_slice(), members)?;
-    }
-    if is_choice || matches!(of.body, Body::Set(_)) {
-        require_tags(scope, rows.as_slice(), is_choice)?;
-    }
+    let rows = with_tags(scope, of, members, written.as_slice())?;
+    require_rows(scope, of, members, rows.as_slice())?;
     Ok(rows)
 }

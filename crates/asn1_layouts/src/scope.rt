@@ -1,4 +1,6 @@
 //! Finds what a name stands for: in its module, and in the modules that this one imports from (X.680, clause 13).
+ghost use Rattle.std.specs.Prelude.{◌≡◌, ◌<◌, length};
+ghost use Rattle.asn1_layouts.specs.Tags.{AreAutomatic};
 
 use asn1_modules::ast::{Body, Module, Reference, Tagging, Type, ValueAssignment};
 use asn1_modules::lexer::{Kind, Token, TokenId, tokens};
@@ -85,12 +87,16 @@ impl<'m, 'a> Scope<'m, 'a> {
     }
 
     /// The module that a token is written in, by its number: what a name stands for is looked up there.
-    pub fn module_of(&self, id: TokenId) -> usize {
+    pub fn module_of(&self, id: TokenId) -> usize
+        ensures { 0 < length self.now.modules.now → result < length self.now.modules.now }
+    {
         self.module_at(self.token(id).place)
     }
 
     /// The module that a place is in: the last that begins there or in front of it.
-    pub fn module_at(&self, place: Place) -> usize {
+    pub fn module_at(&self, place: Place) -> usize
+        ensures { 0 < length self.now.modules.now → result < length self.now.modules.now }
+    {
         let mut home = 0usize;
         for (at, module) in self.modules.iter().enumerate() {
             if !place.is_before(self.token(module.name).place) {
@@ -101,7 +107,9 @@ impl<'m, 'a> Scope<'m, 'a> {
     }
 
     /// How the types of the module that a token is written in are tagged.
-    pub fn tagging_of(&self, id: TokenId) -> Tagging {
+    pub fn tagging_of(&self, id: TokenId) -> Tagging
+        ensures { AreAutomatic self.now.modules.now → result ≡ Tagging.Automatic }
+    {
         match self.modules.get(self.module_of(id)) {
             Some(module) => module.tagging,
             None => Tagging::Explicit,

@@ -10,8 +10,10 @@ use asn1_layouts::definitions::{Definition, Part, Tie};
 use asn1_layouts::rows::Row;
 use asn1_layouts::scope::Scope;
 use asn1_modules::ast::Need;
+use asn1_modules::lexer::TokenId;
 use asn1_modules::refusal::Refusal;
 use std::alloc::{AllocError, Global};
+use std::collections::BTreeMap;
 
 /// What stands in front of a field or a variant.
 const INDENT: &str = "    ";
@@ -93,22 +95,30 @@ fn class_of(tag: Tag) -> &'static str {
     }
 }
 
+/// Where what a cell is of stands.
+#[derive(Clone, Copy, PartialEq, Eq)]
+pub enum Place {
+    Root,
+    Addition,
+    Alternative,
+}
+
 /// The cell's name, the word of its table, and whether the field's type is an Option: as of an addition that may be left out, since
 /// an older sender leaves it out whatever its need is.
-fn need_of(need: &Need, is_addition: bool) -> (&'static str, &'static str, bool) {
-    match (need, is_addition) {
-        (Need::Required, false) => ("Needs", "Required", false),
-        (Need::Optional, false) => ("MayHave", "Optional", true),
-        (Need::Required | Need::Optional, true) => ("MayAdd", "Optional", true),
-        (Need::Default(_), false) => ("Defaults", "Default", false),
-        (Need::Default(_), true) => ("AddDefaults", "Default", false),
+fn need_of(need: &Need, place: Place) -> (&'static str, &'static str, bool) {
+    match (need, place) {
+        (_, Place::Alternative) => ("Offers", "", false),
+        (Need::Required, Place::Root) => ("Needs", "Required ", false),
+        (Need::Optional, Place::Root) => ("MayHave", "Optional ", true),
+        (Need::Required | Need::Optional, Place::Addition) => ("MayAdd", "Optional ", true),
+        (Need::Default(_), Place::Root) => ("Defaults", "Default ", false),
+        (Need::Default(_), Place::Addition) => ("AddDefaults", "Default ", false),
     }
 }
 
 /// A type's name with a component's behind it.
 fn camel_of(alloc: Global, owner: &str, name: &str) -> Text {
-    let mut out = Text::new(alloc);
-    out.push(owner);
+    let mut out = Text::of(alloc, &[owner]);
     out.push_type_name(name);
     out
 }
@@ -119,10 +129,29 @@ pub fn variant_name(alloc: Global, name: &str, kept: &str) -> Text {
     if !kept.split(' ').any(|word| word == own.as_str()) {
         return own;
     }
-    let mut out = Text::new(alloc);
-    out.push("R");
+    let mut out = Text::of(alloc, &["R"]);
     out.push_text(&own);
     out
+}
+
+/// The Rust names of what stands in a type so far, each with what the module calls it.
+pub type Names<'a> = BTreeMap<String, &'a str>;
+
+/// Puts the Rust name of what a token names to those so far. Refused at a token where another has it.
+pub fn see_name<'a>(
+    scope: Scope<'_, 'a>,
+    seen: &mut Names<'a>,
+    named: (String, TokenId),
+    at: TokenId,
+    reads: &str,
+) -> Result<(), Refusal> {
+    let (name, id) = named;
+    let text = scope.text(id);
+    if let Some(other) = seen.get(name.as_str()) {
+        return Err(scope.refused_beside(at, reads, (text, *other), name.as_str()));
+    }
+    seen.insert(name, text)?;
+    Ok(())
 }
 
 /// Appends a tag: its class and its number, with texts around the number.
@@ -164,18 +193,18 @@ fn push_own_default<'m>(
     }
 }
 
-/// A component's cell, by its names, its Rust type and its default.
-fn component_cell(
+/// A cell by its names, its Rust type and its default.
+fn made_cell(
     alloc: Global,
     names: (&str, &str),
     row: Row<'_>,
     rust: &str,
     default: Option<Text>,
-    is_addition: bool,
+    place: Place,
 ) -> Cell {
     let (name, field) = names;
     let tag = row.tag.unwrap_or(Tag::EOC);
-    let (head, presence, is_option) = need_of(row.need, is_addition);
+    let (head, presence, is_option) = need_of(row.need, place);
     let mut cell = Cell::new(alloc, head);
     cell.field.push(field);
     let around = if is_option {
@@ -184,20 +213,24 @@ fn component_cell(
         ("", "")
     };
     cell.field_type.push_all(&[around.0, rust, around.1]);
-    cell.camel.push_type_name(name);
     push_tag(&mut cell.arguments, tag, "<", ">\n");
     cell.arguments.push(rust);
     if let Some(default) = default {
         cell.arguments.push("\n");
         cell.arguments.push_text(&default);
     }
-    cell.entry.push_all(&[presence, " "]);
+    cell.entry.push(presence);
     push_tag(&mut cell.entry, tag, " ", "");
-    cell.entry.push_all(&[" \"", name, "\""]);
+    if place == Place::Alternative {
+        cell.camel = alternative_name(alloc, name);
+    } else {
+        cell.camel.push_type_name(name);
+        cell.entry.push_all(&[" \"", name, "\""]);
+    }
     cell
 }
 
-/// A component's cell. Its limits and its default are printed before.
+/// The cell of a component or an alternative. Its limits and its default are printed before.
 pub fn cell_of<'m>(
     scope: Scope<'m, '_>,
     all: &[Definition<'m>],
@@ -205,14 +238,14 @@ pub fn cell_of<'m>(
     owner: &str,
     part: &Part<'m>,
     row: Row<'m>,
-    is_addition: bool,
+    place: Place,
 ) -> Result<Cell, Refusal> {
     let name = scope.text(row.name);
     let own = camel_of(scope.alloc, owner, name).end()?;
     let rust = push_shape(scope, all, out, own.as_str(), part, row)?;
     let default = push_own_default(scope, all, out, own.as_str(), row, rust.as_str())?;
     let names = (name, part.rust_name.as_str());
-    let mut cell = component_cell(scope.alloc, names, row, rust.as_str(), default, is_addition);
+    let mut cell = made_cell(scope.alloc, names, row, rust.as_str(), default, place);
     push_note(&mut cell.note, scope.token(row.name).note, INDENT);
     Ok(cell.tied(part.tie).end()?)
 }
@@ -241,36 +274,4 @@ pub fn group_cell(
 /// The name of an alternative's variant.
 pub fn alternative_name(alloc: Global, name: &str) -> Text {
     variant_name(alloc, name, "Self First Rest")
-}
-
-/// An alternative's cell, by its names and its Rust type.
-fn alternative_cell(alloc: Global, names: (&str, &str), tag: Tag, rust: &str) -> Cell {
-    let (name, field) = names;
-    let mut cell = Cell::new(alloc, "Offers");
-    cell.field.push(field);
-    cell.field_type.push(rust);
-    cell.camel = alternative_name(alloc, name);
-    push_tag(&mut cell.arguments, tag, "<", ">\n");
-    cell.arguments.push(rust);
-    push_tag(&mut cell.entry, tag, " ", "");
-    cell
-}
-
-/// An alternative's cell. Its limits are printed before.
-pub fn alternative_of<'m>(
-    scope: Scope<'m, '_>,
-    all: &[Definition<'m>],
-    out: &mut Text,
-    owner: &str,
-    part: &Part<'m>,
-    row: Row<'m>,
-) -> Result<Cell, Refusal> {
-    let name = scope.text(row.name);
-    let own = camel_of(scope.alloc, owner, name).end()?;
-    let rust = push_shape(scope, all, out, own.as_str(), part, row)?;
-    let names = (name, part.rust_name.as_str());
-    let tag = row.tag.unwrap_or(Tag::EOC);
-    let mut cell = alternative_cell(scope.alloc, names, tag, rust.as_str());
-    push_note(&mut cell.note, scope.token(row.name).note, INDENT);
-    Ok(cell.tied(part.tie).end()?)
 }

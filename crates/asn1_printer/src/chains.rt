@@ -38,6 +38,20 @@ fn push_parameter(out: &mut Text, cells: &[Cell]) {
 }
 
 impl<'c> Chain<'c> {
+    /// The row of a SEQUENCE that has a root alone, and is of no circle.
+    pub fn of(owner: &'c str, cells: &'c [Cell]) -> Chain<'c> {
+        Chain {
+            owner,
+            cells,
+            root_count: cells.len(),
+            is_extensible: false,
+            is_choice: false,
+            knot: None,
+            in_text: &[],
+            places: &[],
+        }
+    }
+
     /// The cells of the root.
     pub fn roots(&self) -> &'c [Cell] {
         self.cells.get(..self.root_count).unwrap_or(self.cells)
@@ -145,14 +159,8 @@ fn name_in(alloc: Global, of: Chain<'_>, span: Span, at: usize, otherwise: &Text
 }
 
 /// Prints cells in aliases of few, of which the first is named, with `end` behind the last cell.
-fn push_aliases(
-    alloc: Global,
-    out: &mut Text,
-    of: Chain<'_>,
-    span: Span,
-    first: &Text,
-    end: &Text,
-) {
+fn push_aliases(out: &mut Text, of: Chain<'_>, span: Span, first: &Text, end: &Text) {
+    let alloc = out.alloc();
     let cells = of.cells.get(span.from..span.to).unwrap_or(&[]);
     if cells.is_empty() {
         push_alias(alloc, out, first, cells, end);
@@ -170,8 +178,7 @@ fn push_aliases(
 
 /// A name with another behind it, and the parameter where cells hold knots.
 fn named(alloc: Global, owner: &str, behind: &str, cells: &[Cell]) -> Text {
-    let mut name = Text::new(alloc);
-    name.push_all(&[owner, behind]);
+    let mut name = Text::of(alloc, &[owner, behind]);
     push_parameter(&mut name, cells);
     name
 }
@@ -199,7 +206,7 @@ pub fn push_row(alloc: Global, out: &mut Text, of: Chain<'_>) {
         from: 0,
         to: of.roots().len(),
     };
-    push_aliases(alloc, out, of, roots, &row, &end);
+    push_aliases(out, of, roots, &row, &end);
     if !of.additions().is_empty() {
         let name = named(alloc, of.owner, "Additions", of.additions());
         let end = named(alloc, "NoMore", "", &[]);
@@ -207,6 +214,6 @@ pub fn push_row(alloc: Global, out: &mut Text, of: Chain<'_>) {
             from: roots.to,
             to: of.cells.len(),
         };
-        push_aliases(alloc, out, of, additions, &name, &end);
+        push_aliases(out, of, additions, &name, &end);
     }
 }

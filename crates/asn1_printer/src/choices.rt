@@ -1,18 +1,17 @@
 //! A CHOICE: its enum, its row, its tags and its conversions.
 
-use crate::cells::{Cell, alternative_name, alternative_of};
+use crate::cells::{Cell, Place, alternative_name, cell_of, see_name};
 use crate::chains::{Chain, push_row};
-use crate::knot_rows::{push_knot_alternating, push_knot_enum, put_tag_names};
-use crate::knots::{knot_name, put_parameter};
-use crate::templates::{CHOICE, CHOICE_IMPLS, TAGS};
+use crate::knot_templates::KNOT_ALTERNATING;
+use crate::knots::{knot_name, owner_words};
+use crate::templates::{CHOICE, CHOICE_IMPLS};
 use crate::text::{Text, Words};
 use asn1_layouts::definitions::Definition;
 use asn1_layouts::layouts::is_extensible;
 use asn1_layouts::rows::Position;
 use asn1_layouts::scope::Scope;
-use asn1_modules::lexer::TokenId;
 use asn1_modules::refusal::Refusal;
-use std::alloc::{AllocError, Global};
+use std::alloc::Global;
 use std::collections::BTreeMap;
 
 /// How many alternatives a printed CHOICE has at most.
@@ -24,29 +23,20 @@ pub fn push_table_name(out: &mut Text, owner: &str, part: &str) {
     out.push_all(&["_", part]);
 }
 
-/// Appends tags as a list.
-fn push_tags(out: &mut Text, cells: &[Cell]) {
-    if cells.is_empty() {
-        out.push("&[]");
-        return;
-    }
-    out.push("tags![");
+/// Prints a constant of tags.
+fn push_constant(out: &mut Text, owner: &str, part: &str, cells: &[Cell]) {
+    out.push("const ");
+    push_table_name(out, owner, part);
+    out.push(": &'static [Tag] = ");
+    out.push(if cells.is_empty() { "&[" } else { "tags![" });
     for (at, cell) in cells.iter().enumerate() {
         out.push_all(&[if at == 0 { "" } else { ", " }, cell.entry.as_str()]);
     }
-    out.push("]");
-}
-
-/// Prints tags as a table.
-fn push_table(alloc: Global, out: &mut Text, owner: &str, part: &str, cells: &[Cell]) {
-    let mut words = Words::new(alloc);
-    push_table_name(words.begin("TABLE"), owner, part);
-    push_tags(words.begin("TAGS"), cells);
-    out.fill(TAGS, &words);
+    out.push("];\n\n");
 }
 
 /// The variants of an enum, each with what it holds, a line each.
-pub fn push_variants(out: &mut Text, cells: &[Cell]) {
+fn push_variants(out: &mut Text, cells: &[Cell]) {
     for cell in cells.iter() {
         out.push_text(&cell.note);
         out.push_all(&[
@@ -59,24 +49,16 @@ pub fn push_variants(out: &mut Text, cells: &[Cell]) {
     }
 }
 
-/// Prints the enum of a CHOICE, and its name.
-fn push_enum(alloc: Global, out: &mut Text, doc: &str, of: Chain<'_>) {
-    let mut words = Words::new(alloc);
-    words.put("DOC", doc);
-    words.put("NAME", of.owner);
-    push_variants(words.begin("VARIANTS"), of.cells);
-    out.fill(CHOICE, &words);
-}
-
-/// The names of variants.
-pub fn push_names(out: &mut Text, cells: &[Cell]) {
+/// The names of variants, each but the first with a text in front, and each with one behind it.
+fn push_names(out: &mut Text, cells: &[Cell], between: &str, behind: &str) {
     for (at, cell) in cells.iter().enumerate() {
-        out.push_all(&[if at == 0 { "" } else { ", " }, cell.camel.as_str()]);
+        let front = if at == 0 { "" } else { between };
+        out.push_all(&[front, cell.camel.as_str(), behind]);
     }
 }
 
 /// What each variant is in the row.
-pub fn push_cases(out: &mut Text, cells: &[Cell]) {
+fn push_cases(out: &mut Text, cells: &[Cell]) {
     for (at, cell) in cells.iter().enumerate() {
         out.push_all(&[
             if at == 0 { "" } else { " | " },
@@ -89,16 +71,8 @@ pub fn push_cases(out: &mut Text, cells: &[Cell]) {
     }
 }
 
-/// Prints the tags of a CHOICE.
-fn push_tables(alloc: Global, out: &mut Text, of: Chain<'_>) {
-    push_table(alloc, out, of.owner, "ROOTS", of.roots());
-    if of.is_extensible {
-        push_table(alloc, out, of.owner, "ADDITIONS", of.additions());
-    }
-}
-
 /// What names the tags of the additions.
-pub fn push_addition_name(out: &mut Text, of: Chain<'_>) {
+fn push_addition_name(out: &mut Text, of: Chain<'_>) {
     if !of.is_extensible {
         out.push("None");
         return;
@@ -108,42 +82,48 @@ pub fn push_addition_name(out: &mut Text, of: Chain<'_>) {
     out.push(")");
 }
 
-/// Prints the conversions of a CHOICE.
-fn push_impls(alloc: Global, out: &mut Text, of: Chain<'_>) {
-    let mut words = Words::new(alloc);
-    words.put("HOME", "@HOME@");
-    words.put("NAME", of.owner);
-    push_names(words.begin("LIST"), of.cells);
+/// Says what names the tags of a CHOICE: in a circle constants of the module, else those of the impl.
+fn put_tag_names(words: &mut Words, of: Chain<'_>) {
+    if of.knot.is_none() {
+        words.put("ROOT_TAGS", "Self::VARIANTS");
+        words.put("ADDITION_TAGS", "Self::EXTENDED_VARIANTS");
+        return;
+    }
+    push_table_name(words.begin("ROOT_TAGS"), of.owner, "ROOTS");
+    push_addition_name(words.begin("ADDITION_TAGS"), of);
+}
+
+/// What stands for the words of the templates of a CHOICE.
+fn words_of(alloc: Global, doc: &str, of: Chain<'_>) -> Words {
+    let mut words = owner_words(alloc, doc, of.owner, of.knot);
+    push_variants(words.begin("VARIANTS"), of.cells);
+    push_names(words.begin("LIST"), of.cells, ", ", "");
     push_cases(words.begin("CASES"), of.cells);
+    push_names(words.begin("WEIGHED"), of.cells, " | ", " held ↦ refl");
     push_table_name(words.begin("ROOTS"), of.owner, "ROOTS");
     push_addition_name(words.begin("ADDITIONS"), of);
     put_tag_names(&mut words, of);
-    put_parameter(&mut words, of);
-    out.fill(CHOICE_IMPLS, &words);
+    words
 }
 
 /// Prints a CHOICE by its cells.
-fn push_alternatives(
-    alloc: Global,
-    out: &mut Text,
-    doc: &str,
-    of: Chain<'_>,
-) -> Result<(), AllocError> {
-    match of.knot {
-        Some(knot) => {
-            push_knot_enum(alloc, out, doc, of, knot);
-            push_row(alloc, out, of);
-            push_tables(alloc, out, of);
-            push_knot_alternating(alloc, out, of, knot)?;
-        }
-        None => {
-            push_enum(alloc, out, doc, of);
-            push_row(alloc, out, of);
-            push_tables(alloc, out, of);
-        }
+fn push_alternatives(alloc: Global, out: &mut Text, doc: &str, of: Chain<'_>) {
+    let words = words_of(alloc, doc, of);
+    out.fill(CHOICE, &words);
+    push_row(alloc, out, of);
+    push_constant(out, of.owner, "ROOTS", of.roots());
+    if of.is_extensible {
+        push_constant(out, of.owner, "ADDITIONS", of.additions());
     }
-    push_impls(alloc, out, of);
-    Ok(())
+    out.fill(
+        if of.knot.is_some() {
+            KNOT_ALTERNATING
+        } else {
+            ""
+        },
+        &words,
+    );
+    out.fill(CHOICE_IMPLS, &words);
 }
 
 /// Puts the cells of the root alternatives, or of the others, behind others.
@@ -159,7 +139,7 @@ fn push_cells<'m>(
     for part in definition.parts.iter() {
         if let Some(row) = part.row {
             if (row.position == Position::Root) == are_roots {
-                cells.push(alternative_of(scope, all, out, owner, part, row)?)?;
+                cells.push(cell_of(scope, all, out, owner, part, row, Place::Alternative)?)?;
             }
         }
     }
@@ -168,22 +148,19 @@ fn push_cells<'m>(
 
 /// Refuses two alternatives whose variants have one name.
 fn require_names<'m>(scope: Scope<'m, '_>, definition: &Definition<'m>) -> Result<(), Refusal> {
-    let mut seen: BTreeMap<String, TokenId> = BTreeMap::new(scope.alloc);
+    const READS: &str = "alternatives whose Rust names differ";
+    let mut seen = BTreeMap::new(scope.alloc);
     for part in definition.parts.iter() {
-        let Some(row) = part.row else {
-            continue;
-        };
-        let text = scope.text(row.name);
-        let name = alternative_name(scope.alloc, text).end()?;
-        if let Some(other) = seen.get(name.as_str()) {
-            return Err(scope.refused_beside(
+        if let Some(row) = part.row {
+            let name = alternative_name(scope.alloc, scope.text(row.name)).end()?;
+            see_name(
+                scope,
+                &mut seen,
+                (name, row.name),
                 definition.of.first,
-                "alternatives whose Rust names differ",
-                (text, scope.text(*other)),
-                name.as_str(),
-            ));
+                READS,
+            )?;
         }
-        seen.insert(name, row.name)?;
     }
     Ok(())
 }
@@ -209,15 +186,12 @@ pub fn push_choice<'m>(
     push_cells(scope, all, out, definition, false, &mut cells)?;
     require_names(scope, definition)?;
     let of = Chain {
-        owner: definition.rust_name.as_str(),
-        cells: cells.as_slice(),
         root_count,
         is_extensible: is_extensible(definition.of),
         is_choice: true,
         knot: knot_name(all, definition),
-        in_text: &[],
-        places: &[],
+        ..Chain::of(definition.rust_name.as_str(), cells.as_slice())
     };
-    push_alternatives(alloc, out, doc, of)?;
+    push_alternatives(alloc, out, doc, of);
     Ok(())
 }

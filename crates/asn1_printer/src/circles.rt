@@ -83,21 +83,6 @@ fn require_form<'m>(scope: Scope<'m, '_>, definition: &Definition<'m>) -> Result
     Ok(())
 }
 
-/// Refuses a circle that isn't cut, at one of its types.
-fn require_knot<'m>(
-    scope: Scope<'m, '_>,
-    circle: Circle,
-    first: &Definition<'m>,
-) -> Result<(), Refusal> {
-    match circle.knot {
-        Some(_) => Ok(()),
-        None => Err(scope.refused(
-            first.of.first,
-            "types that contain themselves only through one of them: others aren't printed yet",
-        )),
-    }
-}
-
 /// Refuses a circle one of whose types holds knots in a form that isn't printed, and one that isn't cut.
 pub fn require_circle<'m>(
     scope: Scope<'m, '_>,
@@ -110,9 +95,12 @@ pub fn require_circle<'m>(
             require_form(scope, definition)?;
         }
     }
-    match run.first().and_then(|at| all.get(*at)) {
-        Some(first) => require_knot(scope, circle, first),
-        None => Ok(()),
+    match (circle.knot, run.first().and_then(|at| all.get(*at))) {
+        (None, Some(first)) => Err(scope.refused(
+            first.of.first,
+            "types that contain themselves only through one of them: others aren't printed yet",
+        )),
+        (Some(_), _) | (None, None) => Ok(()),
     }
 }
 

@@ -28,8 +28,10 @@ impl Constants {
     /// The name of a constant in capitals, behind that of its owner where it has one, and with `_` behind it as often as others have it.
     fn name_of(&mut self, owner: &str, name: &str) -> Result<String, AllocError> {
         let alloc = self.text.alloc();
-        let mut own = Text::new(alloc);
-        own.push_all(&[owner, if owner.is_empty() { "" } else { "-" }, name]);
+        let own = Text::of(
+            alloc,
+            &[owner, if owner.is_empty() { "" } else { "-" }, name],
+        );
         let own = own.end()?;
         let small = snake(alloc, own.as_str())?;
         let mut wanted = Text::new(alloc);
@@ -142,8 +144,7 @@ fn push_named<'m>(
     owner: &str,
     part: &Part<'m>,
 ) -> Result<(), AllocError> {
-    let mut own = Text::new(scope.alloc);
-    own.push(owner);
+    let mut own = Text::of(scope.alloc, &[owner]);
     if let Some(row) = part.row {
         own.push_type_name(scope.text(row.name));
     }

@@ -4,10 +4,10 @@ ghost use Rattle.std.specs.Prelude.{◌≡◌, false, true, int_le, IfOk, IfSome
 use crate::cells::variant_name;
 use crate::items::push_defined;
 use crate::literals::{
-    bits_of_literal, bits_of_names, fill_up, list_text, octets_of_text, packed, push_array,
+    bits_of_literal, bits_of_names, fill_up, octets_of_text, packed, push_array, push_list,
     push_written,
 };
-use crate::shapes::{number_of_octets, sizes_of};
+use crate::shapes::{number_of_octets, simple_type, sizes_of};
 use crate::templates::DEFAULT;
 use crate::text::{Text, Words};
 use asn1_layouts::definitions::Definition;
@@ -81,18 +81,6 @@ fn words_of(alloc: Global, name: &str, rust: &str, takes_memory: bool) -> Words 
     words
 }
 
-/// Appends a number as the code writes it.
-fn push_literal(out: &mut Text, number: i128, base: &str) {
-    let around = if base == "Integer" {
-        ("Integer::from_i128(", ")")
-    } else {
-        ("", "")
-    };
-    out.push(around.0);
-    out.push_number(number);
-    out.push(around.1);
-}
-
 /// The words of a number.
 fn number_words(alloc: Global, name: &str, number: i128, base: &str) -> Words {
     const USES: &str = "ghost use Rattle.std.specs.Prelude.{negsuc, pos, refl};";
@@ -100,13 +88,14 @@ fn number_words(alloc: Global, name: &str, number: i128, base: &str) -> Words {
     words.put("USES", USES);
     words.begin("TEXT").push_number(number);
     push_defined(words.begin("GHOST"), number, !base.starts_with('u'));
-    let code = words.begin("CODE");
-    code.push("Ok(");
-    push_literal(code, number, base);
-    code.push(")");
-    let test = words.begin("TEST");
-    test.push("*other == ");
-    push_literal(test, number, base);
+    let literal = if base == "Integer" {
+        "Integer::from_i128(@TEXT@)"
+    } else {
+        "@TEXT@"
+    };
+    words.put_filled("LITERAL", literal);
+    words.put_filled("CODE", "Ok(@LITERAL@)");
+    words.put_filled("TEST", "*other == @LITERAL@");
     words.put("ADMITTED", "refl");
     words
 }
@@ -125,26 +114,12 @@ fn push_number<'m>(
     Ok(push_words(scope.alloc, out, name, is_limited, &words))
 }
 
-/// Begins a word's text with the line of an array of octets, in front of what takes it.
-fn begin_behind_octets<'w>(
-    words: &'w mut Words,
-    word: &'static str,
-    octets: &[u8],
-) -> &'w mut Text {
-    let out = words.begin(word);
-    out.push("let octets: [u8; ");
-    out.push_count(octets.len());
-    out.push("] = ");
-    push_array(out, octets);
-    out.push(";\n        ");
-    out
-}
-
-/// Appends what takes an array of octets and a count of bits.
-fn push_call(out: &mut Text, front: &str, count: usize) {
-    out.push_all(&[front, ", &octets, "]);
-    out.push_count(count);
-    out.push(")");
+/// Says what stands for octets: the line of an array of the code, and a list of definitions.
+fn put_octets(words: &mut Words, octets: &[u8]) {
+    words.begin("SIZE").push_count(octets.len());
+    push_array(words.begin("ARRAY"), octets);
+    words.put_filled("OCTETS", "let octets: [u8; @SIZE@] = @ARRAY@;\n        ");
+    push_list(words.begin("LIST"), octets);
 }
 
 /// The words of a bit string, but for its text.
@@ -153,22 +128,11 @@ fn bits_words(alloc: Global, name: &str, octets: &[u8], count: usize) -> Words {
         "ghost use Rattle.std.specs.Prelude.{◌∷◌, [], take};\n    ghost use Rattle.rasn_oer.specs.Octets.{bits_of};";
     let mut words = words_of(alloc, name, "BitString", true);
     words.put("USES", USES);
-    let value = words.begin("GHOST");
-    value.push("take ");
-    value.push_count(count);
-    value.push(" (bits_of ");
-    value.push_text(&list_text(alloc, octets));
-    value.push(")");
-    push_call(
-        begin_behind_octets(&mut words, "CODE", octets),
-        "bits_from(alloc",
-        count,
-    );
-    push_call(
-        begin_behind_octets(&mut words, "TEST", octets),
-        "are_bits(other",
-        count,
-    );
+    put_octets(&mut words, octets);
+    words.begin("COUNT").push_count(count);
+    words.put_filled("GHOST", "take @COUNT@ (bits_of @LIST@)");
+    words.put_filled("CODE", "@OCTETS@bits_from(alloc, &octets, @COUNT@)");
+    words.put_filled("TEST", "@OCTETS@are_bits(other, &octets, @COUNT@)");
     words.put("ADMITTED", "tt");
     words
 }
@@ -238,139 +202,73 @@ enum Evidence {
     Utf8,
 }
 
-/// A type of octets or characters: the struct that holds it, what makes one of octets, its rule, and what shows that they obey that.
+/// A type of octets or characters: the struct that holds it, its rule, what makes one of octets, and what shows that these obey the rule.
 #[derive(Clone, Copy)]
 struct Held {
     holder: &'static str,
-    made: &'static str,
     rule: &'static str,
+    from: &'static str,
     evidence: Evidence,
-}
-
-/// A type all of whose octets obey.
-fn any(holder: &'static str, made: &'static str, rule: &'static str) -> Held {
-    Held {
-        holder,
-        made,
-        rule,
-        evidence: Evidence::Any,
-    }
-}
-
-/// A type each of whose octets is tested.
-fn each(holder: &'static str, made: &'static str, rule: &'static str) -> Held {
-    Held {
-        evidence: Evidence::Each,
-        ..any(holder, made, rule)
-    }
-}
-
-/// A type whose octets are tested as a whole.
-fn whole(holder: &'static str, made: &'static str, rule: &'static str, evidence: Evidence) -> Held {
-    Held {
-        evidence,
-        ..any(holder, made, rule)
-    }
 }
 
 /// The type of octets or characters; nothing of another type.
 fn held_of(simple: Simple) -> Option<Held> {
-    Some(match simple {
-        Simple::OctetString => any("Octets", "OctetString::from_slice", "AnyOctets"),
-        Simple::Utf8String => whole("Utf8Text", "utf8_from", "Utf8", Evidence::Utf8),
-        Simple::NumericString => each("NumericText", "NumericString::from_text", "Numeric"),
-        Simple::PrintableString => each("PrintableText", "PrintableString::from_text", "Printable"),
-        Simple::VisibleString => each("VisibleText", "VisibleString::from_text", "Visible"),
-        Simple::Ia5String => each("Ia5Text", "Ia5String::from_text", "Ia5"),
-        Simple::GeneralString => any("GeneralText", "GeneralString::from_text", "General"),
-        Simple::GraphicString => any("GraphicText", "GraphicString::from_text", "Graphic"),
-        Simple::TeletexString => any("TeletexText", "TeletexString::from_text", "Teletex"),
-        Simple::BmpString => whole("BmpText", "bmp_from", "Bmp", Evidence::Pairs),
+    const TEXT: &str = "@RULE@String::from_text";
+    let (rule, from, evidence) = match simple {
+        Simple::OctetString => ("AnyOctets", "OctetString::from_slice", Evidence::Any),
+        Simple::Utf8String => ("Utf8", "utf8_from", Evidence::Utf8),
+        Simple::NumericString => ("Numeric", TEXT, Evidence::Each),
+        Simple::PrintableString => ("Printable", TEXT, Evidence::Each),
+        Simple::VisibleString => ("Visible", TEXT, Evidence::Each),
+        Simple::Ia5String => ("Ia5", TEXT, Evidence::Each),
+        Simple::GeneralString => ("General", TEXT, Evidence::Any),
+        Simple::GraphicString => ("Graphic", TEXT, Evidence::Any),
+        Simple::TeletexString => ("Teletex", TEXT, Evidence::Any),
+        Simple::BmpString => ("Bmp", "bmp_from", Evidence::Pairs),
         Simple::Boolean | Simple::Null | Simple::ObjectIdentifier | Simple::Any => return None,
         Simple::UtcTime | Simple::GeneralizedTime | Simple::Date => return None,
+    };
+    let holder = simple_type(simple);
+    Some(Held {
+        holder,
+        rule,
+        from,
+        evidence,
     })
-}
-
-/// Appends what makes a value of octets: what the type within makes, in its struct, or what the library makes.
-fn push_made(out: &mut Text, held: Held) {
-    match held.evidence {
-        Evidence::Any | Evidence::Each => {
-            out.push_all(&[
-                "let content = ",
-                held.made,
-                "(alloc, &octets)?;\n        Ok(",
-            ]);
-            out.push_all(&[held.holder, "(content))"]);
-        }
-        Evidence::Pairs | Evidence::Utf8 => out.push_all(&[held.made, "(alloc, &octets)"]),
-    }
-}
-
-/// Appends the value as definitions name it: of a UTF8String its octets, of another type the struct around them.
-fn push_value(out: &mut Text, held: Held, list: &Text) {
-    match held.evidence {
-        Evidence::Utf8 => out.push_text(list),
-        Evidence::Any | Evidence::Each | Evidence::Pairs => {
-            out.push("record { 0 = ");
-            out.push_text(list);
-            out.push(" }");
-        }
-    }
-}
-
-/// Appends what shows that so many octets obey a type's rule.
-fn push_obeys(out: &mut Text, held: Held, list: &Text, size: usize) {
-    match held.evidence {
-        Evidence::Any => out.push("tt"),
-        Evidence::Each => out.push("refl"),
-        Evidence::Pairs => {
-            out.push("(");
-            out.push_count(size / 2);
-            out.push(", refl)");
-        }
-        Evidence::Utf8 => {
-            out.push("(spelled ");
-            out.push_text(list);
-            out.push(" refl)");
-        }
-    }
-}
-
-/// Appends the names that the definitions of octets or characters take.
-fn push_uses(out: &mut Text, held: Held) {
-    out.push("ghost use Rattle.std.specs.Prelude.{◌∷◌, [], refl};\n");
-    out.push("    ghost use Rattle.rasn_oer.specs.Literals.{written");
-    out.push(if matches!(held.evidence, Evidence::Utf8) {
-        ", spelled"
-    } else {
-        ""
-    });
-    out.push("};\n    ghost use Rattle.rasn_oer.specs.Texts as texts;");
 }
 
 /// The words of octets or characters, but for their text.
 fn held_words(alloc: Global, name: &str, held: Held, octets: &[u8]) -> Words {
-    let list = list_text(alloc, octets);
+    const USES: &str = "ghost use Rattle.std.specs.Prelude.{◌∷◌, [], refl};
+    ghost use Rattle.rasn_oer.specs.Literals.{written@SPELLED@};
+    ghost use Rattle.rasn_oer.specs.Texts as texts;";
+    const MADE: &str = "let content = @FROM@(alloc, &octets)?;\n        Ok(@TYPE@(content))";
+    const RECORD: &str = "record { 0 = @LIST@ }";
     let mut words = words_of(alloc, name, held.holder, true);
-    push_uses(words.begin("USES"), held);
-    push_value(words.begin("GHOST"), held, &list);
-    push_made(begin_behind_octets(&mut words, "CODE", octets), held);
-    begin_behind_octets(&mut words, "TEST", octets).push("other.0.as_bytes() == octets.as_slice()");
-    let admitted = words.begin("ADMITTED");
-    admitted.push_all(&["written texts.", held.rule, " "]);
-    admitted.push_text(&list);
-    admitted.push(" refl ");
-    push_obeys(admitted, held, &list, octets.len());
+    put_octets(&mut words, octets);
+    words.begin("HALF").push_count(octets.len() / 2);
+    words.put("RULE", held.rule);
+    words.put_filled("FROM", held.from);
+    let (spelled, value, made, obeys) = match held.evidence {
+        Evidence::Any => ("", RECORD, MADE, "tt"),
+        Evidence::Each => ("", RECORD, MADE, "refl"),
+        Evidence::Pairs => ("", RECORD, "@FROM@(alloc, &octets)", "(@HALF@, refl)"),
+        Evidence::Utf8 => (
+            ", spelled",
+            "@LIST@",
+            "@FROM@(alloc, &octets)",
+            "(spelled @LIST@ refl)",
+        ),
+    };
+    words.put("SPELLED", spelled);
+    words.put_filled("USES", USES);
+    words.put_filled("GHOST", value);
+    words.put_filled("MADE", made);
+    words.put_filled("CODE", "@OCTETS@@MADE@");
+    words.put_filled("TEST", "@OCTETS@other.0.as_bytes() == octets.as_slice()");
+    words.put_filled("OBEYS", obeys);
+    words.put_filled("ADMITTED", "written texts.@RULE@ @LIST@ refl @OBEYS@");
     words
-}
-
-/// The octets of a literal of a type of octets or characters.
-fn octets_of<'m>(scope: Scope<'m, '_>, simple: Simple, id: TokenId) -> Result<Vec<u8>, Refusal> {
-    if simple == Simple::OctetString {
-        let bits = bits_of_literal(scope, id)?;
-        return Ok(packed(scope.alloc, bits.as_slice())?);
-    }
-    octets_of_text(scope, simple, id)
 }
 
 /// The octets of a default of an OCTET STRING or a character string.
@@ -380,10 +278,14 @@ fn default_octets<'m>(
     spot: Spot<'m>,
     simple: Simple,
 ) -> Result<Vec<u8>, Refusal> {
-    match spot.value {
-        Value::Literal(id) => octets_of(scope, simple, *id),
-        _ => Err(scope.refused(row.name, PRINTED)),
+    let Value::Literal(id) = spot.value else {
+        return Err(scope.refused(row.name, PRINTED));
+    };
+    if simple != Simple::OctetString {
+        return octets_of_text(scope, simple, *id);
     }
+    let bits = bits_of_literal(scope, *id)?;
+    Ok(packed(scope.alloc, bits.as_slice())?)
 }
 
 /// Whether limits allow a string of so many octets.
@@ -434,16 +336,15 @@ fn enumerated_words(
     let (name, rust) = named;
     let mut words = words_of(alloc, name, rust, false);
     words.put("TEXT", text);
+    words.put("OWNER", owner);
+    words.put("VARIANT", variant);
     let uses = words.begin("USES");
     uses.push_all(&["ghost use Rattle.@HOME:", owner, "Values@.", owner]);
     uses.push_all(&["Values.TheVariants.{", variant, "};"]);
-    words
-        .begin("GHOST")
-        .push_all(&["record { 0 = ", variant, " }"]);
-    words
-        .begin("CODE")
-        .push_all(&["Ok(Enumeration(", owner, "Values::", variant, "))"]);
-    words.begin("TEST").push_all(&["*other == Enumeration(", owner, "Values::", variant, ")"]);
+    words.put_filled("GHOST", "record { 0 = @VARIANT@ }");
+    words.put_filled("VALUE", "Enumeration(@OWNER@Values::@VARIANT@)");
+    words.put_filled("CODE", "Ok(@VALUE@)");
+    words.put_filled("TEST", "*other == @VALUE@");
     words.put("ADMITTED", "tt");
     words
 }
@@ -494,9 +395,7 @@ fn list_default<'m>(
     if !compares(scope, base)? {
         return Err(scope.refused(row.name, COMPARED));
     }
-    let mut name = Text::new(scope.alloc);
-    name.push("IsEmptyList");
-    Ok(name)
+    Ok(Text::of(scope.alloc, &["IsEmptyList"]))
 }
 
 /// The default of a type without parts: printed, but where the library has a type for it.
@@ -514,9 +413,8 @@ fn push_simple<'m>(
     if !matches!(simple, Simple::Boolean | Simple::Null) {
         return Err(scope.refused(row.name, PRINTED));
     }
-    let mut constant = Text::new(scope.alloc);
-    constant.push(constant_of(scope, settled(scope, spot)?));
-    Ok(constant)
+    let constant = constant_of(scope, settled(scope, spot)?);
+    Ok(Text::of(scope.alloc, &[constant]))
 }
 
 /// The type that stands for a default: printed, but where the library has one. Refused where its type's defaults aren't printed, or its

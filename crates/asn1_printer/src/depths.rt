@@ -5,7 +5,7 @@ use crate::shapes::{number_of_octets, sizes_of};
 use asn1_layouts::definitions::{Definition, Part, Tie};
 use asn1_layouts::rows::Position;
 use asn1_layouts::scope::Scope;
-use asn1_modules::ast::{Body, Need, Simple, Type};
+use asn1_modules::ast::{Body, Need, Simple};
 use asn1_modules::refusal::Refusal;
 use std::alloc::AllocError;
 
@@ -109,25 +109,6 @@ fn simple_depth(simple: Simple) -> usize {
     }
 }
 
-/// The depth of a number, a string or the like, within its limits.
-fn leaf_depth<'m>(scope: Scope<'m, '_>, link: &'m Type, base: &'m Type) -> Result<usize, Refusal> {
-    let (own, has_limits) = match &base.body {
-        Body::Integer(_) => {
-            let (rust, has_limits, _) = number_of_octets(scope, link)?;
-            (if rust == "Integer" { INTEGER } else { 0 }, has_limits)
-        }
-        Body::BitString(_) => (BITS, sizes_of(scope, link)?.0),
-        Body::Simple(simple) => (simple_depth(*simple), sizes_of(scope, link)?.0),
-        Body::Sequence(_) | Body::Set(_) | Body::Choice(_) | Body::Enumerated(_, _) => (0, false),
-        Body::SequenceOf(_) | Body::SetOf(_) | Body::Reference(_) => (0, false),
-    };
-    Ok(if has_limits {
-        own.max(1).saturating_add(1)
-    } else {
-        own
-    })
-}
-
 /// The depth of the type at a place.
 fn own_at(depths: &[Depth], at: Option<usize>) -> usize {
     match at.and_then(|at| depths.get(at)) {
@@ -136,7 +117,7 @@ fn own_at(depths: &[Depth], at: Option<usize>) -> usize {
     }
 }
 
-/// The depth of a part, without an Option around it.
+/// The depth of a part, within its limits, without an Option around it.
 fn part_depth<'m>(
     scope: Scope<'m, '_>,
     depths: &[Depth],
@@ -150,29 +131,45 @@ fn part_depth<'m>(
     if part.lists != 0 || part.is_held {
         return Ok(APART);
     }
-    let base = scope.base_of(part.inner)?;
-    match base.body {
-        Body::Integer(_) | Body::BitString(_) | Body::Simple(_) => {
-            leaf_depth(scope, part.inner, base)
+    let (own, has_limits) = match &scope.base_of(part.inner)?.body {
+        Body::Integer(_) => {
+            let (rust, has_limits, _) = number_of_octets(scope, part.inner)?;
+            (if rust == "Integer" { INTEGER } else { 0 }, has_limits)
         }
-        Body::Sequence(_) | Body::Set(_) | Body::Choice(_) | Body::Enumerated(_, _) => Ok(own_at(
-            depths, at,
-        )),
-        Body::SequenceOf(_) | Body::SetOf(_) | Body::Reference(_) => Ok(own_at(depths, at)),
-    }
+        Body::BitString(_) => (BITS, sizes_of(scope, part.inner)?.0),
+        Body::Simple(simple) => (simple_depth(*simple), sizes_of(scope, part.inner)?.0),
+        Body::Sequence(_) | Body::Set(_) | Body::Choice(_) => (own_at(depths, at), false),
+        Body::Enumerated(_, _) | Body::Reference(_) => (own_at(depths, at), false),
+        Body::SequenceOf(_) | Body::SetOf(_) => (own_at(depths, at), false),
+    };
+    Ok(if has_limits {
+        own.max(1).saturating_add(1)
+    } else {
+        own
+    })
 }
 
-/// The depth of a component's or an alternative's field.
+/// The depth of a component's or an alternative's field: of an addition an Option, but where it has a default.
 fn field_depth<'m>(
     scope: Scope<'m, '_>,
     depths: &[Depth],
     part: &Part<'m>,
+    is_addition: bool,
 ) -> Result<usize, Refusal> {
     let own = part_depth(scope, depths, part)?;
-    match part.row {
-        Some(row) if matches!(row.need, Need::Optional) => Ok(own.saturating_add(1)),
-        _ => Ok(own),
-    }
+    let is_option = match part.row {
+        Some(row) => match row.need {
+            Need::Optional => true,
+            Need::Required => is_addition,
+            Need::Default(_) => false,
+        },
+        None => false,
+    };
+    Ok(if is_option {
+        own.saturating_add(1)
+    } else {
+        own
+    })
 }
 
 /// A row with the cells of parts at some places behind its own.
@@ -186,7 +183,7 @@ fn with_places<'m>(
     let mut row = before;
     for at in places.iter() {
         if let Some(part) = parts.get(*at) {
-            row = row.with(field_depth(scope, depths, part)?);
+            row = row.with(field_depth(scope, depths, part, false)?);
         }
     }
     Ok(row)
@@ -211,19 +208,6 @@ fn with_group<'m>(
     })
 }
 
-/// The depth of an addition's field: an Option, but for one with a default.
-fn addition_depth<'m>(
-    scope: Scope<'m, '_>,
-    depths: &[Depth],
-    part: &Part<'m>,
-) -> Result<usize, Refusal> {
-    let own = field_depth(scope, depths, part)?;
-    match part.row {
-        Some(row) if matches!(row.need, Need::Required) => Ok(own.saturating_add(1)),
-        _ => Ok(own),
-    }
-}
-
 /// A row with the cells of the additions behind its own.
 fn with_additions<'m>(
     scope: Scope<'m, '_>,
@@ -235,7 +219,7 @@ fn with_additions<'m>(
     let mut counted = 0usize;
     for part in parts.iter() {
         match part.row.map(|one| one.position) {
-            Some(Position::Addition) => row = row.with(addition_depth(scope, depths, part)?),
+            Some(Position::Addition) => row = row.with(field_depth(scope, depths, part, true)?),
             Some(Position::Group(number)) if number != counted => {
                 counted = number;
                 row = with_group(scope, depths, parts, number, row)?;
@@ -266,7 +250,7 @@ fn choice_depth<'m>(
 ) -> Result<Depth, Refusal> {
     let mut row = Row::empty();
     for part in parts.iter() {
-        row = row.with(field_depth(scope, depths, part)?);
+        row = row.with(field_depth(scope, depths, part, false)?);
     }
     Ok(row.depth())
 }

@@ -1,6 +1,6 @@
 //! An ENUMERATED: its enum, and the list of its values.
 
-use crate::cells::variant_name;
+use crate::cells::{see_name, variant_name};
 use crate::items::push_defined;
 use crate::notes::push_note;
 use crate::templates::ENUMERATED;
@@ -27,18 +27,14 @@ const READS: &str = "a value whose Rust name no other has, and a number of 64 bi
 
 /// The values. Refused where two have one Rust name, or a number is past 64 bits.
 fn variants_of(scope: Scope<'_, '_>, numbers: &[(TokenId, i128)]) -> Result<Vec<Variant>, Refusal> {
-    let mut seen: BTreeMap<String, TokenId> = BTreeMap::new(scope.alloc);
+    let mut seen = BTreeMap::new(scope.alloc);
     let mut variants = Vec::new(scope.alloc);
     for (id, number) in numbers.iter() {
         let name = variant_name(scope.alloc, scope.text(*id), "Self").end()?;
         if i64::try_from(*number).is_err() {
             return Err(scope.refused(*id, READS));
         }
-        if let Some(other) = seen.get(name.as_str()) {
-            let names = (scope.text(*id), scope.text(*other));
-            return Err(scope.refused_beside(*id, READS, names, name.as_str()));
-        }
-        seen.insert(name.clone()?, *id)?;
+        see_name(scope, &mut seen, (name.clone()?, *id), *id, READS)?;
         let mut note = Text::new(scope.alloc);
         push_note(&mut note, scope.token(*id).note, "    ");
         variants.push(Variant {
@@ -60,14 +56,11 @@ fn push_lines(out: &mut Text, variants: &[Variant]) {
     }
 }
 
-/// Appends the names, each but the first with a text in front, and each with one behind it.
-fn push_names(out: &mut Text, variants: &[Variant], between: &str, behind: &str) {
+/// Appends the names, each with texts around it, and with one between any two.
+fn push_names(out: &mut Text, variants: &[Variant], between: &str, around: (&str, &str)) {
     for (at, one) in variants.iter().enumerate() {
-        out.push_all(&[
-            if at == 0 { "" } else { between },
-            one.name.as_str(),
-            behind,
-        ]);
+        let front = if at == 0 { "" } else { between };
+        out.push_all(&[front, around.0, one.name.as_str(), around.1]);
     }
 }
 
@@ -79,19 +72,14 @@ fn push_numbers(out: &mut Text, variants: &[Variant]) {
     }
 }
 
-/// Appends the paths of the values, each with a text in front, and one between any two.
-fn push_paths(out: &mut Text, owner: &str, variants: &[Variant], front: &str, between: &str) {
-    for (at, one) in variants.iter().enumerate() {
-        let before = if at == 0 { "" } else { between };
-        out.push_all(&[before, front, owner, "Values::", one.name.as_str()]);
-    }
-}
-
-/// Appends the list of the paths as rustfmt lays it out.
+/// Appends the list of the paths of the values as rustfmt lays it out.
 fn push_list(alloc: Global, out: &mut Text, owner: &str, variants: &[Variant]) {
     const ARRAY: usize = 60;
+    let front = Text::of(alloc, &["            ", owner, "Values::"]);
+    let path = front.as_str().trim_start();
     let mut line = Text::new(alloc);
-    push_paths(&mut line, owner, variants, "", ", ");
+    push_names(&mut line, variants, ", ", (path, ""));
+    out.heed(&front);
     out.heed(&line);
     out.push("&[");
     if line.len() <= ARRAY {
@@ -100,7 +88,7 @@ fn push_list(alloc: Global, out: &mut Text, owner: &str, variants: &[Variant]) {
         return;
     }
     out.push("\n");
-    push_paths(out, owner, variants, "            ", ",\n");
+    push_names(out, variants, ",\n", (front.as_str(), ""));
     out.push(",\n        ]");
 }
 
@@ -111,10 +99,15 @@ fn push_values(alloc: Global, out: &mut Text, owner: &str, doc: &str, variants: 
     words.put("DOC", doc);
     words.put("NAME", owner);
     push_lines(words.begin("VARIANTS"), variants);
-    push_names(words.begin("LIST"), variants, ", ", "");
+    push_names(words.begin("LIST"), variants, ", ", ("", ""));
     push_numbers(words.begin("NUMBERS"), variants);
-    push_names(words.begin("CHAIN"), variants, "", " ∷ ");
-    push_names(words.begin("LISTED"), variants, " ↦ (refl, refl) | ", "");
+    push_names(words.begin("CHAIN"), variants, "", ("", " ∷ "));
+    push_names(
+        words.begin("LISTED"),
+        variants,
+        " ↦ (refl, refl) | ",
+        ("", ""),
+    );
     push_list(alloc, words.begin("PATHS"), owner, variants);
     out.fill(ENUMERATED, &words);
 }

@@ -40,11 +40,19 @@ const FIRST_MODULE: &str = "types_01";
 /// The first line of each file: by it a later print knows an earlier one.
 pub const HEAD: &str = "//! Types of ASN.1 modules, as oergen printed them.\n";
 
-/// What is written: files, lines of `crates.txt`, and a line for each type that was left out.
+/// A type by its name, and the crate that has it.
+#[derive(Drop)]
+pub struct Named {
+    pub library: String,
+    pub name: String,
+}
+
+/// What is written: files, lines of `crates.txt`, and a line for each type that was left out; and the types that the files have.
 #[derive(Drop)]
 pub struct Output {
     pub files: Vec<File>,
     pub lines: String,
+    pub types: Vec<Named>,
 }
 
 /// Where a file's types stand: the crate, the file's module, and its first type and the one behind its last.
@@ -54,39 +62,6 @@ struct Section {
     module: String,
     from: usize,
     to: usize,
-}
-
-/// The name of a crate by its number from 1, of so many.
-fn library_name(
-    alloc: Global,
-    name: &str,
-    number: usize,
-    count: usize,
-) -> Result<String, AllocError> {
-    let mut library = Text::new(alloc);
-    library.push(name);
-    if count > 1 {
-        library.push("_");
-        library.push_count(number);
-    }
-    library.end()
-}
-
-/// The name of a file's module by its number from 1.
-fn module_name(alloc: Global, number: usize) -> Result<String, AllocError> {
-    let mut module = Text::new(alloc);
-    module.push(if number < 10 { "types_0" } else { "types_" });
-    module.push_count(number);
-    module.end()
-}
-
-/// How many lines a text has.
-fn line_count(text: &str) -> usize {
-    let mut count = 0usize;
-    for _ in text.lines() {
-        count = count.saturating_add(1);
-    }
-    count
 }
 
 /// Where a file's types stand: the numbers of its crate and of its module, from 1, and the places of the types.
@@ -146,7 +121,7 @@ fn cuts(alloc: Global, types: &[Printed]) -> Result<Vec<Cut>, AllocError> {
     let mut crate_lines = 0usize;
     let mut lines = 0usize;
     for (at, one) in types.iter().enumerate() {
-        let count = line_count(one.text.as_str());
+        let count = one.text.as_str().lines().count();
         lines = lines.saturating_add(count);
         crate_lines = crate_lines.saturating_add(count);
         cut.to = at.saturating_add(1);
@@ -166,11 +141,18 @@ fn cuts(alloc: Global, types: &[Printed]) -> Result<Vec<Cut>, AllocError> {
     Ok(all)
 }
 
-/// The section of a cut, in one of so many crates.
+/// The section of a cut, in one of so many crates: by their numbers from 1.
 fn section_of(alloc: Global, name: &str, cut: Cut, count: usize) -> Result<Section, AllocError> {
+    let mut library = Text::of(alloc, &[name]);
+    if count > 1 {
+        library.push("_");
+        library.push_count(cut.library);
+    }
+    let mut module = Text::of(alloc, &[if cut.module < 10 { "types_0" } else { "types_" }]);
+    module.push_count(cut.module);
     Ok(Section {
-        library: library_name(alloc, name, cut.library, count)?,
-        module: module_name(alloc, cut.module)?,
+        library: library.end()?,
+        module: module.end()?,
         from: cut.from,
         to: cut.to,
     })
@@ -261,8 +243,7 @@ fn section_text(
     let uses = use_lines(alloc, types.as_str(), homes, library, module)?;
     let mut body = Text::new(alloc);
     push_placed(&mut body, types.as_str().trim_end(), library, module);
-    let mut out = Text::new(alloc);
-    out.push_all(&[HEAD, if has_knot { KNOT_USES } else { "" }, "\n"]);
+    let mut out = Text::of(alloc, &[HEAD, if has_knot { KNOT_USES } else { "" }, "\n"]);
     out.push_all(&[uses.as_str(), "\n"]);
     push_with_homes(&mut out, body.as_str(), homes);
     out.push("\n");
@@ -336,8 +317,7 @@ fn root_file(
     has_constants: bool,
 ) -> Result<File, AllocError> {
     let names = name_lines(alloc, types, all, library)?;
-    let mut text = Text::new(alloc);
-    text.push_all(&[HEAD, "#![tactic(auto)]\n\n"]);
+    let mut text = Text::of(alloc, &[HEAD, "#![tactic(auto)]\n\n"]);
     push_modules(&mut text, all, library);
     text.push(if has_constants {
         "pub mod values;\n"
@@ -370,8 +350,7 @@ fn definitions_root(
 
 /// The file of constants.
 fn constants_file(alloc: Global, library: &str, constants: &str) -> Result<File, AllocError> {
-    let mut text = Text::new(alloc);
-    text.push_all(&[HEAD, "\n", constants.trim_end(), "\n"]);
+    let text = Text::of(alloc, &[HEAD, "\n", constants.trim_end(), "\n"]);
     File::at(alloc, &[library, "/src/values.rt"], text.end()?)
 }
 
@@ -446,6 +425,40 @@ fn push_crates(alloc: Global, out: &mut Text, types: &[Printed], all: &[Section]
     out.heed(&lower);
 }
 
+/// Puts the types of a crate to others.
+fn push_named(
+    alloc: Global,
+    named: &mut Vec<Named>,
+    types: &[Printed],
+    library: &str,
+) -> Result<(), AllocError> {
+    for one in types.iter() {
+        named.push(Named {
+            library: String::from_str(alloc, library)?,
+            name: one.name.clone()?,
+        })?;
+    }
+    Ok(())
+}
+
+/// The types of all crates.
+fn named_types(
+    alloc: Global,
+    types: &[Printed],
+    all: &[Section],
+) -> Result<Vec<Named>, AllocError> {
+    let mut named = Vec::new(alloc);
+    for section in all.iter() {
+        push_named(
+            alloc,
+            &mut named,
+            types_of(types, section),
+            section.library.as_str(),
+        )?;
+    }
+    Ok(named)
+}
+
 /// What is asked for: the name of the crate, the names of the files that were handed in, and whether what can't be read or printed is
 /// left out.
 #[derive(Clone, Copy)]
@@ -464,28 +477,17 @@ fn file_of<'w>(why: &Refusal, files: &[&'w str]) -> &'w str {
 }
 
 /// Appends a line that says why a name was left out.
-fn push_why(
-    alloc: Global,
-    out: &mut Text,
-    name: &str,
-    why: &Refusal,
-    files: &[&str],
-) -> Result<(), AllocError> {
+fn push_why(out: &mut Text, name: &str, why: &Refusal, files: &[&str]) -> Result<(), AllocError> {
     let file = file_of(why, files);
-    let why = format!(in alloc; "{why}")?;
+    let why = format!(in out.alloc(); "{why}")?;
     out.push_all(&["# left out: ", name, ", ", file, ":", why.as_str(), "\n"]);
     Ok(())
 }
 
 /// Appends a line for each type that was left out.
-fn push_left_out(
-    alloc: Global,
-    out: &mut Text,
-    left_out: &[LeftOut],
-    files: &[&str],
-) -> Result<(), AllocError> {
+fn push_left_out(out: &mut Text, left_out: &[LeftOut], files: &[&str]) -> Result<(), AllocError> {
     for one in left_out.iter() {
-        push_why(alloc, out, one.name.as_str(), &one.why, files)?;
+        push_why(out, one.name.as_str(), &one.why, files)?;
     }
     Ok(())
 }
@@ -498,7 +500,7 @@ fn push_unread(
     files: &[&str],
 ) -> Result<(), AllocError> {
     for one in module.unread.iter() {
-        push_why(scope.alloc, out, scope.text(one.name), &one.why, files)?;
+        push_why(out, scope.text(one.name), &one.why, files)?;
     }
     Ok(())
 }
@@ -524,10 +526,11 @@ fn output_of(
     let mut lines = Text::new(alloc);
     push_crates(alloc, &mut lines, types, all.as_slice());
     push_all_unread(scope, &mut lines, wish.files)?;
-    push_left_out(alloc, &mut lines, outcome.left_out.as_slice(), wish.files)?;
+    push_left_out(&mut lines, outcome.left_out.as_slice(), wish.files)?;
     Ok(Output {
         files: crate_files(alloc, types, all.as_slice(), constants)?,
         lines: lines.end()?,
+        types: named_types(alloc, types, all.as_slice())?,
     })
 }
 

@@ -22,28 +22,15 @@ pub fn push_defined(out: &mut Text, number: i128, has_sign: bool) {
     out.push(behind);
 }
 
-/// Appends an end of a range, for the code.
-fn push_end(out: &mut Text, end: Option<i128>) {
-    match end {
-        Some(number) => {
-            out.push("Some(");
-            out.push_number(number);
-            out.push(")");
-        }
-        None => out.push("None"),
-    }
-}
-
-/// Appends an end of a range, for definitions.
-fn push_defined_end(out: &mut Text, end: Option<i128>, purpose: Purpose) {
-    match end {
-        Some(number) => {
-            out.push("(Some ");
-            push_defined(out, number, purpose == Purpose::Value);
-            out.push(")");
-        }
-        None => out.push("None"),
-    }
+/// Appends an end of a range, with texts around a number, and with its sign where definitions write one.
+fn push_end(out: &mut Text, end: Option<i128>, around: (&str, &str), has_sign: bool) {
+    let Some(number) = end else {
+        out.push("None");
+        return;
+    };
+    out.push(around.0);
+    push_defined(out, number, has_sign);
+    out.push(around.1);
 }
 
 /// The one size that is left, where there is one.
@@ -56,6 +43,7 @@ fn single_of(limits: Limits, purpose: Purpose) -> Option<i128> {
 
 /// Appends bounds, for the code.
 fn push_code(out: &mut Text, limits: Limits, purpose: Purpose) {
+    const END: (&str, &str) = ("Some(", ")");
     if let Some(size) = single_of(limits, purpose) {
         out.push("Some((Bounded::Single(");
         out.push_number(size);
@@ -63,9 +51,9 @@ fn push_code(out: &mut Text, limits: Limits, purpose: Purpose) {
         return;
     }
     out.push("Some((\n            Bounded::Range {\n                start: ");
-    push_end(out, limits.low);
+    push_end(out, limits.low, END, false);
     out.push(",\n                end: ");
-    push_end(out, limits.high);
+    push_end(out, limits.high, END, false);
     out.push(",\n            },\n            false,\n        ))");
 }
 
@@ -78,9 +66,10 @@ fn push_bounds(out: &mut Text, limits: Limits, purpose: Purpose) {
         return;
     }
     out.push("Some (Range ");
-    push_defined_end(out, limits.low, purpose);
+    let has_sign = purpose == Purpose::Value;
+    push_end(out, limits.low, ("(Some ", ")"), has_sign);
     out.push(" ");
-    push_defined_end(out, limits.high, purpose);
+    push_end(out, limits.high, ("(Some ", ")"), has_sign);
     out.push(", false)");
 }
 

@@ -1,23 +1,16 @@
 //! The files beside a crate's types that contain themselves: definitions, and proofs.
 
 use crate::knot_templates::ANSWERS;
+use crate::knots::owner_words;
 use crate::outputs::{File, push_placed};
 use crate::printer::Printed;
-use crate::text::{Text, Words};
+use crate::text::Text;
 use crate::weights::{Knot, push_definitions};
 use std::alloc::{AllocError, Global};
 
 /// Whether one of some types is a knot.
 pub fn has_knots(types: &[Printed]) -> bool {
     types.iter().any(|one| one.knot.is_some())
-}
-
-/// A text in its place, a module of a crate.
-fn placed(alloc: Global, text: &Text, library: &str, module: &str) -> Result<String, AllocError> {
-    let mut out = Text::new(alloc);
-    push_placed(&mut out, text.as_str(), library, module);
-    out.heed(text);
-    out.end()
 }
 
 /// The file of a circle's definitions.
@@ -31,17 +24,17 @@ fn definitions_file(
     let (library, module) = place;
     let mut text = Text::new(alloc);
     push_definitions(&mut text, knot, uses, lines);
-    let text = placed(alloc, &text, library, module)?;
+    let mut placed = Text::new(alloc);
+    push_placed(&mut placed, text.as_str(), library, module);
+    placed.heed(&text);
     let path = [library, "/specs/", knot.name.as_str(), "Weights.antt"];
-    File::at(alloc, &path, text)
+    File::at(alloc, &path, placed.end()?)
 }
 
 /// The file of the proof that a knot writes what it says.
 fn proof_file(alloc: Global, place: (&str, &str), knot: &Knot) -> Result<File, AllocError> {
     let (library, module) = place;
-    let mut words = Words::new(alloc);
-    words.put("NAME", knot.name.as_str());
-    words.put("SNAKE", knot.snake.as_str());
+    let mut words = owner_words(alloc, "", knot.name.as_str(), None);
     words.put("CRATE", library);
     words.put("MODULE", module);
     let mut text = Text::new(alloc);
@@ -67,8 +60,8 @@ pub fn push_circle_files(
     let mut uses = Text::new(alloc);
     let mut lines = Text::new(alloc);
     for one in types.iter() {
-        uses.push(one.weights.uses.as_str());
-        lines.push(one.weights.lines.as_str());
+        uses.push_text(&one.weights.uses);
+        lines.push_text(&one.weights.lines);
         if let Some(knot) = &one.knot {
             files.push(definitions_file(alloc, place, knot, &uses, &lines)?)?;
             files.push(proof_file(alloc, place, knot)?)?;

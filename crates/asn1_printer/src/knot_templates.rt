@@ -13,20 +13,6 @@ pub const MEMBER: &str = r#"@DOC@pub type @NAME@ = @NAME@Content<@KNOT@>;
 /// A `@NAME@` with `K` in the place of `@KNOT@`.
 "#;
 
-/// A list of a circle.
-pub const LIST: &str = r#"pub type @NAME@Content<K> = @TYPE@;
-
-"#;
-
-/// A SEQUENCE or a SET of a circle, and the struct of its components.
-pub const COMPONENTS: &str = r#"pub type @NAME@Content<K> = @KIND@<@NAME@Components<K>, @RC@, @EC@>;
-
-/// The components of `@NAME@`.
-#[derive(Debug, PartialEq, Eq, Drop)]
-pub struct @NAME@Components<K> {@FIELDS@}
-
-"#;
-
 /// The components of a struct as a row, by the knots that they hold.
 pub const KNOT_ROWED: &str = r#"impl<K> KnotRowed<K> for @NAME@Components<K> {
     ghost use Rattle.rasn_oer.specs.Values.{both};
@@ -55,55 +41,6 @@ impl<K: Encode> TakesKnot<K> for @NAME@Components<K> {
         read_knot_row::<K, Self, @NAME@Row<K>, F>(alloc, decoder, knot)
     }
 }
-
-"#;
-
-/// The tables of a circle's components, and how they are written: constants of the module, since no constant of a generic impl is
-/// known to the check.
-pub const KNOT_TABLES: &str = r#"const @ROOTS@: &'static [Field<'static>] = @ROOT_FIELDS@;
-
-@ADDITIONS@impl<K: Encode> Tabled<@RC@, @EC@> for @NAME@Components<K> {
-    ghost use Rattle.std.specs.Prelude.{refl};
-
-    const FIELDS: Fields<@RC@> = Fields {
-        fields: @ROOTS@,
-    };
-
-    const EXTENDED_FIELDS: Option<Fields<@EC@>> = @EXTENDED@;
-
-    fn root_fields() -> &'static [Field<'static>] {
-        @ROOTS@
-    }
-
-    fn addition_fields() -> &'static [Field<'static>] {
-        @ADDITION_FIELDS@
-    }
-
-    #[inline(always)]
-    fn put(&self, encoder: &mut Encoder<'_>) -> Result<(), EncodeError> {
-        let view = views![self:
-@LIST@
-        ];
-        @NAME@Row::<K>::write(&view, encoder)
-    }
-
-    ghost counts = { (refl, refl) };
-}
-
-"#;
-
-/// The table of a circle's additions.
-pub const KNOT_ADDITIONS: &str = r#"const @TABLE@: &'static [Field<'static>] = @FIELDS@;
-
-"#;
-
-/// A CHOICE of a circle, and the enum of its alternatives.
-pub const ALTERNATIVES: &str = r#"pub type @NAME@Content<K> = OneOf<@NAME@Alternatives<K>>;
-
-/// The alternatives of `@NAME@`.
-#[derive(Debug, PartialEq, Eq, Drop)]
-pub enum @NAME@Alternatives<K> {
-@VARIANTS@}
 
 "#;
 

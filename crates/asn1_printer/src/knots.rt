@@ -1,14 +1,12 @@
 //! What the types of a circle have beside those that don't contain themselves.
 
-use crate::chains::Chain;
 use crate::knot_templates::{
-    IS_CHOICE, KNOT, KNOT_IMPLS, LIST, LIST_READER, MEMBER, OWN_USES, READER, TIED, WEIGHED,
+    IS_CHOICE, KNOT, KNOT_IMPLS, LIST_READER, MEMBER, OWN_USES, READER, TIED, WEIGHED,
 };
 use crate::text::{Text, Words};
 use asn1_layouts::definitions::{Definition, Tie};
-use asn1_layouts::names::component_name;
 use asn1_modules::ast::Body;
-use std::alloc::{AllocError, Global};
+use std::alloc::Global;
 
 /// The name of the knot of a type's circle.
 pub fn knot_name<'d>(all: &'d [Definition<'_>], definition: &Definition<'_>) -> Option<&'d str> {
@@ -19,49 +17,27 @@ pub fn knot_name<'d>(all: &'d [Definition<'_>], definition: &Definition<'_>) -> 
     }
 }
 
-/// Says what stands for the parameter of a type that holds knots, and for its bounds; of another type there is none.
-pub fn put_parameter(words: &mut Words, of: Chain<'_>) {
-    if of.knot.is_some() {
-        words.put("K", "<K>");
-        words.put("TURBO", "::<K>");
-        words.put("WRITES", "<K: Encode>");
-        words.put("READS", "<K: Encode + Decode>");
-    }
-}
-
-/// Prints the name of a circle's type: a struct of the knot, else what it is with the knot in the parameter's place.
-pub fn push_own(alloc: Global, out: &mut Text, doc: &str, owner: &str, knot: &str) {
-    let mut words = Words::new(alloc);
-    words.put("DOC", doc);
-    words.put("NAME", owner);
-    words.put("KNOT", knot);
-    out.fill(if owner == knot { KNOT } else { MEMBER }, &words);
-}
-
-/// Prints a list of a circle.
-pub fn push_list(alloc: Global, out: &mut Text, doc: &str, owner: &str, knot: &str, rust: &Text) {
-    push_own(alloc, out, doc, owner, knot);
+/// What stands for the words that the templates of a type have in common: of one that holds knots its parameter and that one's bounds too,
+/// and in front of its type a struct of the knot, else what it is with the knot in the parameter's place.
+pub fn owner_words(alloc: Global, doc: &str, owner: &str, knot: Option<&str>) -> Words {
     let mut words = Words::new(alloc);
     words.put("NAME", owner);
-    words.begin("TYPE").push_text(rust);
-    out.fill(LIST, &words);
-}
-
-/// What stands for a knot's name in the templates.
-fn name_words(alloc: Global, name: &str) -> Result<Words, AllocError> {
-    let mut words = Words::new(alloc);
-    words.put("NAME", name);
-    words.put("SNAKE", component_name(alloc, name)?.as_str());
     words.put("HOME", "@HOME@");
     words.put("CRATE", "@CRATE@");
-    Ok(words)
-}
-
-/// A template of a knot, filled.
-fn filled(alloc: Global, template: &str, words: &Words) -> Text {
-    let mut out = Text::new(alloc);
-    out.fill(template, words);
-    out
+    words.put("DOC", doc);
+    words.begin("SNAKE").push_component_name(owner);
+    let Some(knot) = knot else {
+        words.put("HEAD", doc);
+        return words;
+    };
+    words.put("KNOT", knot);
+    words.put("K", "<K>");
+    words.put("TURBO", "::<K>");
+    words.put("WRITES", "<K: Encode>");
+    words.put("READS", "<K: Encode + Decode>");
+    words.put("CONTENT", "Content<K>");
+    words.put_filled("HEAD", if owner == knot { KNOT } else { MEMBER });
+    words
 }
 
 /// Whether a knot is a list of itself, and no more.
@@ -73,12 +49,8 @@ fn is_list_of_itself(definition: &Definition<'_>) -> bool {
 }
 
 /// Prints what a knot has of the codec's traits.
-pub fn push_knot(
-    alloc: Global,
-    out: &mut Text,
-    definition: &Definition<'_>,
-) -> Result<(), AllocError> {
-    let mut words = name_words(alloc, definition.rust_name.as_str())?;
+pub fn push_knot(alloc: Global, out: &mut Text, definition: &Definition<'_>) {
+    let mut words = owner_words(alloc, "", definition.rust_name.as_str(), None);
     let (tag, is_choice) = match definition.of.body {
         Body::Choice(_) => ("EOC", IS_CHOICE),
         Body::Set(_) => ("SET", ""),
@@ -86,19 +58,14 @@ pub fn push_knot(
     };
     words.put("TAG", tag);
     words.put("IS_CHOICE", is_choice);
-    let uses = filled(alloc, OWN_USES, &words);
-    words.begin("USES").push_text(&uses);
-    let tied = filled(alloc, TIED, &words);
-    words.begin("TIED").push_text(&tied);
-    let weighed = filled(alloc, WEIGHED, &words);
-    words.begin("WEIGHED").push_text(&weighed);
+    words.put_filled("USES", OWN_USES);
+    words.put_filled("TIED", TIED);
+    words.put_filled("WEIGHED", WEIGHED);
     let reader = if is_list_of_itself(definition) {
         LIST_READER
     } else {
         READER
     };
-    let reader = filled(alloc, reader, &words);
-    words.begin("READER").push_text(&reader);
+    words.put_filled("READER", reader);
     out.fill(KNOT_IMPLS, &words);
-    Ok(())
 }

@@ -12,7 +12,6 @@ pub mod enumerations;
 pub mod files;
 pub mod items;
 pub mod knot_files;
-pub mod knot_rows;
 pub mod knot_templates;
 pub mod knots;
 pub mod lines;

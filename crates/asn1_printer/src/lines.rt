@@ -1,6 +1,7 @@
 //! Lines that are longer than the language lays them out: broken as its formatter breaks them, or marked for it to leave alone.
 
 use crate::text::Text;
+use crate::uses::ends_word;
 use std::alloc::{AllocError, Global};
 
 /// How many characters a line has at most.
@@ -100,17 +101,12 @@ fn holder_of(line: &str) -> Option<(&str, &str, &'static str)> {
         None => (rest.strip_suffix("),")?, ","),
     };
     let name = front.trim_start();
-    let is_head = name.starts_with("pub struct ") || !name.contains(|c: char| ends_name(c));
+    let is_head = name.starts_with("pub struct ") || !name.contains(|c: char| ends_word(c));
     if is_head {
         Some((front, held, end))
     } else {
         None
     }
-}
-
-/// Whether no name has a character.
-fn ends_name(c: char) -> bool {
-    !(c.is_ascii_alphanumeric() || c == '_')
 }
 
 /// Whether what stands behind a `=` goes to a line of its own.

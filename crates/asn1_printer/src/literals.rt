@@ -193,16 +193,14 @@ pub fn push_array(out: &mut Text, octets: &[u8]) {
     out.push("\n        ]");
 }
 
-/// Octets as a list of definitions.
-pub fn list_text(alloc: Global, octets: &[u8]) -> Text {
-    let mut out = Text::new(alloc);
+/// Appends octets as a list of definitions.
+pub fn push_list(out: &mut Text, octets: &[u8]) {
     out.push("(");
     for octet in octets.iter() {
         out.push_number(i128::from(*octet));
         out.push(" ∷ ");
     }
     out.push("[])");
-    out
 }
 
 /// Appends names between braces.

@@ -13,8 +13,7 @@ pub struct File {
 impl File {
     /// The file of a path in pieces.
     pub fn at(alloc: Global, path: &[&str], text: String) -> Result<File, AllocError> {
-        let mut whole = Text::new(alloc);
-        whole.push_all(path);
+        let whole = Text::of(alloc, path);
         Ok(File {
             path: whole.end()?,
             text,
@@ -24,8 +23,7 @@ impl File {
 
 /// Appends a text with what names its place, a module of a crate, for the marks: `@HOME@`, `@CRATE@` and `@MODULE@`.
 pub fn push_placed(out: &mut Text, text: &str, library: &str, module: &str) {
-    let mut home = Text::new(out.alloc());
-    home.push_all(&[library, ".specs.declared.", module]);
+    let home = Text::of(out.alloc(), &[library, ".specs.declared.", module]);
     let mut with_home = Text::new(out.alloc());
     with_home.push_replaced(text, "@HOME@", home.as_str());
     let mut with_crate = Text::new(out.alloc());

@@ -6,14 +6,14 @@ use crate::circles::{again, require_circle, run_of};
 use crate::depths::{Depth, depths_of, require_depth};
 use crate::enumerations::push_enumerated;
 use crate::items::push_limits;
-use crate::knots::{knot_name, push_knot, push_list};
+use crate::knots::{knot_name, owner_words, push_knot};
 use crate::lines::laid_out;
 use crate::notation::push_notation;
 use crate::notes::push_noted;
 use crate::sequences::push_sequence;
 use crate::shapes::shape_of;
 use crate::templates::ALIAS;
-use crate::text::{Text, Words};
+use crate::text::Text;
 use crate::uses::{KNOWN, declared_names};
 use crate::weights::{Knot, Weights, knot_of, weights_of};
 use asn1_layouts::definitions::{Circle, Definition, Tie};
@@ -42,9 +42,10 @@ utf8text visibletext within equalasspelled spelled encode encoder bare isemptyli
 /// How often names may be put right.
 const MAX_RENAMES: usize = 16;
 
-/// A type that was printed: its text, and the names that others may use.
+/// A type that was printed: its name, its text, and the names that others may use.
 #[derive(Drop)]
 pub struct Printed {
+    pub name: String,
     pub text: String,
     pub names: Vec<String>,
     /// Whether it stands in the file of the type before: both are of one circle.
@@ -77,16 +78,12 @@ enum State {
     LeftOut,
 }
 
-/// The printed names, in small letters, each with the name of the type that it was printed of.
-type Owners = BTreeMap<String, String>;
-
-/// What is known so far: what became of each type, how deep each is, the printed names, and what came of a circle's other types, which
-/// are printed with its first one, the next one last.
+/// What is known so far: what became of each type, how deep each is, and what came of a circle's other types, which are printed with its
+/// first one, the next one last.
 #[derive(Drop)]
 struct Progress {
     states: Vec<State>,
     depths: Vec<Depth>,
-    seen: Owners,
     waiting: Vec<Result<Printed, Refusal>>,
 }
 
@@ -109,25 +106,18 @@ fn require_targets<'m>(
         return Ok(());
     };
     for part in definition.parts.iter() {
-        let Some(target) = part.target else {
-            continue;
-        };
-        if part.tie != Tie::Plain {
-            continue;
-        }
-        match states.get(target).copied() {
-            Some(State::Printed) => {}
-            _ => return Err(scope.refused(part.inner.first, "a type that is printed")),
+        if let (Some(target), Tie::Plain) = (part.target, part.tie) {
+            if states.get(target).copied() != Some(State::Printed) {
+                return Err(scope.refused(part.inner.first, "a type that is printed"));
+            }
         }
     }
     Ok(())
 }
 
-/// Prints a name for a type, by its Rust type.
-fn push_name(alloc: Global, out: &mut Text, name: &str, doc: &str, rust: &Text) {
-    let mut words = Words::new(alloc);
-    words.put("DOC", doc);
-    words.put("NAME", name);
+/// Prints a name for a type, by its Rust type; with the parameter of a knot where there is one.
+fn push_name(out: &mut Text, name: &str, doc: &str, rust: &Text, knot: Option<&str>) {
+    let mut words = owner_words(out.alloc(), doc, name, knot);
     words.begin("TYPE").push_text(rust);
     out.fill(ALIAS, &words);
 }
@@ -145,11 +135,7 @@ fn push_alias<'m>(
     };
     let name = definition.rust_name.as_str();
     let shape = shape_of(scope, all, part, definition.of, name)?;
-    if let Some(knot) = knot_name(all, definition) {
-        push_list(scope.alloc, out, doc, name, knot, &shape.text);
-        return Ok(());
-    }
-    push_name(scope.alloc, out, name, doc, &shape.text);
+    push_name(out, name, doc, &shape.text, knot_name(all, definition));
     match shape.limits {
         Some(limits) => push_limits(scope, out, name, limits, definition.of.first),
         None => Ok(()),
@@ -158,7 +144,6 @@ fn push_alias<'m>(
 
 /// A name of a type of its circle.
 fn push_circle_name(
-    alloc: Global,
     all: &[Definition<'_>],
     out: &mut Text,
     definition: &Definition<'_>,
@@ -166,24 +151,15 @@ fn push_circle_name(
 ) {
     let target = definition.parts.first().and_then(|part| part.target);
     if let Some(target) = target.and_then(|at| all.get(at)) {
-        let mut rust = Text::new(alloc);
-        rust.push(target.rust_name.as_str());
-        push_name(alloc, out, definition.rust_name.as_str(), doc, &rust);
-    }
-}
-
-/// The token so many in front of another; nothing in front of the first.
-fn token_before<'a>(scope: Scope<'_, 'a>, start: usize, back: usize) -> Option<Token<'a>> {
-    match start.checked_sub(back) {
-        Some(at) => scope.tokens.get(at).copied(),
-        None => None,
+        let rust = Text::of(out.alloc(), &[target.rust_name.as_str()]);
+        push_name(out, definition.rust_name.as_str(), doc, &rust, None);
     }
 }
 
 /// The name in front of a type that is assigned; nothing in front of another.
 fn name_before<'a>(scope: Scope<'_, 'a>, start: usize) -> Option<Token<'a>> {
-    match (token_before(scope, start, 2), token_before(scope, start, 1)) {
-        (Some(name), Some(assigns)) if assigns.text == "::=" => Some(name),
+    match scope.tokens.get(start.checked_sub(2)?..start)? {
+        [name, assigns] if assigns.text == "::=" => Some(*name),
         _ => None,
     }
 }
@@ -192,8 +168,7 @@ fn name_before<'a>(scope: Scope<'_, 'a>, start: usize) -> Option<Token<'a>> {
 fn doc_of(scope: Scope<'_, '_>, definition: &Definition<'_>) -> Result<String, AllocError> {
     let start = definition.of.first.index;
     let mut doc = Text::new(scope.alloc);
-    let mut notation = Text::new(scope.alloc);
-    notation.push("/// `");
+    let mut notation = Text::of(scope.alloc, &["/// `"]);
     if let Some(name) = name_before(scope, start) {
         push_noted(&mut doc, name.note);
         notation.push_all(&[name.text, " ::= "]);
@@ -222,7 +197,7 @@ fn text_of<'m>(
             push_enumerated(scope, &mut out, definition, items, doc)?;
         }
         Body::Reference(_) if definition.circle.is_some() => {
-            push_circle_name(scope.alloc, all, &mut out, definition, doc);
+            push_circle_name(all, &mut out, definition, doc);
         }
         Body::Simple(_) | Body::Integer(_) | Body::BitString(_) | Body::Reference(_) => {
             push_alias(scope, all, &mut out, definition, doc)?
@@ -230,7 +205,7 @@ fn text_of<'m>(
         Body::SequenceOf(_) | Body::SetOf(_) => push_alias(scope, all, &mut out, definition, doc)?,
     }
     if knot_name(all, definition) == Some(definition.rust_name.as_str()) {
-        push_knot(scope.alloc, &mut out, definition)?;
+        push_knot(scope.alloc, &mut out, definition);
     }
     Ok(laid_out(scope.alloc, &out)?)
 }
@@ -327,74 +302,43 @@ fn clashes<'m>(scope: Scope<'m, '_>, all: &[Definition<'m>]) -> Result<Vec<usize
     Ok(found)
 }
 
-/// Puts `_` behind names of types, which no name of ASN.1 has, until what is printed of each has names that neither another type nor the
-/// library has.
-pub fn free_names<'m>(
-    scope: Scope<'m, '_>,
-    all: &mut Vec<Definition<'m>>,
-) -> Result<(), AllocError> {
-    for _ in 0..MAX_RENAMES {
-        let found = clashes(scope, all.as_slice())?;
-        if found.is_empty() {
-            break;
-        }
-        for at in found.iter() {
-            if let Some(definition) = all.get_mut(*at) {
-                definition.rust_name.push('_')?;
-            }
+/// Puts `_` behind the names of the types at some places.
+fn rename(all: &mut Vec<Definition<'_>>, places: &[usize]) -> Result<(), AllocError> {
+    for at in places.iter() {
+        if let Some(definition) = all.get_mut(*at) {
+            definition.rust_name.push('_')?;
         }
     }
     Ok(())
 }
 
-/// The refusal of a type for a printed name that another has.
-fn same_name(
-    scope: Scope<'_, '_>,
-    definition: &Definition<'_>,
-    name: &str,
-    other: Option<&str>,
-) -> Refusal {
+/// Puts `_` behind names of types, which no name of ASN.1 has, until what is printed of each has names that neither another type nor the
+/// library has, in letters of either size. Refused where so many names are one that this doesn't come to an end.
+pub fn free_names<'m>(scope: Scope<'m, '_>, all: &mut Vec<Definition<'m>>) -> Result<(), Refusal> {
     const READS: &str =
         "a type none of whose printed names, in letters of either size, is another's";
-    let (behind, owner) = match other {
-        Some(owner) => ("is printed of ", owner),
-        None => ("is the library's", ""),
-    };
-    match format!(in scope.alloc; "{READS}: {name} {behind}{owner}") {
-        Ok(reads) => scope.refused(definition.of.first, reads.as_str()),
-        Err(_) => Refusal::OutOfMemory,
+    let mut left = None;
+    for _ in 0..all.len().saturating_add(MAX_RENAMES) {
+        let found = clashes(scope, all.as_slice())?;
+        left = found
+            .first()
+            .and_then(|at| all.get(*at))
+            .map(|one| one.of.first);
+        if left.is_none() {
+            break;
+        }
+        rename(all, found.as_slice())?;
+    }
+    match left {
+        Some(first) => Err(scope.refused(first, READS)),
+        None => Ok(()),
     }
 }
 
-/// Puts a printed name to those that were seen. Refused where it, in letters of either size, is that of another.
-fn see_name<'m>(
-    scope: Scope<'m, '_>,
-    definition: &Definition<'m>,
-    name: &str,
-    seen: &mut Owners,
-) -> Result<(), Refusal> {
-    let small = lower(scope.alloc, name)?;
-    if is_taken(small.as_str()) {
-        return Err(same_name(scope, definition, name, None));
-    }
-    if let Some(owner) = seen.get(small.as_str()) {
-        return Err(same_name(scope, definition, name, Some(owner.as_str())));
-    }
-    seen.insert(small, definition.rust_name.clone()?)?;
-    Ok(())
-}
-
-/// The names of a text that others may use. Refused where one, in letters of either size, is that of another.
-fn names_of_text<'m>(
-    scope: Scope<'m, '_>,
-    definition: &Definition<'m>,
-    text: &str,
-    seen: &mut Owners,
-) -> Result<Vec<String>, Refusal> {
-    let alloc = scope.alloc;
+/// The names of a text that others may use.
+fn shown_names(alloc: Global, text: &str) -> Result<Vec<String>, AllocError> {
     let mut names = Vec::new(alloc);
     for (name, is_shown) in declared_names(alloc, text)? {
-        see_name(scope, definition, name.as_str(), seen)?;
         if is_shown {
             names.push(name)?;
         }
@@ -412,8 +356,9 @@ fn print_one<'m>(
 ) -> Result<Printed, Refusal> {
     require_depth(scope, all, definition, progress.depths.get(at))?;
     let text = text_of(scope, all, definition, Some(progress.states.as_slice()))?;
-    let names = names_of_text(scope, definition, text.as_str(), &mut progress.seen)?;
+    let names = shown_names(scope.alloc, text.as_str())?;
     Ok(Printed {
+        name: definition.rust_name.clone()?,
         text,
         names,
         is_joined: false,
@@ -482,21 +427,6 @@ fn print_run<'m>(
     print_members(scope, all, run, progress)
 }
 
-/// Prints the types of a circle, or refuses each as the first of them is that can't be printed.
-fn print_circle<'m>(
-    scope: Scope<'m, '_>,
-    all: &[Definition<'m>],
-    run: &[usize],
-    circle: Circle,
-    progress: &mut Progress,
-) -> Result<(), Refusal> {
-    progress.waiting = match print_run(scope, all, run, circle, progress) {
-        Ok(made) => made,
-        Err(why) => refuse_all(scope.alloc, &why, run.len())?,
-    };
-    Ok(())
-}
-
 /// Prints a type that is of no circle. Refused where it can't be resolved, listed or printed.
 fn print_alone<'m>(
     scope: Scope<'m, '_>,
@@ -512,7 +442,8 @@ fn print_alone<'m>(
     print_one(scope, all, at, definition, progress)
 }
 
-/// Prints the type whose turn it is. At the turn of the first type of a circle all of them are printed.
+/// Prints the type whose turn it is. At the turn of the first type of a circle all of them are printed, or each is refused as the first of
+/// them is that can't be printed.
 fn print_at<'m>(
     scope: Scope<'m, '_>,
     all: &[Definition<'m>],
@@ -527,7 +458,10 @@ fn print_at<'m>(
     };
     if progress.waiting.is_empty() {
         let run = run_of(all, order, turn, circle);
-        print_circle(scope, all, run, circle, progress)?;
+        progress.waiting = match print_run(scope, all, run, circle, progress) {
+            Ok(made) => made,
+            Err(why) => refuse_all(scope.alloc, &why, run.len())?,
+        };
     }
     match progress.waiting.pop() {
         Some(made) => made,
@@ -566,7 +500,6 @@ pub fn print_types<'m>(
     let mut progress = Progress {
         states: vec![in alloc; State::New; all.len()]?,
         depths: depths_of(scope, all, order)?,
-        seen: BTreeMap::new(alloc),
         waiting: Vec::new(alloc),
     };
     let mut printed = Vec::new(alloc);

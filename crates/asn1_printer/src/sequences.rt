@@ -1,11 +1,14 @@
 //! A SEQUENCE or a SET: its struct, its row, its tables and its conversions.
+ghost use Rattle.std.specs.Prelude.{◌≡◌, true, IfOk};
+ghost use Rattle.asn1_printer.specs.SetOrder.{AreInTagOrder, class_order, roots_from};
 
-use crate::cells::{Cell, cell_of, group_cell};
+use crate::cells::{Cell, Names, Place, cell_of, group_cell, see_name};
 use crate::chains::{Chain, push_row};
-use crate::knot_rows::{push_knot_rowed, push_knot_struct, push_knot_tables};
-use crate::knots::{knot_name, put_parameter};
-use crate::set_order::{push_set_order, text_order};
-use crate::templates::{MEMBERS, TABLES, TYPE, USES_BOTH};
+use crate::choices::push_table_name;
+use crate::knot_templates::KNOT_ROWED;
+use crate::knots::{knot_name, owner_words};
+use crate::set_order::{put_set_order, text_order};
+use crate::templates::{IN_TAG_ORDER, MEMBERS, TABLES, TYPE, USES_BOTH};
 use crate::text::{Text, Words};
 use asn1_core::Class;
 use asn1_layouts::definitions::{Definition, Part};
@@ -18,7 +21,7 @@ use std::alloc::{AllocError, Global};
 use std::collections::BTreeMap;
 
 /// The fields of a struct, a line each.
-pub fn push_fields(out: &mut Text, cells: &[Cell]) {
+fn push_fields(out: &mut Text, cells: &[Cell]) {
     for cell in cells.iter() {
         out.push("\n");
         out.push_text(&cell.note);
@@ -36,7 +39,7 @@ pub fn push_fields(out: &mut Text, cells: &[Cell]) {
 }
 
 /// The names of the fields, a line each.
-pub fn push_list(out: &mut Text, cells: &[Cell]) {
+fn push_list(out: &mut Text, cells: &[Cell]) {
     for (index, cell) in cells.iter().enumerate() {
         let between = if index == 0 { "" } else { ",\n" };
         out.push_all(&[between, "            ", cell.field.as_str()]);
@@ -44,7 +47,7 @@ pub fn push_list(out: &mut Text, cells: &[Cell]) {
 }
 
 /// A value's fields, one behind another as a row has them.
-pub fn push_pairs(out: &mut Text, cells: &[Cell]) {
+fn push_pairs(out: &mut Text, cells: &[Cell]) {
     for (index, cell) in cells.iter().enumerate() {
         let both = if index == 0 { "both v." } else { "(both v." };
         out.push_all(&[both, cell.field.as_str(), " "]);
@@ -53,24 +56,34 @@ pub fn push_pairs(out: &mut Text, cells: &[Cell]) {
     out.push_times(")", cells.len().saturating_sub(1));
 }
 
-/// The lines of a table of components, with what begins each.
-pub fn push_entries(out: &mut Text, cells: &[Cell], front: &str) {
+/// Components as a table of the library has them, a line each, and what begins its lines.
+fn push_entries(out: &mut Text, cells: &[Cell], indent: &str) {
+    if cells.is_empty() {
+        out.push("&[]");
+        return;
+    }
+    out.push("fields![");
     for (index, cell) in cells.iter().enumerate() {
-        out.push_all(&[if index == 0 { "" } else { "," }, front]);
+        out.push_all(&[if index == 0 { "" } else { "," }, indent, "    "]);
         out.push_count(index);
         out.push_all(&[" ", cell.entry.as_str()]);
     }
+    out.push_all(&[indent, "]"]);
 }
 
-/// A table of components.
-fn push_table(out: &mut Text, cells: &[Cell]) {
-    if cells.is_empty() {
+/// A table of components: a constant of the module in a circle, else its components.
+fn push_table(out: &mut Text, of: Chain<'_>, part: &str, cells: &[Cell]) {
+    if of.knot.is_none() && cells.is_empty() {
         out.push("Fields { fields: &[] }");
         return;
     }
-    out.push("Fields {\n        fields: fields![");
-    push_entries(out, cells, "\n            ");
-    out.push("\n        ],\n    }");
+    out.push("Fields {\n        fields: ");
+    if of.knot.is_some() {
+        push_table_name(out, of.owner, part);
+    } else {
+        push_entries(out, cells, "\n        ");
+    }
+    out.push(",\n    }");
 }
 
 /// The table of additions.
@@ -80,79 +93,74 @@ fn push_additions(out: &mut Text, of: Chain<'_>) {
         return;
     }
     out.push("Some(");
-    push_table(out, of.additions());
+    push_table(out, of, "ADDITIONS", of.additions());
     out.push(")");
 }
 
-/// How many root components and additions a type has, in digits.
-pub fn put_counts(words: &mut Words, of: Chain<'_>) {
+/// Says what names the tables of components: in a circle constants of the module, which are printed, else those of the impl.
+fn put_table_names(words: &mut Words, of: Chain<'_>) {
+    if of.knot.is_none() {
+        words.put("ROOT_FIELDS", "Self::FIELDS.fields");
+        words.put("ADDITION_FIELDS", "rows_of!(Self::EXTENDED_FIELDS)");
+        return;
+    }
+    push_table_name(words.begin("ROOT_FIELDS"), of.owner, "COMPONENTS");
+    if of.is_extensible {
+        push_table_name(words.begin("ADDITION_FIELDS"), of.owner, "ADDITIONS");
+    } else {
+        words.put("ADDITION_FIELDS", "&[]");
+    }
+    let constants = words.begin("CONSTANTS");
+    push_constant(constants, of.owner, "COMPONENTS", of.roots());
+    if of.is_extensible {
+        push_constant(constants, of.owner, "ADDITIONS", of.additions());
+    }
+}
+
+/// Prints a constant of components.
+fn push_constant(out: &mut Text, owner: &str, part: &str, cells: &[Cell]) {
+    out.push("const ");
+    push_table_name(out, owner, part);
+    out.push(": &'static [Field<'static>] = ");
+    push_entries(out, cells, "\n");
+    out.push(";\n\n");
+}
+
+/// What stands for the words of the templates of a SEQUENCE or a SET.
+fn words_of(alloc: Global, doc: &str, of: Chain<'_>, is_set: bool) -> Words {
+    let mut words = owner_words(alloc, doc, of.owner, of.knot);
+    words.put("KIND", if is_set { "Set" } else { "Sequence" });
+    words.put("USES", if of.cells.is_empty() { "" } else { USES_BOTH });
+    words.put("EXT", if of.is_extensible { "true" } else { "false" });
     words.begin("RC").push_count(of.roots().len());
     words.begin("EC").push_count(of.additions().len());
-}
-
-/// The library's name for a SEQUENCE or a SET.
-pub fn kind_of(is_set: bool) -> &'static str {
-    if is_set { "Set" } else { "Sequence" }
-}
-
-/// Prints a type's name and its struct.
-fn push_struct(alloc: Global, out: &mut Text, doc: &str, of: Chain<'_>, is_set: bool) {
-    let mut words = Words::new(alloc);
-    words.put("DOC", doc);
-    words.put("NAME", of.owner);
-    words.put("KIND", kind_of(is_set));
     push_fields(words.begin("FIELDS"), of.cells);
-    put_counts(&mut words, of);
-    out.fill(TYPE, &words);
-}
-
-/// Prints the struct as a row.
-fn push_conversions(alloc: Global, out: &mut Text, of: Chain<'_>) {
-    let mut words = Words::new(alloc);
-    words.put("NAME", of.owner);
-    words.put("USES", if of.cells.is_empty() { "" } else { USES_BOTH });
     push_pairs(words.begin("PAIRS"), of.cells);
     push_list(words.begin("LIST"), of.cells);
-    words.put("EXT", if of.is_extensible { "true" } else { "false" });
-    put_parameter(&mut words, of);
-    out.fill(MEMBERS, &words);
-}
-
-/// Prints the tables of a type's components, and of a SET that they are in the order of their tags.
-fn push_tables(alloc: Global, out: &mut Text, of: Chain<'_>, is_set: bool) {
-    let mut words = Words::new(alloc);
-    words.put("NAME", of.owner);
-    push_list(words.begin("LIST"), of.cells);
-    push_table(words.begin("ROOTS"), of.roots());
+    push_table(words.begin("ROOTS"), of, "COMPONENTS", of.roots());
     push_additions(words.begin("ADDITIONS"), of);
-    put_counts(&mut words, of);
-    out.fill(TABLES, &words);
-    if is_set {
-        push_set_order(alloc, out, of);
-    }
+    put_table_names(&mut words, of);
+    words
 }
 
 /// Prints a type by its cells.
 fn push_members(alloc: Global, out: &mut Text, doc: &str, of: Chain<'_>, is_set: bool) {
-    match of.knot {
-        Some(knot) => {
-            push_knot_struct(alloc, out, doc, of, knot, is_set);
-            push_row(alloc, out, of);
-            push_knot_rowed(alloc, out, of);
-            push_conversions(alloc, out, of);
-            push_knot_tables(alloc, out, of, is_set);
-        }
-        None => {
-            push_struct(alloc, out, doc, of, is_set);
-            push_row(alloc, out, of);
-            push_conversions(alloc, out, of);
-            push_tables(alloc, out, of, is_set);
-        }
+    let mut words = words_of(alloc, doc, of, is_set);
+    out.fill(TYPE, &words);
+    push_row(alloc, out, of);
+    out.fill(if of.knot.is_some() { KNOT_ROWED } else { "" }, &words);
+    out.fill(MEMBERS, &words);
+    out.fill(TABLES, &words);
+    if is_set {
+        put_set_order(&mut words, of);
+        out.fill(IN_TAG_ORDER, &words);
     }
 }
 
 /// The place of a class in the order of tags (X.680, 8.6).
-fn class_order(class: Class) -> u8 {
+fn class_order(class: Class) -> u8
+    ensures { result ≡ class_order class }
+{
     match class {
         Class::Universal => 0,
         Class::Application => 1,
@@ -161,21 +169,28 @@ fn class_order(class: Class) -> u8 {
     }
 }
 
-/// The root components of a SET in the order of their tags, as places among all.
-fn in_tag_order(alloc: Global, parts: &[Part<'_>]) -> Result<Vec<usize>, AllocError> {
-    let mut order = BTreeMap::new(alloc);
+/// The root components that have a tag: the class and the number of each, and its place among all.
+fn tagged_roots(alloc: Global, parts: &[Part<'_>]) -> Result<Vec<(u8, u32, usize)>, AllocError>
+    ensures { IfOk result (λ roots. roots.items ≡ roots_from 0 parts.now) }
+{
+    let mut roots = Vec::new(alloc);
     for (at, part) in parts.iter().enumerate() {
         if let Some(row) = part.row {
             if let (Position::Root, Some(tag)) = (row.position, row.tag) {
-                order.insert((class_order(tag.class), tag.value), at)?;
+                roots.push((class_order(tag.class), tag.value, at))?;
             }
         }
     }
-    let mut places = Vec::new(alloc);
-    for at in order.values() {
-        places.push(*at)?;
-    }
-    Ok(places)
+    Ok(roots)
+}
+
+/// The root components of a SET in the order of their tags, as places among all.
+fn in_tag_order(alloc: Global, parts: &[Part<'_>]) -> Result<Vec<usize>, AllocError>
+    ensures { IfOk result (λ places. AreInTagOrder parts.now places.items) }
+{
+    let mut roots = tagged_roots(alloc, parts)?;
+    roots.sort()?;
+    roots.iter().map(|root| root.2).collect(alloc)
 }
 
 /// The components that stand at a position, as places among all.
@@ -208,47 +223,11 @@ fn cells_at<'m>(
     for at in places.iter() {
         if let Some(part) = parts.get(*at) {
             if let Some(row) = part.row {
-                cells.push(cell_of(scope, all, out, owner, part, row, false)?)?;
+                cells.push(cell_of(scope, all, out, owner, part, row, Place::Root)?)?;
             }
         }
     }
     Ok(cells)
-}
-
-/// Prints the sequence of an addition group by its cells.
-fn push_group_type<'c>(
-    alloc: Global,
-    out: &mut Text,
-    owner: &str,
-    name: &'c str,
-    cells: &'c [Cell],
-    number: usize,
-) -> Result<(), AllocError> {
-    let mut doc = Text::new(alloc);
-    doc.push("/// The addition group ");
-    doc.push_count(number);
-    doc.push_all(&[" of `", owner, "`.\n"]);
-    let of = Chain {
-        owner: name,
-        cells,
-        root_count: cells.len(),
-        is_extensible: false,
-        is_choice: false,
-        knot: None,
-        in_text: &[],
-        places: &[],
-    };
-    let doc = doc.end()?;
-    push_members(alloc, out, doc.as_str(), of, false);
-    Ok(())
-}
-
-/// The name of the sequence of an addition group.
-fn group_name(alloc: Global, owner: &str, number: usize) -> Result<String, AllocError> {
-    let mut name = Text::new(alloc);
-    name.push_all(&[owner, "Group"]);
-    name.push_count(number);
-    name.end()
 }
 
 /// Prints the sequence of an addition group, and answers its cell.
@@ -262,10 +241,12 @@ fn push_group<'m>(
     let alloc = scope.alloc;
     let owner = definition.rust_name.as_str();
     let parts = definition.parts.as_slice();
-    let name = group_name(alloc, owner, number)?;
+    let name = format!(in alloc; "{owner}Group{number}")?;
+    let doc = format!(in alloc; "/// The addition group {number} of `{owner}`.\n")?;
     let places = in_text_order(alloc, parts, Position::Group(number))?;
     let cells = cells_at(scope, all, out, name.as_str(), parts, places.as_slice())?;
-    push_group_type(alloc, out, owner, name.as_str(), cells.as_slice(), number)?;
+    let of = Chain::of(name.as_str(), cells.as_slice());
+    push_members(alloc, out, doc.as_str(), of, false);
     Ok(group_cell(alloc, name.as_str(), number, cells.len())?)
 }
 
@@ -284,7 +265,7 @@ fn push_addition_cells<'m>(
             continue;
         };
         let cell = match row.position {
-            Position::Addition => cell_of(scope, all, out, owner, part, row, true)?,
+            Position::Addition => cell_of(scope, all, out, owner, part, row, Place::Addition)?,
             Position::Group(number) if number != printed => {
                 printed = number;
                 push_group(scope, all, out, definition, number)?
@@ -297,16 +278,11 @@ fn push_addition_cells<'m>(
 }
 
 /// The names of the groups among the components, as fields, each with what it is called in a refusal.
-fn group_fields<'a>(
-    scope: Scope<'_, 'a>,
-    parts: &[Part<'_>],
-) -> Result<BTreeMap<String, &'a str>, AllocError> {
+fn group_fields<'a>(scope: Scope<'_, 'a>, parts: &[Part<'_>]) -> Result<Names<'a>, AllocError> {
     let mut names = BTreeMap::new(scope.alloc);
     for part in parts.iter() {
-        if let Some(row) = part.row {
-            if let Position::Group(number) = row.position {
-                names.insert(format!(in scope.alloc; "group_{number}")?, "[[")?;
-            }
+        if let Some(Position::Group(number)) = part.row.map(|row| row.position) {
+            names.insert(format!(in scope.alloc; "group_{number}")?, "[[")?;
         }
     }
     Ok(names)
@@ -314,18 +290,13 @@ fn group_fields<'a>(
 
 /// Refuses two components whose Rust names are the same.
 fn require_names<'m>(scope: Scope<'m, '_>, parts: &[Part<'m>]) -> Result<(), Refusal> {
+    const READS: &str = "a component whose Rust name no other has";
     let mut seen = group_fields(scope, parts)?;
     for part in parts.iter() {
-        let Some(row) = part.row else {
-            continue;
-        };
-        let name = part.rust_name.as_str();
-        if let Some(other) = seen.get(name) {
-            let names = (scope.text(row.name), *other);
-            const READS: &str = "a component whose Rust name no other has";
-            return Err(scope.refused_beside(row.name, READS, names, name));
+        if let Some(row) = part.row {
+            let name = part.rust_name.clone()?;
+            see_name(scope, &mut seen, (name, row.name), row.name, READS)?;
         }
-        seen.insert(part.rust_name.clone()?, scope.text(row.name))?;
     }
     Ok(())
 }
@@ -335,7 +306,9 @@ pub fn root_places(
     alloc: Global,
     parts: &[Part<'_>],
     is_set: bool,
-) -> Result<Vec<usize>, AllocError> {
+) -> Result<Vec<usize>, AllocError>
+    ensures { is_set ≡ true → IfOk result (λ places. AreInTagOrder parts.now places.items) }
+{
     if is_set {
         in_tag_order(alloc, parts)
     } else {
@@ -362,14 +335,12 @@ pub fn push_sequence<'m>(
     let text_places = text_order(scope.alloc, is_set, in_text.as_slice())?;
     push_addition_cells(scope, all, out, definition, &mut cells)?;
     let of = Chain {
-        owner,
-        cells: cells.as_slice(),
         root_count,
         is_extensible: is_extensible(definition.of),
-        is_choice: false,
         knot: knot_name(all, definition),
         in_text: in_text.as_slice(),
         places: text_places.as_slice(),
+        ..Chain::of(owner, cells.as_slice())
     };
     push_members(scope.alloc, out, doc, of, is_set);
     Ok(())

@@ -2,24 +2,9 @@
 
 use crate::chains::Chain;
 use crate::choices::push_table_name;
-use crate::knots::put_parameter;
-use crate::sequences::put_counts;
-use crate::templates::IN_TAG_ORDER;
 use crate::text::{Text, Words};
 use std::alloc::{AllocError, Global};
 use std::collections::BTreeMap;
-
-/// Where each of some numbers stands, by the number.
-fn places_by_number(
-    alloc: Global,
-    numbers: &[usize],
-) -> Result<BTreeMap<usize, usize>, AllocError> {
-    let mut places = BTreeMap::new(alloc);
-    for (at, number) in numbers.iter().enumerate() {
-        places.insert(*number, at)?;
-    }
-    Ok(places)
-}
 
 /// Where each of a SET's numbers stands, the least number first; of another type nothing.
 pub fn text_order(
@@ -27,14 +12,13 @@ pub fn text_order(
     is_set: bool,
     numbers: &[usize],
 ) -> Result<Vec<usize>, AllocError> {
-    let mut order = Vec::new(alloc);
-    if !is_set {
-        return Ok(order);
+    let mut places = BTreeMap::new(alloc);
+    for (at, number) in numbers.iter().enumerate() {
+        if is_set {
+            places.insert(*number, at)?;
+        }
     }
-    for at in places_by_number(alloc, numbers)?.values() {
-        order.push(*at)?;
-    }
-    Ok(order)
+    places.values().copied().collect(alloc)
 }
 
 /// The table of the root components in the order of the text.
@@ -64,19 +48,15 @@ fn push_places(out: &mut Text, places: &[usize]) {
     out.push("[]");
 }
 
-/// Prints where the components of a SET stand in its text, and that its row has them in the order of their tags.
-pub fn push_set_order(alloc: Global, out: &mut Text, of: Chain<'_>) {
-    let mut words = Words::new(alloc);
-    words.put("NAME", of.owner);
-    push_table_name(words.begin("TEXT"), of.owner, "IN_TEXT_ORDER");
+/// Says where the components of a SET stand in its text, and what names their table.
+pub fn put_set_order(words: &mut Words, of: Chain<'_>) {
+    const TEXT: &str = "IN_TEXT_ORDER";
+    push_table_name(words.begin("TEXT"), of.owner, TEXT);
     push_text_table(words.begin("TEXT_TABLE"), of);
     if of.knot.is_some() {
-        push_table_name(words.begin("SET_FIELDS"), of.owner, "IN_TEXT_ORDER");
+        push_table_name(words.begin("SET_FIELDS"), of.owner, TEXT);
     } else {
         words.put("SET_FIELDS", "Self::SET_FIELDS.fields");
     }
     push_places(words.begin("PLACES"), of.places);
-    put_counts(&mut words, of);
-    put_parameter(&mut words, of);
-    out.fill(IN_TAG_ORDER, &words);
 }

@@ -22,7 +22,7 @@ pub struct Shape {
 }
 
 /// The Rust type of a type without parts.
-fn simple_type(simple: Simple) -> &'static str {
+pub fn simple_type(simple: Simple) -> &'static str {
     match simple {
         Simple::Boolean => "bool",
         Simple::Null => "()",
@@ -65,38 +65,9 @@ fn number_type(limits: Limits) -> (&'static str, Limits) {
     (name, own)
 }
 
-/// The type within limits, and the limits where they are not its own.
-fn limited(
-    alloc: Global,
-    base: &'static str,
-    own: Limits,
-    limits: Limits,
-    purpose: Purpose,
-    name: &str,
-) -> Shape {
-    let has_limits = !limits.is_extensible && limits != own;
-    let mut text = Text::new(alloc);
-    if has_limits {
-        text.push("Limited<");
-        text.push(base);
-        text.push_all(&[", ", name, "Limits>"]);
-    } else {
-        text.push(base);
-    }
-    Shape {
-        text,
-        limits: if has_limits {
-            Some((limits, purpose))
-        } else {
-            None
-        },
-    }
-}
-
-/// A type that is taken by its name.
-fn plain(alloc: Global, name: &str) -> Shape {
-    let mut text = Text::new(alloc);
-    text.push(name);
+/// A type that is taken by its name, with a text behind it.
+fn plain(alloc: Global, name: &str, behind: &str) -> Shape {
+    let text = Text::of(alloc, &[name, behind]);
     Shape { text, limits: None }
 }
 
@@ -159,14 +130,13 @@ fn base_shape<'m>(
         Body::Enumerated(_, _) | Body::SequenceOf(_) | Body::SetOf(_) => ("", UNLIMITED),
         Body::Reference(_) => ("", UNLIMITED),
     };
-    Ok(limited(scope.alloc, rust, own, limits, purpose, name))
-}
-
-/// A type of the circle, with the parameter of the knot.
-fn content(alloc: Global, name: &str) -> Shape {
-    let mut text = Text::new(alloc);
-    text.push_all(&[name, "Content<K>"]);
-    Shape { text, limits: None }
+    if limits.is_extensible || limits == own {
+        return Ok(plain(scope.alloc, rust, ""));
+    }
+    let mut text = Text::of(scope.alloc, &["Limited<", rust]);
+    text.push_all(&[", ", name, "Limits>"]);
+    let limits = Some((limits, purpose));
+    Ok(Shape { text, limits })
 }
 
 /// The Rust type of a part that leads back into its circle, without the lists around it; nothing of another. In a list a knot needs no
@@ -174,10 +144,10 @@ fn content(alloc: Global, name: &str) -> Shape {
 fn tied_shape(alloc: Global, all: &[Definition<'_>], part: &Part<'_>) -> Option<Shape> {
     match part.tie {
         Tie::Plain => None,
-        Tie::Knot if part.lists == 0 => Some(plain(alloc, "Held<K>")),
-        Tie::Knot => Some(plain(alloc, "Bare<K>")),
+        Tie::Knot if part.lists == 0 => Some(plain(alloc, "Held<K>", "")),
+        Tie::Knot => Some(plain(alloc, "Bare<K>", "")),
         Tie::Member(at) => match all.get(at) {
-            Some(definition) => Some(content(alloc, definition.rust_name.as_str())),
+            Some(definition) => Some(plain(alloc, definition.rust_name.as_str(), "Content<K>")),
             None => None,
         },
     }
@@ -196,7 +166,7 @@ fn inner_shape<'m>(
     let chain = scope.chain_of(part.inner)?;
     let base = chain.last().copied().unwrap_or(part.inner);
     match name_taken(scope, all, part.target, chain.as_slice(), base)? {
-        Some(taken) => Ok(plain(scope.alloc, taken)),
+        Some(taken) => Ok(plain(scope.alloc, taken, "")),
         None => base_shape(scope, chain.as_slice(), base, name),
     }
 }

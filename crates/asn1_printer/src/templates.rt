@@ -1,11 +1,11 @@
 //! What is printed of each sort of item: between two `@` stands a word that is put in.
 
 /// A SEQUENCE or a SET, and the struct of its components.
-pub const TYPE: &str = r#"@DOC@pub type @NAME@ = @KIND@<@NAME@Components, @RC@, @EC@>;
+pub const TYPE: &str = r#"@HEAD@pub type @NAME@@CONTENT@ = @KIND@<@NAME@Components@K@, @RC@, @EC@>;
 
 /// The components of `@NAME@`.
 #[derive(Debug, PartialEq, Eq, Drop)]
-pub struct @NAME@Components {@FIELDS@}
+pub struct @NAME@Components@K@ {@FIELDS@}
 
 "#;
 
@@ -46,8 +46,9 @@ impl@READS@ Takes for @NAME@Components@K@ {
 
 "#;
 
-/// The tables of components, and how they are written.
-pub const TABLES: &str = r#"impl Tabled<@RC@, @EC@> for @NAME@Components {
+/// The tables of components, and how they are written. Those of what holds knots are constants of the module, since no constant of a
+/// generic impl is known to the check.
+pub const TABLES: &str = r#"@CONSTANTS@impl@WRITES@ Tabled<@RC@, @EC@> for @NAME@Components@K@ {
     ghost use Rattle.std.specs.Prelude.{refl};
 
     const FIELDS: Fields<@RC@> = @ROOTS@;
@@ -55,11 +56,11 @@ pub const TABLES: &str = r#"impl Tabled<@RC@, @EC@> for @NAME@Components {
     const EXTENDED_FIELDS: Option<Fields<@EC@>> = @ADDITIONS@;
 
     fn root_fields() -> &'static [Field<'static>] {
-        Self::FIELDS.fields
+        @ROOT_FIELDS@
     }
 
     fn addition_fields() -> &'static [Field<'static>] {
-        rows_of!(Self::EXTENDED_FIELDS)
+        @ADDITION_FIELDS@
     }
 
     #[inline(always)]
@@ -67,7 +68,7 @@ pub const TABLES: &str = r#"impl Tabled<@RC@, @EC@> for @NAME@Components {
         let view = views![self:
 @LIST@
         ];
-        @NAME@Row::write(&view, encoder)
+        @NAME@Row@TURBO@::write(&view, encoder)
     }
 
     ghost counts = { (refl, refl) };
@@ -144,16 +145,16 @@ impl Standard<@TYPE@> for @NAME@Default {
 "#;
 
 /// A name of a type.
-pub const ALIAS: &str = r#"@DOC@pub type @NAME@ = @TYPE@;
+pub const ALIAS: &str = r#"@HEAD@pub type @NAME@@CONTENT@ = @TYPE@;
 
 "#;
 
 /// A CHOICE, and the enum of its alternatives.
-pub const CHOICE: &str = r#"@DOC@pub type @NAME@ = OneOf<@NAME@Alternatives>;
+pub const CHOICE: &str = r#"@HEAD@pub type @NAME@@CONTENT@ = OneOf<@NAME@Alternatives@K@>;
 
 /// The alternatives of `@NAME@`.
 #[derive(Debug, PartialEq, Eq, Drop)]
-pub enum @NAME@Alternatives {
+pub enum @NAME@Alternatives@K@ {
 @VARIANTS@}
 
 "#;
@@ -208,11 +209,6 @@ impl@READS@ TakesAlternative for @NAME@Alternatives@K@ {
         read_alternative::<Self, @NAME@Row@K@, D>(alloc, decoder, tag)
     }
 }
-
-"#;
-
-/// The tags of a CHOICE's root alternatives, or of its additions.
-pub const TAGS: &str = r#"const @TABLE@: &'static [Tag] = @TAGS@;
 
 "#;
 

@@ -1,6 +1,6 @@
 //! Text by pieces, and by templates.
 
-use asn1_layouts::names::push_type_name;
+use asn1_layouts::names::{component_name, push_type_name};
 use std::alloc::{AllocError, Global};
 
 /// Whether a comment of the language may have a character: it may not have tabs and other controls, ends of lines, and signs that turn
@@ -26,6 +26,13 @@ impl Text {
             text: String::new(alloc),
             is_whole: true,
         }
+    }
+
+    /// Pieces, one behind another.
+    pub fn of(alloc: Global, pieces: &[&str]) -> Text {
+        let mut text = Text::new(alloc);
+        text.push_all(pieces);
+        text
     }
 
     /// Where its memory comes from.
@@ -97,6 +104,14 @@ impl Text {
     pub fn push_type_name(&mut self, name: &str) {
         if push_type_name(&mut self.text, name).is_err() {
             self.is_whole = false;
+        }
+    }
+
+    /// Appends a name as a component's.
+    pub fn push_component_name(&mut self, name: &str) {
+        match component_name(self.alloc, name) {
+            Ok(name) => self.push(name.as_str()),
+            Err(_) => self.is_whole = false,
         }
     }
 
@@ -196,6 +211,13 @@ impl Words {
     /// Says what stands for a word.
     pub fn put(&mut self, word: &'static str, text: &str) {
         self.begin(word).push(text);
+    }
+
+    /// Says what stands for a word: a template with the words before put in.
+    pub fn put_filled(&mut self, word: &'static str, template: &str) {
+        let mut text = Text::new(self.text.alloc);
+        text.fill(template, self);
+        self.begin(word).push_text(&text);
     }
 
     /// What stands for a word; nothing where there is none.

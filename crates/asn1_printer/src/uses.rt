@@ -40,7 +40,7 @@ fn behind_variant(line: &str) -> &str {
 }
 
 /// Whether a character ends a word.
-fn ends_word(c: char) -> bool {
+pub fn ends_word(c: char) -> bool {
     !(c.is_ascii_alphanumeric() || c == '_')
 }
 
@@ -167,8 +167,7 @@ fn push_line(alloc: Global, out: &mut Text, word: &str, home: &str, names: &[&st
     if names.is_empty() {
         return;
     }
-    let mut line = Text::new(alloc);
-    line.push_all(&[word, " ", home, "::"]);
+    let mut line = Text::of(alloc, &[word, " ", home, "::"]);
     push_list(&mut line, names);
     out.heed(&line);
     let (open, close) = if names.len() == 1 {
@@ -254,7 +253,7 @@ fn declared(line: &str) -> Option<(&str, bool)> {
     if sort != "struct" && sort != "enum" && sort != "type" {
         return None;
     }
-    let (name, _) = after.split_once(|c: char| !(c.is_ascii_alphanumeric() || c == '_'))?;
+    let (name, _) = after.split_once(|c: char| ends_word(c))?;
     let is_limits = sort == "enum" && line.ends_with("{}");
     let is_default = sort == "struct" && after.strip_prefix(name) == Some(";");
     let is_shown = is_public && !is_limits && !is_default;

@@ -2,11 +2,10 @@
 
 use crate::cells::variant_name;
 use crate::knot_templates::WEIGHTS;
-use crate::knots::knot_name;
+use crate::knots::{knot_name, owner_words};
 use crate::sequences::{in_text_order, root_places};
-use crate::text::{Text, Words};
+use crate::text::Text;
 use asn1_layouts::definitions::{Definition, Part, Tie};
-use asn1_layouts::names::component_name;
 use asn1_layouts::rows::{Position, Row};
 use asn1_layouts::scope::Scope;
 use asn1_modules::ast::{Body, Need};
@@ -15,24 +14,22 @@ use std::alloc::{AllocError, Global};
 /// What the definitions of a circle have of one of its types: the names that they take from elsewhere, and their lines.
 #[derive(Drop)]
 pub struct Weights {
-    pub uses: String,
-    pub lines: String,
+    pub uses: Text,
+    pub lines: Text,
 }
 
-/// What the definitions of a circle have of its knot: its name, that name in snake case, and what its content weighs.
+/// What the definitions of a circle have of its knot: its name, and what its content weighs.
 #[derive(Drop)]
 pub struct Knot {
     pub name: String,
-    pub snake: String,
-    pub weight: String,
+    pub weight: Text,
 }
 
-/// What a part leads to past lists: how many these are, and the type of the circle there by its name in snake case; nothing for the
-/// knot.
-#[derive(Drop)]
-struct Reach {
+/// What a part leads to past lists: how many these are, and the type of the circle there by its name; nothing for the knot.
+#[derive(Clone, Copy)]
+struct Reach<'d> {
     lists: usize,
-    snake: Option<String>,
+    owner: Option<&'d str>,
 }
 
 /// The element of the list that a part leads to.
@@ -46,19 +43,8 @@ fn element_of<'d, 'm>(all: &'d [Definition<'m>], tie: Tie) -> Option<&'d Part<'m
     }
 }
 
-/// The name in snake case of the type that a part leads to; nothing for the knot.
-fn snake_of(alloc: Global, all: &[Definition<'_>], tie: Tie) -> Result<Option<String>, AllocError> {
-    let Tie::Member(at) = tie else {
-        return Ok(None);
-    };
-    match all.get(at) {
-        Some(definition) => Ok(Some(component_name(alloc, definition.rust_name.as_str())?)),
-        None => Ok(None),
-    }
-}
-
 /// What a part leads to past lists, also those that have names.
-fn reach_of(alloc: Global, all: &[Definition<'_>], part: &Part<'_>) -> Result<Reach, AllocError> {
+fn reach_of<'d>(all: &'d [Definition<'_>], part: &Part<'_>) -> Reach<'d> {
     let mut lists = part.lists;
     let mut tie = part.tie;
     for _ in 0..all.len() {
@@ -68,27 +54,33 @@ fn reach_of(alloc: Global, all: &[Definition<'_>], part: &Part<'_>) -> Result<Re
         lists = lists.saturating_add(element.lists);
         tie = element.tie;
     }
-    let snake = snake_of(alloc, all, tie)?;
-    Ok(Reach { lists, snake })
+    let owner = match tie {
+        Tie::Member(at) => all.get(at).map(|definition| definition.rust_name.as_str()),
+        Tie::Plain | Tie::Knot => None,
+    };
+    Reach { lists, owner }
 }
 
 /// Appends what a value weighs that is no list: of a knot what is in its box, where it has one.
-fn push_leaf(out: &mut Text, snake: &Option<String>, size: &str, of: &str, knot: &str) {
-    match snake {
-        Some(snake) => out.push_all(&[snake.as_str(), "_weight ", size, " ", of, ".0"]),
+fn push_leaf(out: &mut Text, owner: Option<&str>, size: &str, of: &str, knot: &str) {
+    match owner {
+        Some(owner) => {
+            out.push_component_name(owner);
+            out.push_all(&["_weight ", size, " ", of, ".0"]);
+        }
         None => out.push_all(&[size, " ", of, knot]),
     }
 }
 
 /// Appends what a value weighs: of a list the most that one of its elements does.
-fn push_weight(out: &mut Text, reach: &Reach, size: &str, of: &str) {
+fn push_weight(out: &mut Text, reach: Reach<'_>, size: &str, of: &str) {
     out.push_times("most (λ h. ", reach.lists);
     let (leaf, knot) = if reach.lists == 0 {
         (of, ".0.value")
     } else {
         ("h", ".0")
     };
-    push_leaf(out, &reach.snake, size, leaf, knot);
+    push_leaf(out, reach.owner, size, leaf, knot);
     out.push_times(") h", reach.lists.saturating_sub(1));
     if reach.lists != 0 {
         out.push_all(&[") ", of]);
@@ -96,7 +88,7 @@ fn push_weight(out: &mut Text, reach: &Reach, size: &str, of: &str) {
 }
 
 /// Appends what a field weighs.
-fn push_field(out: &mut Text, reach: &Reach, field: &Text, row: Row<'_>) {
+fn push_field(out: &mut Text, reach: Reach<'_>, field: &Text, row: Row<'_>) {
     if matches!(row.need, Need::Required) {
         push_weight(out, reach, "size", field.as_str());
     } else {
@@ -108,43 +100,34 @@ fn push_field(out: &mut Text, reach: &Reach, field: &Text, row: Row<'_>) {
 }
 
 /// Appends what a component weighs; the most that it and those behind it do is open. False where it holds no knots.
-fn push_component(
-    alloc: Global,
-    out: &mut Text,
-    all: &[Definition<'_>],
-    part: &Part<'_>,
-    is_first: bool,
-) -> Result<bool, AllocError> {
+fn push_component(out: &mut Text, all: &[Definition<'_>], part: &Part<'_>, is_first: bool) -> bool {
     let (Some(row), true) = (part.row, part.tie != Tie::Plain) else {
-        return Ok(false);
+        return false;
     };
-    let reach = reach_of(alloc, all, part)?;
-    let mut field = Text::new(alloc);
-    field.push_all(&["v.", part.rust_name.as_str()]);
+    let field = Text::of(out.alloc(), &["v.", part.rust_name.as_str()]);
     out.push(if is_first { "max (" } else { "(max (" });
-    push_field(out, &reach, &field, row);
+    push_field(out, reach_of(all, part), &field, row);
     out.push(") ");
-    Ok(true)
+    true
 }
 
 /// Appends what the components at some places weigh, behind so many that hold knots; how many these are then.
 fn push_components_at(
-    alloc: Global,
     out: &mut Text,
     all: &[Definition<'_>],
     parts: &[Part<'_>],
     places: &[usize],
     before: usize,
-) -> Result<usize, AllocError> {
+) -> usize {
     let mut count = before;
     for at in places.iter() {
         if let Some(part) = parts.get(*at) {
-            if push_component(alloc, out, all, part, count == 0)? {
+            if push_component(out, all, part, count == 0) {
                 count = count.saturating_add(1);
             }
         }
     }
-    Ok(count)
+    count
 }
 
 /// Appends what the components weigh, in the order of the row: those of the root, and behind them the additions.
@@ -156,17 +139,18 @@ fn push_components(
     is_set: bool,
 ) -> Result<(), AllocError> {
     let roots = root_places(alloc, parts, is_set)?;
-    let count = push_components_at(alloc, out, all, parts, roots.as_slice(), 0)?;
+    let count = push_components_at(out, all, parts, roots.as_slice(), 0);
     let additions = in_text_order(alloc, parts, Position::Addition)?;
-    let count = push_components_at(alloc, out, all, parts, additions.as_slice(), count)?;
+    let count = push_components_at(out, all, parts, additions.as_slice(), count);
     out.push("0");
     out.push_times(")", count.saturating_sub(1));
     Ok(())
 }
 
 /// Appends the head of a line that says what a value weighs.
-fn push_head(out: &mut Text, snake: &str, of: &str) {
-    out.push_all(&[snake, "_weight size ", of, " = "]);
+fn push_head(out: &mut Text, owner: &str, of: &str) {
+    out.push_component_name(owner);
+    out.push_all(&["_weight size ", of, " = "]);
 }
 
 /// The name of an alternative's variant; nothing where it holds no knots.
@@ -182,22 +166,18 @@ fn push_alternative(
     scope: Scope<'_, '_>,
     out: &mut Text,
     all: &[Definition<'_>],
-    names: (&str, &str),
+    owner: &str,
     part: &Part<'_>,
-) -> Result<(), AllocError> {
+) {
     let Some(variant) = held_variant(scope, part) else {
-        return Ok(());
+        return;
     };
-    let (owner, snake) = names;
-    let reach = reach_of(scope.alloc, all, part)?;
-    let mut of = Text::new(scope.alloc);
-    of.push_all(&["(", owner, variant.as_str(), " x)"]);
-    push_head(out, snake, of.as_str());
-    push_weight(out, &reach, "size", "x");
+    let of = Text::of(scope.alloc, &["(", owner, variant.as_str(), " x)"]);
+    push_head(out, owner, of.as_str());
+    push_weight(out, reach_of(all, part), "size", "x");
     out.push("\n");
     out.heed(&of);
     out.heed(&variant);
-    Ok(())
 }
 
 /// Appends what the alternatives weigh, a line each, and one for those that hold no knots.
@@ -205,17 +185,16 @@ fn push_alternatives(
     scope: Scope<'_, '_>,
     out: &mut Text,
     all: &[Definition<'_>],
-    names: (&str, &str),
+    owner: &str,
     parts: &[Part<'_>],
-) -> Result<(), AllocError> {
+) {
     for part in parts.iter() {
-        push_alternative(scope, out, all, names, part)?;
+        push_alternative(scope, out, all, owner, part);
     }
     if parts.iter().any(|part| part.tie == Tie::Plain) {
-        push_head(out, names.1, "_");
+        push_head(out, owner, "_");
         out.push("0\n");
     }
-    Ok(())
 }
 
 /// Appends the names of the alternatives that hold knots, each under one that no other type's has.
@@ -231,62 +210,57 @@ fn push_variants(scope: Scope<'_, '_>, out: &mut Text, owner: &str, parts: &[Par
     }
 }
 
-/// Appends the first line of what a type's values weigh.
-fn push_signature(out: &mut Text, snake: &str, owner: &str, kind: &str) {
-    out.push_all(&["abbrev pub ", snake, "_weight : {K : Type 0} → (K → ℕ) → "]);
-    out.push_all(&[owner, kind, " K → ℕ\n"]);
+/// Appends what begins the definition of a type's values' weight: the name of the struct of its components, or of the enum of its
+/// alternatives, and its first line.
+fn push_signature(out: &mut Weights, owner: &str, kind: &str) {
+    out.uses.push_all(&["use Rattle.@HOME@.", owner, kind, ".{", owner, kind, "}\n"]);
+    out.lines.push("abbrev pub ");
+    out.lines.push_component_name(owner);
+    out.lines.push_all(&[
+        "_weight : {K : Type 0} → (K → ℕ) → ",
+        owner,
+        kind,
+        " K → ℕ\n",
+    ]);
 }
 
-/// Appends the name of the struct of a type's components, or of the enum of its alternatives, as definitions take it.
-fn push_use(out: &mut Text, owner: &str, kind: &str) {
-    out.push_all(&["use Rattle.@HOME@.", owner, kind, ".{", owner, kind, "}\n"]);
-}
-
-/// What a SEQUENCE's or a SET's values weigh.
-fn sequence_weights(
+/// Appends what a SEQUENCE's or a SET's values weigh.
+fn push_sequence(
     alloc: Global,
+    out: &mut Weights,
     all: &[Definition<'_>],
     definition: &Definition<'_>,
-) -> Result<Weights, AllocError> {
+) -> Result<(), AllocError> {
     let owner = definition.rust_name.as_str();
-    let snake = component_name(alloc, owner)?;
-    let mut uses = Text::new(alloc);
-    let mut lines = Text::new(alloc);
-    push_use(&mut uses, owner, "Components");
-    push_signature(&mut lines, snake.as_str(), owner, "Components");
-    push_head(&mut lines, snake.as_str(), "v");
+    push_signature(out, owner, "Components");
+    push_head(&mut out.lines, owner, "v");
     let is_set = matches!(definition.of.body, Body::Set(_));
-    push_components(alloc, &mut lines, all, definition.parts.as_slice(), is_set)?;
-    lines.push("\n\n");
-    Ok(Weights {
-        uses: uses.end()?,
-        lines: lines.end()?,
-    })
+    push_components(
+        alloc,
+        &mut out.lines,
+        all,
+        definition.parts.as_slice(),
+        is_set,
+    )?;
+    out.lines.push("\n\n");
+    Ok(())
 }
 
-/// What a CHOICE's values weigh.
-fn choice_weights(
+/// Appends what a CHOICE's values weigh.
+fn push_choice(
     scope: Scope<'_, '_>,
+    out: &mut Weights,
     all: &[Definition<'_>],
     definition: &Definition<'_>,
-) -> Result<Weights, AllocError> {
-    let alloc = scope.alloc;
+) {
     let owner = definition.rust_name.as_str();
-    let snake = component_name(alloc, owner)?;
-    let mut uses = Text::new(alloc);
-    let mut lines = Text::new(alloc);
-    push_use(&mut uses, owner, "Alternatives");
-    uses.push_all(&["use Rattle.@HOME@.", owner, "Alternatives.TheVariants.{"]);
-    push_variants(scope, &mut uses, owner, definition.parts.as_slice());
-    uses.push("}\n");
-    push_signature(&mut lines, snake.as_str(), owner, "Alternatives");
-    let names = (owner, snake.as_str());
-    push_alternatives(scope, &mut lines, all, names, definition.parts.as_slice())?;
-    lines.push("\n");
-    Ok(Weights {
-        uses: uses.end()?,
-        lines: lines.end()?,
-    })
+    let parts = definition.parts.as_slice();
+    push_signature(out, owner, "Alternatives");
+    out.uses.push_all(&["use Rattle.@HOME@.", owner, "Alternatives.TheVariants.{"]);
+    push_variants(scope, &mut out.uses, owner, parts);
+    out.uses.push("}\n");
+    push_alternatives(scope, &mut out.lines, all, owner, parts);
+    out.lines.push("\n");
 }
 
 /// What the values of a circle's type weigh: nothing of a type in no circle, and of a list, whose elements say it.
@@ -295,52 +269,38 @@ pub fn weights_of(
     all: &[Definition<'_>],
     definition: &Definition<'_>,
 ) -> Result<Weights, AllocError> {
-    match definition.of.body {
-        Body::Sequence(_) | Body::Set(_) if definition.circle.is_some() => sequence_weights(
-            scope.alloc,
-            all,
-            definition,
-        ),
-        Body::Choice(_) if definition.circle.is_some() => choice_weights(scope, all, definition),
-        Body::Sequence(_)
-        | Body::Set(_)
-        | Body::Choice(_)
-        | Body::Enumerated(_, _)
-        | Body::SequenceOf(_)
-        | Body::SetOf(_)
-        | Body::Reference(_)
-        | Body::Simple(_)
-        | Body::Integer(_)
-        | Body::BitString(_) => Ok(Weights {
-            uses: String::new(scope.alloc),
-            lines: String::new(scope.alloc),
-        }),
+    let alloc = scope.alloc;
+    let mut out = Weights {
+        uses: Text::new(alloc),
+        lines: Text::new(alloc),
+    };
+    if definition.circle.is_none() {
+        return Ok(out);
     }
+    match definition.of.body {
+        Body::Sequence(_) | Body::Set(_) => push_sequence(alloc, &mut out, all, definition)?,
+        Body::Choice(_) => push_choice(scope, &mut out, all, definition),
+        Body::SequenceOf(_) | Body::SetOf(_) | Body::Reference(_) | Body::Enumerated(_, _) => {}
+        Body::Simple(_) | Body::Integer(_) | Body::BitString(_) => {}
+    }
+    Ok(out)
 }
 
 /// What a knot's content weighs.
-fn content_weight(
-    alloc: Global,
-    all: &[Definition<'_>],
-    definition: &Definition<'_>,
-    snake: &str,
-) -> Result<String, AllocError> {
+fn content_weight(alloc: Global, all: &[Definition<'_>], definition: &Definition<'_>) -> Text {
     let name = definition.rust_name.as_str();
-    let mut size = Text::new(alloc);
-    size.push_all(&["size-", name]);
-    let mut of = Text::new(alloc);
-    of.push_all(&["(out-", name, " v).0"]);
+    let size = Text::of(alloc, &["size-", name]);
+    let of = Text::of(alloc, &["(out-", name, " v).0"]);
     let mut out = Text::new(alloc);
     match definition.parts.first() {
         Some(part) if part.row.is_none() => {
-            let reach = reach_of(alloc, all, part)?;
-            push_weight(&mut out, &reach, size.as_str(), of.as_str());
+            push_weight(&mut out, reach_of(all, part), size.as_str(), of.as_str());
         }
-        _ => out.push_all(&[snake, "_weight ", size.as_str(), " ", of.as_str(), ".0"]),
+        _ => push_leaf(&mut out, Some(name), size.as_str(), of.as_str(), ""),
     }
     out.heed(&size);
     out.heed(&of);
-    out.end()
+    out
 }
 
 /// What the definitions of a circle have of its knot: nothing of another type.
@@ -349,16 +309,12 @@ pub fn knot_of(
     all: &[Definition<'_>],
     definition: &Definition<'_>,
 ) -> Result<Option<Knot>, AllocError> {
-    let name = definition.rust_name.as_str();
-    if knot_name(all, definition) != Some(name) {
+    if knot_name(all, definition) != Some(definition.rust_name.as_str()) {
         return Ok(None);
     }
-    let snake = component_name(alloc, name)?;
-    let weight = content_weight(alloc, all, definition, snake.as_str())?;
     Ok(Some(Knot {
         name: definition.rust_name.clone()?,
-        snake,
-        weight,
+        weight: content_weight(alloc, all, definition),
     }))
 }
 
@@ -376,24 +332,15 @@ fn push_word_uses(out: &mut Text, lines: &str) {
 pub fn push_definitions(out: &mut Text, knot: &Knot, uses: &Text, lines: &Text) {
     let mut whole = Text::new(out.alloc());
     whole.push_text(lines);
-    whole.push(knot.weight.as_str());
-    let mut words = Words::new(out.alloc());
+    whole.push_text(&knot.weight);
+    let mut words = owner_words(out.alloc(), "", knot.name.as_str(), None);
     let needed = words.begin("USES");
     push_word_uses(needed, whole.as_str());
     needed.push_text(uses);
     needed.heed(&whole);
-    words.put("NAME", knot.name.as_str());
-    words.put("SNAKE", knot.snake.as_str());
-    words.put("WEIGHT", knot.weight.as_str());
-    words.put("HOME", "@HOME@");
-    words.put(
-        "MAX",
-        if lines.as_str().contains("max ") {
-            ", max"
-        } else {
-            ""
-        },
-    );
+    words.begin("WEIGHT").push_text(&knot.weight);
+    let has_max = lines.as_str().contains("max ");
+    words.put("MAX", if has_max { ", max" } else { "" });
     words.begin("WEIGHTS").push_text(lines);
     out.fill(WEIGHTS, &words);
 }

@@ -8,7 +8,7 @@ use std::rt::Files;
 use std::{fs, io};
 
 /// The folders of a crate that oergen writes into.
-const FOLDERS: [&str; 3] = ["src", "specs", "proofs"];
+const FOLDERS: [&str; 4] = ["src", "specs", "proofs", "include"];
 
 /// Whether a file is there and begins as each one that oergen prints.
 fn is_printed<R: Files + AllocGlobal>(rt: &R, path: &str) -> io::Result<bool> {
@@ -161,5 +161,6 @@ pub fn fault_of<R: Files + AllocGlobal + Clone + Drop>(
             return Ok(fault);
         }
     }
-    Ok(None)
+    let for_c = format!(in rt.alloc(); "{name}_c")?;
+    crate_fault(rt, folder, for_c.as_str(), files)
 }

@@ -1,10 +1,11 @@
 //! `oergen --list MODULE.asn..` reads ASN.1 modules, and prints each type in order of use with its layout;
-//! `oergen --out FOLDER --name NAME MODULE.asn..` writes crates of these types.
+//! `oergen --out FOLDER --name NAME MODULE.asn..` writes crates of these types, and with `--c` a library of them for C.
 #![tactic(auto)]
 
 mod earlier;
 mod writing;
 
+use asn1_exports::exports::push_exports;
 use asn1_layouts::listing::list;
 use asn1_modules::refusal::Refusal;
 use asn1_printer::files::{Output, Wish, crates_of};
@@ -18,7 +19,7 @@ use writing::writes_files;
 
 /// How the program is called.
 const USAGE: &str = "oergen --list MODULE.asn..
-       oergen --out FOLDER --name NAME [--leave-out] MODULE.asn..";
+       oergen --out FOLDER --name NAME [--leave-out] [--c] MODULE.asn..";
 
 /// What the program does, and what it answers.
 const ABOUT: &str =
@@ -59,6 +60,8 @@ fn command<'a>(alloc: Global) -> Result<Command<'a>, AllocError> {
     let out = "writes crates of the types below this folder, and prints their lines for crates.txt";
     let name = "what the crate is called, or with _1, _2 and so on behind it the crates";
     let leave_out = "leaves out what can't be read or printed, with a line that says why";
+    let c =
+        "writes beside them the crate NAME_c, a static library with two functions for each type, and its header";
     Command::new(alloc, "oergen")
         .about(ABOUT)
         .after_help(STATUS)
@@ -67,6 +70,7 @@ fn command<'a>(alloc: Global) -> Result<Command<'a>, AllocError> {
         .arg(option(alloc, "out", "FOLDER", out))?
         .arg(option(alloc, "name", "NAME", name))?
         .arg(flag(alloc, "leave-out", leave_out))?
+        .arg(flag(alloc, "c", c))?
         .arg(files(alloc))
 }
 
@@ -148,14 +152,32 @@ fn list_files<R: Files + Print + Eprint + AllocGlobal>(rt: &R, names: &[&str]) -
     }
 }
 
-/// The crates of the modules in the texts.
-fn output_of(alloc: Global, texts: &[String], wish: Wish<'_>) -> Result<Output, Refusal> {
+/// The crates of the modules in the texts, and where that is asked for a static library of them for C.
+fn output_of(
+    alloc: Global,
+    texts: &[String],
+    wish: Wish<'_>,
+    for_c: bool,
+) -> Result<Output, Refusal> {
     let all = strs_of(alloc, texts)?;
-    crates_of(alloc, all.as_slice(), wish)
+    let mut output = crates_of(alloc, all.as_slice(), wish)?;
+    if for_c {
+        push_exports(alloc, wish.name, &mut output)?;
+    }
+    Ok(output)
 }
 
-/// Names that a crate can't have: libraries that each printed crate may use.
-const LIBRARIES: [&str; 5] = ["std", "core", "rasn_oer", "oer_write", "asn1_core"];
+/// Names that a crate can't have: libraries that printed crates may use.
+const LIBRARIES: [&str; 8] = [
+    "std",
+    "core",
+    "rasn_oer",
+    "oer_write",
+    "asn1_core",
+    "oer_calls",
+    "oer_read",
+    "oer_spec",
+];
 
 /// Whether it can be the name of a crate.
 fn is_name(name: &str) -> bool {
@@ -194,11 +216,12 @@ fn write_crates<R: Files + Print + Eprint + AllocGlobal + Clone + Drop>(
     rt: &R,
     folder: &str,
     wish: Wish<'_>,
+    for_c: bool,
 ) -> io::Result<u8> {
     let Some(texts) = texts_of(rt, wish.files)? else {
         return Ok(1);
     };
-    match output_of(rt.alloc(), texts.as_slice(), wish) {
+    match output_of(rt.alloc(), texts.as_slice(), wish, for_c) {
         Ok(output) => write_output(rt, folder, wish.name, &output),
         Err(refusal) => refuse(rt, wish.files, &refusal),
     }
@@ -220,7 +243,7 @@ fn run<R: Files + Print + Eprint + AllocGlobal + Clone + Drop>(
                 files,
                 leaves_out,
             };
-            write_crates(rt, folder, wish)
+            write_crates(rt, folder, wish, matches.get_flag("c"))
         }
         _ => {
             eprintln!(rt;

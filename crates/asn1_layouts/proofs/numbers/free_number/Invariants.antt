@@ -1,5 +1,8 @@
-use Rattle.std.proofs.Common.{ℤ, ◌≤ℤ◌, ◌<ℤ◌, Contains}
+use Rattle.std.proofs.Common.{◌^◌, ℤ, pos, ◌-ℤ◌, ◌≤ℤ◌, ◌<ℤ◌, nat_abs, Contains}
 use Rattle.asn1_layouts.proofs.numbers.free_number.Given as goal
 
-abbrev pub invariant-tried : goal.invariant-tried
-invariant-tried l = (l.next ≤ℤ l.number) × ((n : ℤ) → l.next ≤ℤ n → n <ℤ l.number → Contains l.taken n)
+abbrev pub invariant-loop-number : goal.invariant-loop-number
+invariant-loop-number l = (l.next ≤ℤ l.number-counter) × ((n : ℤ) → l.next ≤ℤ n → n <ℤ l.number-counter → Contains l.taken n)
+
+abbrev pub decreases-loop-number : goal.decreases-loop-number
+decreases-loop-number l = nat_abs (pos (2 ^ 127) -ℤ l.number-counter)
