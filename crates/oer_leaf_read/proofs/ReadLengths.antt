@@ -1,8 +1,8 @@
 -- A length is read exactly where a front of the octets spells it, and so is what stands behind one.
-use Rattle.std.proofs.Common.{◌≡◌, ◌≢◌, ℕ, ◌+◌, ◌-◌, ◌^◌, ◌<◌, ◌≤◌, false, ltb, eqb, [], ◌∷◌, ◌++◌, length, get_or, take, drop, Result, Ok, refl, sym, ap, subst, ◌∙◌, append_assoc, arith, inl, inr}
+use Rattle.std.proofs.Common.{◌≡◌, ◌≢◌, ℕ, zero, suc, ◌+◌, ◌*◌, ◌-◌, ◌^◌, ◌<◌, ◌≤◌, false, ltb, eqb, [], ◌∷◌, ◌++◌, length, get_or, take, drop, Result, Ok, refl, sym, ap, subst, ◌∙◌, append_assoc, arith, inl, inr}
 use Rattle.std.specs.Option.{ok_or}
 use Rattle.std.proofs.lemmas.Bool.{cases_lt, cases_eq, ltb-false, lt-ltb, le-ltb, eqb-false, ne_eqb}
-use Rattle.std.proofs.lemmas.List.{take-append-drop, length-take-le}
+use Rattle.std.proofs.lemmas.List.{take-append-drop, take_all, length-take-le}
 use Rattle.asn1_core.specs.Octets.{Octets, AreOctets, unsigned, usize_max}
 use Rattle.asn1_core.specs.declared.codec.Codec.{Codec}
 use Rattle.asn1_core.specs.declared.error.DecodeErrorKind.{DecodeErrorKind}
@@ -41,6 +41,27 @@ long_found codec count input n rest some few fits e =
       ),
       rw (← same.1, parts.2) (sym (take-append-drop count input)),
     )
+
+nonzero : (n : ℕ) → n ≢ 0 → 0 < n
+nonzero zero h = absurd (h refl)
+nonzero (suc n) h = omega arith
+
+-- two octets, of which the first isn't zero, are a number of 256 and more
+long_of_two : (codec : Codec) (high low : ℕ) (rest : Octets) → high ≢ 0 → high < 256 → low < 256 → long_length_at codec 2 (high ∷ low ∷ rest) ≡ Ok (high * 256 + low, rest)
+unfolding long_length_at
+long_of_two codec high low rest h a b =
+    let some : eqb high 0 ≡ false = ne_eqb high 0 h in
+    let value : unsigned (high ∷ low ∷ []) ≡ high * 256 + low = omega arith in
+    let below : high * 256 + low < 2 ^ 64 = omega (arith, a, b) in
+    let many : ltb (high * 256 + low) 128 ≡ false = le-ltb (high * 256 + low) 128 (let p : 0 < high = nonzero high h in omega (arith, p)) in
+    rw (octets_again (high ∷ low ∷ []) rest 2 refl, some, canonical_again codec false (λ s. refl), value, if_below_again (2 ^ 64) (high * 256 + low) LengthExceedsPlatformWidth below, many, canonical_again codec false (λ s. refl)) refl
+
+pub long_from_two : (codec : Codec) (count : ℕ) (input : Octets) → count ≡ 2 → 2 ≤ length input → AreOctets input → get_or input 0 0 ≢ 0 → long_length_at codec count input ≡ Ok (get_or input 0 0 * 256 + get_or input 1 0, take (length input - 2) (drop 2 input))
+long_from_two codec count [] e l a h = absurd (omega (arith, l))
+long_from_two codec count (x ∷ []) e l a h = absurd (omega (arith, l))
+long_from_two codec count (x ∷ y ∷ rest) e l (p, (q, r)) h =
+    let t : take (length (x ∷ y ∷ rest) - 2) rest ≡ rest = take_all (length (x ∷ y ∷ rest) - 2) rest (omega arith) in
+    ap (λ (n : ℕ). long_length_at codec n (x ∷ y ∷ rest)) e ∙ long_of_two codec x y rest h p q ∙ ap (λ (o : Octets). Ok (x * 256 + y, o)) (sym t)
 
 length_found : (codec : Codec) (input rest : Octets) (n : ℕ) → AreOctets input → length_at codec input ≡ Ok (n, rest) → (o : Octets) × (input ≡ o ++ rest) × IsLength (mode_of codec) o n
 unfolding length_at IsLong

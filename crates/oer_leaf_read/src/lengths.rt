@@ -10,7 +10,7 @@ use asn1_core::{Codec, DecodeErrorKind};
 /// The long form's number, in `count` octets (X.696, 8.6.5).
 #[inline(never)]
 #[tactic(auto, unfolding(oer_spec::specs::Reading::long_length_at))]
-fn read_long_length(
+fn read_any_length(
     codec: Codec,
     count: usize,
     input: &[u8],
@@ -23,6 +23,24 @@ fn read_long_length(
     let n = unsigned_of(octets).ok_or(DecodeErrorKind::LengthExceedsPlatformWidth)?;
     require_canonical(codec, n < 128)?;
     Ok((n, rest))
+}
+
+/// The same: a length of two octets, the commonest of the long form, in a few instructions.
+#[inline(never)]
+fn read_long_length(
+    codec: Codec,
+    count: usize,
+    input: &[u8],
+) -> Result<(usize, &[u8]), DecodeErrorKind>
+    ensures function { Gives (λ x. (x.0, x.1.now)) result (long_length_at codec count input.now) }
+    ensures memory { IfErr result IsNotForMemory }
+{
+    match input {
+        [high, low, rest @ ..] if count == 2 && *high != 0 => {
+            Ok((*high as usize * 256 + *low as usize, rest))
+        }
+        _ => read_any_length(codec, count, input),
+    }
 }
 
 /// The long form's number, by a call whose answer lies in a place of this function's: so that of the short form is none in

@@ -12,7 +12,7 @@ use Rattle.asn1_core.specs.Octets.{Octets}
 use Rattle.asn1_core.proofs.Fixed.{low_length}
 use Rattle.oer_write.specs.Layout.{Piece, free_at, total, filled}
 use Rattle.oer_write.specs.Inserted.{octets_in, piece, counts, IsThere, AreThere}
-use Rattle.oer_write.specs.declared.insertions.Insertion.{Insertion}
+use Rattle.oer_write.specs.declared.slots.Insertion.{Insertion}
 
 -- ---- one
 

@@ -3,7 +3,7 @@ use Rattle.std.specs.Prelude.{◌≡◌, ℕ, ◌+◌, ◌<◌, ◌≤◌, List,
 use Rattle.asn1_core.specs.Numbers.{low_octets}
 use Rattle.asn1_core.specs.Octets.{Octets}
 use Rattle.oer_write.specs.Layout.{Piece, spread, total, Ascends}
-use Rattle.oer_write.specs.declared.insertions.Insertion.{Insertion}
+use Rattle.oer_write.specs.declared.slots.Insertion.{Insertion}
 use Rattle.oer_write.specs.declared.insertions.Insertions.TheInside.{Inside}
 
 -- up to eight octets are a number's lowest ones; more of them begin at a place among the long ones
@@ -14,7 +14,7 @@ abbrev pub piece : Octets → Insertion → Piece
 piece long i = record { place = i.place; octets = octets_in long i }
 
 abbrev pub pieces : Inside → List Piece
-pieces l = map (piece l.long.items) l.items.items
+pieces l = map (piece l.long.items) l.slots
 
 -- how many octets they have
 abbrev pub counts : List Insertion → ℕ
@@ -31,8 +31,8 @@ AreThere n (i ∷ is) = IsThere n i × AreThere n is
 
 -- what is counted is what there is, and long octets are there
 pub record AreCounted (l : Inside) : Type 0 where
-  pub size : l.inserted ≡ counts l.items.items
-  pub there : AreThere (length l.long.items) l.items.items
+  pub size : l.inserted ≡ counts l.slots
+  pub there : AreThere (length l.long.items) l.slots
 
 -- How far the pass has come: of the output as it was before, base, the octets from read on stand with their pieces from
 -- write on.

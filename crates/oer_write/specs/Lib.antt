@@ -1,6 +1,7 @@
 -- The definitions that contracts cite: what is seen of an encoder, its insertions, and what scopes, lists and choices do.
 pub mod Written
 pub mod Layout
+pub mod Slotted
 pub mod Inserted
 pub mod Held
 pub mod Closed

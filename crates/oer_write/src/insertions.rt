@@ -6,33 +6,21 @@ ghost use Rattle.oer_write.specs.Layout.{Piece, spread, total, Ascends, filled, 
 ghost use Rattle.oer_write.specs.Inserted.{piece};
 
 use crate::bits::Packed;
-use crate::passes::{join_all, join_all_long, put_alone, size_behind, spread_all};
+use crate::passes::{join_all, join_all_long, put_alone, size_of, spread_all};
+use crate::slots::{Insertion, Slots};
 use asn1_core::EncodeErrorKind;
 use std::alloc::Global;
 use std::marker::Model;
 
-/// Octets that belong at a place of the output.
-#[derive(Clone, Copy)]
-pub(crate) struct Insertion {
-    pub(crate) place: usize,
-    /// How many octets there are.
-    pub(crate) count: usize,
-    /// Up to eight octets as a number; where there are more, where they begin among the long ones.
-    pub(crate) number: u64,
-}
-
 /// Insertions, in order of place.
 #[derive(Drop)]
 pub(crate) struct Insertions {
-    items: Vec<Insertion>,
+    slots: Slots,
     /// How many octets they have.
     inserted: usize,
     /// The octets of insertions that have more than eight.
     long: Vec<u8>,
 }
-
-/// Room for so many insertions is asked for at once, and for four times as many as there are where more come.
-const ROOM: usize = 40;
 
 impl Model for Insertions {
     ghost use Rattle.std.specs.Prelude.{List};
@@ -47,16 +35,6 @@ impl Model for Insertions {
     ghost invariant = { AreCounted };
 }
 
-/// Appends an insertion where there is no room for one.
-fn push_behind(items: &mut Vec<Insertion>, insertion: Insertion) -> Result<(), EncodeErrorKind>
-    ensures done { OnOk result (items.new.items ≡ items.old.items ++ (insertion ∷ [])) }
-    ensures refused { IfErr result (λ k. (k ≡ OutOfMemory) × (items.new.items ≡ items.old.items)) }
-{
-    items.reserve(items.len().saturating_mul(3).max(ROOM))?;
-    items.push_reserved(insertion);
-    Ok(())
-}
-
 impl Insertions {
     /// No insertions. Takes no memory.
     #[inline(always)]
@@ -64,7 +42,7 @@ impl Insertions {
         ensures { result ≡ [] }
     {
         Insertions {
-            items: Vec::new(alloc),
+            slots: Slots::new(alloc),
             inserted: 0,
             long: Vec::new(alloc),
         }
@@ -75,7 +53,7 @@ impl Insertions {
     pub(crate) fn len(&self) -> usize
         ensures { result ≡ length self.now }
     {
-        self.items.len()
+        self.slots.len()
     }
 
     /// How many octets they have.
@@ -97,17 +75,7 @@ impl Insertions {
             count: 0,
             number: 0,
         };
-        if self.items.len() < self.items.capacity() {
-            self.items.push_reserved(insertion);
-            return Ok(());
-        }
-        let mut items = std::mem::replace(&mut self.items, Vec::new(alloc));
-        let answer = push_behind(&mut items, insertion);
-        self.items = items;
-        match answer {
-            Ok(()) => Ok(()),
-            Err(kind) => Err(kind),
-        }
+        self.slots.push(alloc, insertion)
     }
 
     /// Fills a free slot.
@@ -121,12 +89,13 @@ impl Insertions {
         let Some(inserted) = self.inserted.checked_add(octets.octets) else {
             return Err(EncodeErrorKind::OutOfMemory);
         };
-        let place = self.items[slot].place;
-        self.items[slot] = Insertion {
+        let place = self.slots.get(slot).place;
+        let insertion = Insertion {
             place,
             count: octets.octets,
             number: octets.number,
         };
+        self.slots.set(slot, insertion);
         self.inserted = inserted;
         Ok(())
     }
@@ -144,12 +113,13 @@ impl Insertions {
         };
         let begins = self.long.len();
         self.long.extend_from_slice(octets)?;
-        let place = self.items[slot].place;
-        self.items[slot] = Insertion {
+        let place = self.slots.get(slot).place;
+        let insertion = Insertion {
             place,
             count: octets.len(),
             number: begins as u64,
         };
+        self.slots.set(slot, insertion);
         self.inserted = inserted;
         Ok(())
     }
@@ -159,8 +129,8 @@ impl Insertions {
     pub(crate) fn cut(&mut self, count: usize)
         ensures { self.new ≡ take count self.old }
     {
-        let dropped = size_behind(&*self.items, count);
-        self.items.truncate(count);
+        let dropped = self.size_behind(count);
+        self.slots.truncate(count);
         self.inserted -= dropped;
     }
 
@@ -224,7 +194,8 @@ impl Insertions {
         ensures { result ≡ total (drop count self.now) }
     {
         let _inserted = self.inserted;
-        size_behind(&*self.items, count)
+        let (first, rest) = self.slots.behind(count);
+        size_of(first, rest)
     }
 
     /// Moves a slot to another place.
@@ -233,12 +204,13 @@ impl Insertions {
         requires free { (front rear : List Piece) × (n : ℕ) × (self.old ≡ front ++ free_at n ∷ rear) × (slot ≡ length front) }
         ensures { (front rear : List Piece) (n : ℕ) → self.old ≡ front ++ free_at n ∷ rear → slot ≡ length front → self.new ≡ front ++ free_at place ∷ rear }
     {
-        let old = self.items[slot];
-        self.items[slot] = Insertion {
+        let old = self.slots.get(slot);
+        let insertion = Insertion {
             place,
             count: old.count,
             number: old.number,
         };
+        self.slots.set(slot, insertion);
     }
 
     /// Puts octets where they belong from `start` on, and all insertions behind them; none is left.
@@ -257,25 +229,46 @@ impl Insertions {
         ensures none { OnOk result (self.new ≡ []) }
         ensures refused { IfErr result (λ k. (k ≡ OutOfMemory) × (output.new.items ≡ output.old.items) × (self.new ≡ self.old)) }
     {
-        if self.items.len() == 0 && octets.octets < 2 {
+        if self.slots.len() == 0 && octets.octets < 2 {
             return put_alone(start, octets, output);
         }
-        match join_all(
-            self.items.as_slice(),
+        self.join_some(start, octets, output)
+    }
+
+    #[inline(never)]
+    fn join_some(
+        &mut self,
+        start: usize,
+        octets: Packed,
+        output: &mut Vec<u8>,
+    ) -> Result<(), EncodeErrorKind>
+        requires ascends { Ascends start self.old (length output.old.items) }
+        ensures done { OnOk result (output.new.items ≡ take start output.old.items ++ (low_octets octets.octets octets.number ++ spread start output.old.items self.old)) }
+        ensures none { OnOk result (self.new ≡ []) }
+        ensures refused { IfErr result (λ k. (k ≡ OutOfMemory) × (output.new.items ≡ output.old.items) × (self.new ≡ self.old)) }
+    {
+        let (first, rest) = self.slots.behind(0);
+        join_all(
+            first,
+            rest,
             self.inserted,
             self.long.as_slice(),
             start,
             octets,
             output,
-        ) {
-            Ok(()) => {
-                self.items.clear();
-                self.long.clear();
-                self.inserted = 0;
-                Ok(())
-            }
-            Err(kind) => Err(kind),
-        }
+        )?;
+        self.clear();
+        Ok(())
+    }
+
+    /// Leaves none.
+    #[inline(always)]
+    fn clear(&mut self)
+        ensures { self.new ≡ [] }
+    {
+        self.slots.truncate(0);
+        self.long.clear();
+        self.inserted = 0;
     }
 
     /// The same with octets of any number.
@@ -291,17 +284,17 @@ impl Insertions {
         ensures none { OnOk result (self.new ≡ []) }
         ensures refused { IfErr result (λ k. (k ≡ OutOfMemory) × (output.new.items ≡ output.old.items) × (self.new ≡ self.old)) }
     {
+        let (first, rest) = self.slots.behind(0);
         join_all_long(
-            self.items.as_slice(),
+            first,
+            rest,
             self.inserted,
             self.long.as_slice(),
             start,
             octets,
             output,
         )?;
-        self.items.clear();
-        self.long.clear();
-        self.inserted = 0;
+        self.clear();
         Ok(())
     }
 
@@ -317,8 +310,8 @@ impl Insertions {
         ensures refused { IfErr result (λ k. (k ≡ OutOfMemory) × (output.new.items ≡ output.old.items) × (self.new ≡ self.old)) }
     {
         let size = self.size_behind(count);
-        let (_, rear) = self.items.as_slice().split_at(count.min(self.items.len()));
-        spread_all(rear, size, self.long.as_slice(), 0, output)?;
+        let (first, rest) = self.slots.behind(count);
+        spread_all(first, rest, size, self.long.as_slice(), 0, output)?;
         self.cut(count);
         Ok(())
     }

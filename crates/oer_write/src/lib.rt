@@ -23,6 +23,7 @@ mod rules;
 mod scope;
 mod scopes;
 mod sets;
+mod slots;
 mod strings;
 mod texts;
 mod times;

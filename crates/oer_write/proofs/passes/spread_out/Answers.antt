@@ -2,7 +2,7 @@ use Rattle.std.proofs.Common.{◌≡◌, ◌+◌, ◌-◌, ◌≤◌, take, map,
 use Rattle.std.proofs.lemmas.List.{get_or-map, length-map}
 use Rattle.asn1_core.specs.Octets.{Octets}
 use Rattle.oer_write.specs.Inserted.{Passed, piece, octets_in, IsThere, AreThere}
-use Rattle.oer_write.specs.declared.insertions.Insertion.{Insertion}
+use Rattle.oer_write.specs.declared.slots.Insertion.{Insertion}
 use Rattle.oer_write.proofs.Passing.{passed_first, passed_next, next_room}
 use Rattle.oer_write.proofs.Stored.{there_at, length_in}
 use Rattle.oer_write.proofs.passes.spread_out.Goals as goal
