@@ -1,6 +1,6 @@
 # The C library: libjilgomt.a and libjilgomt.so.0 of the crate jilgomt, and where they are installed (docs/CALLING.md).
 #   make                    proves the crate over the libraries below it, which are proved first where they aren't yet: 45 minutes
-#   make UNPROVED=1         compiles the same sources with nothing proved: two minutes
+#   make UNPROVED=1         compiles the same sources with nothing proved: two and a half minutes
 #   make [UNPROVED=1] install [PREFIX=/usr/local] [DESTDIR=]
 BUILD ?= build
 PREFIX ?= /usr/local

@@ -23,6 +23,8 @@ sys.dont_write_bytecode = True
 import fuzz  # noqa: E402
 
 DISLOCATOR = "/usr/lib/afl/libdislocator.so"
+# In milliseconds, for a machine with other work: AFL++ leaves an input after one second, and calls it a hang after these.
+HANGS_AFTER = "20000"
 # SEQUENCE { a BOOLEAN, ..., b SEQUENCE OF OCTET STRING OPTIONAL }, and octets of it
 TABLE = [4, 5, 15, 16, 19, 11, 1, 1, 1, 0, 0, 1, 1, 1, 2, 0, 10, 0, 3, 8, 0]
 WALKED = "80ff02078005010102aabb"
@@ -76,7 +78,7 @@ def build(folder):
 def started(folder, number, seconds, is_guarded):
     """A job of AFL++, the first of which is its main one."""
     quiet = "AFL_NO_UI AFL_NO_AFFINITY AFL_SKIP_CPUFREQ AFL_I_DONT_CARE_ABOUT_MISSING_CRASHES AFL_IGNORE_PROBLEMS"
-    env = {**os.environ, **dict.fromkeys(quiet.split(), "1")}
+    env = {**os.environ, **dict.fromkeys(quiet.split(), "1"), "AFL_HANG_TMOUT": HANGS_AFTER}
     if is_guarded:
         env["AFL_PRELOAD"] = DISLOCATOR
     words = ["afl-fuzz", "-i", "seeds", "-o", "found", "-M" if number == 0 else "-S", f"job{number}", "-t", "1000", "-V", str(seconds), "--", "./hostile"]

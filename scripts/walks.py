@@ -67,11 +67,11 @@ def misplaced(nodes):
     return None
 
 
-def compared(module, word, octets):
-    """How the codec and the walk agree; a text with a capital letter is a fault."""
-    nodes, answer = module.walk(words.NAMES[word], octets)
+def compared(module, type_name, octets, consumed_by):
+    """How the codec, which answers how many octets it takes, and the walk agree; a text with a capital letter is a fault."""
+    nodes, answer = module.walk(type_name, octets)
     try:
-        consumed = check(word, octets, OER).consumed
+        consumed = consumed_by(octets)
     except Refused as e:
         if not answer.status:
             return "walked, and refused by the codec"
@@ -93,7 +93,7 @@ def main(given):
     listed = subprocess.run([given[0], "--list", top / words.MODULE], check=True, capture_output=True, text=True).stdout
     module, seen, faults = Module(tables.Tables(listed).table()), collections.Counter(), 0
     for word, octets in inputs(count, seed):
-        how = compared(module, word, octets)
+        how = compared(module, words.NAMES[word], octets, lambda it, word=word: check(word, it, OER).consumed)
         if how[0].isupper():
             faults += 1
             print(f"walks: {word} {octets.hex()}: {how}")
