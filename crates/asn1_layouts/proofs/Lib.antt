@@ -1,2 +1,8 @@
+mod Allowed
+mod Digits
 mod Giving
+mod Members
+mod OwnTags
 mod Tagging
+mod Walking
+mod Writing

@@ -1,6 +1,8 @@
 -- What AUTOMATIC TAGS give is what they give again: a tag hangs on where components stand, and not on their tags before.
-use Rattle.std.proofs.Common.{◌≡◌, ℕ, ◌+◌, ◌<◌, ◌^◌, true, false, cond, List, [], ◌∷◌, length, count_by, refl, sym, ap, subst, ◌∙◌, arith}
+use Rattle.std.proofs.Common.{◌≡◌, ℕ, ◌+◌, ◌<◌, ◌^◌, true, false, cond, List, [], ◌∷◌, length, map, count_by, refl, sym, ap, subst, ◌∙◌, arith}
+use Rattle.std.proofs.lemmas.List.{length-map}
 use Rattle.std.proofs.lemmas.List.Sums.{sum_by-cons}
+use Rattle.asn1_layouts.specs.Rows.{placed}
 use Rattle.asn1_layouts.specs.Tags.{IsAutomatic, automatic_tags, is_root, tags_from, with_tag}
 use Rattle.asn1_layouts.specs.declared.rows.Row.{Row}
 
@@ -24,7 +26,7 @@ roots_again r a (row ∷ rows) =
 again : (rows : List Row) → automatic_tags (automatic_tags rows) ≡ automatic_tags rows
 again rows = rw (roots_again 0 (count_by is_root rows) rows) (from_again 0 (count_by is_root rows) 0 (count_by is_root rows) rows)
 
-pub is_automatic : (rows all : List Row) → length all ≡ length rows → (length rows < 2 ^ 31 → all ≡ automatic_tags rows) → IsAutomatic all
+pub is_automatic : (rows all : List Row) → map placed all ≡ map placed rows → (length rows < 2 ^ 31 → all ≡ automatic_tags rows) → IsAutomatic all
 is_automatic rows all same are = record {
-  are_automatic = λ small. let e = are (omega (arith, same)) in subst (λ (it : List Row). it ≡ automatic_tags it) (sym e) (sym (again rows));
+  are_automatic = λ small. let e = are (omega (arith, simp length-map at (ap length same))) in subst (λ (it : List Row). it ≡ automatic_tags it) (sym e) (sym (again rows));
 }

@@ -1,7 +1,10 @@
 -- The numbers of an ENUMERATED's values (X.680, 20.3 to 20.6).
-use Rattle.std.specs.Prelude.{◌≡◌, ℕ, zero, suc, ◌-◌, ◌^◌, ℤ, pos, ◌+ℤ◌, ◌≤ℤ◌, ◌<ℤ◌, Option, Some, None, is_some, List, [], ◌∷◌, map, take}
-use Rattle.std.specs.List.{Contains, filter_map}
+use Rattle.std.specs.Prelude.{◌≡◌, ◌≢◌, ℕ, zero, suc, ◌-◌, ◌^◌, ℤ, pos, ◌+ℤ◌, ◌≤ℤ◌, ◌<ℤ◌, Option, Some, None, is_some, List, [], ◌∷◌, map, take}
+use Rattle.std.specs.List.{All, AllPairs, AllZip, Contains, filter_map}
+use Rattle.std.specs.Option.{IfSome, IsSomeAnd}
 use Rattle.asn1_modules.specs.declared.ast.Numbered.{Numbered}
+use Rattle.asn1_modules.specs.declared.lexer.Token.{Token}
+use Rattle.asn1_layouts.specs.Numbers.{IsI128, own_number}
 
 -- the least from one on that isn't taken
 pub record IsLeastFree (taken : List ℤ) (next number : ℤ) : Type 0 where
@@ -42,8 +45,28 @@ AreNumberedFrom taken left next (own ∷ written) (number ∷ numbers) =
 abbrev pub AreNumbered : ℕ → List (Option ℤ) → List ℤ → Type 0
 AreNumbered root written numbers = AreNumberedFrom (filter_map (λ own. own) (take root written)) root (pos 0) written numbers
 
+-- the number that is written behind a name, where it is one by its own text
+abbrev pub number_behind : List Token → Numbered → Option ℤ
+number_behind tokens item = elim item.number [ None ↦ None | Some value ↦ own_number tokens value ]
+
+-- a value's number is the one that is written
+abbrev pub IsAsWritten : List Token → Numbered → Option ℤ → Type 0
+IsAsWritten tokens item own = IfSome (number_behind tokens item) (λ number. own ≡ Some number)
+
+-- what is written behind a name is a number by its own text, of at most 128 bits
+abbrev pub IsDigits : List Token → Numbered → Type 0
+IsDigits tokens item = IfSome item.number (λ value. IsSomeAnd (own_number tokens value) IsI128)
+
 -- the same of names, of which some have a number behind them
-pub record AreNumbersOf (items : List Numbered) (root : ℕ) (numbers : List ℤ) : Type 0 where
+pub record AreNumbersOf (tokens : List Token) (items : List Numbered) (root : ℕ) (numbers : List ℤ) : Type 0 where
   pub written : List (Option ℤ)
   pub are_of_items : map is_some written ≡ map (λ item. is_some item.number) items
+  pub are_as_written : AllZip (IsAsWritten tokens) items written
   pub are_numbered : AreNumbered root written numbers
+
+-- Numbers that names have by the standard: what is written is a number by its own text, none is past i128, and no two are the same.
+pub record AreAllowed (tokens : List Token) (items : List Numbered) (root : ℕ) (numbers : List ℤ) : Type 0 where
+  pub are_digits : All (IsDigits tokens) items
+  pub are_numbered : AreNumbered root (map (number_behind tokens) items) numbers
+  pub each_fits : All IsI128 numbers
+  pub are_distinct : AllPairs (λ a b. a ≢ b) numbers

@@ -1,4 +1,6 @@
 pub mod Enumerations
+pub mod Numbers
 pub mod Preambles
+pub mod Rows
 pub mod Tags
 pub mod Widths

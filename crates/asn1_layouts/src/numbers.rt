@@ -1,14 +1,17 @@
 //! The values that names and literals stand for.
-ghost use Rattle.std.specs.Prelude.{◌≡◌, IfOk, IfSome, IsNone, is_some, length, map, take};
-ghost use Rattle.std.specs.List.{filter_map};
-ghost use Rattle.asn1_layouts.specs.Enumerations.{AreNumbered, AreNumbersOf, AreTakenFrom, IsGiven, IsLeastFree, bound_of, next_behind};
+ghost use Rattle.std.specs.Prelude.{◌≡◌, ◌≢◌, ℤ, List, true, false, IfErr, IfOk, IfSome, IsNone, OnErr, is_some, length, map, take};
+ghost use Rattle.std.specs.List.{All, AllPairs, AllZip, filter_map};
+ghost use Rattle.std.specs.Option.{SomeIff};
+ghost use Rattle.std.specs.Result.{OkIff};
+ghost use Rattle.asn1_modules.specs.declared.refusal.Refusal.TheVariants.{OutOfMemory};
+ghost use Rattle.asn1_layouts.specs.Enumerations.{AreAllowed, AreNumbered, AreNumbersOf, AreTakenFrom, IsAsWritten, IsDigits, IsGiven, IsLeastFree, bound_of, next_behind, number_behind};
+ghost use Rattle.asn1_layouts.specs.Numbers.{IsI128, are_digits, is_name, number_of_digits, own_number};
 
 use crate::scope::Scope;
 use asn1_modules::ast::{Body, Numbered, Reference, Type, Value};
 use asn1_modules::lexer::{Kind, TokenId};
 use asn1_modules::refusal::Refusal;
 use std::alloc::{AllocError, Global};
-use std::collections::BTreeMap;
 
 /// How many names may stand for one another in a row.
 const MAX_CHAIN: usize = 64;
@@ -62,7 +65,9 @@ fn named_value<'m>(
 }
 
 /// What a name stands for: a number of its type, or a value that is assigned; nothing where the value isn't a name.
-fn next_spot<'m>(scope: Scope<'m, '_>, spot: Spot<'m>) -> Result<Option<Spot<'m>>, Refusal> {
+fn next_spot<'m>(scope: Scope<'m, '_>, spot: Spot<'m>) -> Result<Option<Spot<'m>>, Refusal>
+    ensures { is_name spot.entry.value.now ≡ false → result ≡ Ok None }
+{
     let Value::Reference(reference) = spot.value else {
         return Ok(None);
     };
@@ -115,7 +120,9 @@ fn assigned_spot<'m>(scope: Scope<'m, '_>, reference: Reference) -> Result<Spot<
 }
 
 /// The value that is no name, at the end of the names.
-pub fn settled<'m>(scope: Scope<'m, '_>, start: Spot<'m>) -> Result<Spot<'m>, Refusal> {
+pub fn settled<'m>(scope: Scope<'m, '_>, start: Spot<'m>) -> Result<Spot<'m>, Refusal>
+    ensures { is_name start.entry.value.now ≡ false → result ≡ Ok start.entry }
+{
     let mut spot = start;
     for _ in 0..MAX_CHAIN {
         match next_spot(scope, spot)? {
@@ -136,22 +143,20 @@ pub fn first_of(value: &Value) -> TokenId {
 }
 
 /// The number of digits; nothing past i128.
-fn digits(text: &str, is_negative: bool) -> Option<i128> {
-    let mut number = 0i128;
-    for c in text.chars() {
-        let digit = i128::from(c.to_digit(10)?);
-        let tens = number.checked_mul(10)?;
-        number = if is_negative {
-            tens.checked_sub(digit)?
-        } else {
-            tens.checked_add(digit)?
-        };
+fn digits(text: &str, is_negative: bool) -> Option<i128>
+    ensures { are_digits text.now ≡ true → SomeIff result (IsI128 (number_of_digits is_negative text.now)) (number_of_digits is_negative text.now) }
+{
+    let number = text.parse::<u128>().ok()?;
+    match number.checked_sub(1) {
+        Some(less) if is_negative => Some(-1 - i128::try_from(less).ok()?),
+        _ => i128::try_from(number).ok(),
     }
-    Some(number)
 }
 
 /// The number that a value is.
-pub fn number_of<'m>(scope: Scope<'m, '_>, spot: Spot<'m>) -> Result<i128, Refusal> {
+pub fn number_of<'m>(scope: Scope<'m, '_>, spot: Spot<'m>) -> Result<i128, Refusal>
+    ensures { IfSome (own_number scope.entry.tokens.now spot.entry.value.now) (λ number. OkIff result (IsI128 number) number) }
+{
     let end = settled(scope, spot)?;
     let number = match end.value {
         Value::Literal(id) if scope.token(*id).kind == Kind::Number => {
@@ -171,7 +176,10 @@ fn written_numbers<'m>(
     scope: Scope<'m, '_>,
     items: &'m [Numbered],
 ) -> Result<Vec<Option<i128>>, Refusal>
-    ensures { IfOk result (λ all. map is_some all.items ≡ map (λ item. is_some item.number) items.now) }
+    ensures named { IfOk result (λ all. map is_some all.items ≡ map (λ item. is_some item.number) items.now) }
+    ensures as_written { IfOk result (λ all. AllZip (IsAsWritten scope.entry.tokens.now) items.now all.items) }
+    ensures digits { All (IsDigits scope.entry.tokens.now) items.now → IfErr result (λ e. e ≡ OutOfMemory) }
+    ensures numbers { All (IsDigits scope.entry.tokens.now) items.now → IfOk result (λ all. all.items ≡ map (number_behind scope.entry.tokens.now) items.now) }
 {
     let mut all = Vec::new(scope.alloc);
     for item in items.iter() {
@@ -198,7 +206,7 @@ fn taken_numbers(
 /// The number of a value: the one that is written, else the least from `next` on that isn't taken; nothing past i128.
 fn given_number(own: Option<i128>, taken: &[i128], next: Option<i128>) -> Option<i128>
     ensures given { IfSome result (IsGiven taken.now (bound_of next) own) }
-    ensures none { IsNone result → AreTakenFrom taken.now (bound_of next) }
+    ensures none { IsNone result → (own ≡ None) × AreTakenFrom taken.now (bound_of next) }
 {
     match own {
         Some(number) => Some(number),
@@ -229,6 +237,8 @@ fn given_numbers<'m>(
     requires { length items.now ≡ length written.now }
     ensures numbers { IfOk result (λ all. AreNumbered root written.now all.items) }
     ensures each { IfOk result (λ all. length all.items ≡ length written.now) }
+    ensures refused { (numbers : List ℤ) → AreNumbered root written.now numbers → All IsI128 numbers → IfErr result (λ e. e ≡ OutOfMemory) }
+    ensures only { (numbers : List ℤ) → AreNumbered root written.now numbers → All IsI128 numbers → IfOk result (λ all. all.items ≡ numbers) }
 {
     let taken = taken_numbers(scope.alloc, written, root)?;
     let mut all = Vec::new(scope.alloc);
@@ -252,51 +262,64 @@ fn named_numbers<'m>(
     requires { length items.now ≡ length numbers.now }
     ensures names { IfOk result (λ all. map (λ one. one.0) all.items ≡ map (λ item. item.name) items.now) }
     ensures numbers { IfOk result (λ all. map (λ one. one.1) all.items ≡ numbers.now) }
+    ensures refused { AllPairs (λ a b. a ≢ b) numbers.now → IfErr result (λ e. e ≡ OutOfMemory) }
 {
-    let mut seen: BTreeMap<i128, TokenId> = BTreeMap::new(scope.alloc);
     let mut all = Vec::new(scope.alloc);
     for (at, number) in numbers.iter().enumerate() {
-        let name = items[at].name;
-        if let Some(other) = seen.get(number) {
-            return Err(same_number(scope, name, *other, *number));
+        if numbers[..at].contains(number) {
+            return Err(same_number(scope, items, numbers, at));
         }
-        seen.insert(*number, name)?;
-        all.push((name, *number))?;
+        all.push((items[at].name, *number))?;
     }
     Ok(all)
 }
 
 /// The numbers of an ENUMERATED's values, each with its name: where none is written, the least that the root leaves free, behind
-/// those that were given before (X.680, 20.3 to 20.6). Refused where two are the same.
+/// those that were given before (X.680, 20.3 to 20.6). Refused where two are the same, or one is past i128.
 pub fn enumerated_numbers<'m>(
     scope: Scope<'m, '_>,
     items: &'m [Numbered],
     root: usize,
 ) -> Result<Vec<(TokenId, i128)>, Refusal>
     ensures names { IfOk result (λ all. map (λ one. one.0) all.items ≡ map (λ item. item.name) items.now) }
-    ensures numbers { IfOk result (λ all. AreNumbersOf items.now root (map (λ one. one.1) all.items)) }
+    ensures numbers { IfOk result (λ all. AreNumbersOf scope.entry.tokens.now items.now root (map (λ one. one.1) all.items)) }
+    ensures refused { (numbers : List ℤ) → AreAllowed scope.entry.tokens.now items.now root numbers → IfErr result (λ e. e ≡ OutOfMemory) }
 {
     let written = written_numbers(scope, items)?;
     let numbers = given_numbers(scope, items, written.as_slice(), root)?;
     named_numbers(scope, items, numbers.as_slice())
 }
 
-/// The refusal of a name of an ENUMERATED that has another's number.
-fn same_number(scope: Scope<'_, '_>, own: TokenId, other: TokenId, number: i128) -> Refusal {
+/// The refusal of a name of an ENUMERATED that has another's number, which stands in front.
+fn same_number<'m>(
+    scope: Scope<'m, '_>,
+    items: &'m [Numbered],
+    numbers: &[i128],
+    at: usize,
+) -> Refusal {
+    const READS: &str = "a name whose number no other name has";
+    let (Some(own), Some(number)) = (items.get(at), numbers.get(at)) else {
+        return Refusal::OutOfMemory;
+    };
+    let other = numbers
+        .iter()
+        .position(|it| it == number)
+        .and_then(|first| items.get(first));
+    let names = (
+        scope.text(own.name),
+        other.map_or("", |it| scope.text(it.name)),
+    );
     match format!(in scope.alloc; "{number}") {
-        Ok(number) => scope.refused_beside(
-            own,
-            "a name whose number no other name has",
-            (scope.text(own), scope.text(other)),
-            number.as_str(),
-        ),
+        Ok(number) => scope.refused_beside(own.name, READS, names, number.as_str()),
         Err(_) => Refusal::OutOfMemory,
     }
 }
 
 /// The number that is written behind a name of an ENUMERATED.
 fn written_number<'m>(scope: Scope<'m, '_>, item: &'m Numbered) -> Result<Option<i128>, Refusal>
-    ensures { IfOk result (λ own. is_some own ≡ is_some item.now.number) }
+    ensures named { IfOk result (λ own. is_some own ≡ is_some item.now.number) }
+    ensures as_written { IfOk result (IsAsWritten scope.entry.tokens.now item.now) }
+    ensures digits { IsDigits scope.entry.tokens.now item.now → OnErr result ⊥ }
 {
     match &item.number {
         Some(value) => Ok(Some(number_of(scope, Spot { value, names: &[] })?)),

@@ -1,6 +1,9 @@
 //! The components of a SEQUENCE or a SET, and the alternatives of a CHOICE: each with its place and its tag.
-ghost use Rattle.std.specs.Prelude.{◌≡◌, ◌<◌, ◌^◌, false, IfOk, IfSome, length};
-ghost use Rattle.std.specs.List.{All};
+ghost use Rattle.std.specs.Prelude.{◌≡◌, ◌≢◌, ◌<◌, ◌-◌, ◌^◌, ◌⊎◌, List, true, false, cond, IfErr, IfOk, MatchOption, MatchResult, OnErr, OnOk, map, length};
+ghost use Rattle.std.specs.List.{All, Contains, filter};
+ghost use Rattle.asn1_modules.specs.declared.ast.Member.{Member};
+ghost use Rattle.asn1_modules.specs.declared.refusal.Refusal.TheVariants.{OutOfMemory};
+ghost use Rattle.asn1_layouts.specs.Rows.{AreRowsOf, HaveComponents, HaveOwnTags, HaveTagsFor, components_of, is_choice, is_own, is_required, passed, placed, position_in};
 ghost use Rattle.asn1_layouts.specs.Tags.{AreAutomatic, AreMembers, HasUntagged, IsAutomatic, IsUntagged, automatic_tags, is_root, with_tag};
 
 use crate::numbers::{Spot, number_of};
@@ -47,7 +50,9 @@ struct Walk {
 }
 
 impl Walk {
-    fn position(&self) -> Position {
+    fn position(&self) -> Position
+        ensures { result ≡ position_in self.now }
+    {
         if self.in_group {
             Position::Group(self.groups)
         } else if self.marks == 1 {
@@ -58,7 +63,9 @@ impl Walk {
     }
 
     /// Passes a mark or a bracket of a group; false where none may stand.
-    fn passes(&mut self, member: &Member) -> bool {
+    fn passes(&mut self, member: &Member) -> bool
+        ensures { self.old.groups < 2 ^ 64 - 1 → passed self.old member.now ≡ cond result (Some self.new) None }
+    {
         match member {
             Member::Mark(_) if self.marks < 2 && !self.in_group => {
                 self.marks = self.marks.saturating_add(1);
@@ -80,7 +87,7 @@ impl Walk {
 
 /// The members of a SEQUENCE, a SET or a CHOICE.
 pub fn members_of<'m>(of: &'m Type) -> Option<&'m [Member]>
-    ensures { IfSome result (λ members. AreMembers of.now.body members.now) }
+    ensures { MatchOption result ((members : List Member) → ¬ AreMembers of.now.body members) (λ members. AreMembers of.now.body members.now) }
 {
     match &of.body {
         Body::Choice(members) | Body::Sequence(members) | Body::Set(members) => {
@@ -106,7 +113,10 @@ fn written_rows<'m>(
     scope: Scope<'m, '_>,
     members: &'m [Member],
     levels: u32,
-) -> Result<Vec<Row<'m>>, Refusal> {
+) -> Result<Vec<Row<'m>>, Refusal>
+    ensures rows { IfOk result (λ rows. AreRowsOf members.now rows.items) }
+    ensures refused { All (λ one. is_own one ≡ true) members.now → IfErr result (λ e. (e ≡ OutOfMemory) ⊎ (components_of members.now ≡ None)) }
+{
     let mut rows = Vec::new(scope.alloc);
     let mut walk = Walk {
         marks: 0,
@@ -289,7 +299,7 @@ impl<'m> Row<'m> {
 /// The rows with tags from 0: the root components first, then the additions (X.680, 25.7 to 25.9 and 29.5).
 fn numbered_rows<'m>(alloc: Global, rows: &[Row<'m>]) -> Result<Vec<Row<'m>>, AllocError>
     ensures tags { length rows.now < 2 ^ 31 → IfOk result (λ all. all.items ≡ automatic_tags rows.now) }
-    ensures each { IfOk result (λ all. length all.items ≡ length rows.now) }
+    ensures each { IfOk result (λ all. map placed all.items ≡ map placed rows.now) }
 {
     let mut all = Vec::new(alloc);
     let roots = rows.iter().filter(|row| row.is_root()).count();
@@ -308,7 +318,9 @@ fn numbered_rows<'m>(alloc: Global, rows: &[Row<'m>]) -> Result<Vec<Row<'m>>, Al
 }
 
 /// The rows with the tags that their types have by themselves.
-fn tagged_rows<'m>(scope: Scope<'m, '_>, rows: &[Row<'m>]) -> Result<Vec<Row<'m>>, Refusal> {
+fn tagged_rows<'m>(scope: Scope<'m, '_>, rows: &[Row<'m>]) -> Result<Vec<Row<'m>>, Refusal>
+    ensures { IfOk result (λ all. map placed all.items ≡ map placed rows.now) }
+{
     let mut all = Vec::new(scope.alloc);
     for row in rows.iter() {
         let tag = own_tag(scope, row.of)?;
@@ -324,12 +336,24 @@ fn with_tags<'m>(
     members: &'m [Member],
     rows: &[Row<'m>],
 ) -> Result<Vec<Row<'m>>, Refusal>
-    ensures { AreAutomatic scope.entry.modules.now → All IsUntagged members.now → IfOk result (λ all. IsAutomatic all.items) }
+    ensures tags { AreAutomatic scope.entry.modules.now → All IsUntagged members.now → IfOk result (λ all. IsAutomatic all.items) }
+    ensures each { IfOk result (λ all. map placed all.items ≡ map placed rows.now) }
+    ensures refused { AreAutomatic scope.entry.modules.now → All IsUntagged members.now → IfErr result (λ e. e ≡ OutOfMemory) }
 {
     if scope.tagging_of(of.first) == Tagging::Automatic && !has_tagged(scope, members) {
         return Ok(numbered_rows(scope.alloc, rows)?);
     }
     tagged_rows(scope, rows)
+}
+
+/// The rows of the root.
+fn roots_of<'m>(alloc: Global, rows: &[Row<'m>]) -> Result<Vec<Row<'m>>, AllocError>
+    ensures { IfOk result (λ roots. roots.items ≡ filter is_root rows.now) }
+{
+    rows.iter()
+        .filter(|row| row.is_root())
+        .copied()
+        .collect(alloc)
 }
 
 /// Refuses what can't be tagged as it is, by what the type is.
@@ -338,19 +362,25 @@ fn require_rows<'m>(
     of: &'m Type,
     members: &'m [Member],
     rows: &[Row<'m>],
-) -> Result<(), Refusal> {
-    let is_choice = matches!(of.body, Body::Choice(_));
-    if is_choice {
-        require_alternatives(scope, rows, members)?;
+) -> Result<(), Refusal>
+    ensures tags { OnOk result (HaveTagsFor of.now.body rows.now) }
+    ensures refused { HaveTagsFor of.now.body rows.now → All (λ one. is_own one ≡ true) members.now → (is_choice of.now.body ≡ true → All (λ row. is_required row.need.now ≡ true) rows.now) → IfErr result (λ e. e ≡ OutOfMemory) }
+{
+    match &of.body {
+        Body::Choice(_) => {
+            require_alternatives(scope, rows, members)?;
+            require_tags(scope, rows)
+        }
+        Body::Set(_) => require_tags(scope, roots_of(scope.alloc, rows)?.as_slice()),
+        Body::Simple(_) | Body::Integer(_) | Body::BitString(_) | Body::Enumerated(_, _) => Ok(()),
+        Body::Sequence(_) | Body::SequenceOf(_) | Body::SetOf(_) | Body::Reference(_) => Ok(()),
     }
-    if is_choice || matches!(of.body, Body::Set(_)) {
-        require_tags(scope, rows, is_choice)?;
-    }
-    Ok(())
 }
 
 /// The row that has a tag.
-fn same_tag<'m>(rows: &[Row<'m>], tag: Option<Tag>) -> Option<Row<'m>> {
+fn same_tag<'m>(rows: &[Row<'m>], tag: Option<Tag>) -> Option<Row<'m>>
+    ensures { MatchOption result (All (λ row. row.tag ≢ tag) rows.now) (λ row. Contains rows.now row × (row.tag ≡ tag)) }
+{
     for row in rows.iter() {
         if row.tag == tag {
             return Some(*row);
@@ -393,26 +423,19 @@ pub fn tag_text(alloc: Global, tag: Option<Tag>) -> Result<String, AllocError> {
 }
 
 /// Refuses tags that stand twice, or that lack, where octets depend on them: in a CHOICE, and among the root components of a SET.
-fn require_tags<'m>(
-    scope: Scope<'m, '_>,
-    rows: &[Row<'m>],
-    is_choice: bool,
-) -> Result<(), Refusal> {
-    let mut seen: Vec<Row<'m>> = Vec::new(scope.alloc);
-    for row in rows.iter() {
-        if !is_choice && row.position != Position::Root {
-            continue;
-        }
+fn require_tags<'m>(scope: Scope<'m, '_>, rows: &[Row<'m>]) -> Result<(), Refusal>
+    ensures { MatchResult result (λ _. HaveOwnTags rows.now) (λ _. ¬ HaveOwnTags rows.now) }
+{
+    for (at, row) in rows.iter().enumerate() {
         if row.tag.is_none() {
             return Err(scope.refused(
                 row.name,
                 "a component with a tag: an untagged choice or open type isn't read here",
             ));
         }
-        if let Some(other) = same_tag(seen.as_slice(), row.tag) {
+        if let Some(other) = same_tag(&rows[..at], row.tag) {
             return Err(same_tag_refused(scope, row.name, other.name, row.tag));
         }
-        seen.push(*row)?;
     }
     Ok(())
 }
@@ -422,7 +445,9 @@ fn require_alternatives<'m>(
     scope: Scope<'m, '_>,
     rows: &[Row<'m>],
     members: &[Member],
-) -> Result<(), Refusal> {
+) -> Result<(), Refusal>
+    ensures { All (λ one. is_own one ≡ true) members.now → All (λ row. is_required row.need.now ≡ true) rows.now → OnErr result ⊥ }
+{
     for row in rows.iter() {
         if !matches!(row.need, Need::Required) {
             return Err(scope.refused(row.name, "an alternative without OPTIONAL or DEFAULT"));
@@ -438,7 +463,10 @@ fn require_alternatives<'m>(
 
 /// The components or alternatives of a type with members; none of another.
 pub fn rows_of<'m>(scope: Scope<'m, '_>, of: &'m Type) -> Result<Vec<Row<'m>>, Refusal>
-    ensures { AreAutomatic scope.entry.modules.now → HasUntagged of.now.body → IfOk result (λ rows. IsAutomatic rows.items) }
+    ensures rows { IfOk result (λ rows. (members : List Member) → AreMembers of.now.body members → AreRowsOf members rows.items) }
+    ensures automatic { AreAutomatic scope.entry.modules.now → HasUntagged of.now.body → IfOk result (λ rows. IsAutomatic rows.items) }
+    ensures tags { IfOk result (λ rows. HaveTagsFor of.now.body rows.items) }
+    ensures refused { AreAutomatic scope.entry.modules.now → HasUntagged of.now.body → HaveComponents of.now.body → IfErr result (λ e. e ≡ OutOfMemory) }
 {
     let Some(members) = members_of(of) else {
         return Ok(Vec::new(scope.alloc));

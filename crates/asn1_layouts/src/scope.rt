@@ -1,5 +1,6 @@
 //! Finds what a name stands for: in its module, and in the modules that this one imports from (X.680, clause 13).
-ghost use Rattle.std.specs.Prelude.{◌≡◌, ◌<◌, length};
+ghost use Rattle.std.specs.Prelude.{◌≡◌, ◌<◌, IfSome, length};
+ghost use Rattle.std.specs.List.{slice_get};
 ghost use Rattle.asn1_layouts.specs.Tags.{AreAutomatic};
 
 use asn1_modules::ast::{Body, Module, Reference, Tagging, Type, ValueAssignment};
@@ -49,12 +50,16 @@ pub fn all_tokens<'a>(alloc: Global, texts: &[&'a str]) -> Result<Vec<Token<'a>>
 
 impl<'m, 'a> Scope<'m, 'a> {
     /// A token by its number.
-    pub fn token(&self, id: TokenId) -> Token<'a> {
+    pub fn token(&self, id: TokenId) -> Token<'a>
+        ensures { IfSome (slice_get self.now.tokens.now id.index) (λ token. result ≡ token) }
+    {
         self.tokens.get(id.index).copied().unwrap_or(NO_TOKEN)
     }
 
     /// A token's text.
-    pub fn text(&self, id: TokenId) -> &'a str {
+    pub fn text(&self, id: TokenId) -> &'a str
+        ensures { IfSome (slice_get self.now.tokens.now id.index) (λ token. result ≡ token.text) }
+    {
         self.token(id).text
     }
 

@@ -1,4 +1,6 @@
 //! Why a module isn't taken: where, what was met, and what could be read there.
+ghost use Rattle.std.specs.Prelude.{◌≡◌};
+ghost use Rattle.asn1_modules.specs.declared.refusal.Refusal.TheVariants.{OutOfMemory};
 
 use crate::lexer::{Kind, Token};
 use std::alloc::{AllocError, AllocFailed, Global};
@@ -77,12 +79,16 @@ impl fmt::Display for Refusal {
 impl Error for Refusal {}
 
 impl From<AllocError> for Refusal {
+    ghost from_gives = { λ _ e. e ≡ OutOfMemory };
+
     fn from(_e: AllocError) -> Refusal {
         Refusal::OutOfMemory
     }
 }
 
 impl<T: Drop> From<AllocFailed<T>> for Refusal {
+    ghost from_gives = { λ _ e. e ≡ OutOfMemory };
+
     fn from(_e: AllocFailed<T>) -> Refusal {
         Refusal::OutOfMemory
     }
