@@ -1,6 +1,7 @@
 //! A SEQUENCE or a SET: its struct, its row, its tables and its conversions.
-ghost use Rattle.std.specs.Prelude.{◌≡◌, true, IfOk};
-ghost use Rattle.asn1_printer.specs.SetOrder.{AreInTagOrder, class_order, roots_from};
+ghost use Rattle.std.specs.Prelude.{◌≡◌, false, true, IfOk};
+ghost use Rattle.asn1_core.specs.Tags.{class_number};
+ghost use Rattle.asn1_printer.specs.SetOrder.{AreInTagOrder, places_from, roots_from};
 
 use crate::cells::{Cell, Names, Place, cell_of, group_cell, see_name};
 use crate::chains::{Chain, push_row};
@@ -158,8 +159,8 @@ fn push_members(alloc: Global, out: &mut Text, doc: &str, of: Chain<'_>, is_set:
 }
 
 /// The place of a class in the order of tags (X.680, 8.6).
-fn class_order(class: Class) -> u8
-    ensures { result ≡ class_order class }
+fn class_number(class: Class) -> u8
+    ensures { result ≡ class_number class }
 {
     match class {
         Class::Universal => 0,
@@ -177,7 +178,7 @@ fn tagged_roots(alloc: Global, parts: &[Part<'_>]) -> Result<Vec<(u8, u32, usize
     for (at, part) in parts.iter().enumerate() {
         if let Some(row) = part.row {
             if let (Position::Root, Some(tag)) = (row.position, row.tag) {
-                roots.push((class_order(tag.class), tag.value, at))?;
+                roots.push((class_number(tag.class), tag.value, at))?;
             }
         }
     }
@@ -198,7 +199,9 @@ pub fn in_text_order(
     alloc: Global,
     parts: &[Part<'_>],
     position: Position,
-) -> Result<Vec<usize>, AllocError> {
+) -> Result<Vec<usize>, AllocError>
+    ensures { IfOk result (λ places. places.items ≡ places_from 0 position parts.now) }
+{
     let mut places = Vec::new(alloc);
     for (at, part) in parts.iter().enumerate() {
         if let Some(row) = part.row {
@@ -307,7 +310,8 @@ pub fn root_places(
     parts: &[Part<'_>],
     is_set: bool,
 ) -> Result<Vec<usize>, AllocError>
-    ensures { is_set ≡ true → IfOk result (λ places. AreInTagOrder parts.now places.items) }
+    ensures set { is_set ≡ true → IfOk result (λ places. AreInTagOrder parts.now places.items) }
+    ensures sequence { is_set ≡ false → IfOk result (λ places. places.items ≡ places_from 0 Position.Root parts.now) }
 {
     if is_set {
         in_tag_order(alloc, parts)
