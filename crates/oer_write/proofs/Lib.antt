@@ -21,7 +21,6 @@ pub mod Regions
 pub mod Closing
 pub mod Layouts
 pub mod Stored
-pub mod Slotted
 pub mod Moving
 pub mod Passing
 pub mod Holding

@@ -58,12 +58,6 @@ passed_next start base out next is more left read write begins n i p g b l f r =
     let done : drop begins next ≡ spread i.place base (i ∷ drop (left + 1) is) = cc in
     record { within = omega arith; full = l ∙ p.full; fits = omega arith; room = omega arith; ascends = al.0; behind = rw d behind; front = f ∙ front; rear = rw d done }
 
--- the pass over those behind the first leaves room for it
-pub passed_rest : (start : ℕ) (base out : Octets) (i : Piece) (is : List Piece) (more read write n : ℕ) → start ≤ i.place → Passed i.place base out is (length i.octets + more) 0 read write n → Passed start base out (i ∷ is) more (0 + 1) read write n
-passed_rest start base out i is more read write n h p =
-    let r : write ≡ read + (0 + (length i.octets + more)) = p.room in
-    record { within = omega arith; full = p.full; fits = p.fits; room = omega (arith, r); ascends = (h, p.ascends); behind = p.behind; front = p.front; rear = p.rear }
-
 -- what the next step asks
 pub next_room : (start : ℕ) (base out : Octets) (is : List Piece) (more left read write n : ℕ) (i : Piece) → Passed start base out is more (left + 1) read write n → get_or is left i ≡ i → (i.place ≤ read) × (read + length i.octets ≤ write)
 next_room start base out is more left read write n i p g =

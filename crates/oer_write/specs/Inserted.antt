@@ -14,7 +14,7 @@ abbrev pub piece : Octets → Insertion → Piece
 piece long i = record { place = i.place; octets = octets_in long i }
 
 abbrev pub pieces : Inside → List Piece
-pieces l = map (piece l.long.items) l.slots
+pieces l = map (piece l.long) l.slots
 
 -- how many octets they have
 abbrev pub counts : List Insertion → ℕ
@@ -32,7 +32,7 @@ AreThere n (i ∷ is) = IsThere n i × AreThere n is
 -- what is counted is what there is, and long octets are there
 pub record AreCounted (l : Inside) : Type 0 where
   pub size : l.inserted ≡ counts l.slots
-  pub there : AreThere (length l.long.items) l.slots
+  pub there : AreThere (length l.long) l.slots
 
 -- How far the pass has come: of the output as it was before, base, the octets from read on stand with their pieces from
 -- write on.

@@ -1,16 +1,19 @@
--- How the insertions of a list are seen, of which the first lies apart.
-use Rattle.std.specs.Prelude.{◌≡◌, List, [], ◌∷◌, Option, Some, None}
+-- How the insertions of a list are seen, and the octets of its long ones.
+use Rattle.std.specs.Prelude.{List, [], ◌∷◌, Option, Some, None}
+use Rattle.asn1_core.specs.Octets.{Octets}
 use Rattle.oer_write.specs.declared.slots.Insertion.{Insertion}
+use Rattle.oer_write.specs.declared.slots.Held.{Held}
+use Rattle.oer_write.specs.declared.slots.Held.TheVariants.{Nothing, One, Many}
 use Rattle.oer_write.specs.declared.slots.Slots.TheInside.{Inside}
+use Rattle.oer_write.specs.declared.long.LongOctets.TheInside.{Inside as LongInside}
 
--- one that lies apart, if there is one, and others behind it
-abbrev pub both : Option Insertion → List Insertion → List Insertion
-both None is = is
-both (Some i) is = i ∷ is
+abbrev pub held_seen : Held → List Insertion
+held_seen Nothing = []
+held_seen (One i) = i ∷ []
+held_seen (Many v) = v.items
 
 abbrev pub slots_seen : Inside → List Insertion
-slots_seen s = both s.first s.more.items
+slots_seen s = held_seen s.held
 
--- the first to come takes the place of its own
-abbrev pub IsFilledFromTheFirst : Inside → Type 0
-IsFilledFromTheFirst s = s.first ≡ None → s.more.items ≡ []
+abbrev pub long_seen : LongInside → Octets
+long_seen l = elim l.held [ None ↦ [] | Some b ↦ b.value.items ]

@@ -6,7 +6,8 @@ ghost use Rattle.oer_write.specs.Layout.{Piece, spread, total, Ascends, filled, 
 ghost use Rattle.oer_write.specs.Inserted.{piece};
 
 use crate::bits::Packed;
-use crate::passes::{join_all, join_all_long, put_alone, size_of, spread_all};
+use crate::long::LongOctets;
+use crate::passes::{join_all, join_all_long, put_alone, size_behind, spread_all};
 use crate::slots::{Insertion, Slots};
 use asn1_core::EncodeErrorKind;
 use std::alloc::Global;
@@ -19,7 +20,7 @@ pub(crate) struct Insertions {
     /// How many octets they have.
     inserted: usize,
     /// The octets of insertions that have more than eight.
-    long: Vec<u8>,
+    long: LongOctets,
 }
 
 impl Model for Insertions {
@@ -42,9 +43,9 @@ impl Insertions {
         ensures { result ≡ [] }
     {
         Insertions {
-            slots: Slots::new(alloc),
+            slots: Slots::new(),
             inserted: 0,
-            long: Vec::new(alloc),
+            long: LongOctets::new(),
         }
     }
 
@@ -102,7 +103,12 @@ impl Insertions {
 
     /// Fills a free slot with more than eight octets.
     #[inline(never)]
-    pub(crate) fn fill_long(&mut self, slot: usize, octets: &[u8]) -> Result<(), EncodeErrorKind>
+    pub(crate) fn fill_long(
+        &mut self,
+        alloc: Global,
+        slot: usize,
+        octets: &[u8],
+    ) -> Result<(), EncodeErrorKind>
         requires many { 8 < length octets.now }
         requires free { (front rear : List Piece) × (n : ℕ) × (self.old ≡ front ++ free_at n ∷ rear) × (slot ≡ length front) }
         ensures done { OnOk result (self.new ≡ filled self.old slot octets.now) }
@@ -112,7 +118,7 @@ impl Insertions {
             return Err(EncodeErrorKind::OutOfMemory);
         };
         let begins = self.long.len();
-        self.long.extend_from_slice(octets)?;
+        self.long.append(alloc, octets)?;
         let place = self.slots.get(slot).place;
         let insertion = Insertion {
             place,
@@ -158,7 +164,7 @@ impl Insertions {
         ensures refused { IfErr result (λ k. (k ≡ OutOfMemory) × (self.new ≡ self.old)) }
     {
         let mut list = std::mem::replace(&mut *self, Insertions::new(alloc));
-        let answer = list.fill_long(slot, octets);
+        let answer = list.fill_long(alloc, slot, octets);
         *self = list;
         match answer {
             Ok(()) => Ok(()),
@@ -194,8 +200,7 @@ impl Insertions {
         ensures { result ≡ total (drop count self.now) }
     {
         let _inserted = self.inserted;
-        let (first, rest) = self.slots.behind(count);
-        size_of(first, rest)
+        size_behind(self.slots.as_slice(), count)
     }
 
     /// Moves a slot to another place.
@@ -247,10 +252,8 @@ impl Insertions {
         ensures none { OnOk result (self.new ≡ []) }
         ensures refused { IfErr result (λ k. (k ≡ OutOfMemory) × (output.new.items ≡ output.old.items) × (self.new ≡ self.old)) }
     {
-        let (first, rest) = self.slots.behind(0);
         join_all(
-            first,
-            rest,
+            self.slots.as_slice(),
             self.inserted,
             self.long.as_slice(),
             start,
@@ -284,10 +287,8 @@ impl Insertions {
         ensures none { OnOk result (self.new ≡ []) }
         ensures refused { IfErr result (λ k. (k ≡ OutOfMemory) × (output.new.items ≡ output.old.items) × (self.new ≡ self.old)) }
     {
-        let (first, rest) = self.slots.behind(0);
         join_all_long(
-            first,
-            rest,
+            self.slots.as_slice(),
             self.inserted,
             self.long.as_slice(),
             start,
@@ -310,8 +311,8 @@ impl Insertions {
         ensures refused { IfErr result (λ k. (k ≡ OutOfMemory) × (output.new.items ≡ output.old.items) × (self.new ≡ self.old)) }
     {
         let size = self.size_behind(count);
-        let (first, rest) = self.slots.behind(count);
-        spread_all(first, rest, size, self.long.as_slice(), 0, output)?;
+        let (_, rest) = self.slots.as_slice().split_at(count.min(self.slots.len()));
+        spread_all(rest, size, self.long.as_slice(), 0, output)?;
         self.cut(count);
         Ok(())
     }

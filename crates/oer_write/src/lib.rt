@@ -14,6 +14,7 @@ mod insertions;
 mod integers;
 mod leaves;
 mod lists;
+mod long;
 mod opening;
 mod opens;
 mod passes;

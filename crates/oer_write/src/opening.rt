@@ -35,7 +35,7 @@ pub(crate) fn is_leaf(tag: Tag) -> bool {
     }
 }
 
-/// How a value is written as an open type.
+/// How a value is written as an open type (X.696, 30).
 pub(crate) trait WritesOpen {
     /// Appends the value behind its length.
     fn write<E: Encode>(
@@ -73,11 +73,18 @@ impl WritesOpen for Composite {
         out: &mut Vec<u8>,
         insertions: &mut Insertions,
     ) -> Result<(), EncodeError> {
-        write_open(alloc, is_inside, tag, constraints, value, out, insertions)
+        let start = out.len();
+        let slot = insertions.len();
+        let before = insertions.inserted();
+        open_scope(alloc, is_inside, &mut *out, &mut *insertions)?;
+        append_within(alloc, tag, constraints, value, &mut *out, &mut *insertions)?;
+        close_open(is_inside, start, slot, before, out, insertions)?;
+        Ok(())
     }
 }
 
-/// A value within which nothing is open.
+/// A value within which nothing is open. A length has a last octet, which stands in front of the value from the start: only one
+/// of 128 or more has octets to be inserted.
 pub(crate) struct Leaf;
 
 impl WritesOpen for Leaf {
@@ -91,39 +98,16 @@ impl WritesOpen for Leaf {
         out: &mut Vec<u8>,
         insertions: &mut Insertions,
     ) -> Result<(), EncodeError> {
-        write_leaf(alloc, is_inside, tag, constraints, value, out, insertions)
+        let start = out.len();
+        append_leaf(alloc, tag, constraints, value, &mut *out)?;
+        let size = out.len() - start - 1;
+        if size < 128 {
+            out[start] = size as u8;
+            return Ok(());
+        }
+        put_length(alloc, is_inside, start, out, insertions)?;
+        Ok(())
     }
-}
-
-/// Appends an open type (X.696, 30): the value, and in front of it its length.
-#[inline(always)]
-fn write_open<E: Encode>(
-    alloc: Global,
-    is_inside: bool,
-    tag: Tag,
-    constraints: Constraints,
-    value: &E,
-    out: &mut Vec<u8>,
-    insertions: &mut Insertions,
-) -> Result<(), EncodeError>
-    requires consistent { IsConsistent constraints }
-    requires alone { is_inside ≡ false → insertions.old ≡ [] }
-    requires ascends { Ascends 0 insertions.old (length out.old.items) }
-    ensures short { OnOk result (IsOpenEncodable (E.tree constraints value.now)) }
-    ensures done { OnOk result (Adds (open_type (canonical_octets (E.tree constraints value.now))) out.old.items insertions.old out.new.items insertions.new) }
-    ensures value { OnOk result (E.IsValue value.now) }
-    ensures refused { IfErr result (λ x. (x.kind ≡ OutOfMemory) ⊎ Fails (E.tree constraints value.now) x.kind) }
-    ensures mode { IfErr result (λ x. x.codec ≡ Coer) }
-    ensures kept { Kept out.old.items insertions.old out.new.items insertions.new }
-    ensures alone { is_inside ≡ false → OnOk result (insertions.new ≡ []) }
-{
-    let start = out.len();
-    let slot = insertions.len();
-    let before = insertions.inserted();
-    open_scope(alloc, is_inside, &mut *out, &mut *insertions)?;
-    append_within(alloc, tag, constraints, value, &mut *out, &mut *insertions)?;
-    close_open(is_inside, start, slot, before, out, insertions)?;
-    Ok(())
 }
 
 /// Appends an open type; where it refuses, the octets and the insertions are as before.
@@ -197,40 +181,6 @@ fn keep_octet(out: &mut Vec<u8>) -> Result<(), EncodeErrorKind>
     ensures refused { IfErr result (λ k. (k ≡ OutOfMemory) × (out.new.items ≡ out.old.items)) }
 {
     out.push(0)?;
-    Ok(())
-}
-
-/// Appends an open type of a value within which nothing is open. A length has a last octet, which stands in front of the
-/// value from the start: only one of 128 or more has octets to be inserted.
-#[inline(always)]
-fn write_leaf<E: Encode>(
-    alloc: Global,
-    is_inside: bool,
-    tag: Tag,
-    constraints: Constraints,
-    value: &E,
-    out: &mut Vec<u8>,
-    insertions: &mut Insertions,
-) -> Result<(), EncodeError>
-    requires consistent { IsConsistent constraints }
-    requires alone { is_inside ≡ false → insertions.old ≡ [] }
-    requires ascends { Ascends 0 insertions.old (length out.old.items) }
-    ensures short { OnOk result (IsOpenEncodable (E.tree constraints value.now)) }
-    ensures done { OnOk result (Adds (open_type (canonical_octets (E.tree constraints value.now))) out.old.items insertions.old out.new.items insertions.new) }
-    ensures value { OnOk result (E.IsValue value.now) }
-    ensures refused { IfErr result (λ x. (x.kind ≡ OutOfMemory) ⊎ Fails (E.tree constraints value.now) x.kind) }
-    ensures mode { IfErr result (λ x. x.codec ≡ Coer) }
-    ensures kept { Kept out.old.items insertions.old out.new.items insertions.new }
-    ensures alone { is_inside ≡ false → OnOk result (insertions.new ≡ []) }
-{
-    let start = out.len();
-    append_leaf(alloc, tag, constraints, value, &mut *out)?;
-    let size = out.len() - start - 1;
-    if size < 128 {
-        out[start] = size as u8;
-        return Ok(());
-    }
-    put_length(alloc, is_inside, start, out, insertions)?;
     Ok(())
 }
 

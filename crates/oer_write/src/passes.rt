@@ -3,7 +3,6 @@ ghost use Rattle.std.specs.Prelude.{◌≡◌, ℕ, ◌+◌, ◌-◌, ◌^◌, �
 ghost use Rattle.asn1_core.specs.Numbers.{low_octets};
 ghost use Rattle.asn1_core.specs.declared.error.EncodeErrorKind.TheVariants.{OutOfMemory};
 ghost use Rattle.oer_write.specs.Layout.{Piece, spread, total, Ascends};
-ghost use Rattle.oer_write.specs.Slotted.{both};
 ghost use Rattle.oer_write.specs.Inserted.{AreThere, IsThere, Passed, counts, octets_in, piece};
 
 use crate::bits::Packed;
@@ -13,30 +12,18 @@ use asn1_core::EncodeErrorKind;
 /// Segments of up to so many octets are moved one by one.
 const SHORT: usize = 8;
 
-/// How many octets insertions have.
-fn size_of_all(insertions: &[Insertion]) -> usize
+/// How many octets the insertions behind the first have.
+pub(crate) fn size_behind(insertions: &[Insertion], count: usize) -> usize
     requires { counts insertions.now < 2 ^ 64 }
-    ensures { result ≡ counts insertions.now }
+    ensures { result ≡ counts (drop count insertions.now) }
 {
     let mut left = insertions.len();
     let mut size: usize = 0;
-    while left > 0 {
+    while left > count {
         left -= 1;
         size += insertions[left].count;
     }
     size
-}
-
-/// How many octets they have, one of which lies apart in front.
-pub(crate) fn size_of(first: Option<Insertion>, rest: &[Insertion]) -> usize
-    requires { counts (both first rest.now) < 2 ^ 64 }
-    ensures { result ≡ counts (both first rest.now) }
-{
-    let size = size_of_all(rest);
-    match first {
-        Some(insertion) => insertion.count + size,
-        None => size,
-    }
 }
 
 /// Puts at most one octet at a place where no others are to be put.
@@ -63,42 +50,40 @@ pub(crate) fn put_alone(
 /// Lets the output grow to its full length, and puts the insertions and the octets at `start` where they belong.
 #[inline(never)]
 pub(crate) fn join_all(
-    first: Option<Insertion>,
-    rest: &[Insertion],
+    insertions: &[Insertion],
     inserted: usize,
     long: &[u8],
     start: usize,
     octets: Packed,
     output: &mut Vec<u8>,
 ) -> Result<(), EncodeErrorKind>
-    requires counted { inserted ≡ counts (both first rest.now) }
-    requires there { AreThere (length long.now) (both first rest.now) }
-    requires ascends { Ascends start (map (piece long.now) (both first rest.now)) (length output.old.items) }
-    ensures done { OnOk result (output.new.items ≡ take start output.old.items ++ (low_octets octets.octets octets.number ++ spread start output.old.items (map (piece long.now) (both first rest.now)))) }
+    requires counted { inserted ≡ counts insertions.now }
+    requires there { AreThere (length long.now) insertions.now }
+    requires ascends { Ascends start (map (piece long.now) insertions.now) (length output.old.items) }
+    ensures done { OnOk result (output.new.items ≡ take start output.old.items ++ (low_octets octets.octets octets.number ++ spread start output.old.items (map (piece long.now) insertions.now))) }
     ensures refused { IfErr result (λ k. (k ≡ OutOfMemory) × (output.new.items ≡ output.old.items)) }
 {
-    let (read, write) = spread_all(first, rest, inserted, long, octets.octets, &mut *output)?;
+    let (read, write) = spread_all(insertions, inserted, long, octets.octets, &mut *output)?;
     put_own(start, octets, read, write, output.as_mut_slice());
     Ok(())
 }
 
 /// The same with octets of any number.
 pub(crate) fn join_all_long(
-    first: Option<Insertion>,
-    rest: &[Insertion],
+    insertions: &[Insertion],
     inserted: usize,
     long: &[u8],
     start: usize,
     octets: &[u8],
     output: &mut Vec<u8>,
 ) -> Result<(), EncodeErrorKind>
-    requires counted { inserted ≡ counts (both first rest.now) }
-    requires there { AreThere (length long.now) (both first rest.now) }
-    requires ascends { Ascends start (map (piece long.now) (both first rest.now)) (length output.old.items) }
-    ensures done { OnOk result (output.new.items ≡ take start output.old.items ++ (octets.now ++ spread start output.old.items (map (piece long.now) (both first rest.now)))) }
+    requires counted { inserted ≡ counts insertions.now }
+    requires there { AreThere (length long.now) insertions.now }
+    requires ascends { Ascends start (map (piece long.now) insertions.now) (length output.old.items) }
+    ensures done { OnOk result (output.new.items ≡ take start output.old.items ++ (octets.now ++ spread start output.old.items (map (piece long.now) insertions.now))) }
     ensures refused { IfErr result (λ k. (k ≡ OutOfMemory) × (output.new.items ≡ output.old.items)) }
 {
-    let (read, write) = spread_all(first, rest, inserted, long, octets.len(), &mut *output)?;
+    let (read, write) = spread_all(insertions, inserted, long, octets.len(), &mut *output)?;
     put_own_long(start, octets, read, write, output.as_mut_slice());
     Ok(())
 }
@@ -107,17 +92,16 @@ pub(crate) fn join_all_long(
 /// where octets are left to be moved, and whereto.
 #[inline(always)]
 pub(crate) fn spread_all(
-    first: Option<Insertion>,
-    rest: &[Insertion],
+    insertions: &[Insertion],
     inserted: usize,
     long: &[u8],
     more: usize,
     output: &mut Vec<u8>,
 ) -> Result<(usize, usize), EncodeErrorKind>
-    requires counted { inserted ≡ counts (both first rest.now) }
-    requires there { AreThere (length long.now) (both first rest.now) }
-    requires ascends { (start : ℕ) × Ascends start (map (piece long.now) (both first rest.now)) (length output.old.items) }
-    ensures done { IfOk result (λ at. (start : ℕ) → Ascends start (map (piece long.now) (both first rest.now)) (length output.old.items) → Passed start output.old.items output.new.items (map (piece long.now) (both first rest.now)) more 0 at.0 at.1 (length output.new.items)) }
+    requires counted { inserted ≡ counts insertions.now }
+    requires there { AreThere (length long.now) insertions.now }
+    requires ascends { (start : ℕ) × Ascends start (map (piece long.now) insertions.now) (length output.old.items) }
+    ensures done { IfOk result (λ at. (start : ℕ) → Ascends start (map (piece long.now) insertions.now) (length output.old.items) → Passed start output.old.items output.new.items (map (piece long.now) insertions.now) more 0 at.0 at.1 (length output.new.items)) }
     ensures refused { IfErr result (λ k. (k ≡ OutOfMemory) × (output.new.items ≡ output.old.items)) }
 {
     let written = output.len();
@@ -128,32 +112,7 @@ pub(crate) fn spread_all(
         return Err(EncodeErrorKind::OutOfMemory);
     };
     output.resize(full, 0)?;
-    Ok(spread_both(first, rest, long, written, more, output.as_mut_slice()))
-}
-
-/// The pass from the rear, and the one that lies apart in front of the others at its end.
-#[inline(always)]
-fn spread_both(
-    first: Option<Insertion>,
-    rest: &[Insertion],
-    long: &[u8],
-    written: usize,
-    more: usize,
-    output: &mut [u8],
-) -> (usize, usize)
-    requires there { AreThere (length long.now) (both first rest.now) }
-    requires full { length output.old ≡ written + (total (map (piece long.now) (both first rest.now)) + more) }
-    requires ascends { (start : ℕ) × Ascends start (map (piece long.now) (both first rest.now)) written }
-    ensures passed { (start : ℕ) → Ascends start (map (piece long.now) (both first rest.now)) written → Passed start (take written output.old) output.new (map (piece long.now) (both first rest.now)) more 0 result.0 result.1 (length output.old) }
-{
-    let Some(insertion) = first else {
-        return spread_out(rest, long, written, more, output);
-    };
-    let (read, write) = spread_out(rest, long, written, insertion.count + more, &mut *output);
-    (
-        insertion.place,
-        put_one(insertion, long, read, write, output),
-    )
+    Ok(spread_out(insertions, long, written, more, output.as_mut_slice()))
 }
 
 /// One pass from the rear over an output that has grown to its full length; answers what is left to be moved, and whereto.

@@ -1,7 +1,6 @@
-//! The insertions of a list, of which the first takes no memory of its own.
-ghost use Rattle.std.specs.Prelude.{◌≡◌, ℕ, ◌+◌, ◌<◌, List, [], ◌∷◌, ◌++◌, length, take, drop, set, get_or, OnOk, IfErr};
+//! The insertions of a list, of which one alone takes no memory of its own.
+ghost use Rattle.std.specs.Prelude.{◌≡◌, ℕ, ◌<◌, List, [], ◌∷◌, ◌++◌, length, take, set, get_or, OnOk, IfErr};
 ghost use Rattle.asn1_core.specs.declared.error.EncodeErrorKind.TheVariants.{OutOfMemory};
-ghost use Rattle.oer_write.specs.Slotted.{both};
 
 use asn1_core::EncodeErrorKind;
 use std::alloc::Global;
@@ -17,12 +16,18 @@ pub(crate) struct Insertion {
     pub(crate) number: u64,
 }
 
-/// Insertions one behind another: where there is one alone, no memory is asked for.
+/// No insertion, one, or those for which memory was asked.
+#[derive(Drop)]
+pub(crate) enum Held {
+    Nothing,
+    One(Insertion),
+    Many(Vec<Insertion>),
+}
+
+/// Insertions one behind another.
 #[derive(Drop)]
 pub(crate) struct Slots {
-    first: Option<Insertion>,
-    /// Those behind the first.
-    more: Vec<Insertion>,
+    held: Held,
 }
 
 /// Room for so many insertions is asked for at once, and for four times as many as there are where more come.
@@ -34,56 +39,19 @@ impl Model for Slots {
 
     ghost Value = { List Insertion };
 
-    ghost use Rattle.oer_write.specs.Slotted.{slots_seen, IsFilledFromTheFirst};
+    ghost use Rattle.oer_write.specs.Slotted.{slots_seen};
 
     ghost view = { slots_seen };
-
-    ghost invariant = { IsFilledFromTheFirst };
-}
-
-/// Appends an insertion where there is no room for one.
-#[inline(never)]
-fn push_behind(items: &mut Vec<Insertion>, insertion: Insertion) -> Result<(), EncodeErrorKind>
-    ensures done { OnOk result (items.new.items ≡ items.old.items ++ (insertion ∷ [])) }
-    ensures refused { IfErr result (λ k. (k ≡ OutOfMemory) × (items.new.items ≡ items.old.items)) }
-{
-    items.reserve(items.len().saturating_mul(3).max(ROOM))?;
-    items.push_reserved(insertion);
-    Ok(())
-}
-
-/// Appends an insertion; only what it needs is lent to the call out of line.
-#[inline(always)]
-fn push_more(
-    alloc: Global,
-    items: &mut Vec<Insertion>,
-    insertion: Insertion,
-) -> Result<(), EncodeErrorKind>
-    ensures done { OnOk result (items.new.items ≡ items.old.items ++ (insertion ∷ [])) }
-    ensures refused { IfErr result (λ k. (k ≡ OutOfMemory) × (items.new.items ≡ items.old.items)) }
-{
-    if items.len() < items.capacity() {
-        items.push_reserved(insertion);
-        return Ok(());
-    }
-    let mut lent = std::mem::replace(&mut *items, Vec::new(alloc));
-    let answer = push_behind(&mut lent, insertion);
-    *items = lent;
-    match answer {
-        Ok(()) => Ok(()),
-        Err(kind) => Err(kind),
-    }
 }
 
 impl Slots {
     /// No insertions. Takes no memory.
     #[inline(always)]
-    pub(crate) fn new(alloc: Global) -> Slots
+    pub(crate) fn new() -> Slots
         ensures { result ≡ [] }
     {
         Slots {
-            first: None,
-            more: Vec::new(alloc),
+            held: Held::Nothing,
         }
     }
 
@@ -92,9 +60,22 @@ impl Slots {
     pub(crate) fn len(&self) -> usize
         ensures { result ≡ length self.now }
     {
-        match self.first {
-            Some(_) => self.more.len() + 1,
-            None => 0,
+        match &self.held {
+            Held::Nothing => 0,
+            Held::One(_) => 1,
+            Held::Many(items) => items.len(),
+        }
+    }
+
+    /// All of them.
+    #[inline(always)]
+    pub(crate) fn as_slice(&self) -> &[Insertion]
+        ensures { result.now ≡ self.now }
+    {
+        match &self.held {
+            Held::Nothing => &[],
+            Held::One(only) => std::slice::from_ref(only),
+            Held::Many(items) => items.as_slice(),
         }
     }
 
@@ -108,11 +89,55 @@ impl Slots {
         ensures done { OnOk result (self.new ≡ self.old ++ (insertion ∷ [])) }
         ensures refused { IfErr result (λ k. (k ≡ OutOfMemory) × (self.new ≡ self.old)) }
     {
-        if self.first.is_none() {
-            self.first = Some(insertion);
+        if let Held::Nothing = &self.held {
+            self.held = Held::One(insertion);
             return Ok(());
         }
-        push_more(alloc, &mut self.more, insertion)
+        if let Held::Many(items) = &mut self.held {
+            if items.len() < items.capacity() {
+                items.push_reserved(insertion);
+                return Ok(());
+            }
+        }
+        self.push_apart(alloc, insertion)
+    }
+
+    /// The list is lent to a call out of line, and what holds it isn't.
+    #[inline(always)]
+    fn push_apart(&mut self, alloc: Global, insertion: Insertion) -> Result<(), EncodeErrorKind>
+        ensures done { OnOk result (self.new ≡ self.old ++ (insertion ∷ [])) }
+        ensures refused { IfErr result (λ k. (k ≡ OutOfMemory) × (self.new ≡ self.old)) }
+    {
+        let mut list = std::mem::replace(&mut *self, Slots::new());
+        let answer = list.push_behind(alloc, insertion);
+        *self = list;
+        match answer {
+            Ok(()) => Ok(()),
+            Err(kind) => Err(kind),
+        }
+    }
+
+    /// Appends one where there is no room for it.
+    #[inline(never)]
+    fn push_behind(&mut self, alloc: Global, insertion: Insertion) -> Result<(), EncodeErrorKind>
+        ensures done { OnOk result (self.new ≡ self.old ++ (insertion ∷ [])) }
+        ensures refused { IfErr result (λ k. (k ≡ OutOfMemory) × (self.new ≡ self.old)) }
+    {
+        match &mut self.held {
+            Held::Nothing => self.held = Held::One(insertion),
+            Held::One(first) => {
+                let mut items = Vec::new(alloc);
+                items.reserve(ROOM)?;
+                items.push_reserved(*first);
+                items.push_reserved(insertion);
+                self.held = Held::Many(items);
+            }
+            Held::Many(items) => {
+                items.reserve(items.len().saturating_mul(3).max(ROOM))?;
+                items.push_reserved(insertion);
+            }
+        }
+        Ok(())
     }
 
     /// The one of that number.
@@ -121,15 +146,9 @@ impl Slots {
         requires { slot < length self.now }
         ensures { result ≡ get_or self.now slot result }
     {
-        match self.first {
-            Some(first) => {
-                if slot == 0 {
-                    first
-                } else {
-                    self.more[slot - 1]
-                }
-            }
-            None => self.more[slot],
+        match &self.held {
+            Held::One(only) => *only,
+            _ => self.as_slice()[slot],
         }
     }
 
@@ -139,10 +158,10 @@ impl Slots {
         requires { slot < length self.old }
         ensures { self.new ≡ set self.old slot insertion }
     {
-        if slot == 0 {
-            self.first = Some(insertion);
-        } else {
-            self.more[slot - 1] = insertion;
+        match &mut self.held {
+            Held::Nothing => {}
+            Held::One(only) => *only = insertion,
+            Held::Many(items) => items[slot] = insertion,
         }
     }
 
@@ -151,26 +170,14 @@ impl Slots {
     pub(crate) fn truncate(&mut self, count: usize)
         ensures { self.new ≡ take count self.old }
     {
-        if count == 0 {
-            self.first = None;
-            self.more.clear();
-        } else {
-            self.more.truncate(count - 1);
+        match &mut self.held {
+            Held::Nothing => {}
+            Held::One(_) => {
+                if count == 0 {
+                    self.held = Held::Nothing;
+                }
+            }
+            Held::Many(items) => items.truncate(count),
         }
-    }
-
-    /// Those behind the first `count`: one that lies apart, and others.
-    #[inline(always)]
-    pub(crate) fn behind(&self, count: usize) -> (Option<Insertion>, &[Insertion])
-        ensures { both result.0 result.1.now ≡ drop count self.now }
-    {
-        if count == 0 {
-            return (self.first, self.more.as_slice());
-        }
-        let (_, rest) = self
-            .more
-            .as_slice()
-            .split_at((count - 1).min(self.more.len()));
-        (None, rest)
     }
 }

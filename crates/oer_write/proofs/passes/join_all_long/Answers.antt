@@ -1,7 +1,6 @@
 use Rattle.std.proofs.Common.{◌≡◌, ◌+◌, ◌-◌, length, map, arith, ap, sym, ◌∙◌, subst, rules, ℕ, List, refl}
 use Rattle.asn1_core.specs.Octets.{Octets}
 use Rattle.oer_write.specs.Inserted.{Passed, piece}
-use Rattle.oer_write.specs.Slotted.{both}
 use Rattle.oer_write.specs.Layout.{Piece}
 use Rattle.oer_write.proofs.Passing.{grown_whole, passed_last}
 use Rattle.oer_write.proofs.passes.join_all_long.Goals as goal
@@ -9,7 +8,7 @@ use Rattle.oer_write.proofs.passes.join_all_long.Goals as goal
 pub returns-clause-done : goal.returns-clause-done
 returns-clause-done c =
     let old : Octets = c.args.output.now.items in
-    let ps : List Piece = map (piece c.args.long.now) (both c.args.first c.args.rest.now) in
+    let ps : List Piece = map (piece c.args.long.now) c.args.insertions.now in
     let items : Octets = c.spread_all.new.output.items in
     let at : Octets = c.as_mut_slice.result.now in
     let o : Octets = c.args.octets.now in

@@ -10,7 +10,7 @@ overflow_sub-self c =
     let i = c.self.inside in
     let t = counts_cut c.args.count i.slots in
     let k = c.self.invariant.size in
-    let b = behind_counts i.long.items c.args.count i.slots c.self.invariant.there in
+    let b = behind_counts i.long c.args.count i.slots c.self.invariant.there in
     let v = ap (λ (ps : List Piece). total (drop c.args.count ps)) c.self.view_is in
     let e = c.size_behind-dropped.ensures in
     omega (arith, t, k, b, v, e)
@@ -20,16 +20,16 @@ invariant_of-self c =
     let i = c.self.inside in
     let t = counts_cut c.args.count i.slots in
     let k = c.self.invariant.size in
-    let b = behind_counts i.long.items c.args.count i.slots c.self.invariant.there in
+    let b = behind_counts i.long c.args.count i.slots c.self.invariant.there in
     let v = ap (λ (ps : List Piece). total (drop c.args.count ps)) c.self.view_is in
     let e = c.size_behind-dropped.ensures in
     let n : counts c.truncate.new.self ≡ counts (take c.args.count i.slots) = ap counts c.truncate.ensures in
     record {
       size = omega (arith, t, k, b, v, e, n);
-      there = subst (AreThere (length i.long.items)) (sym c.truncate.ensures) (there_take (length i.long.items) c.args.count i.slots c.self.invariant.there);
+      there = subst (AreThere (length i.long)) (sym c.truncate.ensures) (there_take (length i.long) c.args.count i.slots c.self.invariant.there);
     }
 
 pub returns : goal.returns
 returns c =
     let i = c.self.inside in
-    ap (map (piece i.long.items)) c.truncate.ensures ∙ sym (take-map (piece i.long.items) c.args.count i.slots) ∙ ap (λ (ps : List Piece). take c.args.count ps) c.self.view_is
+    ap (map (piece i.long)) c.truncate.ensures ∙ sym (take-map (piece i.long) c.args.count i.slots) ∙ ap (λ (ps : List Piece). take c.args.count ps) c.self.view_is

@@ -11,8 +11,8 @@ returns-clause-done c =
     let v = c.self.invariant in
     let f = c.requires.free in
     let x : Insertion = record { place = c.get-place.result.place; count = c.args.octets.octets; number = c.args.octets.number } in
-    ap (map (piece i.long.items)) c.set.ensures
-    ∙ filled_pieces i.long.items i.slots c.args.self.now f.0 f.1 f.2 c.args.slot v.there c.self.view_is f.3 f.4 x c.get-place.result (low_octets c.args.octets.octets c.args.octets.number) (ap (λ (y : Insertion). y.place) c.get-place.ensures) (octets_few i.long.items x c.requires.few)
+    ap (map (piece i.long)) c.set.ensures
+    ∙ filled_pieces i.long i.slots c.args.self.now f.0 f.1 f.2 c.args.slot v.there c.self.view_is f.3 f.4 x c.get-place.result (low_octets c.args.octets.octets c.args.octets.number) (ap (λ (y : Insertion). y.place) c.get-place.ensures) (octets_few i.long x c.requires.few)
 
 pub invariant_of-self : goal.invariant_of-self
 invariant_of-self c =
@@ -23,6 +23,6 @@ invariant_of-self c =
     let x : Insertion = record { place = c.get-place.result.place; count = c.args.octets.octets; number = c.args.octets.number } in
     let n : c.in-Some.inserted ≡ i.inserted + c.args.octets.octets = (let e = c.in-Some.ensures.1 in omega (arith, e)) in
     record {
-      size = n ∙ ap (λ (m : ℕ). m + c.args.octets.octets) v.size ∙ sym (filled_counts i.long.items i.slots c.args.self.now f.0 f.1 f.2 c.args.slot v.there c.self.view_is f.3 f.4 x) ∙ ap counts (sym c.set.ensures);
-      there = subst (AreThere (length i.long.items)) (sym c.set.ensures) (filled_there i.long.items i.slots c.args.self.now f.0 f.1 f.2 c.args.slot v.there c.self.view_is f.3 f.4 x (λ h. absurd (omega (arith, h, few))));
+      size = n ∙ ap (λ (m : ℕ). m + c.args.octets.octets) v.size ∙ sym (filled_counts i.long i.slots c.args.self.now f.0 f.1 f.2 c.args.slot v.there c.self.view_is f.3 f.4 x) ∙ ap counts (sym c.set.ensures);
+      there = subst (AreThere (length i.long)) (sym c.set.ensures) (filled_there i.long i.slots c.args.self.now f.0 f.1 f.2 c.args.slot v.there c.self.view_is f.3 f.4 x (λ h. absurd (omega (arith, h, few))));
     }

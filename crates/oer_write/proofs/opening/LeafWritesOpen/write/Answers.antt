@@ -5,7 +5,7 @@ use Rattle.oer_spec.specs.Lengths.{behind_length}
 use Rattle.oer_write.specs.Rows.{open_type}
 use Rattle.oer_write.proofs.Holding.{kept_added}
 use Rattle.oer_write.proofs.Opened.{adds_plain, adds_retitled, behind_octet, shortened}
-use Rattle.oer_write.proofs.opening.write_leaf.Goals as goal
+use Rattle.oer_write.proofs.opening.LeafWritesOpen.write.Goals as goal
 
 pub returns-then-size-lt128-clause-done : goal.returns-then-size-lt128-clause-done
 unfolding open_type

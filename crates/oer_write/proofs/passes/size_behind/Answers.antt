@@ -1,8 +1,9 @@
-use Rattle.std.proofs.Common.{◌≡◌, ◌+◌, ◌-◌, ◌<◌, ◌≤◌, length, drop, arith, ap, ◌∙◌, get_or, ℕ, List}
+use Rattle.std.proofs.Common.{◌≡◌, ◌+◌, ◌-◌, ◌<◌, ◌≤◌, length, drop, arith, ap, sym, ◌∙◌, inl, inr, get_or, ℕ, List}
+use Rattle.std.proofs.lemmas.List.{drop_all}
 use Rattle.oer_write.specs.Inserted.{counts}
 use Rattle.oer_write.specs.declared.slots.Insertion.{Insertion}
 use Rattle.oer_write.proofs.Stored.{counts_at, counts_cut}
-use Rattle.oer_write.proofs.passes.size_of_all.Goals as goal
+use Rattle.oer_write.proofs.passes.size_behind.Goals as goal
 
 step : (xs : List Insertion) (left size : ℕ) (d : Insertion) → 0 < left → left ≤ length xs → size ≡ counts (drop left xs) → size + (get_or xs (left - 1) d).count ≡ counts (drop (left - 1) xs)
 step xs left size d h w s =
@@ -21,9 +22,14 @@ overflow_add-size c =
 pub loop-left-preserved : goal.loop-left-preserved
 loop-left-preserved c =
     let n = step c.args.insertions.now c.loop-left.left c.loop-left.size (record { place = 0; count = 0; number = 0 }) (omega arith) c.loop-left.invariant.within c.loop-left.invariant.size in
-    record { within = (let k = c.loop-left.invariant.within in omega (arith, k)); size = n }
+    record { least = inl (omega arith); within = (let k = c.loop-left.invariant.within in omega (arith, k)); size = n }
 
 pub returns : goal.returns
 returns c =
-    let z : c.loop-left.left ≡ 0 = (let f = c.loop-left-test.false in omega (arith, f)) in
-    c.loop-left.invariant.size ∙ ap (λ (m : ℕ). counts (drop m c.args.insertions.now)) z
+    let s = c.loop-left.invariant.size in
+    let k = c.loop-left.invariant.within in
+    let f = c.loop-left-test.false in
+    elim c.loop-left.invariant.least [
+      | inl h ↦ s ∙ ap (λ (m : ℕ). counts (drop m c.args.insertions.now)) (omega (arith, h, f))
+      | inr h ↦ s ∙ ap counts (drop_all c.loop-left.left c.args.insertions.now (omega (arith, h)) ∙ sym (drop_all c.args.count c.args.insertions.now (omega (arith, h, f))))
+    ]

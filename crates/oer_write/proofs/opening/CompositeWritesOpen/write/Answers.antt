@@ -5,7 +5,7 @@ use Rattle.oer_write.specs.Layout.{slots}
 use Rattle.oer_write.specs.Rows.{open_type}
 use Rattle.oer_write.proofs.Holding.{kept_added}
 use Rattle.oer_write.proofs.Nesting.{adds_alike, kept_same, taken_adds, taken_ascends}
-use Rattle.oer_write.proofs.opening.write_open.Goals as goal
+use Rattle.oer_write.proofs.opening.CompositeWritesOpen.write.Goals as goal
 
 pub returns-in_err-open_scope-clause-kept : goal.returns-in_err-open_scope-clause-kept
 returns-in_err-open_scope-clause-kept g c = kept_same c.args.out.now.items c.open_scope.new.output.items c.args.insertions.now c.open_scope.new.insertions c.in_err-open_scope.ensures.unchanged c.in_err-open_scope.ensures.refused.1
