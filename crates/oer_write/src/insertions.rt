@@ -8,7 +8,7 @@ ghost use Rattle.oer_write.specs.Inserted.{piece};
 use crate::bits::Packed;
 use crate::long::LongOctets;
 use crate::passes::{join_all, join_all_long, put_alone, size_behind, spread_all};
-use crate::slots::{Insertion, Slots};
+use crate::slots::{Insertion, Slots, more_room};
 use asn1_core::EncodeErrorKind;
 use std::alloc::Global;
 use std::marker::Model;
@@ -34,6 +34,16 @@ impl Model for Insertions {
     ghost view = { pieces };
 
     ghost invariant = { AreCounted };
+}
+
+/// Room for octets where so many slots grow into more.
+#[inline(never)]
+fn make_room(slots: usize, output: &mut Vec<u8>) -> Result<(), EncodeErrorKind>
+    ensures unchanged { output.new.items ≡ output.old.items }
+    ensures refused { IfErr result (λ k. k ≡ OutOfMemory) }
+{
+    output.reserve(more_room(slots))?;
+    Ok(())
 }
 
 impl Insertions {
@@ -77,6 +87,23 @@ impl Insertions {
             number: 0,
         };
         self.slots.push(alloc, insertion)
+    }
+
+    /// Takes a slot behind the octets. Where the list grows, so does the room for octets: each slot stands for some.
+    #[inline(always)]
+    pub(crate) fn open_behind(
+        &mut self,
+        alloc: Global,
+        output: &mut Vec<u8>,
+    ) -> Result<(), EncodeErrorKind>
+        ensures done { OnOk result (self.new ≡ self.old ++ (free_at (length output.old.items) ∷ [])) }
+        ensures refused { IfErr result (λ k. (k ≡ OutOfMemory) × (self.new ≡ self.old)) }
+        ensures unchanged { output.new.items ≡ output.old.items }
+    {
+        if self.slots.is_full() {
+            make_room(self.slots.len(), output)?;
+        }
+        self.open(alloc, output.len())
     }
 
     /// Fills a free slot.

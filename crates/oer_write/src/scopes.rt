@@ -52,7 +52,7 @@ pub(crate) fn open_scope(
     ensures unchanged { output.new.items ≡ output.old.items }
 {
     if is_inside {
-        return insertions.open(alloc, output.len());
+        return insertions.open_behind(alloc, output);
     }
     output.reserve(ROOM)?;
     Ok(())

@@ -30,8 +30,13 @@ pub(crate) struct Slots {
     held: Held,
 }
 
-/// Room for so many insertions is asked for at once, and for four times as many as there are where more come.
+/// Room for so many insertions is asked for at once.
 const ROOM: usize = 40;
+
+/// Room for sixteen times as many is asked for where more come: few values have so many at once.
+pub(crate) fn more_room(count: usize) -> usize {
+    count.saturating_mul(15)
+}
 
 impl Model for Slots {
     ghost use Rattle.std.specs.Prelude.{List};
@@ -64,6 +69,15 @@ impl Slots {
             Held::Nothing => 0,
             Held::One(_) => 1,
             Held::Many(items) => items.len(),
+        }
+    }
+
+    /// Whether memory was asked for and none is left of it.
+    #[inline(always)]
+    pub(crate) fn is_full(&self) -> bool {
+        match &self.held {
+            Held::Nothing | Held::One(_) => false,
+            Held::Many(items) => items.len() == items.capacity(),
         }
     }
 
@@ -133,7 +147,7 @@ impl Slots {
                 self.held = Held::Many(items);
             }
             Held::Many(items) => {
-                items.reserve(items.len().saturating_mul(3).max(ROOM))?;
+                items.reserve(more_room(items.len()).max(ROOM))?;
                 items.push_reserved(insertion);
             }
         }
