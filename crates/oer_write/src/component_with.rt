@@ -136,12 +136,27 @@ impl<'buffer> Encoder<'buffer> {
         ensures refused { IfErr result (λ x. ComponentBroken (Promise F.FnOnce f) x self.old self.new) }
     {
         if self.scope.is_set {
-            let mut components = self.take_components();
-            let answer = components.push_by(self.alloc, tag, f);
-            self.scope.components = components;
-            return answer;
+            return self.keep_by(tag, f);
         }
         self.put_inside(f)
+    }
+
+    /// Keeps a component of a set apart: the components are lent to the call, and the encoder isn't.
+    fn keep_by<F: FnOnce(&mut Encoder<'_>) -> Result<(), EncodeError>>(
+        &mut self,
+        tag: Tag,
+        f: F,
+    ) -> Result<(), EncodeError>
+        requires callable { (lent : Written) → lent.frame.is_open ≡ false → FnOnceTakesAtMut F.FnOnce f lent }
+        requires orderly { IsOrderlyHere (Promise F.FnOnce f) }
+        ensures done { OnOk result (KeptBy (Promise F.FnOnce f) tag self.old self.new) }
+        ensures refused { IfErr result (λ x. WantsMemory x ⊎ RefusedInside (Promise F.FnOnce f) x) }
+        ensures keeps { Keeps self.old self.new }
+    {
+        let mut components = self.take_components();
+        let answer = components.push_by(self.alloc, tag, f);
+        self.scope.components = components;
+        answer
     }
 
     /// Lends an encoder with no scope open, over the same output.

@@ -10,7 +10,7 @@ returns-clause-done c =
     let i = c.self.inside in
     let f = c.requires.free in
     let o : Octets = c.args.octets.now in
-    let w : c.append.new.self ≡ i.long ++ o = c.append.ensures.done in
+    let w : c.append.new.self ≡ i.long ++ o = c.in_ok-append.ensures.done in
     let n : c.len-begins.result ≡ length i.long = search rules in
     let x : Insertion = record { place = c.get-place.result.place; count = length o; number = c.len-begins.result } in
     let there : AreThere (length (i.long ++ o)) i.slots = long_more i.long o i.slots c.self.invariant.there in
@@ -24,7 +24,7 @@ invariant_of-self-2 c =
     let i = c.self.inside in
     let f = c.requires.free in
     let o : Octets = c.args.octets.now in
-    let w : c.append.new.self ≡ i.long ++ o = c.append.ensures.done in
+    let w : c.append.new.self ≡ i.long ++ o = c.in_ok-append.ensures.done in
     let n : c.len-begins.result ≡ length i.long = search rules in
     let x : Insertion = record { place = c.get-place.result.place; count = length o; number = c.len-begins.result } in
     let there : AreThere (length (i.long ++ o)) i.slots = long_more i.long o i.slots c.self.invariant.there in
