@@ -6,6 +6,7 @@ use Rattle.std.proofs.lemmas.Grind.{common_steps}
 use Rattle.std.proofs.lemmas.Int.{ints}
 use Rattle.std.proofs.lemmas.List.{drop_all, drop_more, take_more}
 use Rattle.std.proofs.lemmas.List.Elements.{All-drop}
+use Rattle.std.proofs.lemmas.List.Quantifiers.{all_pairs_push}
 use Rattle.std.specs.List.{All, AllPairs}
 use Rattle.asn1_layouts.specs.Enumerations.{AreNumberedFrom, AreTakenFrom, IsGiven, IsLeastFree, next_behind}
 use Rattle.asn1_layouts.specs.Numbers.{IsI128}
@@ -19,6 +20,14 @@ not_in_front numbers at k below held same distinct =
     let other = get_or numbers at (pos 0) in
     let equal : one ≡ other = (Decides-int_eq one other).0 same in
     distinct k at (pos 0) before below (sym there ∙ equal)
+
+-- one number more, which differs from those in front
+pub distinct_more : (numbers : List ℤ) (at : ℕ) → at < length numbers → All (λ number. number ≢ get_or numbers at (pos 0)) (take at numbers) → AllPairs (λ a b. a ≢ b) (take at numbers)
+    → AllPairs (λ a b. a ≢ b) (take (at + 1) numbers)
+distinct_more numbers at below apart distinct =
+    let number = get_or numbers at (pos 0) in
+    let more = all_pairs_push (λ (a b : ℤ). a ≢ b) (take at numbers) number distinct apart in
+    subst (AllPairs (λ (a b : ℤ). a ≢ b)) (sym (take_more numbers at (pos 0) below)) more
 
 -- one value, in front of others
 one_more : (taken : List ℤ) (left : ℕ) (next after : ℤ) (own : Option ℤ) (number : ℤ) (written : List (Option ℤ)) (rest : List ℤ)

@@ -262,6 +262,8 @@ fn named_numbers<'m>(
     requires { length items.now ≡ length numbers.now }
     ensures names { IfOk result (λ all. map (λ one. one.0) all.items ≡ map (λ item. item.name) items.now) }
     ensures numbers { IfOk result (λ all. map (λ one. one.1) all.items ≡ numbers.now) }
+    ensures distinct { IfOk result (λ all. AllPairs (λ a b. a ≢ b) (map (λ one. one.1) all.items)) }
+    ensures fits { IfOk result (λ all. All IsI128 (map (λ one. one.1) all.items)) }
     ensures refused { AllPairs (λ a b. a ≢ b) numbers.now → IfErr result (λ e. e ≡ OutOfMemory) }
 {
     let mut all = Vec::new(scope.alloc);
@@ -283,6 +285,8 @@ pub fn enumerated_numbers<'m>(
 ) -> Result<Vec<(TokenId, i128)>, Refusal>
     ensures names { IfOk result (λ all. map (λ one. one.0) all.items ≡ map (λ item. item.name) items.now) }
     ensures numbers { IfOk result (λ all. AreNumbersOf scope.entry.tokens.now items.now root (map (λ one. one.1) all.items)) }
+    ensures distinct { IfOk result (λ all. AllPairs (λ a b. a ≢ b) (map (λ one. one.1) all.items)) }
+    ensures fits { IfOk result (λ all. All IsI128 (map (λ one. one.1) all.items)) }
     ensures refused { (numbers : List ℤ) → AreAllowed scope.entry.tokens.now items.now root numbers → IfErr result (λ e. e ≡ OutOfMemory) }
 {
     let written = written_numbers(scope, items)?;
