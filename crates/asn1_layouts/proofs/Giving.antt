@@ -1,24 +1,13 @@
 -- Steps of the loop that gives an ENUMERATED's values their numbers.
-use Rattle.std.proofs.Common.{◌≡◌, ◌≢◌, ℕ, ◌+◌, ◌-◌, ◌<◌, ◌≤◌, ℤ, pos, ◌<ℤ◌, int_eq, true, ◌⊎◌, inl, inr, Option, Some, None, List, [], ◌∷◌, ◌++◌, length, drop, take, get_or, sym, ap, subst, ◌∙◌, append_assoc, append-nil, length-take, arith}
+use Rattle.std.proofs.Common.{◌≡◌, ℕ, ◌+◌, ◌-◌, ◌<◌, ◌≤◌, ℤ, pos, ◌<ℤ◌, ◌⊎◌, inl, inr, Option, Some, None, List, [], ◌∷◌, ◌++◌, length, drop, take, get_or, sym, ap, subst, ◌∙◌, append_assoc, append-nil, arith}
 use Rattle.std.proofs.lemmas.Bool.{cases_lt}
-use Rattle.std.proofs.lemmas.Bool.Decides.{Decides-int_eq}
 use Rattle.std.proofs.lemmas.Grind.{common_steps}
 use Rattle.std.proofs.lemmas.Int.{ints}
 use Rattle.std.proofs.lemmas.List.{drop_all, drop_more, take_more}
 use Rattle.std.proofs.lemmas.List.Elements.{All-drop}
-use Rattle.std.specs.List.{All, AllPairs}
+use Rattle.std.specs.List.{All}
 use Rattle.asn1_layouts.specs.Enumerations.{AreNumberedFrom, AreTakenFrom, IsGiven, IsLeastFree, next_behind}
 use Rattle.asn1_layouts.specs.Numbers.{IsI128}
-
--- no number that differs from all others stands in front of itself
-pub not_in_front : (numbers : List ℤ) (at k : ℕ) → at < length numbers → k < length (take at numbers) → int_eq (get_or (take at numbers) k (pos 0)) (get_or numbers at (pos 0)) ≡ true → AllPairs (λ a b. a ≢ b) numbers → ⊥
-not_in_front numbers at k below held same distinct =
-    let before : k < at = omega (arith, length-take at numbers) in
-    let there : get_or (take at numbers) k (pos 0) ≡ get_or numbers k (pos 0) = grind (arith, common_steps) in
-    let one = get_or (take at numbers) k (pos 0) in
-    let other = get_or numbers at (pos 0) in
-    let equal : one ≡ other = (Decides-int_eq one other).0 same in
-    distinct k at (pos 0) before below (sym there ∙ equal)
 
 -- one value, in front of others
 one_more : (taken : List ℤ) (left : ℕ) (next after : ℤ) (own : Option ℤ) (number : ℤ) (written : List (Option ℤ)) (rest : List ℤ)

@@ -1,5 +1,6 @@
 mod Allowed
 mod Digits
+mod Distinct
 mod Giving
 mod Members
 mod OwnTags

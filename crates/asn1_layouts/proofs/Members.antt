@@ -1,12 +1,12 @@
 -- A type has the members of one list alone.
-use Rattle.std.proofs.Common.{◌≡◌, Option, Some, None, List, sym, ap, ◌∙◌, inl, inr}
+use Rattle.std.proofs.Common.{◌≡◌, true, Option, Some, None, List, sym, ap, ◌∙◌, inl, inr}
 use Rattle.asn1_modules.specs.declared.ast.Body.{Body, Body-F, out-Body}
 use Rattle.asn1_modules.specs.declared.ast.Body.TheOpen.{Choice, Sequence, Set}
 use Rattle.asn1_modules.specs.declared.ast.Body.TheVariants.{outs-Choice, outs-Sequence, outs-Set}
 use Rattle.asn1_modules.specs.declared.ast.Component.{Component}
 use Rattle.asn1_modules.specs.declared.ast.Member.{Member}
 use Rattle.asn1_modules.specs.declared.ast.Type.{«Type»}
-use Rattle.asn1_layouts.specs.Tags.{AreMembers}
+use Rattle.asn1_layouts.specs.Tags.{AreMembers, has_members}
 
 abbrev pub listed : Body-F Body Member Component «Type» → Option (List Member)
 listed (Choice all) = Some all.items
@@ -25,3 +25,12 @@ has_listed body members are = elim are.stand_in [
 
 pub same_members : (body : Body) (members others : List Member) → AreMembers body members → AreMembers body others → members ≡ others
 same_members body members others are those = let one = has_listed body members are in let other = has_listed body others those in cc
+
+pub have_members : (body : Body) (members : List Member) → AreMembers body members → has_members body ≡ true
+have_members body members are = elim are.stand_in [
+  | inl e ↦ ap has_members e
+  | inr rest ↦ elim rest [
+    | inl e ↦ ap has_members e
+    | inr e ↦ ap has_members e
+  ]
+]

@@ -4,7 +4,7 @@ use Rattle.std.specs.Prelude.{◌≡◌, ℕ, ◌+◌, ◌<◌, ◌^◌, ◌⊎�
 use Rattle.std.specs.List.{All}
 use Rattle.std.specs.Global.{Global}
 use Rattle.asn1_modules.specs.declared.ast.Body.{Body}
-use Rattle.asn1_modules.specs.declared.ast.Body.TheVariants.{Sequence, Set, Choice}
+use Rattle.asn1_modules.specs.declared.ast.Body.TheVariants.{Sequence, Set, Choice, Sequence', Set', Choice'}
 use Rattle.asn1_modules.specs.declared.ast.Component.{Component}
 use Rattle.asn1_modules.specs.declared.ast.Member.{Member}
 use Rattle.asn1_modules.specs.declared.ast.Member.TheVariants.{Component as in_member}
@@ -46,6 +46,13 @@ pub record AreMembers (body : Body) (members : List Member) : Type 0 where
   pub all : Vec Member Global
   pub are_all : members ≡ all.items
   pub stand_in : (body ≡ Choice all) ⊎ (body ≡ Sequence all) ⊎ (body ≡ Set all)
+
+-- a SEQUENCE, a SET or a CHOICE
+abbrev pub has_members : Body → Bool
+has_members (Choice' _ _) = true
+has_members (Sequence' _ _) = true
+has_members (Set' _ _) = true
+has_members _ = false
 
 -- no tag stands in front of a component's type
 pub record IsUntagged (member : Member) : Type 0 where

@@ -12,6 +12,7 @@ use asn1_modules::ast::{Body, Numbered, Reference, Type, Value};
 use asn1_modules::lexer::{Kind, TokenId};
 use asn1_modules::refusal::Refusal;
 use std::alloc::{AllocError, Global};
+use std::collections::BTreeMap;
 
 /// How many names may stand for one another in a row.
 const MAX_CHAIN: usize = 64;
@@ -262,14 +263,18 @@ fn named_numbers<'m>(
     requires { length items.now ≡ length numbers.now }
     ensures names { IfOk result (λ all. map (λ one. one.0) all.items ≡ map (λ item. item.name) items.now) }
     ensures numbers { IfOk result (λ all. map (λ one. one.1) all.items ≡ numbers.now) }
+    ensures distinct { IfOk result (λ all. AllPairs (λ a b. a ≢ b) (map (λ one. one.1) all.items)) }
+    ensures fits { IfOk result (λ all. All IsI128 (map (λ one. one.1) all.items)) }
     ensures refused { AllPairs (λ a b. a ≢ b) numbers.now → IfErr result (λ e. e ≡ OutOfMemory) }
 {
+    let mut seen: BTreeMap<i128, TokenId> = BTreeMap::new(scope.alloc);
     let mut all = Vec::new(scope.alloc);
     for (at, number) in numbers.iter().enumerate() {
-        if numbers[..at].contains(number) {
-            return Err(same_number(scope, items, numbers, at));
+        let name = items[at].name;
+        if let Some(other) = seen.insert(*number, name)? {
+            return Err(same_number(scope, name, other, *number));
         }
-        all.push((items[at].name, *number))?;
+        all.push((name, *number))?;
     }
     Ok(all)
 }
@@ -283,6 +288,8 @@ pub fn enumerated_numbers<'m>(
 ) -> Result<Vec<(TokenId, i128)>, Refusal>
     ensures names { IfOk result (λ all. map (λ one. one.0) all.items ≡ map (λ item. item.name) items.now) }
     ensures numbers { IfOk result (λ all. AreNumbersOf scope.entry.tokens.now items.now root (map (λ one. one.1) all.items)) }
+    ensures distinct { IfOk result (λ all. AllPairs (λ a b. a ≢ b) (map (λ one. one.1) all.items)) }
+    ensures fits { IfOk result (λ all. All IsI128 (map (λ one. one.1) all.items)) }
     ensures refused { (numbers : List ℤ) → AreAllowed scope.entry.tokens.now items.now root numbers → IfErr result (λ e. e ≡ OutOfMemory) }
 {
     let written = written_numbers(scope, items)?;
@@ -290,27 +297,12 @@ pub fn enumerated_numbers<'m>(
     named_numbers(scope, items, numbers.as_slice())
 }
 
-/// The refusal of a name of an ENUMERATED that has another's number, which stands in front.
-fn same_number<'m>(
-    scope: Scope<'m, '_>,
-    items: &'m [Numbered],
-    numbers: &[i128],
-    at: usize,
-) -> Refusal {
+/// The refusal of a name of an ENUMERATED that has another's number.
+fn same_number(scope: Scope<'_, '_>, own: TokenId, other: TokenId, number: i128) -> Refusal {
     const READS: &str = "a name whose number no other name has";
-    let (Some(own), Some(number)) = (items.get(at), numbers.get(at)) else {
-        return Refusal::OutOfMemory;
-    };
-    let other = numbers
-        .iter()
-        .position(|it| it == number)
-        .and_then(|first| items.get(first));
-    let names = (
-        scope.text(own.name),
-        other.map_or("", |it| scope.text(it.name)),
-    );
+    let names = (scope.text(own), scope.text(other));
     match format!(in scope.alloc; "{number}") {
-        Ok(number) => scope.refused_beside(own.name, READS, names, number.as_str()),
+        Ok(number) => scope.refused_beside(own, READS, names, number.as_str()),
         Err(_) => Refusal::OutOfMemory,
     }
 }

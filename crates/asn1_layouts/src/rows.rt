@@ -1,10 +1,10 @@
 //! The components of a SEQUENCE or a SET, and the alternatives of a CHOICE: each with its place and its tag.
-ghost use Rattle.std.specs.Prelude.{◌≡◌, ◌≢◌, ◌<◌, ◌-◌, ◌^◌, ◌⊎◌, List, true, false, cond, IfErr, IfOk, MatchOption, MatchResult, OnErr, OnOk, map, length};
+ghost use Rattle.std.specs.Prelude.{◌≡◌, ◌≢◌, ◌<◌, ◌-◌, ◌^◌, ◌⊎◌, List, [], true, false, cond, IfErr, IfOk, IsOkAnd, MatchOption, MatchResult, OnErr, OnOk, map, length};
 ghost use Rattle.std.specs.List.{All, Contains, filter};
 ghost use Rattle.asn1_modules.specs.declared.ast.Member.{Member};
 ghost use Rattle.asn1_modules.specs.declared.refusal.Refusal.TheVariants.{OutOfMemory};
 ghost use Rattle.asn1_layouts.specs.Rows.{AreRowsOf, HaveComponents, HaveOwnTags, HaveTagsFor, components_of, is_choice, is_own, is_required, passed, placed, position_in};
-ghost use Rattle.asn1_layouts.specs.Tags.{AreAutomatic, AreMembers, HasUntagged, IsAutomatic, IsUntagged, automatic_tags, is_root, with_tag};
+ghost use Rattle.asn1_layouts.specs.Tags.{AreAutomatic, AreMembers, HasUntagged, IsAutomatic, IsUntagged, automatic_tags, has_members, is_root, with_tag};
 
 use crate::numbers::{Spot, number_of};
 use crate::scope::Scope;
@@ -467,6 +467,7 @@ pub fn rows_of<'m>(scope: Scope<'m, '_>, of: &'m Type) -> Result<Vec<Row<'m>>, R
     ensures automatic { AreAutomatic scope.entry.modules.now → HasUntagged of.now.body → IfOk result (λ rows. IsAutomatic rows.items) }
     ensures tags { IfOk result (λ rows. HaveTagsFor of.now.body rows.items) }
     ensures refused { AreAutomatic scope.entry.modules.now → HasUntagged of.now.body → HaveComponents of.now.body → IfErr result (λ e. e ≡ OutOfMemory) }
+    ensures others { has_members of.now.body ≡ false → IsOkAnd result (λ rows. rows.items ≡ []) }
 {
     let Some(members) = members_of(of) else {
         return Ok(Vec::new(scope.alloc));

@@ -1,4 +1,4 @@
-use Rattle.std.proofs.Common.{◌≡◌, ◌∙◌, ◌++◌, ap, sym, inr, true, cond, Some, None, List, map, arith}
+use Rattle.std.proofs.Common.{◌≡◌, ◌∙◌, ◌++◌, ap, sym, inr, cond, Some, None, List, map, arith}
 use Rattle.std.specs.Option.{option_map}
 use Rattle.asn1_layouts.specs.Rows.{Placed, passed, placed}
 use Rattle.asn1_layouts.proofs.Walking.{stopped_more}

@@ -4,7 +4,7 @@ use Rattle.asn1_modules.specs.declared.refusal.Refusal.TheVariants.{OutOfMemory}
 use Rattle.asn1_layouts.specs.Rows.{Placed, components_of, is_own, placed}
 use Rattle.asn1_layouts.specs.declared.rows.Row.{Row}
 use Rattle.asn1_layouts.proofs.Allowed.{are_required, are_tagged}
-use Rattle.asn1_layouts.proofs.Members.{same_members}
+use Rattle.asn1_layouts.proofs.Members.{have_members, same_members}
 use Rattle.asn1_layouts.proofs.rows.rows_of.Goals as goal
 
 pub returns-in_default-clause-rows : goal.returns-in_default-clause-rows
@@ -37,3 +37,15 @@ returns-clause-rows c = λ members are own.
     let of = c.in_ok-written.ensures.rows (subst (All (λ one. is_own one ≡ true)) e own) in
     let same = c.in_ok-rows.ensures.each ∙ ap (λ (it : List Row). map placed it) c.as_slice.ensures.value in
     ap components_of e ∙ (of ∙ ap (λ (it : List Placed). Some it) (sym same))
+
+pub returns-in_err-written-clause-others : goal.returns-in_err-written-clause-others
+returns-in_err-written-clause-others c = λ others. let some = have_members c.args.of.now.body c.in-Some.members.now c.in-Some.ensures in absurd cc
+
+pub returns-in_err-rows-clause-others : goal.returns-in_err-rows-clause-others
+returns-in_err-rows-clause-others c = λ others. let some = have_members c.args.of.now.body c.in-Some.members.now c.in-Some.ensures in absurd cc
+
+pub returns-in_err-require_rows-clause-others : goal.returns-in_err-require_rows-clause-others
+returns-in_err-require_rows-clause-others c = λ others. let some = have_members c.args.of.now.body c.in-Some.members.now c.in-Some.ensures in absurd cc
+
+pub returns-clause-others : goal.returns-clause-others
+returns-clause-others c = λ others. let some = have_members c.args.of.now.body c.in-Some.members.now c.in-Some.ensures in absurd cc
