@@ -70,7 +70,13 @@ impl<'m, 'a, 'd> Builder<'m, 'a, 'd> {
 
     /// The table.
     pub fn end(self) -> Table {
-        let Builder { scope: _, all: _, numbers: _, names: _, table } = self;
+        let Builder {
+            scope: _,
+            all: _,
+            numbers: _,
+            names: _,
+            table,
+        } = self;
         table
     }
 
@@ -103,8 +109,11 @@ impl<'m, 'a, 'd> Builder<'m, 'a, 'd> {
             return Ok(*number);
         }
         let number = self.table.names.len();
-        self.names.insert(String::from_str(self.alloc(), name)?, number)?;
-        self.table.names.push(String::from_str(self.alloc(), name)?)?;
+        self.names
+            .insert(String::from_str(self.alloc(), name)?, number)?;
+        self.table
+            .names
+            .push(String::from_str(self.alloc(), name)?)?;
         Ok(number)
     }
 
@@ -112,7 +121,11 @@ impl<'m, 'a, 'd> Builder<'m, 'a, 'd> {
     fn scope_of(&self, part: &Part<'m>) -> Option<usize> {
         let target = part.target?;
         let end = self.all.get(behind_names(self.all, target))?;
-        if has_parts(&end.of.body) { Some(target) } else { None }
+        if has_parts(&end.of.body) {
+            Some(target)
+        } else {
+            None
+        }
     }
 
     /// The number of the type of a part, without the lists around it: a new one where it has no parts.
@@ -139,7 +152,12 @@ impl<'m, 'a, 'd> Builder<'m, 'a, 'd> {
     }
 
     /// Gives lists inside one another their forms, the outermost of which has that number.
-    fn set_lists(&mut self, number: usize, part: &Part<'m>, whole: &'m Type) -> Result<(), Refusal> {
+    fn set_lists(
+        &mut self,
+        number: usize,
+        part: &Part<'m>,
+        whole: &'m Type,
+    ) -> Result<(), Refusal> {
         let mut own = number;
         let mut of = whole;
         for _ in 0..MAX_LISTS {
@@ -242,7 +260,12 @@ impl<'m, 'a, 'd> Builder<'m, 'a, 'd> {
     }
 
     /// Gives a definition its form, or that of the type whose name it is.
-    fn set_named(&mut self, number: usize, part: &Part<'m>, whole: &'m Type) -> Result<(), Refusal> {
+    fn set_named(
+        &mut self,
+        number: usize,
+        part: &Part<'m>,
+        whole: &'m Type,
+    ) -> Result<(), Refusal> {
         if whole.body.list().is_some() {
             return self.set_lists(number, part, whole);
         }

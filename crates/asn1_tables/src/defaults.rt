@@ -147,7 +147,11 @@ fn bits_of<'m>(
     value: &'m Value,
     limits: Limits,
 ) -> Result<Option<Vec<bool>>, Refusal> {
-    let size = if names.is_empty() { 0 } else { limits.fixed().unwrap_or(0) };
+    let size = if names.is_empty() {
+        0
+    } else {
+        limits.fixed().unwrap_or(0)
+    };
     if size > MAX_BITS {
         return Ok(None);
     }
@@ -188,10 +192,7 @@ fn json_of_bits<'m>(
 }
 
 /// The octets of an OCTET STRING's default in JSON.
-fn json_of_octets<'m>(
-    scope: Scope<'m, '_>,
-    value: &'m Value,
-) -> Result<Option<String>, Refusal> {
+fn json_of_octets<'m>(scope: Scope<'m, '_>, value: &'m Value) -> Result<Option<String>, Refusal> {
     match settled(scope, Spot { value, names: &[] })?.value {
         Value::Literal(id) => {
             let bits = literal_bits(scope.alloc, scope.token(*id))?;

@@ -11,16 +11,27 @@ use std::alloc::Global;
 
 /// The kinds of types, by their numbers in a table.
 pub const BOOLEAN: usize = 0;
+
 pub const NULL: usize = 1;
+
 pub const FIXED_INTEGER: usize = 2;
+
 pub const INTEGER: usize = 3;
+
 pub const ENUMERATED: usize = 4;
+
 pub const FIXED_BIT_STRING: usize = 5;
+
 pub const BIT_STRING: usize = 6;
+
 pub const FIXED_STRING: usize = 7;
+
 pub const STRING: usize = 8;
+
 pub const LIST: usize = 10;
+
 pub const SEQUENCE: usize = 11;
+
 pub const CHOICE: usize = 12;
 
 /// What stands in a table for a number that isn't there: numbers are below it.
@@ -166,10 +177,7 @@ fn named_values<'m>(
 }
 
 /// The number that a name stands for; nothing where it can't be resolved.
-pub fn named_number<'m>(
-    scope: Scope<'m, '_>,
-    item: &'m Numbered,
-) -> Result<Option<i128>, Refusal> {
+pub fn named_number<'m>(scope: Scope<'m, '_>, item: &'m Numbered) -> Result<Option<i128>, Refusal> {
     let Some(value) = &item.number else {
         return Ok(None);
     };

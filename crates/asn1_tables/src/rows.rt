@@ -52,11 +52,7 @@ fn push_grouped(
 }
 
 /// Components in the order of their octets: the root first, that of a SET in the order of its tags (X.696, 18).
-pub fn ordered(
-    alloc: Global,
-    fields: Vec<Field>,
-    is_set: bool,
-) -> Result<Components, AllocError> {
+pub fn ordered(alloc: Global, fields: Vec<Field>, is_set: bool) -> Result<Components, AllocError> {
     let mut roots = BTreeMap::new(alloc);
     let mut additions = Vec::new(alloc);
     for (at, field) in fields.into_iter().enumerate() {
