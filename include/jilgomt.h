@@ -147,7 +147,7 @@ enum {
     JILGOMT_SEQUENCE = 11, JILGOMT_CHOICE = 12
 };
 
-/* Walks the value of that type at the front of `in`, by a table that scripts/tables.py writes of ASN.1 modules, as lenient reading
+/* Walks the value of that type at the front of `in`, by a table that `oergen --table` prints of ASN.1 modules, as lenient reading
  * takes it. Nodes stand in the order of the octets, each behind the one around it. `written` counts all, also where there is room
  * for fewer (JILGOMT_NO_ROOM). At JILGOMT_UNREAD `consumed` is where the innermost part begins that the walk stopped in: the last
  * node without an end. It takes no memory. A walk is no promise that the octets are an encoding: it doesn't judge what values are. */

@@ -20,7 +20,6 @@ top = pathlib.Path(__file__).resolve().parent.parent
 sys.path.insert(0, str(top / "scripts"))
 sys.dont_write_bytecode = True
 
-import tables  # noqa: E402
 import words  # noqa: E402
 
 ROWS = top / "crates/oer_vectors/stdout"
@@ -49,13 +48,13 @@ def main(given):
         return 2
     sys.setrecursionlimit(20000)
     show, compiler = (str(pathlib.Path(it).resolve()) for it in given)
-    listed = subprocess.run([compiler, "--list", top / words.MODULE], check=True, capture_output=True, text=True).stdout
     rows = dict.fromkeys((row[1], row[2]) for row in map(ROW.fullmatch, ROWS.read_text(encoding="utf-8").splitlines()) if row)
     known = [(words.NAMES[word], octets) for word, octets in rows if word in words.NAMES]
     left_out = collections.Counter(word for word, _ in rows if word not in words.NAMES)
     with tempfile.TemporaryDirectory() as folder:
         table = pathlib.Path(folder) / "words.table"
-        table.write_text("\n".join(tables.lines(tables.Tables(listed).table())) + "\n", encoding="utf-8")
+        with table.open("wb") as file:
+            subprocess.run([compiler, "--table", top / words.MODULE], check=True, stdout=file)
         shown = run(show, table, [f"--json {name} {octets}" for name, octets in known])
         back = run(show, table, [f"--from-json {name} {line}" for (name, _), line in zip(known, shown)])
     if not len(known) == len(shown) == len(back):

@@ -3,7 +3,7 @@
 
 usage: refused.py PROGRAM, for example: refused.py crates/oergen/out/oergen
 
-scripts/refused.d/refused.txt has modules that are neither listed nor printed, for one reason, unprinted.txt those that are listed and
+scripts/refused.d/refused.txt has modules that are neither listed nor printed nor have a table, for one reason, unprinted.txt those that are listed and
 not printed: a row each, what stands between BEGIN and END, which is line 2, and its message. Types in one another and components side
 by side are printed up to a bound, and refused one past it. Of left_out.asn all that can't be printed is left out, with the lines of
 left_out.txt, and of unread.asn all that can't be read or resolved, with those of unread.txt. Files that aren't there or aren't UTF-8
@@ -20,6 +20,7 @@ from typing import NamedTuple
 
 DATA = pathlib.Path(__file__).resolve().parent / "refused.d"
 LIST = ("--list",)
+TABLE = ("--table",)
 PRINT = ("--out", "crates", "--name", "m")
 # what comes of a module, and of one whose types are all printed: the line for crates.txt, and any number of files
 PARTS = ("standard output", "standard error", "exit status", "number of files")
@@ -35,6 +36,10 @@ DEEP_CHOICE = (
 )
 DEEP_LISTS = "2:7: met 'SEQUENCE'; can read at most 40 lists directly inside one another"
 WIDE = "2:7: met 'SEQUENCE'; can read at most 50 components, and in a group as many: others aren't printed yet"
+
+# types with a size that is no word of a table, and what is said of each
+SIZES = (("OCTET STRING", 4294967295), ("BMPString", 2147483648), ("BIT STRING", 4294967295))
+WORD = "2:7: met '{}'; can read a size of fewer than 4294967295 octets or bits"
 
 # how many rows the files have: one that was cut short would pass
 ROWS = (75, 16)
@@ -75,8 +80,9 @@ def rows(name):
 
 
 def unlisted():
-    """Modules that are refused for one reason, whether they are to be listed or printed."""
-    return [refusal(words, *row) for row in rows("refused.txt") for words in (LIST, PRINT)]
+    """Modules that are refused for one reason, whatever is to be printed of them; and sizes that are no word of a table."""
+    found = [refusal(words, *row) for row in rows("refused.txt") for words in (LIST, TABLE, PRINT)]
+    return found + [refusal(TABLE, f"A ::= {of} (SIZE ({size}))", WORD.format(of.split()[0])) for of, size in SIZES]
 
 
 def unprinted():
@@ -124,7 +130,7 @@ def odd_files():
         Case(LIST, b"\xef\xbb\xbf" + module_of("A ::= NULL").encode(), NULL_LISTED),
         Case(LIST, module_of("A ::= NULL -- caf@").encode().replace(b"@", b"\xe9"), NULL_LISTED),
     ]
-    for words in (LIST, PRINT):
+    for words in (LIST, TABLE, PRINT):
         cases.append(Case(words, latin, ("", NOT_UTF8, 1, 0)))
         cases.append(Case(words, module_of("A ::= NULL"), absent, names=("m.asn", "absent.asn")))
     return cases
@@ -135,7 +141,7 @@ FOREIGN = "crates/m: met a folder that oergen didn't write; can write a new one,
 LEFT = "met a file that isn't printed now; can write where it is removed\n"
 EARLIER = "met a crate of an earlier print; can write where it is removed\n"
 NAMELESS = (
-    "oergen: give --list, or --out FOLDER and --name NAME, of small letters, digits and _, no library's; see --help\n"
+    "oergen: give --list, --table, or --out FOLDER and --name NAME, of small letters, digits and _, no library's; see --help\n"
 )
 
 
@@ -162,7 +168,7 @@ def folders():
     cases.append(Case(PRINT, null, ("m: rasn_oer\n", "", 0, 4), before=(root, ("crates/m/out/x", ""), ("crates/m_1/src/lib.rt", ""))))
     for name in ("std", "core", "rasn_oer", "oer_write", "asn1_core", "oer_calls", "oer_read", "oer_spec", "M", "1m", ""):
         cases.append(Case(("--out", "crates", "--name", name), null, ("", NAMELESS, 2, 0)))
-    cases.append(Case((*LIST, *PRINT), null, ("", NAMELESS, 2, 0)))
+    cases += [Case(words, null, ("", NAMELESS, 2, 0)) for words in ((*LIST, *PRINT), (*TABLE, *PRINT), (*LIST, *TABLE))]
     return cases
 
 
@@ -171,7 +177,7 @@ def unhelpful(program):
     ran = subprocess.run([program, "--help"], capture_output=True, text=True, timeout=60, check=False)
     lines = [line.split() for line in ran.stdout.splitlines()]
     told = {line[0] for line in lines if line and len(line) > 4}
-    faults = [f"--help says nothing of {it}" for it in ("--list", "--out", "--name", "--leave-out", "--c", "<MODULE.asn>...") if it not in told]
+    faults = [f"--help says nothing of {it}" for it in ("--list", "--table", "--out", "--name", "--leave-out", "--c", "<MODULE.asn>...") if it not in told]
     return faults + ([] if (ran.returncode, ran.stderr) == (0, "") else [f"--help: status {ran.returncode}, {ran.stderr!r}"])
 
 

@@ -21,7 +21,6 @@ sys.path[:0] = [str(top / "scripts"), str(top / "scripts/fuzz")]
 sys.dont_write_bytecode = True
 
 import fuzz  # noqa: E402
-import tables  # noqa: E402
 import words  # noqa: E402
 from jilgomt import OER, Module, Refused, check  # noqa: E402
 
@@ -90,8 +89,8 @@ def main(given):
         print(__doc__, file=sys.stderr)
         return 2
     count, seed = (int(it) for it in [*given[1:], *["10000", "1"][len(given) - 1:]])
-    listed = subprocess.run([given[0], "--list", top / words.MODULE], check=True, capture_output=True, text=True).stdout
-    module, seen, faults = Module(tables.Tables(listed).table()), collections.Counter(), 0
+    table = subprocess.run([given[0], "--table", top / words.MODULE], check=True, capture_output=True, text=True).stdout
+    module, seen, faults = Module.of_lines(table), collections.Counter(), 0
     for word, octets in inputs(count, seed):
         how = compared(module, words.NAMES[word], octets, lambda it, word=word: check(word, it, OER).consumed)
         if how[0].isupper():

@@ -1,4 +1,6 @@
 """The Python package's calls, over octets with answers by hand."""
+import pathlib
+
 import jilgomt
 from jilgomt import COER, OER, Module, Refused
 
@@ -37,4 +39,8 @@ assert module.value("Letter", letter) == ({"on": True, "parts": ["aabb"]}, b"\x5
 assert [(it.path, it.start, it.end) for it in module.parts("Letter", letter)] == [("", 0, 11), ("on", 1, 2), ("parts", 5, 11), ("parts.[]", 8, 11)]
 e = refused(module.value, "Letter", bytes.fromhex("80ff02078005010109aabb55"))
 assert isinstance(e, Refused) and (e.kind, e.octet, str(e)) == ("Incomplete", 8, "at octet 8, in parts.[]: Incomplete")
+letters = Module.load(str(pathlib.Path(__file__).resolve().parents[2] / "crates/oershow/data/letters.table"))
+assert letters.value("Part", bytes.fromhex("80026869")) == ({"text": "hi"}, b"")
+assert letters.value("Colour", b"\x82\x01\x2c\0") == ("far", b"\0")
+assert isinstance(refused(Module.of_lines, "name a\n"), ValueError)
 print("calls.py: all as wanted")

@@ -1,4 +1,4 @@
-"""Values as Python sees them: a walk of octets by a module's table, which scripts/tables.py writes."""
+"""Values as Python sees them: a walk of octets by a module's table, which `oergen --table` prints."""
 from __future__ import annotations
 
 import ctypes
@@ -42,9 +42,23 @@ class Module:
 
     @classmethod
     def load(cls, file: str) -> Module:
-        """The types in a file that scripts/tables.py wrote."""
-        with open(file, encoding="utf-8") as text:
-            return cls(json.load(text))
+        """The types in a file that has what `oergen --table` printed, or a table in JSON."""
+        with open(file, encoding="utf-8") as lines:
+            text = lines.read()
+        return cls(json.loads(text)) if text.startswith("{") else cls.of_lines(text)
+
+    @classmethod
+    def of_lines(cls, text: str) -> Module:
+        """The types in the lines that `oergen --table` prints."""
+        found: Dict[str, List[str]] = {"words": [], "name": [], "type": [], "value": []}
+        for line in text.split("\n"):
+            word, _, rest = line.partition(" ")
+            found.setdefault(word, []).append(rest)
+        if len(found["words"]) != 1:
+            raise ValueError("no table of types: it has no line of words, or several")
+        values = (it.split(" ", 2) for it in found["value"])
+        return cls({"words": [int(it) for it in found["words"][0].split(" ")], "names": found["name"], "types": found["type"],
+                    "values": [(int(type_number), int(number), name) for type_number, number, name in values]})
 
     def walk(self, type_name: str, octets: bytes, levels: int = LEVELS) -> Tuple[List[Node], c.Answer]:
         """The nodes of the value that begins the octets, and the answer: at a refusal those up to its place."""

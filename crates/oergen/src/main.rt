@@ -1,4 +1,5 @@
-//! `oergen --list MODULE.asn..` reads ASN.1 modules, and prints each type in order of use with its layout;
+//! `oergen --list MODULE.asn..` reads ASN.1 modules, and prints each type in order of use with its layout, `oergen --table` the table that
+//! walks through octets go by;
 //! `oergen --out FOLDER --name NAME MODULE.asn..` writes crates of these types, and with `--c` a library of them for C.
 #![tactic(auto)]
 
@@ -9,6 +10,7 @@ use asn1_exports::exports::push_exports;
 use asn1_layouts::listing::list;
 use asn1_modules::refusal::Refusal;
 use asn1_printer::files::{Output, Wish, crates_of};
+use asn1_tables::tables::{refusal_line, table};
 use clap::{Arg, ArgAction, ArgMatches, Command};
 use earlier::fault_of;
 use std::alloc::{AllocError, Global};
@@ -19,6 +21,7 @@ use writing::writes_files;
 
 /// How the program is called.
 const USAGE: &str = "oergen --list MODULE.asn..
+       oergen --table MODULE.asn..
        oergen --out FOLDER --name NAME [--leave-out] [--c] MODULE.asn..";
 
 /// What the program does, and what it answers.
@@ -57,6 +60,7 @@ fn files<'a>(alloc: Global) -> Arg<'a> {
 /// The words' form.
 fn command<'a>(alloc: Global) -> Result<Command<'a>, AllocError> {
     let list = "prints each type with its layout, in order of use";
+    let table = "prints the table of the types, for oershow and for walks through octets";
     let out = "writes crates of the types below this folder, and prints their lines for crates.txt";
     let name = "what the crate is called, or with _1, _2 and so on behind it the crates";
     let leave_out = "leaves out what can't be read or printed, with a line that says why";
@@ -67,6 +71,7 @@ fn command<'a>(alloc: Global) -> Result<Command<'a>, AllocError> {
         .after_help(STATUS)
         .override_usage(USAGE)
         .arg(flag(alloc, "list", list))?
+        .arg(flag(alloc, "table", table))?
         .arg(option(alloc, "out", "FOLDER", out))?
         .arg(option(alloc, "name", "NAME", name))?
         .arg(flag(alloc, "leave-out", leave_out))?
@@ -116,36 +121,35 @@ fn strs_of<'t>(alloc: Global, texts: &'t [String]) -> Result<Vec<&'t str>, Alloc
     Ok(all)
 }
 
-/// The table of the modules in the texts.
-fn table_of(alloc: Global, texts: &[String]) -> Result<String, Refusal> {
+/// What is printed of the modules in the texts: the list of their types' layouts, or the table of these.
+fn printed(alloc: Global, texts: &[String], is_table: bool) -> Result<String, Refusal> {
     let all = strs_of(alloc, texts)?;
-    list(alloc, all.as_slice())
-}
-
-/// A refusal with the name of its file.
-fn refusal_text(alloc: Global, names: &[&str], refusal: &Refusal) -> Result<String, AllocError> {
-    let file = match refusal {
-        Refusal::At { place, .. } => names.get(place.file).copied().unwrap_or(""),
-        Refusal::OutOfMemory => "oergen",
-    };
-    format!(in alloc; "{file}:{refusal}")
+    if is_table {
+        table(alloc, all.as_slice())
+    } else {
+        list(alloc, all.as_slice())
+    }
 }
 
 /// Says a refusal on standard error: status 1.
 fn refuse<R: Eprint + AllocGlobal>(rt: &R, names: &[&str], refusal: &Refusal) -> io::Result<u8> {
-    let text = refusal_text(rt.alloc(), names, refusal)?;
+    let text = refusal_line(rt.alloc(), "oergen", names, refusal)?;
     eprintln!(rt; "{text}")?;
     Ok(1)
 }
 
-/// Reads the files and prints their table: status 0, or 1 with a refusal on standard error.
-fn list_files<R: Files + Print + Eprint + AllocGlobal>(rt: &R, names: &[&str]) -> io::Result<u8> {
+/// Reads the files and prints the list or the table of their types: status 0, or 1 with a refusal on standard error.
+fn print_files<R: Files + Print + Eprint + AllocGlobal>(
+    rt: &R,
+    names: &[&str],
+    is_table: bool,
+) -> io::Result<u8> {
     let Some(texts) = texts_of(rt, names)? else {
         return Ok(1);
     };
-    match table_of(rt.alloc(), texts.as_slice()) {
-        Ok(table) => {
-            print!(rt; "{table}")?;
+    match printed(rt.alloc(), texts.as_slice(), is_table) {
+        Ok(text) => {
+            print!(rt; "{text}")?;
             Ok(0)
         }
         Err(refusal) => refuse(rt, names, &refusal),
@@ -227,16 +231,17 @@ fn write_crates<R: Files + Print + Eprint + AllocGlobal + Clone + Drop>(
     }
 }
 
-/// Does what the words ask for: status 2 where they name neither a list nor a folder and a crate.
+/// Does what the words ask for: status 2 where they name neither a list nor a table, nor a folder and a crate.
 fn run<R: Files + Print + Eprint + AllocGlobal + Clone + Drop>(
     rt: &R,
     matches: &ArgMatches<'_>,
 ) -> io::Result<u8> {
     let files = matches.get_strs("MODULE.asn").unwrap_or(&[]);
     let lists = matches.get_flag("list");
+    let is_table = matches.get_flag("table");
     match (matches.get_str("FOLDER"), matches.get_str("NAME")) {
-        (None, None) if lists => list_files(rt, files),
-        (Some(folder), Some(name)) if is_name(name) && !lists => {
+        (None, None) if lists != is_table => print_files(rt, files, is_table),
+        (Some(folder), Some(name)) if is_name(name) && !lists && !is_table => {
             let leaves_out = matches.get_flag("leave-out");
             let wish = Wish {
                 name,
@@ -247,7 +252,7 @@ fn run<R: Files + Print + Eprint + AllocGlobal + Clone + Drop>(
         }
         _ => {
             eprintln!(rt;
-                "oergen: give --list, or --out FOLDER and --name NAME, of small letters, digits and _, no library's; see --help"
+                "oergen: give --list, --table, or --out FOLDER and --name NAME, of small letters, digits and _, no library's; see --help"
             )?;
             Ok(2)
         }

@@ -1,8 +1,9 @@
-//! `oershow` shows where each part of a message lies in its octets, by a table of types, and writes the octets of JSON.
+//! `oershow` shows where each part of a message lies in its octets, by a table of types or by ASN.1 modules, and writes the octets of JSON.
 #![tactic(auto)]
 
 mod messages;
 mod page;
+mod tables;
 mod values;
 mod words;
 
@@ -14,8 +15,9 @@ use page::Page;
 use std::alloc::Global;
 use std::io::{BufRead, BufReader, IsTerminal, Read};
 use std::process::ExitCode;
-use std::{env, fs, io};
-use words::{Output, USAGE, Wish, asked, wish_of};
+use std::{env, fs};
+use tables::{at_file, tables_of};
+use words::{Output, USAGE, Wish, asked, is_module, wish_of};
 
 /// What has been done of a wish.
 #[derive(Drop)]
@@ -89,17 +91,6 @@ fn line_of<'l>(alloc: Global, wish: &Wish<'l>, line: &'l str) -> Result<Line<'l>
         octets: input_of(alloc, text, output, wish.is_base64 || is_base64)?,
         output,
     })
-}
-
-/// What the system says of a file, under a name of its own.
-fn at_file<T: Drop>(alloc: Global, name: &str, file: &str, answer: io::Result<T>) -> Result<T> {
-    match answer {
-        Ok(it) => Ok(it),
-        Err(error) => {
-            let message = format!(in alloc; "{name}: {file}: {error}")?;
-            Err(Error::msg(message))
-        }
-    }
 }
 
 /// The number of the type of that name.
@@ -245,13 +236,9 @@ impl Done {
 
 /// Does what the words ask for; whether all is well.
 fn run(rt: &HostRuntime, wish: &Wish<'_>) -> Result<bool> {
-    let text = at_file(
-        rt.alloc(),
-        "NoTable",
-        wish.table,
-        fs::read_to_string(rt, wish.table),
-    )?;
-    let tables = Tables::of_lines(rt.alloc(), text.as_str())?;
+    let Some(tables) = tables_of(rt, wish)? else {
+        return Ok(false);
+    };
     let mut done = Done {
         alloc: rt.alloc(),
         colours: if rt.stdout().is_terminal() {
@@ -274,12 +261,17 @@ fn run(rt: &HostRuntime, wish: &Wish<'_>) -> Result<bool> {
 
 fn main(rt: HostRuntime) -> Result<ExitCode> {
     let mut words = Vec::new(rt.alloc());
+    let mut modules = Vec::new(rt.alloc());
     let mut args = env::args(&rt)?;
     let _program = args.next();
     for word in args {
-        words.push(word)?;
+        if is_module(word.as_str()) {
+            modules.push(word)?;
+        } else {
+            words.push(word)?;
+        }
     }
-    let Some(wish) = wish_of(words.as_slice()) else {
+    let Some(wish) = wish_of(words.as_slice(), modules.as_slice()) else {
         eprintln!(rt; "{USAGE}")?;
         return Ok(ExitCode::from(2));
     };

@@ -7,7 +7,7 @@ pub const USAGE: &str =
 OCTETS are in hexadecimal, or in base64; without them each line of standard input is a message. With `-` for TYPE each line has
 its type in front, and may have --json or --from-json, and --base64 before it. --binary takes each file, or standard input, as
 one message. --from-json takes values in JSON, and writes their canonical octets in hexadecimal.
-scripts/tables.py --lines writes TABLE.";
+TABLE is what `oergen --table` prints of modules. In its place these may be given, as words that end in .asn or .asn1.";
 
 /// What comes of messages.
 #[derive(Clone, Copy, PartialEq, Eq)]
@@ -32,7 +32,9 @@ pub struct Wish<'w> {
     pub file: &'w str,
     pub is_base64: bool,
     pub is_binary: bool,
+    /// The table's file, where there are no modules.
     pub table: &'w str,
+    pub modules: &'w [String],
     pub type_name: &'w str,
     pub messages: &'w [String],
 }
@@ -74,8 +76,24 @@ fn with_option<'w>(
     Some((options, rest))
 }
 
-/// The wish that words say, without the program's own; nothing where they are of another form.
-pub fn wish_of<'w>(words: &'w [String]) -> Option<Wish<'w>> {
+/// Whether a word is a file of ASN.1 modules.
+pub fn is_module(word: &str) -> bool {
+    word.ends_with(".asn") || word.ends_with(".asn1")
+}
+
+/// The table and the words behind it; no table where there are modules in its place.
+fn with_table<'w>(words: &'w [String], modules: &[String]) -> Option<(&'w str, &'w [String])> {
+    if !modules.is_empty() {
+        return Some(("", words));
+    }
+    match words {
+        [table, rest @ ..] if !table.as_str().starts_with("--") => Some((table.as_str(), rest)),
+        _ => None,
+    }
+}
+
+/// The wish that words say, without the program's own and the modules; nothing where they are of another form.
+pub fn wish_of<'w>(words: &'w [String], modules: &'w [String]) -> Option<Wish<'w>> {
     let mut options = Options {
         output: Output::Tree,
         file: "",
@@ -92,13 +110,15 @@ pub fn wish_of<'w>(words: &'w [String]) -> Option<Wish<'w>> {
             None => break,
         }
     }
+    let (table, rest) = with_table(rest, modules)?;
     match rest {
-        [table, type_name, messages @ ..] if !table.as_str().starts_with("--") => Some(Wish {
+        [type_name, messages @ ..] if !type_name.as_str().starts_with("--") => Some(Wish {
             output: options.output,
             file: options.file,
             is_base64: options.is_base64,
             is_binary: options.is_binary,
-            table: table.as_str(),
+            table,
+            modules,
             type_name: type_name.as_str(),
             messages,
         }),
