@@ -105,15 +105,14 @@ impl<'m, 'a, 'd> Builder<'m, 'a, 'd> {
 
     /// The number of a component's or an alternative's name.
     fn name_number(&mut self, name: &str) -> Result<usize, AllocError> {
-        if let Some(number) = self.names.get(name) {
-            return Ok(*number);
+        let known = self.names.get(name).copied();
+        if let Some(number) = known {
+            return Ok(number);
         }
         let number = self.table.names.len();
-        self.names
-            .insert(String::from_str(self.alloc(), name)?, number)?;
-        self.table
-            .names
-            .push(String::from_str(self.alloc(), name)?)?;
+        let own = String::from_str(self.alloc(), name)?;
+        self.table.names.push(own.clone()?)?;
+        self.names.insert(own, number)?;
         Ok(number)
     }
 
@@ -230,11 +229,10 @@ impl<'m, 'a, 'd> Builder<'m, 'a, 'd> {
         additions: Vec<Addition>,
     ) -> Result<(), Refusal> {
         for addition in additions {
-            match addition {
-                Addition::One(field) => fields.push(field)?,
-                Addition::Group(number, some) => {
-                    fields.push(self.group_field(number, some.as_slice())?)?;
-                }
+            let mut own = addition.fields;
+            match addition.group {
+                Some(number) => fields.push(self.group_field(number, own.as_slice())?)?,
+                None => fields.append(&mut own)?,
             }
         }
         Ok(())

@@ -89,7 +89,7 @@ fn bit_numbers<'m>(
     scope: Scope<'m, '_>,
     names: &'m [Numbered],
     bits: &[TokenId],
-) -> Result<Vec<i128>, Refusal> {
+) -> Result<Vec<i128>, AllocError> {
     let mut numbers = Vec::new(scope.alloc);
     for bit in bits.iter() {
         if let Some(item) = named(scope, names, *bit) {

@@ -57,15 +57,19 @@ impl Form {
     }
 }
 
-/// Puts a line for each text, behind a word.
-fn push_texts<'t>(
-    alloc: Global,
-    out: &mut String,
-    word: &str,
-    texts: impl Iterator<Item = &'t str> + Drop,
-) -> Result<(), AllocError> {
-    for text in texts {
-        out.push_str(format!(in alloc; "{word} {text}\n")?.as_str())?;
+/// Puts a line for each name of components and alternatives.
+fn push_names(alloc: Global, out: &mut String, names: &[String]) -> Result<(), AllocError> {
+    for name in names.iter() {
+        out.push_str(format!(in alloc; "name {name}\n")?.as_str())?;
+    }
+    Ok(())
+}
+
+/// Puts a line for each type's name.
+fn push_types(alloc: Global, out: &mut String, entries: &[Entry]) -> Result<(), AllocError> {
+    for entry in entries.iter() {
+        let name = entry.name.as_str();
+        out.push_str(format!(in alloc; "type {name}\n")?.as_str())?;
     }
     Ok(())
 }
@@ -207,10 +211,8 @@ impl Table {
     pub fn lines(&self, alloc: Global) -> Result<String, AllocError> {
         let mut out = String::new(alloc);
         self.push_words(alloc, &mut out)?;
-        let names = self.names.iter().map(|name| name.as_str());
-        push_texts(alloc, &mut out, "name", names)?;
-        let types = self.entries.iter().map(|entry| entry.name.as_str());
-        push_texts(alloc, &mut out, "type", types)?;
+        push_names(alloc, &mut out, self.names.as_slice())?;
+        push_types(alloc, &mut out, self.entries.as_slice())?;
         self.push_value_lines(alloc, &mut out)?;
         self.push_range_lines(alloc, &mut out)?;
         self.push_size_lines(alloc, &mut out)?;

@@ -1,4 +1,5 @@
 //! The forms of types without parts.
+ghost use Rattle.std.specs.Prelude.{◌≡◌, ◌<◌, ◌-◌, ◌^◌, IfOk, pos};
 
 use crate::forms::{Form, ValueName};
 use asn1_layouts::layouts::unit_of;
@@ -7,7 +8,7 @@ use asn1_layouts::scope::Scope;
 use asn1_layouts::visible::{Limits, Purpose, limits_of};
 use asn1_modules::ast::{Body, Numbered, Simple, Type};
 use asn1_modules::refusal::Refusal;
-use std::alloc::Global;
+use std::alloc::{AllocError, Global};
 
 /// The kinds of types, by their numbers in a table.
 pub const BOOLEAN: usize = 0;
@@ -97,7 +98,10 @@ fn text_number(simple: Simple) -> usize {
 }
 
 /// A size as a word of a table. Refused where it is none.
-fn size_word(scope: Scope<'_, '_>, of: &Type, size: i128) -> Result<usize, Refusal> {
+fn size_word(scope: Scope<'_, '_>, of: &Type, size: i128) -> Result<usize, Refusal>
+    ensures size { IfOk result (λ word. pos word ≡ size) }
+    ensures word { IfOk result (λ word. word < 2 ^ 32 - 1) }
+{
     match usize::try_from(size) {
         Ok(word) if size < NO_NUMBER => Ok(word),
         _ => Err(scope.refused(of.first, "a size of fewer than 4294967295 octets or bits")),
@@ -105,7 +109,7 @@ fn size_word(scope: Scope<'_, '_>, of: &Type, size: i128) -> Result<usize, Refus
 }
 
 /// The form of an INTEGER.
-fn integer_form(alloc: Global, limits: Limits) -> Result<Form, Refusal> {
+fn integer_form(alloc: Global, limits: Limits) -> Result<Form, AllocError> {
     let (octets, is_signed) = limits.width();
     let words = match octets {
         Some(octets) => vec![in alloc; FIXED_INTEGER, usize::from(octets), usize::from(is_signed)]?,
@@ -150,7 +154,7 @@ fn string_form(
 }
 
 /// The form of a type whose size isn't seen.
-fn sizeless_form(alloc: Global, simple: Simple) -> Result<Form, Refusal> {
+fn sizeless_form(alloc: Global, simple: Simple) -> Result<Form, AllocError> {
     let words = match simple {
         Simple::Boolean => vec![in alloc; BOOLEAN]?,
         Simple::Null => vec![in alloc; NULL]?,
@@ -163,27 +167,28 @@ fn sizeless_form(alloc: Global, simple: Simple) -> Result<Form, Refusal> {
 fn named_values<'m>(
     scope: Scope<'m, '_>,
     names: &'m [Numbered],
-) -> Result<Vec<ValueName>, Refusal> {
+) -> Result<Vec<ValueName>, AllocError> {
     let mut values = Vec::new(scope.alloc);
     for item in names.iter() {
         if let Some(number) = named_number(scope, item)? {
-            values.push(ValueName {
-                number,
-                name: String::from_str(scope.alloc, scope.text(item.name))?,
-            })?;
+            let name = String::from_str(scope.alloc, scope.text(item.name))?;
+            values.push(ValueName { number, name })?;
         }
     }
     Ok(values)
 }
 
-/// The number that a name stands for; nothing where it can't be resolved.
-pub fn named_number<'m>(scope: Scope<'m, '_>, item: &'m Numbered) -> Result<Option<i128>, Refusal> {
+/// The number that a name stands for; nothing where it isn't found.
+pub fn named_number<'m>(
+    scope: Scope<'m, '_>,
+    item: &'m Numbered,
+) -> Result<Option<i128>, AllocError> {
     let Some(value) = &item.number else {
         return Ok(None);
     };
     match number_of(scope, Spot { value, names: &[] }) {
         Ok(number) => Ok(Some(number)),
-        Err(Refusal::OutOfMemory) => Err(Refusal::OutOfMemory),
+        Err(Refusal::OutOfMemory) => Err(AllocError),
         Err(Refusal::At { .. }) => Ok(None),
     }
 }
@@ -196,10 +201,9 @@ pub fn enumerated_form<'m>(
 ) -> Result<Form, Refusal> {
     let mut form = Form::of(scope.alloc, vec![in scope.alloc; ENUMERATED]?);
     for (name, number) in enumerated_numbers(scope, items, root)?.iter() {
-        form.values.push(ValueName {
-            number: *number,
-            name: String::from_str(scope.alloc, scope.text(*name))?,
-        })?;
+        let number = *number;
+        let name = String::from_str(scope.alloc, scope.text(*name))?;
+        form.values.push(ValueName { number, name })?;
     }
     Ok(form)
 }

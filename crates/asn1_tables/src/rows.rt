@@ -19,11 +19,11 @@ pub struct Field {
     pub tag: Option<Tag>,
 }
 
-/// An addition of a SEQUENCE or a SET: a component, or the group of that number.
+/// An addition of a SEQUENCE or a SET: one component, or those of the group of that number.
 #[derive(Drop)]
-pub enum Addition {
-    One(Field),
-    Group(usize, Vec<Field>),
+pub struct Addition {
+    pub group: Option<usize>,
+    pub fields: Vec<Field>,
 }
 
 /// The components of a SEQUENCE or a SET: those of the root in the order of their octets, and the additions.
@@ -33,20 +33,20 @@ pub struct Components {
     pub additions: Vec<Addition>,
 }
 
-/// Puts a component to the group of that number, which is the last addition, or begins there.
-fn push_grouped(
+/// Puts a component behind others: to the last addition, where both are of one group, else as an addition of its own.
+fn push_addition(
     alloc: Global,
     additions: &mut Vec<Addition>,
-    number: usize,
+    group: Option<usize>,
     field: Field,
 ) -> Result<(), AllocError> {
-    match additions.last_mut() {
-        Some(Addition::Group(own, fields)) if *own == number => fields.push(field)?,
-        _ => {
-            let mut fields = Vec::new(alloc);
-            fields.push(field)?;
-            additions.push(Addition::Group(number, fields))?;
-        }
+    let last = additions.last().and_then(|last| last.group);
+    if group.is_none() || group != last {
+        let fields = Vec::new(alloc);
+        additions.push(Addition { group, fields })?;
+    }
+    if let Some(addition) = additions.last_mut() {
+        addition.fields.push(field)?;
     }
     Ok(())
 }
@@ -61,8 +61,8 @@ pub fn ordered(alloc: Global, fields: Vec<Field>, is_set: bool) -> Result<Compon
                 let tag = if is_set { field.tag } else { None };
                 roots.insert((tag, at), field)?;
             }
-            Position::Addition => additions.push(Addition::One(field))?,
-            Position::Group(number) => push_grouped(alloc, &mut additions, number, field)?,
+            Position::Addition => push_addition(alloc, &mut additions, None, field)?,
+            Position::Group(number) => push_addition(alloc, &mut additions, Some(number), field)?,
         }
     }
     Ok(Components { roots, additions })

@@ -55,10 +55,10 @@ fn require_all_listed<'m>(
 }
 
 /// A refusal as a line says it: with the name of its file, by these names in the order of the texts.
-pub fn refusal_line(
+pub fn refusal_line<'n>(
     alloc: Global,
-    program: &str,
-    names: &[&str],
+    program: &'n str,
+    names: &[&'n str],
     refusal: &Refusal,
 ) -> Result<String, AllocError> {
     let file = match refusal {
