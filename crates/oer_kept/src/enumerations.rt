@@ -157,7 +157,7 @@ fn read_kept<T: Numbered>(
 }
 
 /// The octets that are left, each of which is one.
-fn octets<'input>(decoder: &Decoder<'input>) -> &'input [u8]
+pub(crate) fn octets<'input>(decoder: &Decoder<'input>) -> &'input [u8]
     ensures input { result.now ≡ decoder.now.input }
     ensures octets { AreOctets decoder.now.input }
 {
