@@ -1,0 +1,5 @@
+pub mod KeptNumbers
+pub mod Refusals
+pub mod KeptWriting
+pub mod KeptReading
+pub mod KeptAnswers

@@ -1,0 +1,8 @@
+//! Types that keep what newer versions of them have: a value by its number, an alternative by its tag and its octets.
+#![tactic(auto)]
+
+mod choices;
+mod enumerations;
+
+pub use choices::KeptChoice;
+pub use enumerations::KeptEnumeration;
