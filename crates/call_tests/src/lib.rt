@@ -8,6 +8,8 @@
 #[cfg(test)]
 mod closures;
 #[cfg(test)]
+mod kept;
+#[cfg(test)]
 mod lent;
 #[cfg(test)]
 mod messages;

@@ -120,6 +120,10 @@ fn put_other<T: Alternating>(
     put_octets::<T>(encoder, tag, size, content)
 }
 
+/// Written as a tag and the alternative, another one as an open type (X.696, 20).
+///
+/// Refused: an `Other` whose tag is known, or of a choice that isn't extensible, as `ValueConstraintNotSatisfied`; one of more
+/// than `usize::MAX / 8` octets, as `LengthExceedsPlatformSize`; what an alternative is refused by; or for want of memory.
 impl<T: Alternating> Encode for KeptChoice<T> {
     #[inline(always)]
     fn encode_with_tag_and_constraints(
@@ -211,6 +215,11 @@ fn read_kept<T: TakesAlternative>(
     }
 }
 
+/// Read by its tag (X.696, 20): an alternative that the type knows as that, another one of an extensible choice as the octets of
+/// an open type, which aren't looked into.
+///
+/// Refused as `Decoder::decode_choice` refuses, but by an unknown tag only of a choice that isn't extensible; the octets of an
+/// open type as `Decoder::decode_any` refuses.
 impl<T: TakesAlternative> Decode for KeptChoice<T> {
     ghost use Rattle.oer_choices.specs.Choosing.{through};
     ghost use Rattle.oer_kept.specs.KeptTags.{KeptAnswers};

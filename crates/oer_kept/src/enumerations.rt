@@ -18,12 +18,13 @@ use oer_spec::{EqualAsSpelled, Spelled};
 use oer_write::{Encode, Encoder};
 use std::alloc::Global;
 
-/// The ENUMERATED type (X.680, clause 20) of the values of `T`, and of those that newer versions of it have.
+/// The ENUMERATED type (X.680, clause 20) of the values of `T`, and of those that newer versions of it have: each is read and
+/// written by its number (X.696, 11).
 #[derive(Clone, Copy, Debug)]
 pub enum KeptEnumeration<T> {
     /// A value of this version.
     Known(T),
-    /// The number of another value. With a number of this version it is no value.
+    /// The number of another value. With a number of this version it is no value, and isn't written.
     Other(isize),
 }
 
@@ -128,6 +129,9 @@ impl<T: Numbered> EqualAsSpelled for KeptEnumeration<T> {
     ghost eq_is_same = { λ c k v w i j. kept_same T.number T.values v w i j };
 }
 
+/// Written by its number, as `Encoder::encode_enumerated` writes.
+///
+/// Refused: an `Other` with a number of this version, as `ValueConstraintNotSatisfied`; or for want of memory.
 impl<T: Numbered> Encode for KeptEnumeration<T> {
     #[inline(always)]
     fn encode_with_tag_and_constraints(
@@ -181,6 +185,9 @@ fn take<'input, V>(
     }
 }
 
+/// Read by its number: any number of isize is that of a value.
+///
+/// Refused as `Decoder::decode_enumerated` refuses, but never by `DiscriminantValueNotFound`.
 impl<T: Numbered> Decode for KeptEnumeration<T> {
     ghost use Rattle.std.specs.Prelude.{false};
     ghost use Rattle.oer_kept.specs.KeptNumbers.{kept_at};
