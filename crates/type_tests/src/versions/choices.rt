@@ -1,6 +1,7 @@
 //! Choices that hold a value of another type, in two versions, of which the newer has a further alternative.
 
 use crate::versions::pairs::{OnPair, with_pair};
+use oer_apart::Apart;
 use rasn_oer::Decode;
 use rasn_oer::prelude::*;
 use std::alloc::Global;
@@ -143,7 +144,8 @@ impl<W: OnPair> OnPair for InOne<W> {
 
     fn on<New: Decode + Encode, Old: Decode + Encode>(self) -> W::Output {
         // by a box, whose size is known
-        self.0.on::<Choice2<Box<New>>, Choice2<Box<Old>>>()
+        self.0
+            .on::<Choice2<Box<Apart<New>>>, Choice2<Box<Apart<Old>>>>()
     }
 }
 
@@ -155,7 +157,8 @@ impl<W: OnPair> OnPair for InTwo<W> {
     type Output = W::Output;
 
     fn on<New: Decode + Encode, Old: Decode + Encode>(self) -> W::Output {
-        self.0.on::<Choice2<Box<New>>, Choice1<Box<Old>>>()
+        self.0
+            .on::<Choice2<Box<Apart<New>>>, Choice1<Box<Apart<Old>>>>()
     }
 }
 

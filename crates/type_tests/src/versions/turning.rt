@@ -4,6 +4,7 @@ use crate::versions::nests::Nest;
 use crate::versions::pairs::OnPair;
 use anyhow::{Error, Result};
 use asn1_core::{Codec, DecodeError, SetOf};
+use oer_apart::Apart;
 use oer_types::{Adding, Holding};
 use oer_write::Encode;
 use rasn_oer::oer::CodecError;
@@ -41,7 +42,15 @@ pub struct Turning<'a> {
 /// The canonical octets of the other version's value, or the mode and the kind of the refusal.
 pub type Turned = std::result::Result<Vec<u8>, String>;
 
+/// The value of canonical octets of its own version: not inlined, so that reading a type is compiled once and not for each
+/// version that its values become one of.
+#[inline(never)]
+fn read<T: Decode>(alloc: Global, octets: &[u8]) -> std::result::Result<T, DecodeError> {
+    coer::decode::<T>(alloc, octets)
+}
+
 /// What is answered of the other version.
+#[inline(never)]
 fn other_of<T: Encode>(
     alloc: Global,
     answer: std::result::Result<T, CodecError>,
@@ -71,7 +80,7 @@ fn unread(e: DecodeError) -> Result<Turned> {
 impl<'a> Turning<'a> {
     fn older<New: Decode + Encode, Old: Decode + Encode>(self) -> Result<Turned> {
         let alloc = self.alloc;
-        let newer = match coer::decode::<New>(alloc, self.octets) {
+        let newer = match read::<New>(alloc, self.octets) {
             Ok(newer) => newer,
             Err(e) => return unread(e),
         };
@@ -84,7 +93,7 @@ impl<'a> Turning<'a> {
 
     fn newer<New: Decode + Encode, Old: Decode + Encode>(self) -> Result<Turned> {
         let alloc = self.alloc;
-        let older = match coer::decode::<Old>(alloc, self.octets) {
+        let older = match read::<Old>(alloc, self.octets) {
             Ok(older) => older,
             Err(e) => return unread(e),
         };
@@ -97,8 +106,8 @@ impl<'a> Turning<'a> {
 
     fn other<New: Decode + Encode, Old: Decode + Encode>(self) -> Result<Turned> {
         match self.to {
-            To::Older => self.older::<New, Old>(),
-            To::Newer => self.newer::<New, Old>(),
+            To::Older => self.older::<Apart<New>, Apart<Old>>(),
+            To::Newer => self.newer::<Apart<New>, Apart<Old>>(),
         }
     }
 
@@ -118,11 +127,11 @@ impl<'a> OnPair for Turning<'a> {
     fn on<New: Decode + Encode, Old: Decode + Encode>(self) -> Result<Turned> {
         match self.nest {
             Nest::Plain => self.other::<New, Old>(),
-            Nest::Boxed => self.other::<Box<New>, Box<Old>>(),
-            Nest::Held => self.in_sequence::<New, Old>(),
-            Nest::Listed => self.other::<Vec<New>, Vec<Old>>(),
-            Nest::Unordered => self.other::<SetOf<New>, SetOf<Old>>(),
-            Nest::Added => self.in_addition::<New, Old>(),
+            Nest::Boxed => self.other::<Box<Apart<New>>, Box<Apart<Old>>>(),
+            Nest::Held => self.in_sequence::<Apart<New>, Apart<Old>>(),
+            Nest::Listed => self.other::<Vec<Apart<New>>, Vec<Apart<Old>>>(),
+            Nest::Unordered => self.other::<SetOf<Apart<New>>, SetOf<Apart<Old>>>(),
+            Nest::Added => self.in_addition::<Apart<New>, Apart<Old>>(),
         }
     }
 }
