@@ -135,6 +135,15 @@ impl<T: Decode + Encode> TakesAlternative for Choice2Alternatives<T> {
     }
 }
 
+/// By a box, whose size is known.
+fn in_one<New: Decode + Encode, Old: Decode + Encode, W: OnPair>(work: W) -> W::Output {
+    work.on::<Choice2<Box<New>>, Choice2<Box<Old>>>()
+}
+
+fn in_two<New: Decode + Encode, Old: Decode + Encode, W: OnPair>(work: W) -> W::Output {
+    work.on::<Choice2<Box<New>>, Choice1<Box<Old>>>()
+}
+
 /// The work on two versions, within one version of a choice.
 #[derive(Drop)]
 struct InOne<W>(W);
@@ -143,9 +152,7 @@ impl<W: OnPair> OnPair for InOne<W> {
     type Output = W::Output;
 
     fn on<New: Decode + Encode, Old: Decode + Encode>(self) -> W::Output {
-        // by a box, whose size is known
-        self.0
-            .on::<Choice2<Box<Apart<New>>>, Choice2<Box<Apart<Old>>>>()
+        in_one::<Apart<New>, Apart<Old>, W>(self.0)
     }
 }
 
@@ -157,8 +164,7 @@ impl<W: OnPair> OnPair for InTwo<W> {
     type Output = W::Output;
 
     fn on<New: Decode + Encode, Old: Decode + Encode>(self) -> W::Output {
-        self.0
-            .on::<Choice2<Box<Apart<New>>>, Choice1<Box<Apart<Old>>>>()
+        in_two::<Apart<New>, Apart<Old>, W>(self.0)
     }
 }
 

@@ -119,6 +119,17 @@ impl<'a> Turning<'a> {
     fn in_addition<New: Decode + Encode, Old: Decode + Encode>(self) -> Result<Turned> {
         self.other::<Adding<Box<New>>, Adding<Box<Old>>>()
     }
+
+    fn around<New: Decode + Encode, Old: Decode + Encode>(self) -> Result<Turned> {
+        match self.nest {
+            Nest::Plain => self.other::<New, Old>(),
+            Nest::Boxed => self.other::<Box<New>, Box<Old>>(),
+            Nest::Held => self.in_sequence::<New, Old>(),
+            Nest::Listed => self.other::<Vec<New>, Vec<Old>>(),
+            Nest::Unordered => self.other::<SetOf<New>, SetOf<Old>>(),
+            Nest::Added => self.in_addition::<New, Old>(),
+        }
+    }
 }
 
 impl<'a> OnPair for Turning<'a> {
@@ -127,11 +138,7 @@ impl<'a> OnPair for Turning<'a> {
     fn on<New: Decode + Encode, Old: Decode + Encode>(self) -> Result<Turned> {
         match self.nest {
             Nest::Plain => self.other::<New, Old>(),
-            Nest::Boxed => self.other::<Box<Apart<New>>, Box<Apart<Old>>>(),
-            Nest::Held => self.in_sequence::<Apart<New>, Apart<Old>>(),
-            Nest::Listed => self.other::<Vec<Apart<New>>, Vec<Apart<Old>>>(),
-            Nest::Unordered => self.other::<SetOf<Apart<New>>, SetOf<Apart<Old>>>(),
-            Nest::Added => self.in_addition::<Apart<New>, Apart<Old>>(),
+            _ => self.around::<Apart<New>, Apart<Old>>(),
         }
     }
 }
