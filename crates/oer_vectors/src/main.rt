@@ -25,6 +25,7 @@
 //! without a word is asked for its constants by its name.
 #![tactic(auto)]
 
+mod apart;
 mod depth;
 mod front;
 mod program;
@@ -37,10 +38,10 @@ mod values;
 mod vector;
 
 use anyhow::{Error, Result};
+use apart::with_word;
 use asn1_core::Codec;
 use depth::WithOptions;
 use front::Front;
-use oer_words::constrained::with_word;
 use program::{broken, printed, stopped};
 use rasn_oer::DecoderOptions;
 use reading::Reading;

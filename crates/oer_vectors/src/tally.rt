@@ -1,8 +1,9 @@
 //! Every input of at most two octets: a checksum of the answers, and how many inputs are read and refused. No extension bitmap fits
 //! into inputs so short behind a root component: the tallies of a version are those of the others.
+use crate::apart::with_type;
 use anyhow::{Error, Result};
 use asn1_core::{Codec, DecodeErrorKind};
-use oer_words::known::{OnType, with_type};
+use oer_words::known::OnType;
 use oer_write::Encode;
 use rasn_oer::{Decode, coer, oer};
 use std::alloc::Global;

@@ -1,5 +1,6 @@
 //! Types of rasn's tests by their words, and the constraints behind a word.
 
+use crate::apart::with_word;
 use crate::types::{
     BoxedPair, Chosen, Colors, Explicit, MoreColors, NestedChoice, Optional1, Optional2, Optional3,
     Untagged,
@@ -8,7 +9,7 @@ use crate::values::{Seen, Shown};
 use anyhow::{Error, Result};
 use asn1_core::{Bounded, Constraints, DecodeErrorKind};
 use oer_types::Holding;
-use oer_words::constrained::{UnderConstraints, with_word};
+use oer_words::constrained::UnderConstraints;
 use std::str::FromStr;
 
 /// What is shown of octets.
