@@ -1,4 +1,4 @@
-//! Tables of types with their names, as `scripts/tables.py --lines` writes them.
+//! Tables of types with their names, as `oergen --table` writes them.
 ghost use Rattle.std.specs.Prelude.{◌≡◌};
 ghost use Rattle.oer_json.specs.Readings.{allows, described, word_of, range_of};
 ghost use Rattle.oer_walk.specs.Kinds.{kind_numbered};

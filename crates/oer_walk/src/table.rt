@@ -1,4 +1,4 @@
-//! Tables of types in words, as `scripts/tables.py` makes them.
+//! Tables of types in words, as `oergen --table` makes them.
 //!
 //! The first word is the number of types. One word a type follows: the place in the table where the type's kind stands, with
 //! what goes with the kind behind it ([`Kind`]). Any words are a table: what isn't there is read as `u32::MAX`.
