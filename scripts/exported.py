@@ -39,7 +39,7 @@ def print_types(program, tree):
     for it in (top / "crates").iterdir():
         if it.name not in (NAME, CRATE):
             (tree / "crates" / it.name).symlink_to(it)
-    words = [program, "--out", tree / "crates", "--name", NAME, "--c", top / "crates/oergen/data/recursive.asn"]
+    words = [program, "--out", tree / "crates", "--name", NAME, "--keep-unknown", "--c", top / "crates/oergen/data/recursive.asn"]
     lines = subprocess.run(words, check=True, capture_output=True, text=True, timeout=60).stdout.splitlines()
     listed = (top / "crates.txt").read_text(encoding="utf-8").splitlines()
     (tree / "crates.txt").write_text("\n".join([*listed, *[it for it in lines if it not in listed]]) + "\n", encoding="utf-8")

@@ -20,6 +20,7 @@ top = pathlib.Path(__file__).resolve().parent.parent
 DATA = top / "scripts/printed.d"
 PUBLISHED = top / "scripts/v2x.d"
 MODULES = {"sample_types": "samples.asn", "recursive_types": "recursive.asn"}
+MORE = {"recursive_types": ("--keep-unknown",)}
 
 
 def sequences(count):
@@ -47,9 +48,9 @@ CIRCLE_DEFINITIONS = {
 }
 
 
-def printed(program, folder, name, module=None, more=()):
+def printed(program, folder, name, module=None, more=None):
     """The lines for crates.txt, and each file below the folder with its text."""
-    words = [program, "--out", folder, "--name", name, *more, str(module or top / "crates/oergen/data" / MODULES[name])]
+    words = [program, "--out", folder, "--name", name, *(MORE.get(name, ()) if more is None else more), str(module or top / "crates/oergen/data" / MODULES[name])]
     lines = subprocess.run(words, check=True, capture_output=True, text=True, timeout=60).stdout
     root = pathlib.Path(folder)
     return lines, {str(it.relative_to(root)): it.read_text() for it in root.rglob("*") if it.is_file()}
@@ -121,7 +122,7 @@ NAMES = (
 )
 
 
-# comments, constants and parts of large types, and lines of what is printed of each
+# comments, constants, what newer versions may have, and parts of large types; and lines of what is printed of each
 NOTED = """-- What lamps do.
 --
 -- ====
@@ -146,7 +147,24 @@ Name ::= IA5String (PATTERN "a
 b")
 Named ::= SEQUENCE { name IA5String DEFAULT "a\tb" }"""
 SIZED = " ".join(sequences(1) + ["T ::= SEQUENCE { %s } C ::= CHOICE { a T, b NULL, c T }" % ", ".join(f"s{at} S0" for at in range(20))])
+OPEN = """C ::= CHOICE { a NULL, ..., b BOOLEAN } D ::= CHOICE { a NULL } E ::= ENUMERATED { one, ... } F ::= ENUMERATED { one }
+S ::= SEQUENCE { e E DEFAULT one, f F DEFAULT one } R ::= CHOICE { a SEQUENCE OF R, ... }"""
 LINES = (
+    (
+        ("--keep-unknown",),
+        OPEN,
+        (
+            "pub type C = KeptChoice<CAlternatives>;",
+            "pub type D = OneOf<DAlternatives>;",
+            "pub type E = KeptEnumeration<EValues>;",
+            "pub type F = Enumeration<FValues>;",
+            "        Ok(KeptEnumeration::Known(EValues::One))",
+            "        Ok(Enumeration(FValues::One))",
+            "pub type RContent<K> = OneOf<RAlternatives<K>>;",
+            "made: rasn_oer oer_write asn1_core oer_kept",
+        ),
+    ),
+    ((), OPEN, ("pub type C = OneOf<CAlternatives>;", "pub type E = Enumeration<EValues>;", "made: rasn_oer oer_write asn1_core")),
     (
         (),
         NOTED,

@@ -1,6 +1,7 @@
 mod Allowed
 mod Digits
 mod Distinct
+mod Free
 mod Giving
 mod Members
 mod OwnTags

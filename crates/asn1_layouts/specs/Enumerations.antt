@@ -1,10 +1,17 @@
 -- The numbers of an ENUMERATED's values (X.680, 20.3 to 20.6).
-use Rattle.std.specs.Prelude.{◌≡◌, ◌≢◌, ℕ, zero, suc, ◌-◌, ◌^◌, ℤ, pos, ◌+ℤ◌, ◌≤ℤ◌, ◌<ℤ◌, Option, Some, None, is_some, List, [], ◌∷◌, map, take}
+use Rattle.std.specs.Prelude.{◌≡◌, ◌≢◌, ℕ, zero, suc, ◌-◌, ◌^◌, ℤ, pos, ◌+ℤ◌, ◌≤ℤ◌, ◌<ℤ◌, Option, Some, None, is_some, IsTrue, List, [], ◌∷◌, map, take}
+use Rattle.std.specs.BTreeSet.{BTreeSet, contains}
 use Rattle.std.specs.List.{All, AllPairs, AllZip, Contains, filter_map}
 use Rattle.std.specs.Option.{IfSome, IsSomeAnd}
+use Rattle.std.specs.Ordering.{int_cmp}
 use Rattle.asn1_modules.specs.declared.ast.Numbered.{Numbered}
 use Rattle.asn1_modules.specs.declared.lexer.Token.{Token}
 use Rattle.asn1_layouts.specs.Numbers.{IsI128, own_number}
+
+-- a set has these numbers, and no others
+pub record IsSetOf (numbers : List ℤ) (set : BTreeSet ℤ) : Type 0 where
+  pub has_each : (n : ℤ) → Contains numbers n → IsTrue (contains int_cmp set n)
+  pub has_no_other : (n : ℤ) → IsTrue (contains int_cmp set n) → Contains numbers n
 
 -- the least from one on that isn't taken
 pub record IsLeastFree (taken : List ℤ) (next number : ℤ) : Type 0 where

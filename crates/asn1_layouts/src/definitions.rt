@@ -63,6 +63,8 @@ pub struct Definition<'m> {
     pub parts: Vec<Part<'m>>,
     /// The circle that it is of: nothing where it isn't, and until circles are found.
     pub circle: Option<Circle>,
+    /// Whether its Rust type keeps what newer versions of it have.
+    pub keeps_unknown: bool,
     /// Why it can't be resolved: then it has no parts. Nothing where it can.
     pub fault: Option<Refusal>,
 }
@@ -291,6 +293,7 @@ pub fn definitions<'m>(
             of,
             parts,
             circle: None,
+            keeps_unknown: false,
             fault,
         })?;
     }

@@ -4,7 +4,7 @@ ghost use Rattle.std.specs.List.{All, AllPairs, AllZip, filter_map};
 ghost use Rattle.std.specs.Option.{SomeIff};
 ghost use Rattle.std.specs.Result.{OkIff};
 ghost use Rattle.asn1_modules.specs.declared.refusal.Refusal.TheVariants.{OutOfMemory};
-ghost use Rattle.asn1_layouts.specs.Enumerations.{AreAllowed, AreNumbered, AreNumbersOf, AreTakenFrom, IsAsWritten, IsDigits, IsGiven, IsLeastFree, bound_of, next_behind, number_behind};
+ghost use Rattle.asn1_layouts.specs.Enumerations.{AreAllowed, AreNumbered, AreNumbersOf, AreTakenFrom, IsAsWritten, IsDigits, IsGiven, IsLeastFree, IsSetOf, bound_of, next_behind, number_behind};
 ghost use Rattle.asn1_layouts.specs.Numbers.{IsI128, are_digits, is_name, number_of_digits, own_number};
 
 use crate::scope::Scope;
@@ -12,7 +12,7 @@ use asn1_modules::ast::{Body, Numbered, Reference, Type, Value};
 use asn1_modules::lexer::{Kind, TokenId};
 use asn1_modules::refusal::Refusal;
 use std::alloc::{AllocError, Global};
-use std::collections::BTreeMap;
+use std::collections::{BTreeMap, BTreeSet};
 
 /// How many names may stand for one another in a row.
 const MAX_CHAIN: usize = 64;
@@ -194,8 +194,8 @@ fn taken_numbers(
     alloc: Global,
     written: &[Option<i128>],
     root: usize,
-) -> Result<Vec<i128>, AllocError>
-    ensures { IfOk result (λ all. all.items ≡ filter_map (λ own. own) (take root written.now)) }
+) -> Result<BTreeSet<i128>, AllocError>
+    ensures { IfOk result (IsSetOf (filter_map (λ own. own) (take root written.now))) }
 {
     written
         .iter()
@@ -205,9 +205,9 @@ fn taken_numbers(
 }
 
 /// The number of a value: the one that is written, else the least from `next` on that isn't taken; nothing past i128.
-fn given_number(own: Option<i128>, taken: &[i128], next: Option<i128>) -> Option<i128>
-    ensures given { IfSome result (IsGiven taken.now (bound_of next) own) }
-    ensures none { IsNone result → (own ≡ None) × AreTakenFrom taken.now (bound_of next) }
+fn given_number(own: Option<i128>, taken: &BTreeSet<i128>, next: Option<i128>) -> Option<i128>
+    ensures given { (numbers : List ℤ) → IsSetOf numbers taken.now → IfSome result (IsGiven numbers (bound_of next) own) }
+    ensures none { (numbers : List ℤ) → IsSetOf numbers taken.now → IsNone result → (own ≡ None) × AreTakenFrom numbers (bound_of next) }
 {
     match own {
         Some(number) => Some(number),
@@ -245,7 +245,7 @@ fn given_numbers<'m>(
     let mut all = Vec::new(scope.alloc);
     let mut next = Some(0i128);
     for (at, own) in written.iter().enumerate() {
-        let Some(number) = given_number(*own, taken.as_slice(), next) else {
+        let Some(number) = given_number(*own, &taken, next) else {
             return Err(scope.refused(items[at].name, NUMBER));
         };
         next = next_behind(root.saturating_sub(at), next, *own, number);
@@ -320,9 +320,9 @@ fn written_number<'m>(scope: Scope<'m, '_>, item: &'m Numbered) -> Result<Option
 }
 
 /// The least number from `next` on that isn't taken; nothing where all of them are.
-fn free_number(taken: &[i128], next: i128) -> Option<i128>
-    ensures free { IfSome result (IsLeastFree taken.now next) }
-    ensures none { IsNone result → AreTakenFrom taken.now next }
+fn free_number(taken: &BTreeSet<i128>, next: i128) -> Option<i128>
+    ensures free { (numbers : List ℤ) → IsSetOf numbers taken.now → IfSome result (IsLeastFree numbers next) }
+    ensures none { (numbers : List ℤ) → IsSetOf numbers taken.now → IsNone result → AreTakenFrom numbers next }
 {
     for number in next..=i128::MAX {
         if !taken.contains(&number) {

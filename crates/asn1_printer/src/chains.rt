@@ -21,6 +21,8 @@ pub struct Chain<'c> {
     pub is_choice: bool,
     /// The knot of its circle, where it is of one.
     pub knot: Option<&'c str>,
+    /// Of a CHOICE, whether it keeps alternatives of newer versions.
+    pub keeps_unknown: bool,
     /// Of a SET, which root cell stands at each place of the text; of another type none.
     pub in_text: &'c [usize],
     /// Of a SET, the place in the text of each root cell; of another type none.
@@ -47,6 +49,7 @@ impl<'c> Chain<'c> {
             is_extensible: false,
             is_choice: false,
             knot: None,
+            keeps_unknown: false,
             in_text: &[],
             places: &[],
         }

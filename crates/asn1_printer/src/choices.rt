@@ -2,6 +2,7 @@
 
 use crate::cells::{Cell, Place, alternative_name, cell_of, see_name};
 use crate::chains::{Chain, push_row};
+use crate::kept::KEPT_CHOICE;
 use crate::knot_templates::KNOT_ALTERNATING;
 use crate::knots::{knot_name, owner_words};
 use crate::templates::{CHOICE, CHOICE_IMPLS};
@@ -93,9 +94,15 @@ fn put_tag_names(words: &mut Words, of: Chain<'_>) {
     push_addition_name(words.begin("ADDITION_TAGS"), of);
 }
 
+/// The library's CHOICE.
+fn holder_of(keeps_unknown: bool) -> &'static str {
+    if keeps_unknown { KEPT_CHOICE } else { "OneOf" }
+}
+
 /// What stands for the words of the templates of a CHOICE.
 fn words_of(alloc: Global, doc: &str, of: Chain<'_>) -> Words {
     let mut words = owner_words(alloc, doc, of.owner, of.knot);
+    words.put("HOLDER", holder_of(of.keeps_unknown));
     push_variants(words.begin("VARIANTS"), of.cells);
     push_names(words.begin("LIST"), of.cells, ", ", "");
     push_cases(words.begin("CASES"), of.cells);
@@ -190,6 +197,7 @@ pub fn push_choice<'m>(
         is_extensible: is_extensible(definition.of),
         is_choice: true,
         knot: knot_name(all, definition),
+        keeps_unknown: definition.keeps_unknown,
         ..Chain::of(definition.rust_name.as_str(), cells.as_slice())
     };
     push_alternatives(alloc, out, doc, of);

@@ -315,34 +315,54 @@ fn push_held<'m>(
     Ok(push_words(scope.alloc, out, name, is_limited, &words))
 }
 
-/// The Rust name of the definition of a type; none where it has none.
-fn definition_of<'d>(all: &'d [Definition<'_>], base: &Type) -> &'d str {
+/// The Rust name of the definition of a type, and whether that keeps unknown values; no name where it has none.
+fn definition_of<'d>(all: &'d [Definition<'_>], base: &Type) -> (&'d str, bool) {
     for definition in all.iter() {
         if definition.of.first.index == base.first.index {
-            return definition.rust_name.as_str();
+            return (definition.rust_name.as_str(), definition.keeps_unknown);
         }
     }
-    ""
+    ("", false)
 }
 
-/// The words of an enumerated value, by the names of the value, of its enum's owner and of its variant.
-fn enumerated_words(
-    alloc: Global,
-    named: (&str, &str),
-    text: &str,
-    owner: &str,
-    variant: &str,
-) -> Words {
-    let (name, rust) = named;
-    let mut words = words_of(alloc, name, rust, false);
-    words.put("TEXT", text);
+/// Says how definitions and code write an enumerated value.
+fn put_enumerated(words: &mut Words, owner: &str, variant: &str, keeps_unknown: bool) {
+    const KEPT: &str =
+        "\n    ghost use Rattle.oer_kept.specs.declared.enumerations.KeptEnumeration.TheVariants.{Known};";
     words.put("OWNER", owner);
     words.put("VARIANT", variant);
     let uses = words.begin("USES");
     uses.push_all(&["ghost use Rattle.@HOME:", owner, "Values@.", owner]);
     uses.push_all(&["Values.TheVariants.{", variant, "};"]);
-    words.put_filled("GHOST", "record { 0 = @VARIANT@ }");
-    words.put_filled("VALUE", "Enumeration(@OWNER@Values::@VARIANT@)");
+    uses.push(if keeps_unknown { KEPT } else { "" });
+    let (ghost, code) = if keeps_unknown {
+        (
+            "Known @VARIANT@",
+            "KeptEnumeration::Known(@OWNER@Values::@VARIANT@)",
+        )
+    } else {
+        (
+            "record { 0 = @VARIANT@ }",
+            "Enumeration(@OWNER@Values::@VARIANT@)",
+        )
+    };
+    words.put_filled("GHOST", ghost);
+    words.put_filled("VALUE", code);
+}
+
+/// The words of an enumerated value, by the names of the value, of its enum's owner, with whether that keeps unknown values, and of its
+/// variant.
+fn enumerated_words(
+    alloc: Global,
+    named: (&str, &str),
+    text: &str,
+    owner: (&str, bool),
+    variant: &str,
+) -> Words {
+    let (name, rust) = named;
+    let mut words = words_of(alloc, name, rust, false);
+    words.put("TEXT", text);
+    put_enumerated(&mut words, owner.0, variant, owner.1);
     words.put_filled("CODE", "Ok(@VALUE@)");
     words.put_filled("TEST", "*other == @VALUE@");
     words.put("ADMITTED", "tt");

@@ -27,6 +27,9 @@ const INTEGER: usize = 5;
 /// The depth of a bit string.
 const BITS: usize = 4;
 
+/// The depth of the octets of an alternative of a newer version, less that of the enum that a CHOICE has.
+const KEPT: usize = 7;
+
 /// What stands around a component where a row is written: the reference to all of them, and its own.
 const VIEW: usize = 2;
 
@@ -246,10 +249,13 @@ fn sequence_depth<'m>(
 fn choice_depth<'m>(
     scope: Scope<'m, '_>,
     depths: &[Depth],
-    parts: &[Part<'m>],
+    definition: &Definition<'m>,
 ) -> Result<Depth, Refusal> {
     let mut row = Row::empty();
-    for part in parts.iter() {
+    if definition.keeps_unknown {
+        row.own = KEPT;
+    }
+    for part in definition.parts.iter() {
         row = row.with(field_depth(scope, depths, part, false)?);
     }
     Ok(row.depth())
@@ -277,7 +283,7 @@ fn depth_of<'m>(
     match &definition.of.body {
         Body::Sequence(_) => sequence_depth(scope, depths, parts, false),
         Body::Set(_) => sequence_depth(scope, depths, parts, true),
-        Body::Choice(_) => choice_depth(scope, depths, parts),
+        Body::Choice(_) => choice_depth(scope, depths, definition),
         Body::Enumerated(_, _) => Ok(Depth::of(2)),
         Body::Simple(_) | Body::Integer(_) | Body::BitString(_) => named_depth(
             scope, depths, parts,

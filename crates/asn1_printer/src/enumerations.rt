@@ -2,6 +2,7 @@
 
 use crate::cells::{see_name, variant_name};
 use crate::items::push_defined;
+use crate::kept::KEPT_ENUMERATION;
 use crate::notes::push_note;
 use crate::templates::ENUMERATED;
 use crate::text::{Text, Words};
@@ -92,9 +93,26 @@ fn push_list(alloc: Global, out: &mut Text, owner: &str, variants: &[Variant]) {
     out.push(",\n        ]");
 }
 
+/// The library's ENUMERATED.
+fn holder_of(keeps_unknown: bool) -> &'static str {
+    if keeps_unknown {
+        KEPT_ENUMERATION
+    } else {
+        "Enumeration"
+    }
+}
+
 /// Prints an ENUMERATED by its values.
-fn push_values(alloc: Global, out: &mut Text, owner: &str, doc: &str, variants: &[Variant]) {
+fn push_values(
+    alloc: Global,
+    out: &mut Text,
+    definition: &Definition<'_>,
+    doc: &str,
+    variants: &[Variant],
+) {
+    let owner = definition.rust_name.as_str();
     let mut words = Words::new(alloc);
+    words.put("HOLDER", holder_of(definition.keeps_unknown));
     words.put("HOME", "@HOME@");
     words.put("DOC", doc);
     words.put("NAME", owner);
@@ -120,9 +138,8 @@ pub fn push_enumerated<'m>(
     items: (&'m [Numbered], usize),
     doc: &str,
 ) -> Result<(), Refusal> {
-    let owner = definition.rust_name.as_str();
     let numbers = enumerated_numbers(scope, items.0, items.1)?;
     let variants = variants_of(scope, numbers.as_slice())?;
-    push_values(scope.alloc, out, owner, doc, variants.as_slice());
+    push_values(scope.alloc, out, definition, doc, variants.as_slice());
     Ok(())
 }

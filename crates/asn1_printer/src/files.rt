@@ -1,6 +1,7 @@
 //! The files of the crates that the types are put into.
 
 use crate::constants::constants_of;
+use crate::kept::{KEPT_LIBRARY, keep_unknown, use_kept};
 use crate::knot_files::{has_knots, push_circle_files, push_definition_names};
 use crate::knot_templates::KNOT_USES;
 use crate::outputs::{File, push_placed};
@@ -403,11 +404,17 @@ fn crate_files(
     Ok(files)
 }
 
-/// The libraries that a crate uses beside those that are printed.
-fn libraries_of(types: &[Printed], all: &[Section], library: &str) -> &'static str {
+/// Appends the libraries that a crate uses beside those that are printed.
+fn push_libraries(out: &mut Text, types: &[Printed], all: &[Section], library: &str) {
     let needs_knots = all.iter().any(|section| section.library.as_str() == library
         && has_knots(types_of(types, section)));
-    if needs_knots { KNOT_LIBRARIES } else { LIBRARY }
+    let needs_kept = all.iter().any(|section| section.library.as_str() == library
+        && use_kept(types_of(types, section)));
+    out.push(if needs_knots { KNOT_LIBRARIES } else { LIBRARY });
+    if needs_kept {
+        out.push_all(&[" ", KEPT_LIBRARY]);
+    }
+    out.push("\n");
 }
 
 /// Appends the lines of `crates.txt`, lowest first.
@@ -418,7 +425,7 @@ fn push_crates(alloc: Global, out: &mut Text, types: &[Printed], all: &[Section]
             let library = section.library.as_str();
             out.push_all(&[library, ": "]);
             out.push_text(&lower);
-            out.push_all(&[libraries_of(types, all, library), "\n"]);
+            push_libraries(out, types, all, library);
             lower.push_all(&[library, " "]);
         }
     }
@@ -459,13 +466,14 @@ fn named_types(
     Ok(named)
 }
 
-/// What is asked for: the name of the crate, the names of the files that were handed in, and whether what can't be read or printed is
-/// left out.
+/// What is asked for: the name of the crate, the names of the files that were handed in, whether what can't be read or printed is left
+/// out, and whether types keep what newer versions of them have.
 #[derive(Clone, Copy)]
 pub struct Wish<'w> {
     pub name: &'w str,
     pub files: &'w [&'w str],
     pub leaves_out: bool,
+    pub keeps_unknown: bool,
 }
 
 /// The name of the file that a refusal speaks of.
@@ -539,6 +547,9 @@ fn crates_of_scope(scope: Scope<'_, '_>, wish: Wish<'_>) -> Result<Output, Refus
     let mut all = definitions(scope, wish.leaves_out)?;
     let order = find_circles(scope.alloc, &mut all)?;
     hold_large(scope.alloc, &mut all, order.as_slice())?;
+    if wish.keeps_unknown {
+        keep_unknown(&mut all);
+    }
     free_names(scope, &mut all)?;
     let outcome = print_types(scope, all.as_slice(), order.as_slice(), wish.leaves_out)?;
     let constants = constants_of(scope, all.as_slice())?;

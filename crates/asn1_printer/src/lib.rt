@@ -11,6 +11,7 @@ pub mod depths;
 pub mod enumerations;
 pub mod files;
 pub mod items;
+pub mod kept;
 pub mod knot_files;
 pub mod knot_templates;
 pub mod knots;

@@ -150,7 +150,7 @@ pub const ALIAS: &str = r#"@HEAD@pub type @NAME@@CONTENT@ = @TYPE@;
 "#;
 
 /// A CHOICE, and the enum of its alternatives.
-pub const CHOICE: &str = r#"@HEAD@pub type @NAME@@CONTENT@ = OneOf<@NAME@Alternatives@K@>;
+pub const CHOICE: &str = r#"@HEAD@pub type @NAME@@CONTENT@ = @HOLDER@<@NAME@Alternatives@K@>;
 
 /// The alternatives of `@NAME@`.
 #[derive(Debug, PartialEq, Eq, Drop)]
@@ -213,7 +213,7 @@ impl@READS@ TakesAlternative for @NAME@Alternatives@K@ {
 "#;
 
 /// An ENUMERATED, and the enum of its values.
-pub const ENUMERATED: &str = r#"@DOC@pub type @NAME@ = Enumeration<@NAME@Values>;
+pub const ENUMERATED: &str = r#"@DOC@pub type @NAME@ = @HOLDER@<@NAME@Values>;
 
 /// The values of `@NAME@`.
 #[derive(Debug, Clone, Copy, PartialEq, Eq)]

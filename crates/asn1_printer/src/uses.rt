@@ -11,7 +11,8 @@ const WIDTH: usize = 100;
 const PRELUDE: &str = "rasn_oer::prelude";
 
 /// The names that printed text takes from elsewhere, each by its path.
-pub const KNOWN: &str = "std::alloc::AllocError std::alloc::Global std::marker::PhantomData";
+pub const KNOWN: &str =
+    "oer_kept::KeptChoice oer_kept::KeptEnumeration std::alloc::AllocError std::alloc::Global std::marker::PhantomData";
 
 /// The part of a line that can take names from elsewhere: none of a comment, a ghost member or clause, the type of an impl, or a
 /// list of variants; of a variant what it holds.

@@ -5,6 +5,7 @@ use oer_kept::{KeptChoice, KeptEnumeration};
 use oer_types::{Color, OnlyAlternatives, PriorityAlternatives};
 use rasn_oer::prelude::*;
 use rasn_oer::{coer, oer};
+use recursive_types::{Envelope, Post, PostComponents, StateValues, WayAlternatives};
 use std::alloc::Global;
 use std::test::Fail;
 
@@ -247,5 +248,45 @@ fn a_choice_that_is_not_extensible_keeps_none(rt: HostRuntime) -> Result<(), Fai
         is_extensible: false,
     };
     assert!(rt; why_unread::<KeptOnly>(alloc, &[0x83, 0x01, 0xAA]) == Some(kind));
+    Ok(())
+}
+
+#[test]
+fn printed_types_keep_what_is_newer(rt: HostRuntime) -> Result<(), Fail> {
+    let alloc = rt.alloc();
+    let letter: Envelope = coer::decode(alloc, &[0x00, 0xAA, 0xBB, 0x80, 0x01, 0x61])?;
+    let post: Post = Sequence(PostComponents {
+        letter,
+        answer: None,
+        state: KeptEnumeration::Other(9),
+        way: Some(other(alloc, Class::Context, 7, &[0xAB, 0xCD])?),
+    });
+    assert!(rt;
+        agree(
+            alloc,
+            &post,
+            &[0x60, 0x00, 0xAA, 0xBB, 0x80, 0x01, 0x61, 0x09, 0x87, 0x02, 0xAB, 0xCD]
+        )?
+    );
+    Ok(())
+}
+
+#[test]
+fn printed_types_keep_within_what_they_know(rt: HostRuntime) -> Result<(), Fail> {
+    let alloc = rt.alloc();
+    let letter: Envelope = coer::decode(alloc, &[0x00, 0xAA, 0xBB, 0x80, 0x01, 0x61])?;
+    let post: Post = Sequence(PostComponents {
+        letter,
+        answer: None,
+        state: KeptEnumeration::Known(StateValues::Sent),
+        way: Some(KeptChoice::Known(WayAlternatives::Sea(KeptEnumeration::Other(5)))),
+    });
+    assert!(rt;
+        agree(
+            alloc,
+            &post,
+            &[0x20, 0x00, 0xAA, 0xBB, 0x80, 0x01, 0x61, 0x82, 0x01, 0x05]
+        )?
+    );
     Ok(())
 }

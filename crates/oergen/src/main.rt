@@ -22,7 +22,7 @@ use writing::writes_files;
 /// How the program is called.
 const USAGE: &str = "oergen --list MODULE.asn..
        oergen --table MODULE.asn..
-       oergen --out FOLDER --name NAME [--leave-out] [--c] MODULE.asn..";
+       oergen --out FOLDER --name NAME [--leave-out] [--keep-unknown] [--c] MODULE.asn..";
 
 /// What the program does, and what it answers.
 const ABOUT: &str =
@@ -64,6 +64,7 @@ fn command<'a>(alloc: Global) -> Result<Command<'a>, AllocError> {
     let out = "writes crates of the types below this folder, and prints their lines for crates.txt";
     let name = "what the crate is called, or with _1, _2 and so on behind it the crates";
     let leave_out = "leaves out what can't be read or printed, with a line that says why";
+    let keep_unknown = "keeps alternatives and enumerated values of newer versions";
     let c =
         "writes beside them the crate NAME_c, a static library with two functions for each type, and its header";
     Command::new(alloc, "oergen")
@@ -75,6 +76,7 @@ fn command<'a>(alloc: Global) -> Result<Command<'a>, AllocError> {
         .arg(option(alloc, "out", "FOLDER", out))?
         .arg(option(alloc, "name", "NAME", name))?
         .arg(flag(alloc, "leave-out", leave_out))?
+        .arg(flag(alloc, "keep-unknown", keep_unknown))?
         .arg(flag(alloc, "c", c))?
         .arg(files(alloc))
 }
@@ -172,7 +174,7 @@ fn output_of(
 }
 
 /// Names that a crate can't have: libraries that printed crates may use.
-const LIBRARIES: [&str; 8] = [
+const LIBRARIES: [&str; 9] = [
     "std",
     "core",
     "rasn_oer",
@@ -181,6 +183,7 @@ const LIBRARIES: [&str; 8] = [
     "oer_calls",
     "oer_read",
     "oer_spec",
+    "oer_kept",
 ];
 
 /// Whether it can be the name of a crate.
@@ -242,11 +245,11 @@ fn run<R: Files + Print + Eprint + AllocGlobal + Clone + Drop>(
     match (matches.get_str("FOLDER"), matches.get_str("NAME")) {
         (None, None) if lists != is_table => print_files(rt, files, is_table),
         (Some(folder), Some(name)) if is_name(name) && !lists && !is_table => {
-            let leaves_out = matches.get_flag("leave-out");
             let wish = Wish {
                 name,
                 files,
-                leaves_out,
+                leaves_out: matches.get_flag("leave-out"),
+                keeps_unknown: matches.get_flag("keep-unknown"),
             };
             write_crates(rt, folder, wish, matches.get_flag("c"))
         }
