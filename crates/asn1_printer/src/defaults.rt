@@ -335,7 +335,7 @@ fn put_enumerated(words: &mut Words, owner: &str, variant: &str, keeps_unknown: 
     uses.push_all(&["ghost use Rattle.@HOME:", owner, "Values@.", owner]);
     uses.push_all(&["Values.TheVariants.{", variant, "};"]);
     uses.push(if keeps_unknown { KEPT } else { "" });
-    let (ghost, code) = if keeps_unknown {
+    let (value, code) = if keeps_unknown {
         (
             "Known @VARIANT@",
             "KeptEnumeration::Known(@OWNER@Values::@VARIANT@)",
@@ -346,7 +346,7 @@ fn put_enumerated(words: &mut Words, owner: &str, variant: &str, keeps_unknown: 
             "Enumeration(@OWNER@Values::@VARIANT@)",
         )
     };
-    words.put_filled("GHOST", ghost);
+    words.put_filled("GHOST", value);
     words.put_filled("VALUE", code);
 }
 
