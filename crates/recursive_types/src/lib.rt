@@ -9,6 +9,6 @@ pub use types_01::{
     NodeComponents, NodeContent, Serial,
 };
 pub use types_02::{
-    Forest, ForestContent, Nest, NestContent, Post, PostComponents, Tree, TreeComponents,
-    TreeContent,
+    Forest, ForestContent, Nest, NestContent, Post, PostComponents, State, StateValues, Tree,
+    TreeComponents, TreeContent, Way, WayAlternatives,
 };

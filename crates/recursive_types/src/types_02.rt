@@ -4,8 +4,9 @@ ghost use Rattle.oer_write.specs.Written.{Encodes, Refused};
 ghost use Rattle.asn1_core.specs.declared.constraints.TheConstants.Constraints.{NONE};
 
 use crate::{Body, Envelope};
+use oer_kept::{KeptChoice, KeptEnumeration};
 use rasn_oer::prelude::*;
-use std::alloc::Global;
+use std::alloc::{AllocError, Global};
 
 /// `Forest ::= SEQUENCE OF Tree`
 pub type Forest = ForestContent<Tree>;
@@ -330,19 +331,149 @@ impl Decode for Nest {
     }
 }
 
-/// Beside a circle.
+/// `State ::= ENUMERATED { sent, read, ..., lost }`
+pub type State = KeptEnumeration<StateValues>;
+
+/// The values of `State`.
+#[derive(Debug, Clone, Copy, PartialEq, Eq)]
+pub enum StateValues {
+    Sent = 0,
+    Read = 1,
+    Lost = 2,
+}
+
+impl Numbered for StateValues {
+    ghost use Rattle.std.specs.Prelude.{pos, negsuc, [], ◌∷◌, refl};
+    ghost use Rattle.recursive_types.specs.declared.types_02.StateValues.TheVariants.{Sent, Read, Lost};
+
+    ghost number = { elim [ Sent ↦ (pos 0) | Read ↦ (pos 1) | Lost ↦ (pos 2) ] };
+
+    ghost values = { Sent ∷ Read ∷ Lost ∷ [] };
+
+    ghost listed = { elim [ Sent ↦ (refl, refl) | Read ↦ (refl, refl) | Lost ↦ (refl, refl) ] };
+
+    fn number(self) -> isize {
+        self as isize
+    }
+
+    fn values() -> &'static [StateValues] {
+        &[StateValues::Sent, StateValues::Read, StateValues::Lost]
+    }
+}
+
+/// `Way ::= CHOICE { road NULL, air INTEGER (0..255), ..., sea State }`
+pub type Way = KeptChoice<WayAlternatives>;
+
+/// The alternatives of `Way`.
+#[derive(Debug, PartialEq, Eq, Drop)]
+pub enum WayAlternatives {
+    Road(()),
+    Air(u8),
+    Sea(State),
+}
+
+type WayRow = Offers<Context<0>, (), Offers<Context<1>, u8, Extensible<WayAdditions>>>;
+
+type WayAdditions = Offers<Context<2>, State, NoMore>;
+
+const WAY_ROOTS: &'static [Tag] = tags![Context 0, Context 1];
+
+const WAY_ADDITIONS: &'static [Tag] = tags![Context 2];
+
+impl Alternating for WayAlternatives {
+    ghost use Rattle.std.specs.Prelude.{refl};
+    ghost use Rattle.rasn_oer.specs.Alternative.{First, Rest};
+    ghost use Rattle.recursive_types.specs.declared.types_02.WayAlternatives.TheVariants.{Road, Air, Sea};
+
+    type Values = <WayRow as Alternatives>::Values;
+
+    ghost row_choices = { ⟦<WayRow as Alternatives>⟧.choices };
+
+    ghost row_are_choices = { ⟦<WayRow as Alternatives>⟧.are_choices };
+
+    ghost alternative = { elim [ Road held ↦ First held | Air held ↦ Rest (First held) | Sea held ↦ Rest (Rest (First held)) ] };
+
+    const VARIANTS: &'static [Tag] = WAY_ROOTS;
+
+    const EXTENDED_VARIANTS: Option<&'static [Tag]> = Some(WAY_ADDITIONS);
+
+    fn root_tags() -> &'static [Tag] {
+        Self::VARIANTS
+    }
+
+    fn addition_tags() -> Option<&'static [Tag]> {
+        Self::EXTENDED_VARIANTS
+    }
+
+    fn from_alternative(value: Self::Values) -> Self {
+        from_row!(value => WayAlternatives: Road, Air, Sea)
+    }
+
+    #[inline(always)]
+    fn put<E: Choice>(&self, encoder: &mut Encoder<'_>) -> Result<(), EncodeError> {
+        let view = to_row!(self => WayAlternatives: Road, Air, Sea);
+        WayRow::write_alternative::<E>(&view, encoder)
+    }
+
+    ghost apart = { refl };
+}
+
+impl TakesAlternative for WayAlternatives {
+    ghost Refuses = { ⟦<WayRow as ReadsAlternatives>⟧.Refuses };
+
+    fn take<D: Choice>(
+        alloc: Global,
+        decoder: &mut Decoder<'_>,
+        tag: Tag,
+    ) -> Result<Self, DecodeError> {
+        read_alternative::<Self, WayRow, D>(alloc, decoder, tag)
+    }
+}
+
+/// The default sent of `PostState`.
+pub struct PostStateDefault;
+
+impl Standard<State> for PostStateDefault {
+    ghost use Rattle.recursive_types.specs.declared.types_02.StateValues.TheVariants.{Sent};
+    ghost use Rattle.oer_kept.specs.declared.enumerations.KeptEnumeration.TheVariants.{Known};
+
+    ghost value = { Known Sent };
+
+    fn value(_alloc: Global) -> Result<State, AllocError> {
+        Ok(KeptEnumeration::Known(StateValues::Sent))
+    }
+
+    fn is_value(other: &State) -> bool {
+        *other == KeptEnumeration::Known(StateValues::Sent)
+    }
+
+    ghost admitted = { tt };
+}
+
+/// Beside a circle. Newer versions may have other states and ways.
 ///
-/// `Post ::= SEQUENCE { letter Envelope, answer Body OPTIONAL }`
-pub type Post = Sequence<PostComponents, 2, 0>;
+/// `Post ::= SEQUENCE { letter Envelope, answer Body OPTIONAL, state State DEFAULT sent, way Way OPTIONAL
+/// }`
+pub type Post = Sequence<PostComponents, 4, 0>;
 
 /// The components of `Post`.
 #[derive(Debug, PartialEq, Eq, Drop)]
 pub struct PostComponents {
     pub letter: Envelope,
     pub answer: Option<Body>,
+    pub state: State,
+    pub way: Option<Way>,
 }
 
-type PostRow = Needs<Context<0>, Envelope, MayHave<Context<1>, Body, NoMore>>;
+type PostRow = Needs<
+    Context<0>,
+    Envelope,
+    MayHave<
+        Context<1>,
+        Body,
+        Defaults<Context<2>, State, PostStateDefault, MayHave<Context<3>, Way, NoMore>>,
+    >,
+>;
 
 impl Rowed for PostComponents {
     ghost use Rattle.rasn_oer.specs.Values.{both};
@@ -357,12 +488,14 @@ impl Rowed for PostComponents {
 
     ghost row_is_schema = { ⟦<PostRow as Components>⟧.is_schema };
 
-    ghost components = { λ v. both v.letter (both v.answer tt) };
+    ghost components = { λ v. both v.letter (both v.answer (both v.state (both v.way tt))) };
 
     fn from_row(row: Self::Values) -> Self {
         built![PostComponents from row:
             letter,
-            answer
+            answer,
+            state,
+            way
         ]
     }
 }
@@ -376,13 +509,15 @@ impl Takes for PostComponents {
     }
 }
 
-impl Tabled<2, 0> for PostComponents {
+impl Tabled<4, 0> for PostComponents {
     ghost use Rattle.std.specs.Prelude.{refl};
 
-    const FIELDS: Fields<2> = Fields {
+    const FIELDS: Fields<4> = Fields {
         fields: fields![
             0 Required Context 0 "letter",
-            1 Optional Context 1 "answer"
+            1 Optional Context 1 "answer",
+            2 Default Context 2 "state",
+            3 Optional Context 3 "way"
         ],
     };
 
@@ -400,7 +535,9 @@ impl Tabled<2, 0> for PostComponents {
     fn put(&self, encoder: &mut Encoder<'_>) -> Result<(), EncodeError> {
         let view = views![self:
             letter,
-            answer
+            answer,
+            state,
+            way
         ];
         PostRow::write(&view, encoder)
     }
