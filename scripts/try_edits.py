@@ -293,10 +293,11 @@ class Crate:
         return [(together, it) for it in made if len(it) > 1] + [(alone, [it]) for it in single]
 
 
-def prove(runs, top, crate, is_tried):
-    """Proves the crate as it stands, over what was kept; what was said, if it isn't proved. Only what is tried needs its check kept."""
+def prove(runs, top, crate, is_tried, is_used):
+    """Proves the crate as it stands, over what was kept; what was said, if it isn't proved. Only what is tried needs its check kept,
+    and only what a crate above uses its library."""
     folder = top / "crates" / crate
-    verb = "check" if (folder / "src/main.rt").is_file() else "lib"
+    verb = "lib" if is_used else "check"
     status, said = runs.run(["rt", verb], folder)
     if status == 0 and is_tried and not (folder / "out/incremental").is_dir():
         status, said = runs.run(["rt", "check"], folder)
@@ -356,7 +357,8 @@ class Work:
         crates = {it: Crate(self.top, it, is_anew) for it in names}
         wanted = dict.fromkeys(it for name in names if crates[name].left() for it in below(self.top, name))
         order = [it for it in tried_order(self.top) if it in wanted]
-        proofs = {self.prover.submit(prove, self.runs, self.top, it, it in crates): it for it in order}
+        used = {it for name in names if crates[name].left() for it in below(self.top, name) if it != name}
+        proofs = {self.prover.submit(prove, self.runs, self.top, it, it in crates, it in used): it for it in order}
         for it in names:
             if not crates[it].left():
                 finish(crates[it])
