@@ -327,27 +327,31 @@ fn definition_of<'d>(all: &'d [Definition<'_>], base: &Type) -> (&'d str, bool) 
 
 /// Says how definitions and code write an enumerated value.
 fn put_enumerated(words: &mut Words, owner: &str, variant: &str, keeps_unknown: bool) {
-    const KEPT: &str =
-        "\n    ghost use Rattle.oer_kept.specs.declared.enumerations.KeptEnumeration.TheVariants.{Known};";
+    const KEPT: &str = "
+    ghost use Rattle.std.specs.Prelude.{refl};
+    ghost use Rattle.oer_kept.specs.declared.enumerations.KeptEnumeration.TheVariants.{Known};";
     words.put("OWNER", owner);
     words.put("VARIANT", variant);
     let uses = words.begin("USES");
     uses.push_all(&["ghost use Rattle.@HOME:", owner, "Values@.", owner]);
     uses.push_all(&["Values.TheVariants.{", variant, "};"]);
     uses.push(if keeps_unknown { KEPT } else { "" });
-    let (value, code) = if keeps_unknown {
+    let (value, code, admitted) = if keeps_unknown {
         (
             "Known @VARIANT@",
             "KeptEnumeration::Known(@OWNER@Values::@VARIANT@)",
+            "(refl, refl)",
         )
     } else {
         (
             "record { 0 = @VARIANT@ }",
             "Enumeration(@OWNER@Values::@VARIANT@)",
+            "tt",
         )
     };
     words.put_filled("GHOST", value);
     words.put_filled("VALUE", code);
+    words.put("ADMITTED", admitted);
 }
 
 /// The words of an enumerated value, by the names of the value, of its enum's owner, with whether that keeps unknown values, and of its
@@ -365,7 +369,6 @@ fn enumerated_words(
     put_enumerated(&mut words, owner.0, variant, owner.1);
     words.put_filled("CODE", "Ok(@VALUE@)");
     words.put_filled("TEST", "*other == @VALUE@");
-    words.put("ADMITTED", "tt");
     words
 }
 

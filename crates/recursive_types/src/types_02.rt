@@ -435,6 +435,7 @@ pub struct PostStateDefault;
 
 impl Standard<State> for PostStateDefault {
     ghost use Rattle.recursive_types.specs.declared.types_02.StateValues.TheVariants.{Sent};
+    ghost use Rattle.std.specs.Prelude.{refl};
     ghost use Rattle.oer_kept.specs.declared.enumerations.KeptEnumeration.TheVariants.{Known};
 
     ghost value = { Known Sent };
@@ -447,7 +448,7 @@ impl Standard<State> for PostStateDefault {
         *other == KeptEnumeration::Known(StateValues::Sent)
     }
 
-    ghost admitted = { tt };
+    ghost admitted = { (refl, refl) };
 }
 
 /// Beside a circle. Newer versions may have other states and ways.
