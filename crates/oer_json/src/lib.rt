@@ -10,8 +10,6 @@ mod numbers;
 mod octets;
 mod refusals;
 mod tables;
-#[cfg(test)]
-mod tests;
 mod values;
 
 pub use json::Json;

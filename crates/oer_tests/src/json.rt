@@ -1,6 +1,6 @@
 //! Octets of JSON, by hand from X.696: a row has a type, JSON, and behind `=>` the octets or the refusal.
 
-use crate::{Refusal, TableError, Tables, octets_of};
+use oer_json::{Refusal, TableError, Tables, octets_of};
 use std::alloc::Global;
 
 /// A table of one type of each form, and of some under constraints.
