@@ -1,7 +1,6 @@
 mod Allowed
 mod Digits
 mod Distinct
-mod Free
 mod Giving
 mod Members
 mod OwnTags
