@@ -1,6 +1,7 @@
 pub mod Digits
 pub mod Steps
 pub mod Lists
+pub mod Empties
 pub mod Unique
 pub mod UniqueLeaves
 pub mod UniquePlaces

@@ -22,6 +22,7 @@ use Rattle.oer_spec.specs.Reading.{◌>>=◌, quantity_at}
 use Rattle.oer_spec.specs.ReadingBits.{preamble_at, bitmap_at}
 use Rattle.oer_spec.specs.Same.{EachTree, OnSlot}
 use Rattle.oer_spec.specs.Tree.{Leaf, Boolean, Null, Enum, Int, Bits, Text, Tree, Primitive, Struct, ListOf, Choice as ChoiceTree, Rows, NoRows, Required, Optional, Default, Slot, Absent, Present, Trees, NoTrees, More}
+use Rattle.oer_spec.proofs.Empties.{reordered_empties}
 use Rattle.oer_spec.proofs.Lists.{Reorders-refl, Reorders-length, Reorders-all}
 use Rattle.oer_spec.proofs.Nil.{nil_alike}
 use Rattle.oer_spec.proofs.Skips.{is_nil}
@@ -81,23 +82,6 @@ same_empties d (o ∷ os) (More t ts) i h =
     ∙ ap (λ (b : Bool). cond b (suc (empties (canonical_elements ts))) (empties (canonical_elements ts))) (sym (nil_alike t Lenient d o i.0 h.0))
     ∙ ap (λ (z : ℕ). cond (is_nil o) (suc z) z) (same_empties d os ts i.1 h.1)
     ∙ sym (empty_of o os)
-
--- in whatever order
-taken_empties : (os : List Octets) (o : Octets) (rest : List Octets) → Stands os o rest → empties os ≡ empties (o ∷ rest)
-taken_empties [] o rest s = absurd s
-taken_empties (p ∷ os) o rest (inl (e, f)) = ap (λ (z : Octets). empties (z ∷ os)) e ∙ ap (λ (zs : List Octets). empties (o ∷ zs)) f
-taken_empties ([] ∷ os) [] rest (inr (rs, e, s)) = ap suc (taken_empties os [] rs s) ∙ ap (λ (z : List Octets). empties ([] ∷ z)) (sym e)
-taken_empties ([] ∷ os) (y ∷ o) rest (inr (rs, e, s)) = ap suc (taken_empties os (y ∷ o) rs s) ∙ ap (λ (z : List Octets). empties z) (sym e)
-taken_empties ((x ∷ p) ∷ os) [] rest (inr (rs, e, s)) = taken_empties os [] rs s ∙ ap (λ (z : List Octets). empties ([] ∷ z)) (sym e)
-taken_empties ((x ∷ p) ∷ os) (y ∷ o) rest (inr (rs, e, s)) = taken_empties os (y ∷ o) rs s ∙ ap (λ (z : List Octets). empties z) (sym e)
-
-same_more : (o : Octets) (ps qs : List Octets) → empties ps ≡ empties qs → empties (o ∷ ps) ≡ empties (o ∷ qs)
-same_more [] ps qs e = ap suc e
-same_more (x ∷ o) ps qs e = e
-
-reordered_empties : (read os : List Octets) → Reorders read os → empties read ≡ empties os
-reordered_empties [] os r = ap empties (sym r)
-reordered_empties (o ∷ read) os (rest, s, r) = same_more o read rest (reordered_empties read rest r) ∙ sym (taken_empties os o rest s)
 
 reordered : (ordered : Bool) (read own : List Octets) → IsInOrder Lenient ordered read own → Reorders read own
 reordered true read own e = subst (Reorders read) e (Reorders-refl read)
