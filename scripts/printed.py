@@ -1,7 +1,7 @@
 #!/usr/bin/env python3
 """Says where crates/sample_types or crates/recursive_types, or the line of one in crates.txt, isn't what oergen prints of its module
 in crates/oergen/data, where types of made modules are put into other crates than they should be, or lack names, comments, constants
-or boxes that they should have, where of the published modules in scripts/v2x.d a type is left out or isn't listed as listed.txt there has it, where the types of scripts/printed.d/circle.asn, which contain each other, aren't printed with the definitions beside it,
+or boxes that they should have, where of the published modules in scripts/v2x.d a type is left out or isn't listed as listed.txt there has it, where the types of scripts/printed.d/cycle.asn, which contain each other, aren't printed with the definitions beside it,
 where what is printed of long.asn, which has long names and wide choices, or of comments, isn't in the layout that `rt fmt` leaves as it is, and
 where the library for C of a BOOLEAN hasn't the functions that crates/jilgomt has of `bool`, by other names.
 
@@ -29,20 +29,20 @@ def sequences(count):
     return [f"S{at} ::= SEQUENCE {{ {components} }}" for at in range(count)]
 
 
-CIRCLE = ["Tree ::= SEQUENCE { leaves Leaves OPTIONAL }", "Leaves ::= SEQUENCE { tree Tree OPTIONAL, last NULL }"]
+CYCLE = ["Tree ::= SEQUENCE { leaves Leaves OPTIONAL }", "Leaves ::= SEQUENCE { tree Tree OPTIONAL, last NULL }"]
 
 # types, and how many of them each crate should have
 CRATES = (
     ([f"N{at} ::= NULL" for at in range(81)], [40, 40, 1]),
-    (sequences(2) + CIRCLE, [4]),
-    (sequences(30) + CIRCLE, [30, 2]),
-    (sequences(30) + CIRCLE + ["Last ::= NULL"], [30, 3]),
+    (sequences(2) + CYCLE, [4]),
+    (sequences(30) + CYCLE, [30, 2]),
+    (sequences(30) + CYCLE + ["Last ::= NULL"], [30, 3]),
 )
 
-# what is printed of circle.asn: the line for crates.txt, how many files, and the definitions among them
-CIRCLE_LINE = "m: rasn_oer oer_write asn1_core\n"
-CIRCLE_FILES = 5
-CIRCLE_DEFINITIONS = {
+# what is printed of cycle.asn: the line for crates.txt, how many files, and the definitions among them
+CYCLE_LINE = "m: rasn_oer oer_write asn1_core\n"
+CYCLE_FILES = 5
+CYCLE_DEFINITIONS = {
     "m/specs/Lib.antt": "pub mod BoxOfWeights\n",
     "m/specs/BoxOfWeights.antt": (DATA / "BoxOfWeights.antt.txt").read_text(encoding="utf-8"),
 }
@@ -223,10 +223,10 @@ def unread(program):
 def undefined(program):
     """Where types that contain each other are printed without what defines what they weigh, or as another crate."""
     with tempfile.TemporaryDirectory() as folder:
-        lines, files = printed(program, folder, "m", DATA / "circle.asn")
-    faults = [f"circle.asn: {it} isn't what it should be" for it, text in CIRCLE_DEFINITIONS.items() if files.get(it) != text]
-    faults += [] if lines == CIRCLE_LINE else [f"circle.asn: the line {lines!r}, and not {CIRCLE_LINE!r}"]
-    faults += [] if len(files) == CIRCLE_FILES else [f"circle.asn: {len(files)} files, and not {CIRCLE_FILES}"]
+        lines, files = printed(program, folder, "m", DATA / "cycle.asn")
+    faults = [f"cycle.asn: {it} isn't what it should be" for it, text in CYCLE_DEFINITIONS.items() if files.get(it) != text]
+    faults += [] if lines == CYCLE_LINE else [f"cycle.asn: the line {lines!r}, and not {CYCLE_LINE!r}"]
+    faults += [] if len(files) == CYCLE_FILES else [f"cycle.asn: {len(files)} files, and not {CYCLE_FILES}"]
     return faults
 
 

@@ -1,5 +1,6 @@
 //! Tags: their classes, numbers and order, and the universal tags (X.680, clause 8).
 ghost use Rattle.std.specs.Prelude.{◌≡◌};
+ghost use Rattle.asn1_core.specs.Tags.{class_number};
 
 /// The class of a tag (X.680, clause 8), in the order of tags (X.680, 8.6).
 #[derive(Debug, Clone, Copy, PartialEq, Eq, PartialOrd, Ord)]
@@ -8,6 +9,22 @@ pub enum Class {
     Application,
     Context,
     Private,
+}
+
+impl Class {
+    /// The class's number, which is its place in the order of tags (X.680, 8.6) and the top two bits of a tag's first octet
+    /// (X.696, 8.7.2.1): 0 universal, 1 application, 2 context, 3 private.
+    #[inline(always)]
+    pub fn number(self) -> u8
+        ensures { result ≡ class_number self }
+    {
+        match self {
+            Class::Universal => 0,
+            Class::Application => 1,
+            Class::Context => 2,
+            Class::Private => 3,
+        }
+    }
 }
 
 /// A tag: its class and its number (X.680, clause 8).

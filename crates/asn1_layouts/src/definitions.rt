@@ -15,16 +15,16 @@ const MAX_LISTS: usize = 64;
 /// How many types there may be.
 const MAX_DEFINITIONS: usize = 1000000;
 
-/// A circle of types that contain one another.
+/// A cycle of types that contain one another.
 #[derive(Clone, Copy)]
-pub struct Circle {
-    /// No other circle has it.
+pub struct Cycle {
+    /// No other cycle has it.
     pub number: usize,
     /// The place of its knot, the type that it is cut at: without it none of the others contains itself. Nothing where there is none.
     pub knot: Option<usize>,
 }
 
-/// How a part leads back into the circle of the type that has it.
+/// How a part leads back into the cycle of the type that has it.
 #[derive(Clone, Copy, PartialEq, Eq)]
 pub enum Tie {
     /// It doesn't.
@@ -47,7 +47,7 @@ pub struct Part<'m> {
     pub inner: &'m Type,
     /// The place of its definition, where it has one.
     pub target: Option<usize>,
-    /// `Plain` until circles are found.
+    /// `Plain` until cycles are found.
     pub tie: Tie,
     /// Whether its Rust type is held in a box, so that the type that has it reaches fewer fields.
     pub is_held: bool,
@@ -61,8 +61,8 @@ pub struct Definition<'m> {
     pub module: usize,
     pub of: &'m Type,
     pub parts: Vec<Part<'m>>,
-    /// The circle that it is of: nothing where it isn't, and until circles are found.
-    pub circle: Option<Circle>,
+    /// The cycle that it is of: nothing where it isn't, and until cycles are found.
+    pub cycle: Option<Cycle>,
     /// Whether its Rust type keeps what newer versions of it have.
     pub keeps_unknown: bool,
     /// Why it can't be resolved: then it has no parts. Nothing where it can.
@@ -292,7 +292,7 @@ pub fn definitions<'m>(
             module,
             of,
             parts,
-            circle: None,
+            cycle: None,
             keeps_unknown: false,
             fault,
         })?;

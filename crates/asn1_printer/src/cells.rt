@@ -35,7 +35,7 @@ pub struct Cell {
     pub arguments: Text,
     /// Its line in the table, less the index.
     pub entry: Text,
-    /// Whether the type holds knots of its circle.
+    /// Whether the type holds knots of its cycle.
     pub holds_knot: bool,
 }
 
@@ -54,7 +54,7 @@ impl Cell {
         }
     }
 
-    /// The cell of a type that leads back into its circle so: one for what holds knots has a name of its own.
+    /// The cell of a type that leads back into its cycle so: one for what holds knots has a name of its own.
     fn tied(self, tie: Tie) -> Cell {
         if tie == Tie::Plain {
             return self;

@@ -19,7 +19,7 @@ pub struct Chain<'c> {
     pub root_count: usize,
     pub is_extensible: bool,
     pub is_choice: bool,
-    /// The knot of its circle, where it is of one.
+    /// The knot of its cycle, where it is of one.
     pub knot: Option<&'c str>,
     /// Of a CHOICE, whether it keeps alternatives of newer versions.
     pub keeps_unknown: bool,
@@ -40,7 +40,7 @@ fn push_parameter(out: &mut Text, cells: &[Cell]) {
 }
 
 impl<'c> Chain<'c> {
-    /// The row of a SEQUENCE that has a root alone, and is of no circle.
+    /// The row of a SEQUENCE that has a root alone, and is of no cycle.
     pub fn of(owner: &'c str, cells: &'c [Cell]) -> Chain<'c> {
         Chain {
             owner,

@@ -2,7 +2,7 @@
 
 use crate::cells::{Cell, Place, alternative_name, cell_of, see_name};
 use crate::chains::{Chain, push_row};
-use crate::kept::KEPT_CHOICE;
+use crate::kept::choice_holder;
 use crate::knot_templates::KNOT_ALTERNATING;
 use crate::knots::{knot_name, owner_words};
 use crate::templates::{CHOICE, CHOICE_IMPLS};
@@ -83,7 +83,7 @@ fn push_addition_name(out: &mut Text, of: Chain<'_>) {
     out.push(")");
 }
 
-/// Says what names the tags of a CHOICE: in a circle constants of the module, else those of the impl.
+/// Says what names the tags of a CHOICE: in a cycle constants of the module, else those of the impl.
 fn put_tag_names(words: &mut Words, of: Chain<'_>) {
     if of.knot.is_none() {
         words.put("ROOT_TAGS", "Self::VARIANTS");
@@ -94,15 +94,10 @@ fn put_tag_names(words: &mut Words, of: Chain<'_>) {
     push_addition_name(words.begin("ADDITION_TAGS"), of);
 }
 
-/// The library's CHOICE.
-fn holder_of(keeps_unknown: bool) -> &'static str {
-    if keeps_unknown { KEPT_CHOICE } else { "OneOf" }
-}
-
 /// What stands for the words of the templates of a CHOICE.
 fn words_of(alloc: Global, doc: &str, of: Chain<'_>) -> Words {
     let mut words = owner_words(alloc, doc, of.owner, of.knot);
-    words.put("HOLDER", holder_of(of.keeps_unknown));
+    words.put("HOLDER", choice_holder(of.keeps_unknown));
     push_variants(words.begin("VARIANTS"), of.cells);
     push_names(words.begin("LIST"), of.cells, ", ", "");
     push_cases(words.begin("CASES"), of.cells);

@@ -301,7 +301,7 @@ fn told_depth<'m>(
     definition: &Definition<'m>,
     at: usize,
 ) -> Result<Depth, AllocError> {
-    let is_knot = definition.circle.and_then(|circle| circle.knot) == Some(at);
+    let is_knot = definition.cycle.and_then(|cycle| cycle.knot) == Some(at);
     match depth_of(scope, depths, definition) {
         Ok(depth) if is_knot => Ok(Depth {
             own: depth.own.saturating_add(1),

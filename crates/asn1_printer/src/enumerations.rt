@@ -2,7 +2,7 @@
 
 use crate::cells::{see_name, variant_name};
 use crate::items::push_defined;
-use crate::kept::KEPT_ENUMERATION;
+use crate::kept::enumeration_holder;
 use crate::notes::push_note;
 use crate::templates::ENUMERATED;
 use crate::text::{Text, Words};
@@ -93,15 +93,6 @@ fn push_list(alloc: Global, out: &mut Text, owner: &str, variants: &[Variant]) {
     out.push(",\n        ]");
 }
 
-/// The library's ENUMERATED.
-fn holder_of(keeps_unknown: bool) -> &'static str {
-    if keeps_unknown {
-        KEPT_ENUMERATION
-    } else {
-        "Enumeration"
-    }
-}
-
 /// Prints an ENUMERATED by its values.
 fn push_values(
     alloc: Global,
@@ -112,7 +103,7 @@ fn push_values(
 ) {
     let owner = definition.rust_name.as_str();
     let mut words = Words::new(alloc);
-    words.put("HOLDER", holder_of(definition.keeps_unknown));
+    words.put("HOLDER", enumeration_holder(definition.keeps_unknown));
     words.put("HOME", "@HOME@");
     words.put("DOC", doc);
     words.put("NAME", owner);

@@ -2,14 +2,14 @@
 
 use crate::constants::constants_of;
 use crate::kept::{KEPT_LIBRARY, keep_unknown, use_kept};
-use crate::knot_files::{has_knots, push_circle_files, push_definition_names};
+use crate::knot_files::{has_knots, push_cycle_files, push_definition_names};
 use crate::knot_templates::KNOT_USES;
 use crate::outputs::{File, push_placed};
 use crate::printer::{LeftOut, Outcome, Printed, free_names, print_types};
 use crate::sizes::hold_large;
 use crate::text::Text;
 use crate::uses::{Homes, Paths, path_lines, push_path, use_lines};
-use asn1_layouts::circles::find_circles;
+use asn1_layouts::cycles::find_cycles;
 use asn1_layouts::definitions::definitions;
 use asn1_layouts::expansion::tokens_of;
 use asn1_layouts::scope::Scope;
@@ -20,13 +20,13 @@ use asn1_modules::refusal::Refusal;
 use std::alloc::{AllocError, Global};
 use std::collections::BTreeMap;
 
-/// How many types a crate has, but for the rest of a circle: so that its check stays within a few minutes.
+/// How many types a crate has, but for the rest of a cycle: so that its check stays within a few minutes.
 const TYPES_A_CRATE: usize = 40;
 
-/// How many lines a crate has, at least, that ends where a circle begins: the circle's own check takes as long as theirs.
-const LINES_BEFORE_A_CIRCLE: usize = 1000;
+/// How many lines a crate has, at least, that ends where a cycle begins: the cycle's own check takes as long as theirs.
+const LINES_BEFORE_A_CYCLE: usize = 1000;
 
-/// How many lines a file has, but for its last type or circle.
+/// How many lines a file has, but for its last type or cycle.
 const LINES_A_FILE: usize = 500;
 
 /// The library that each printed crate uses.
@@ -99,17 +99,17 @@ fn is_joined(types: &[Printed], at: usize) -> bool {
     }
 }
 
-/// Whether a circle of several types begins there.
-fn begins_circle(types: &[Printed], at: usize) -> bool {
+/// Whether a cycle of several types begins there.
+fn begins_cycle(types: &[Printed], at: usize) -> bool {
     !is_joined(types, at) && is_joined(types, at.saturating_add(1))
 }
 
 /// Whether a crate of so many types and lines ends before the type.
 fn is_full(types: &[Printed], count: usize, lines: usize, at: usize) -> bool {
-    count >= TYPES_A_CRATE || lines >= LINES_BEFORE_A_CIRCLE && begins_circle(types, at)
+    count >= TYPES_A_CRATE || lines >= LINES_BEFORE_A_CYCLE && begins_cycle(types, at)
 }
 
-/// Cuts the types into crates and files; a circle isn't cut.
+/// Cuts the types into crates and files; a cycle isn't cut.
 fn cuts(alloc: Global, types: &[Printed]) -> Result<Vec<Cut>, AllocError> {
     let mut all: Vec<Cut> = Vec::new(alloc);
     let mut cut = Cut {
@@ -388,7 +388,7 @@ fn crate_files(
     for section in all.iter() {
         files.push(section_file(alloc, types, &homes, section)?)?;
         let place = (section.library.as_str(), section.module.as_str());
-        push_circle_files(alloc, &mut files, types_of(types, section), place)?;
+        push_cycle_files(alloc, &mut files, types_of(types, section), place)?;
         if section.module.as_str() == FIRST_MODULE {
             push_root_files(
                 alloc,
@@ -545,7 +545,7 @@ fn output_of(
 /// The crates of modules that were resolved.
 fn crates_of_scope(scope: Scope<'_, '_>, wish: Wish<'_>) -> Result<Output, Refusal> {
     let mut all = definitions(scope, wish.leaves_out)?;
-    let order = find_circles(scope.alloc, &mut all)?;
+    let order = find_cycles(scope.alloc, &mut all)?;
     hold_large(scope.alloc, &mut all, order.as_slice())?;
     if wish.keeps_unknown {
         keep_unknown(&mut all);

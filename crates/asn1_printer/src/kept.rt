@@ -9,10 +9,24 @@ use asn1_modules::ast::Body;
 pub const KEPT_LIBRARY: &str = "oer_kept";
 
 /// Its CHOICE.
-pub const KEPT_CHOICE: &str = "KeptChoice";
+const KEPT_CHOICE: &str = "KeptChoice";
 
 /// Its ENUMERATED.
-pub const KEPT_ENUMERATION: &str = "KeptEnumeration";
+const KEPT_ENUMERATION: &str = "KeptEnumeration";
+
+/// The library's type for a CHOICE.
+pub fn choice_holder(keeps_unknown: bool) -> &'static str {
+    if keeps_unknown { KEPT_CHOICE } else { "OneOf" }
+}
+
+/// The library's type for an ENUMERATED.
+pub fn enumeration_holder(keeps_unknown: bool) -> &'static str {
+    if keeps_unknown {
+        KEPT_ENUMERATION
+    } else {
+        "Enumeration"
+    }
+}
 
 /// Whether a newer version of a type may have alternatives or values that this one hasn't.
 fn may_grow(definition: &Definition<'_>) -> bool {
@@ -24,10 +38,10 @@ fn may_grow(definition: &Definition<'_>) -> bool {
     }
 }
 
-/// Says of each type whether it keeps what newer versions have: of those that may grow, all that are of no circle.
+/// Says of each type whether it keeps what newer versions have: of those that may grow, all that are of no cycle.
 pub fn keep_unknown(all: &mut Vec<Definition<'_>>) {
     for definition in all.iter_mut() {
-        definition.keeps_unknown = definition.circle.is_none() && may_grow(definition);
+        definition.keeps_unknown = definition.cycle.is_none() && may_grow(definition);
     }
 }
 

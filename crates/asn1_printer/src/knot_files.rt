@@ -13,7 +13,7 @@ pub fn has_knots(types: &[Printed]) -> bool {
     types.iter().any(|one| one.knot.is_some())
 }
 
-/// The file of a circle's definitions.
+/// The file of a cycle's definitions.
 fn definitions_file(
     alloc: Global,
     place: (&str, &str),
@@ -50,8 +50,8 @@ fn proof_file(alloc: Global, place: (&str, &str), knot: &Knot) -> Result<File, A
     File::at(alloc, &path, text.end()?)
 }
 
-/// Puts the files of the circles among the types of a module behind others.
-pub fn push_circle_files(
+/// Puts the files of the cycles among the types of a module behind others.
+pub fn push_cycle_files(
     alloc: Global,
     files: &mut Vec<File>,
     types: &[Printed],
@@ -72,7 +72,7 @@ pub fn push_circle_files(
     Ok(())
 }
 
-/// Appends the names of the definitions of the circles among types.
+/// Appends the names of the definitions of the cycles among types.
 pub fn push_definition_names(out: &mut Text, types: &[Printed]) {
     for one in types.iter() {
         if let Some(knot) = &one.knot {

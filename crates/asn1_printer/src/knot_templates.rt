@@ -1,13 +1,13 @@
 //! What is printed of types that contain one another: between two `@` stands a word that is put in.
 
-/// The type that a circle is cut at.
+/// The type that a cycle is cut at.
 pub const KNOT: &str = r#"@DOC@#[derive(Debug, PartialEq, Eq, Drop)]
 pub struct @NAME@(pub @NAME@Content<@NAME@>);
 
 /// What a `@NAME@` holds.
 "#;
 
-/// Another type of a circle.
+/// Another type of a cycle.
 pub const MEMBER: &str = r#"@DOC@pub type @NAME@ = @NAME@Content<@KNOT@>;
 
 /// A `@NAME@` with `K` in the place of `@KNOT@`.
@@ -202,7 +202,7 @@ pub const TIED: &str =
 pub const WEIGHED: &str =
     "@TIED@ ⟦<@NAME@Content<@NAME@> as HoldsKnot<@NAME@>>⟧.weight (record { ties = ⟦<@NAME@Content<@NAME@> as HoldsKnot<@NAME@>>⟧.ties; smaller = @SNAKE@_smaller })";
 
-/// The definitions of a circle: what its values weigh.
+/// The definitions of a cycle: what its values weigh.
 pub const WEIGHTS: &str = r#"-- What a value of `@NAME@` holds weighs less than it does.
 use Rattle.std.specs.Prelude.{◌<◌, ℕ@MAX@}
 use Rattle.std.proofs.Common.{arith}

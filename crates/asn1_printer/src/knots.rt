@@ -1,4 +1,4 @@
-//! What the types of a circle have beside those that don't contain themselves.
+//! What the types of a cycle have beside those that don't contain themselves.
 
 use crate::knot_templates::{
     IS_CHOICE, KNOT, KNOT_IMPLS, LIST_READER, MEMBER, OWN_USES, READER, TIED, WEIGHED,
@@ -8,9 +8,9 @@ use asn1_layouts::definitions::{Definition, Tie};
 use asn1_modules::ast::Body;
 use std::alloc::Global;
 
-/// The name of the knot of a type's circle.
+/// The name of the knot of a type's cycle.
 pub fn knot_name<'d>(all: &'d [Definition<'_>], definition: &Definition<'_>) -> Option<&'d str> {
-    let at = definition.circle.and_then(|circle| circle.knot)?;
+    let at = definition.cycle.and_then(|cycle| cycle.knot)?;
     match all.get(at) {
         Some(knot) => Some(knot.rust_name.as_str()),
         None => None,

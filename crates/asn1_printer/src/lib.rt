@@ -4,7 +4,7 @@
 pub mod cells;
 pub mod chains;
 pub mod choices;
-pub mod circles;
+pub mod cycles;
 pub mod constants;
 pub mod defaults;
 pub mod depths;

@@ -2,7 +2,7 @@
 ghost use Rattle.std.specs.Prelude.{◌≡◌, ◌+◌, [], Err, false, IfOk, length};
 
 use crate::choices::push_choice;
-use crate::circles::{again, require_circle, run_of};
+use crate::cycles::{again, require_cycle, run_of};
 use crate::depths::{Depth, depths_of, require_depth};
 use crate::enumerations::push_enumerated;
 use crate::items::push_limits;
@@ -16,7 +16,7 @@ use crate::templates::ALIAS;
 use crate::text::Text;
 use crate::uses::{KNOWN, declared_names};
 use crate::weights::{Knot, Weights, knot_of, weights_of};
-use asn1_layouts::definitions::{Circle, Definition, Tie};
+use asn1_layouts::definitions::{Cycle, Definition, Tie};
 use asn1_layouts::listing::require_listed;
 use asn1_layouts::scope::Scope;
 use asn1_modules::ast::Body;
@@ -48,11 +48,11 @@ pub struct Printed {
     pub name: String,
     pub text: String,
     pub names: Vec<String>,
-    /// Whether it stands in the file of the type before: both are of one circle.
+    /// Whether it stands in the file of the type before: both are of one cycle.
     pub is_joined: bool,
-    /// What the definitions of its circle have of it.
+    /// What the definitions of its cycle have of it.
     pub weights: Weights,
-    /// What they have of it as their knot, which is the last of its circle.
+    /// What they have of it as their knot, which is the last of its cycle.
     pub knot: Option<Knot>,
 }
 
@@ -78,7 +78,7 @@ enum State {
     LeftOut,
 }
 
-/// What is known so far: what became of each type, how deep each is, and what came of a circle's other types, which are printed with its
+/// What is known so far: what became of each type, how deep each is, and what came of a cycle's other types, which are printed with its
 /// first one, the next one last.
 #[derive(Drop)]
 struct Progress {
@@ -96,7 +96,7 @@ impl Progress {
     }
 }
 
-/// Refuses a type that stands on one that isn't printed, but for those of its own circle; none where it isn't known yet what is printed.
+/// Refuses a type that stands on one that isn't printed, but for those of its own cycle; none where it isn't known yet what is printed.
 fn require_targets<'m>(
     scope: Scope<'m, '_>,
     definition: &Definition<'m>,
@@ -142,8 +142,8 @@ fn push_alias<'m>(
     }
 }
 
-/// A name of a type of its circle.
-fn push_circle_name(
+/// A name of a type of its cycle.
+fn push_cycle_name(
     all: &[Definition<'_>],
     out: &mut Text,
     definition: &Definition<'_>,
@@ -196,8 +196,8 @@ fn text_of<'m>(
             let items = (items.as_slice(), root.unwrap_or(items.len()));
             push_enumerated(scope, &mut out, definition, items, doc)?;
         }
-        Body::Reference(_) if definition.circle.is_some() => {
-            push_circle_name(all, &mut out, definition, doc);
+        Body::Reference(_) if definition.cycle.is_some() => {
+            push_cycle_name(all, &mut out, definition, doc);
         }
         Body::Simple(_) | Body::Integer(_) | Body::BitString(_) | Body::Reference(_) => {
             push_alias(scope, all, &mut out, definition, doc)?
@@ -289,7 +289,7 @@ fn clashes<'m>(scope: Scope<'m, '_>, all: &[Definition<'m>]) -> Result<Vec<usize
     let mut places = BTreeMap::new(scope.alloc);
     let mut found = Vec::new(scope.alloc);
     for definition in all.iter() {
-        if definition.circle.is_some() {
+        if definition.cycle.is_some() {
             places.insert(String::from_str(scope.alloc, "k")?, (all.len(), true))?;
             break;
         }
@@ -367,7 +367,7 @@ fn print_one<'m>(
     })
 }
 
-/// Prints the types of a circle, the last one first.
+/// Prints the types of a cycle, the last one first.
 fn print_members<'m>(
     scope: Scope<'m, '_>,
     all: &[Definition<'m>],
@@ -414,20 +414,20 @@ fn require_all<'m>(
     Ok(())
 }
 
-/// Prints the types of a circle. Refused where one of them can't be listed, or isn't printed.
+/// Prints the types of a cycle. Refused where one of them can't be listed, or isn't printed.
 fn print_run<'m>(
     scope: Scope<'m, '_>,
     all: &[Definition<'m>],
     run: &[usize],
-    circle: Circle,
+    cycle: Cycle,
     progress: &mut Progress,
 ) -> Result<Vec<Result<Printed, Refusal>>, Refusal> {
     require_all(scope, all, run)?;
-    require_circle(scope, all, circle, run)?;
+    require_cycle(scope, all, cycle, run)?;
     print_members(scope, all, run, progress)
 }
 
-/// Prints a type that is of no circle. Refused where it can't be resolved, listed or printed.
+/// Prints a type that is of no cycle. Refused where it can't be resolved, listed or printed.
 fn print_alone<'m>(
     scope: Scope<'m, '_>,
     all: &[Definition<'m>],
@@ -442,7 +442,7 @@ fn print_alone<'m>(
     print_one(scope, all, at, definition, progress)
 }
 
-/// Prints the type whose turn it is. At the turn of the first type of a circle all of them are printed, or each is refused as the first of
+/// Prints the type whose turn it is. At the turn of the first type of a cycle all of them are printed, or each is refused as the first of
 /// them is that can't be printed.
 fn print_at<'m>(
     scope: Scope<'m, '_>,
@@ -452,13 +452,13 @@ fn print_at<'m>(
     definition: &Definition<'m>,
     progress: &mut Progress,
 ) -> Result<Printed, Refusal> {
-    let Some(circle) = definition.circle else {
+    let Some(cycle) = definition.cycle else {
         let at = order.get(turn).copied().unwrap_or(turn);
         return print_alone(scope, all, at, definition, progress);
     };
     if progress.waiting.is_empty() {
-        let run = run_of(all, order, turn, circle);
-        progress.waiting = match print_run(scope, all, run, circle, progress) {
+        let run = run_of(all, order, turn, cycle);
+        progress.waiting = match print_run(scope, all, run, cycle, progress) {
             Ok(made) => made,
             Err(why) => refuse_all(scope.alloc, &why, run.len())?,
         };
@@ -485,8 +485,8 @@ fn left_out_by(
     Ok(LeftOut { name, why })
 }
 
-/// Prints types in an order of use that has the types of a circle together: as many are printed and left out together as are handed
-/// in. Refused at the first that can't be printed; with `leaves_out` that one, its circle, and all that stand on them, are left out.
+/// Prints types in an order of use that has the types of a cycle together: as many are printed and left out together as are handed
+/// in. Refused at the first that can't be printed; with `leaves_out` that one, its cycle, and all that stand on them, are left out.
 pub fn print_types<'m>(
     scope: Scope<'m, '_>,
     all: &[Definition<'m>],

@@ -1,6 +1,5 @@
 //! A SEQUENCE or a SET: its struct, its row, its tables and its conversions.
 ghost use Rattle.std.specs.Prelude.{◌≡◌, false, true, IfOk};
-ghost use Rattle.asn1_core.specs.Tags.{class_number};
 ghost use Rattle.asn1_printer.specs.SetOrder.{AreInTagOrder, places_from, roots_from};
 
 use crate::cells::{Cell, Names, Place, cell_of, group_cell, see_name};
@@ -11,7 +10,6 @@ use crate::knots::{knot_name, owner_words};
 use crate::set_order::{put_set_order, text_order};
 use crate::templates::{IN_TAG_ORDER, MEMBERS, TABLES, TYPE, USES_BOTH};
 use crate::text::{Text, Words};
-use asn1_core::Class;
 use asn1_layouts::definitions::{Definition, Part};
 use asn1_layouts::layouts::is_extensible;
 use asn1_layouts::rows::Position;
@@ -72,7 +70,7 @@ fn push_entries(out: &mut Text, cells: &[Cell], indent: &str) {
     out.push_all(&[indent, "]"]);
 }
 
-/// A table of components: a constant of the module in a circle, else its components.
+/// A table of components: a constant of the module in a cycle, else its components.
 fn push_table(out: &mut Text, of: Chain<'_>, part: &str, cells: &[Cell]) {
     if of.knot.is_none() && cells.is_empty() {
         out.push("Fields { fields: &[] }");
@@ -98,7 +96,7 @@ fn push_additions(out: &mut Text, of: Chain<'_>) {
     out.push(")");
 }
 
-/// Says what names the tables of components: in a circle constants of the module, which are printed, else those of the impl.
+/// Says what names the tables of components: in a cycle constants of the module, which are printed, else those of the impl.
 fn put_table_names(words: &mut Words, of: Chain<'_>) {
     if of.knot.is_none() {
         words.put("ROOT_FIELDS", "Self::FIELDS.fields");
@@ -158,18 +156,6 @@ fn push_members(alloc: Global, out: &mut Text, doc: &str, of: Chain<'_>, is_set:
     }
 }
 
-/// The place of a class in the order of tags (X.680, 8.6).
-fn class_number(class: Class) -> u8
-    ensures { result ≡ class_number class }
-{
-    match class {
-        Class::Universal => 0,
-        Class::Application => 1,
-        Class::Context => 2,
-        Class::Private => 3,
-    }
-}
-
 /// The root components that have a tag: the class and the number of each, and its place among all.
 fn tagged_roots(alloc: Global, parts: &[Part<'_>]) -> Result<Vec<(u8, u32, usize)>, AllocError>
     ensures { IfOk result (λ roots. roots.items ≡ roots_from 0 parts.now) }
@@ -178,7 +164,7 @@ fn tagged_roots(alloc: Global, parts: &[Part<'_>]) -> Result<Vec<(u8, u32, usize
     for (at, part) in parts.iter().enumerate() {
         if let Some(row) = part.row {
             if let (Position::Root, Some(tag)) = (row.position, row.tag) {
-                roots.push((class_number(tag.class), tag.value, at))?;
+                roots.push((tag.class.number(), tag.value, at))?;
             }
         }
     }

@@ -139,7 +139,7 @@ fn base_shape<'m>(
     Ok(Shape { text, limits })
 }
 
-/// The Rust type of a part that leads back into its circle, without the lists around it; nothing of another. In a list a knot needs no
+/// The Rust type of a part that leads back into its cycle, without the lists around it; nothing of another. In a list a knot needs no
 /// box, since the elements lie apart.
 fn tied_shape(alloc: Global, all: &[Definition<'_>], part: &Part<'_>) -> Option<Shape> {
     match part.tie {

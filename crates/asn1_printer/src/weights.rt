@@ -1,4 +1,4 @@
-//! What knots weigh in the values of a circle's types, as definitions say it.
+//! What knots weigh in the values of a cycle's types, as definitions say it.
 
 use crate::cells::variant_name;
 use crate::knot_templates::WEIGHTS;
@@ -11,21 +11,21 @@ use asn1_layouts::scope::Scope;
 use asn1_modules::ast::{Body, Need};
 use std::alloc::{AllocError, Global};
 
-/// What the definitions of a circle have of one of its types: the names that they take from elsewhere, and their lines.
+/// What the definitions of a cycle have of one of its types: the names that they take from elsewhere, and their lines.
 #[derive(Drop)]
 pub struct Weights {
     pub uses: Text,
     pub lines: Text,
 }
 
-/// What the definitions of a circle have of its knot: its name, and what its content weighs.
+/// What the definitions of a cycle have of its knot: its name, and what its content weighs.
 #[derive(Drop)]
 pub struct Knot {
     pub name: String,
     pub weight: Text,
 }
 
-/// What a part leads to past lists: how many these are, and the type of the circle there by its name; nothing for the knot.
+/// What a part leads to past lists: how many these are, and the type of the cycle there by its name; nothing for the knot.
 #[derive(Clone, Copy)]
 struct Reach<'d> {
     lists: usize,
@@ -263,7 +263,7 @@ fn push_choice(
     out.lines.push("\n");
 }
 
-/// What the values of a circle's type weigh: nothing of a type in no circle, and of a list, whose elements say it.
+/// What the values of a cycle's type weigh: nothing of a type in no cycle, and of a list, whose elements say it.
 pub fn weights_of(
     scope: Scope<'_, '_>,
     all: &[Definition<'_>],
@@ -274,7 +274,7 @@ pub fn weights_of(
         uses: Text::new(alloc),
         lines: Text::new(alloc),
     };
-    if definition.circle.is_none() {
+    if definition.cycle.is_none() {
         return Ok(out);
     }
     match definition.of.body {
@@ -303,7 +303,7 @@ fn content_weight(alloc: Global, all: &[Definition<'_>], definition: &Definition
     out
 }
 
-/// What the definitions of a circle have of its knot: nothing of another type.
+/// What the definitions of a cycle have of its knot: nothing of another type.
 pub fn knot_of(
     alloc: Global,
     all: &[Definition<'_>],
@@ -328,7 +328,7 @@ fn push_word_uses(out: &mut Text, lines: &str) {
     }
 }
 
-/// Appends the definitions of a circle, by those of its types.
+/// Appends the definitions of a cycle, by those of its types.
 pub fn push_definitions(out: &mut Text, knot: &Knot, uses: &Text, lines: &Text) {
     let mut whole = Text::new(out.alloc());
     whole.push_text(lines);

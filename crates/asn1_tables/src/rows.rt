@@ -2,7 +2,7 @@
 
 use crate::forms::{Form, Standard};
 use crate::leaves::{CHOICE, SEQUENCE};
-use asn1_core::{Class, Tag};
+use asn1_core::Tag;
 use asn1_layouts::rows::Position;
 use std::alloc::{AllocError, Global};
 use std::collections::BTreeMap;
@@ -90,16 +90,6 @@ pub fn sequence_form(
     Ok(form)
 }
 
-/// The number of a class in a table.
-fn class_number(class: Class) -> usize {
-    match class {
-        Class::Universal => 0,
-        Class::Application => 1,
-        Class::Context => 2,
-        Class::Private => 3,
-    }
-}
-
 /// Puts the words of the alternatives that are of the root, or of the others.
 fn push_alternatives(
     words: &mut Vec<usize>,
@@ -110,7 +100,7 @@ fn push_alternatives(
         if (field.position == Position::Root) == is_root {
             let tag = field.tag.unwrap_or(Tag::EOC);
             words.push(field.name)?;
-            words.push(class_number(tag.class))?;
+            words.push(usize::from(tag.class.number()))?;
             words.push(tag.value as usize)?;
             words.push(field.type_number)?;
         }

@@ -1,11 +1,10 @@
 -- What C is answered.
 use Rattle.std.specs.Prelude.{◌≡◌, ℕ, ◌==◌, Bool, false, cond, ℤ, pos, nat_lt, Option, Some, None, Result, Ok, Err}
 use Rattle.asn1_core.specs.Octets.{Octets}
+use Rattle.asn1_core.specs.Tags.{class_number}
 use Rattle.asn1_core.specs.declared.codec.Codec.{Codec}
 use Rattle.asn1_core.specs.declared.codec.Codec.TheVariants.{Oer, Coer}
 use Rattle.asn1_core.specs.declared.tag.Tag.{Tag}
-use Rattle.asn1_core.specs.declared.tag.Class.{Class}
-use Rattle.asn1_core.specs.declared.tag.Class.TheVariants.{Universal, Application, Context, Private}
 use Rattle.asn1_core.specs.declared.error.DecodeError.{DecodeError}
 use Rattle.asn1_core.specs.declared.error.DecodeErrorKind.{DecodeErrorKind}
 use Rattle.asn1_core.specs.declared.error.DecodeErrorKind.TheVariants as decode
@@ -20,12 +19,6 @@ use Rattle.oer_calls.specs.declared.answer.Answer.{Answer}
 use Rattle.oer_calls.specs.declared.calls.Checked.{Checked}
 use Rattle.oer_calls.specs.declared.calls.Outcome.{Outcome}
 use Rattle.oer_calls.specs.declared.calls.Outcome.TheVariants.{Done, NoRoom, Refused, NotConverted}
-
-abbrev pub class_number : Class → ℕ
-class_number Universal = 0
-class_number Application = 1
-class_number Context = 2
-class_number Private = 3
 
 -- a status with how many octets were taken and written
 abbrev pub counted : ℕ → ℕ → ℕ → Answer

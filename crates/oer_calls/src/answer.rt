@@ -2,10 +2,10 @@
 ghost use Rattle.std.specs.Prelude.{◌≡◌};
 ghost use Rattle.asn1_core.specs.Kinds.{decode_kind_name, encode_kind_name};
 ghost use Rattle.oer_calls.specs.Names.{read_name, write_name};
-ghost use Rattle.oer_calls.specs.Answers.{class_number, counted, refused, sized, numbered, tagged, read_answer, write_answer, answer_of, checked_answer, word_answer, word_checked_answer};
+ghost use Rattle.oer_calls.specs.Answers.{counted, refused, sized, numbered, tagged, read_answer, write_answer, answer_of, checked_answer, word_answer, word_checked_answer};
 
 use crate::calls::{Checked, Outcome};
-use asn1_core::{Class, DecodeErrorKind as Kind, EncodeErrorKind, Tag};
+use asn1_core::{DecodeErrorKind as Kind, EncodeErrorKind, Tag};
 use rasn_oer::oer::CodecError;
 
 /// A call did what it was asked for.
@@ -96,21 +96,10 @@ fn tagged(status: u32, kind: u32, tag: Tag, is_flagged: bool) -> Answer
     ensures { result ≡ tagged status kind tag is_flagged }
 {
     let mut answer = refusal(status, kind);
-    answer.tag_class = number_of_class(tag.class);
+    answer.tag_class = u32::from(tag.class.number());
     answer.tag_number = tag.value;
     answer.flag = if is_flagged { 1 } else { 0 };
     answer
-}
-
-fn number_of_class(class: Class) -> u32
-    ensures { result ≡ class_number class }
-{
-    match class {
-        Class::Universal => 0,
-        Class::Application => 1,
-        Class::Context => 2,
-        Class::Private => 3,
-    }
 }
 
 impl Answer {

@@ -157,13 +157,13 @@ choices_small c k v (e, i) = small_in (c.roots ++ c.additions) (c.tag_of v) (bot
 
 -- ---- a tag of distinct ones stands there once
 
-times_of_both : (a b : List Tag) (g : Tag) → times_held (a ++ b) g ≡ times_held a g + times_held b g
+pub times_of_both : (a b : List Tag) (g : Tag) → times_held (a ++ b) g ≡ times_held a g + times_held b g
 times_of_both [] b g = omega arith
 times_of_both (x ∷ xs) b g = let h = times_of_both xs b g in omega (arith, h)
 
-times_none : (gs : List Tag) (g : Tag) → holds gs g ≡ false → times_held gs g ≡ 0
-times_none [] g e = refl
-times_none (x ∷ xs) g e = go (same_tag x g) (λ f. times_none xs g f) e
+pub never_held : (gs : List Tag) (g : Tag) → holds gs g ≡ false → times_held gs g ≡ 0
+never_held [] g e = refl
+never_held (x ∷ xs) g e = go (same_tag x g) (λ f. never_held xs g f) e
   where
     go : (b : Bool) → (holds xs g ≡ false → times_held xs g ≡ 0) → (b || holds xs g) ≡ false → cond b 1 0 + times_held xs g ≡ 0
     go true k e = absurd (cc e)
@@ -181,7 +181,7 @@ times_once [] g d h = absurd (cc h)
 times_once (x ∷ xs) g (n, d) h = go (times_once xs g d) (same_tag x g) refl h
   where
     go : (holds xs g ≡ true → times_held xs g ≡ 1) → (s : Bool) → same_tag x g ≡ s → (s || holds xs g) ≡ true → cond s 1 0 + times_held xs g ≡ 1
-    go rest true f k = let z = times_none xs g (holds_same x g f xs ∙ n) in omega (arith, z)
+    go rest true f k = let z = never_held xs g (holds_same x g f xs ∙ n) in omega (arith, z)
     go rest false f k = let z = rest k in omega (arith, z)
 
 pub choices_is : {A : Type 0} (c : Choices A) → AreChoices c → (v : A) → IsOneOf c v → IsTree (tree_of c v)

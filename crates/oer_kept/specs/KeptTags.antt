@@ -8,7 +8,7 @@ use Rattle.asn1_core.specs.Texts.{AnyOctets}
 use Rattle.asn1_core.specs.declared.error.DecodeError.{DecodeError}
 use Rattle.asn1_core.specs.declared.error.DecodeErrorKind.{DecodeErrorKind}
 use Rattle.asn1_core.specs.declared.tag.Tag.{Tag}
-use Rattle.oer_choices.specs.Choosing.{Choices, AreChoices, IsOneOf, choices_small, choices_is, distinct_tags}
+use Rattle.oer_choices.specs.Choosing.{Choices, AreChoices, IsOneOf, choices_small, choices_is, distinct_tags, times_of_both, never_held}
 use Rattle.oer_read.specs.Choices.{ChoiceAnswers}
 use Rattle.oer_read.specs.Law.{IsForMemory, Promised}
 use Rattle.oer_read.specs.State.{State}
@@ -19,7 +19,7 @@ use Rattle.oer_spec.specs.Same.{Alike}
 use Rattle.oer_spec.specs.Spelled.{IsTextOf, unsized_text, unsized_text_is, unsized_texts_alike}
 use Rattle.oer_spec.specs.Tree.{Tree, Choice, Primitive}
 use Rattle.oer_kept.specs.KeptNumbers.{no_leaf}
-use Rattle.oer_kept.specs.Unknown.{unknown, unknown_once, unknown_never, times_of_both, never_held, held_never, held_once, holds_of_both}
+use Rattle.oer_kept.specs.Unknown.{unknown, unknown_once, unknown_never, held_never, held_once, holds_of_both}
 use Rattle.oer_kept.specs.declared.choices.KeptChoice.{KeptChoice}
 use Rattle.oer_kept.specs.declared.choices.KeptChoice.TheVariants.{Known, Other}
 

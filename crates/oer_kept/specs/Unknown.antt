@@ -6,6 +6,7 @@ use Rattle.asn1_core.specs.Tags.{holds, times_held, same_tag, class_number}
 use Rattle.asn1_core.specs.declared.tag.Class.{Class}
 use Rattle.asn1_core.specs.declared.tag.Class.TheVariants.{Universal, Application, Context, Private}
 use Rattle.asn1_core.specs.declared.tag.Tag.{Tag}
+use Rattle.oer_choices.specs.Choosing.{times_of_both, never_held}
 
 -- those of a class with numbers below n
 pub below : Class → ℕ → List Tag
@@ -30,18 +31,6 @@ abbrev pub unknown : List Tag → List Tag
 unknown known = unknown_below (2 ^ 32) known
 
 -- ---- how often a tag stands in lists
-
-pub times_of_both : (a b : List Tag) (g : Tag) → times_held (a ++ b) g ≡ times_held a g + times_held b g
-times_of_both [] b g = omega arith
-times_of_both (x ∷ xs) b g = let h = times_of_both xs b g in omega (arith, h)
-
-pub never_held : (gs : List Tag) (g : Tag) → holds gs g ≡ false → times_held gs g ≡ 0
-never_held [] g e = refl
-never_held (x ∷ xs) g e = go (same_tag x g) (λ f. never_held xs g f) e
-  where
-    go : (b : Bool) → (holds xs g ≡ false → times_held xs g ≡ 0) → (b || holds xs g) ≡ false → cond b 1 0 + times_held xs g ≡ 0
-    go true k e = absurd (cc e)
-    go false k e = omega (arith, k e)
 
 pub held_never : (gs : List Tag) (g : Tag) → times_held gs g ≡ 0 → holds gs g ≡ false
 held_never [] g e = refl

@@ -1,4 +1,4 @@
-//! Types that hold values of a knot: of the type in which a circle of types is cut.
+//! Types that hold values of a knot: of the type in which a cycle of types is cut.
 
 use asn1_core::{DecodeError, Tag};
 use oer_read::Decoder;

@@ -1,24 +1,10 @@
 //! Writes a tag (X.696, 8.7).
 ghost use Rattle.std.specs.Prelude.{◌≡◌, ◌≤◌, ◌+◌, ◌/◌, ◌%◌, ◌++◌, ◌∷◌, [], map};
 ghost use Rattle.std.specs.Int.Digits.{digits_of};
-ghost use Rattle.asn1_core.specs.Tags.{class_number};
 ghost use Rattle.oer_spec.specs.Lengths.{tag_octets};
 ghost use Rattle.oer_spec.specs.Writing.{AppendsOrMemory, group_octets};
 
-use asn1_core::{Class, EncodeErrorKind, Tag};
-
-/// The class as it stands in the top two bits of an octet (X.696, 8.7.2.1).
-#[inline(always)]
-fn class_bits(class: Class) -> u8
-    ensures { result ≡ class_number class }
-{
-    match class {
-        Class::Universal => 0,
-        Class::Application => 1,
-        Class::Context => 2,
-        Class::Private => 3,
-    }
-}
+use asn1_core::{EncodeErrorKind, Tag};
 
 /// Appends the number's groups of seven bits, highest first, each with its top bit set; none for 0.
 #[tactic(auto, using(crate::proofs::WriteTags::front_groups))]
@@ -50,7 +36,7 @@ fn write_groups(number: u64, out: &mut Vec<u8>) -> Result<(), EncodeErrorKind>
 pub fn write_tag(tag: Tag, out: &mut Vec<u8>) -> Result<(), EncodeErrorKind>
     ensures { AppendsOrMemory result (tag_octets tag) out.old.items out.new.items }
 {
-    let class = class_bits(tag.class) * 64;
+    let class = tag.class.number() * 64;
     if tag.value < 63 {
         out.push(class + tag.value as u8)?;
         return Ok(());
@@ -67,6 +53,6 @@ fn write_long_tag(tag: Tag, out: &mut Vec<u8>) -> Result<(), EncodeErrorKind>
     requires { 63 ≤ tag.value }
     ensures { AppendsOrMemory result (tag_octets tag) out.old.items out.new.items }
 {
-    out.push(class_bits(tag.class) * 64 + 63)?;
+    out.push(tag.class.number() * 64 + 63)?;
     write_groups(tag.value as u64, out)
 }

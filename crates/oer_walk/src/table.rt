@@ -3,13 +3,12 @@
 //! The first word is the number of types. One word a type follows: the place in the table where the type's kind stands, with
 //! what goes with the kind behind it ([`Kind`]). Any words are a table: what isn't there is read as `u32::MAX`.
 ghost use Rattle.std.specs.Prelude.{◌≡◌, ◌<◌, ◌^◌, IfSome};
-ghost use Rattle.asn1_core.specs.Tags.{class_number};
 ghost use Rattle.oer_walk.specs.Kinds.{kind_numbered};
 ghost use Rattle.oer_walk.specs.Walks.{is_leaf, is_nothing};
 ghost use Rattle.oer_walk.specs.Tables.{word, place_of, kind_of, count_at, form_at, form_of, parts_at, component_of, alternative_at, is_of, alternative_of, optionals};
 
 use crate::kinds::Kind;
-use asn1_core::{Class, Tag};
+use asn1_core::Tag;
 
 /// A table.
 #[derive(Clone, Copy)]
@@ -93,23 +92,12 @@ pub struct Alternative {
     pub type_number: u32,
 }
 
-fn number_of_class(class: Class) -> u32
-    ensures { result ≡ class_number class }
-{
-    match class {
-        Class::Universal => 0,
-        Class::Application => 1,
-        Class::Context => 2,
-        Class::Private => 3,
-    }
-}
-
 impl Alternative {
     /// Whether it has that tag.
     fn is_of(self, tag: Tag) -> bool
         ensures { result ≡ is_of self tag }
     {
-        self.class == number_of_class(tag.class) && self.number == tag.value
+        self.class == u32::from(tag.class.number()) && self.number == tag.value
     }
 }
 

@@ -12,7 +12,7 @@ ghost use Rattle.oer_spec.specs.Spelled.{IsConsistent};
 use crate::encode::Encode;
 use crate::insertions::Insertions;
 use crate::rows::append_value;
-use asn1_core::{Class, Constraints, EncodeError, EncodeErrorKind, Tag};
+use asn1_core::{Constraints, EncodeError, EncodeErrorKind, Tag};
 use std::alloc::Global;
 use std::marker::Model;
 
@@ -33,23 +33,11 @@ pub(crate) struct Component {
     ghost small: { tag.value < 2 ^ 32 },
 }
 
-/// The class's place in the order of tags.
-fn class_rank(class: Class) -> u64
-    ensures { result ≡ class_number class }
-{
-    match class {
-        Class::Universal => 0,
-        Class::Application => 1,
-        Class::Context => 2,
-        Class::Private => 3,
-    }
-}
-
 /// A number that orders tags as they are ordered: by class, then by number.
 fn tag_key(tag: Tag) -> u64
     ensures { result ≡ class_number tag.class * 2 ^ 32 + tag.value }
 {
-    class_rank(tag.class) * 0x1_0000_0000 + tag.value as u64
+    u64::from(tag.class.number()) * 0x1_0000_0000 + tag.value as u64
 }
 
 impl Component {

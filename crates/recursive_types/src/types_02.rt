@@ -451,7 +451,7 @@ impl Standard<State> for PostStateDefault {
     ghost admitted = { (refl, refl) };
 }
 
-/// Beside a circle. Newer versions may have other states and ways.
+/// Beside a cycle. Newer versions may have other states and ways.
 ///
 /// `Post ::= SEQUENCE { letter Envelope, answer Body OPTIONAL, state State DEFAULT sent, way Way OPTIONAL
 /// }`

@@ -6,4 +6,4 @@ use Rattle.oer_leaf_write.proofs.tags.write_long_tag.Goals as goal
 
 pub returns : goal.returns
 returns c = subst (λ o. AppendsOrMemory c.write_groups.result o c.args.out.now.items c.write_groups.new.out.items) (long_tag c.args.tag c.requires)
-    (appends_more c.write_groups.result ((class_number c.args.tag.class * 64 + 63) ∷ []) (group_octets c.args.tag.value) c.args.out.now.items c.push.new.self.items c.write_groups.new.out.items (cc (c.in_ok-push.ensures.items, c.class_bits.ensures)) c.write_groups.ensures)
+    (appends_more c.write_groups.result ((class_number c.args.tag.class * 64 + 63) ∷ []) (group_octets c.args.tag.value) c.args.out.now.items c.push.new.self.items c.write_groups.new.out.items (cc (c.in_ok-push.ensures.items, c.number.ensures)) c.write_groups.ensures)

@@ -1,6 +1,6 @@
-//! Circles of types that contain one another: where each is cut, and an order of use that has the types of a circle together.
+//! Cycles of types that contain one another: where each is cut, and an order of use that has the types of a cycle together.
 
-use crate::definitions::{Circle, Definition, Part, Tie};
+use crate::definitions::{Cycle, Definition, Part, Tie};
 use crate::order::{behind_names, order_around, order_of_use};
 use asn1_modules::ast::Body;
 use std::alloc::{AllocError, Global};
@@ -117,7 +117,7 @@ fn contains_itself(all: &[Definition<'_>], at: usize) -> bool {
     }
 }
 
-/// How willingly a circle is cut at a type: at a SEQUENCE before a SET, at that before a CHOICE, at that before a list; nothing where
+/// How willingly a cycle is cut at a type: at a SEQUENCE before a SET, at that before a CHOICE, at that before a list; nothing where
 /// it can't be.
 fn rank_of(definition: &Definition<'_>) -> Option<u8> {
     match definition.of.body {
@@ -130,7 +130,7 @@ fn rank_of(definition: &Definition<'_>) -> Option<u8> {
     }
 }
 
-/// The types that a circle may be cut at, as they are tried: of one sort first those that others use, then as they stand in the text.
+/// The types that a cycle may be cut at, as they are tried: of one sort first those that others use, then as they stand in the text.
 fn candidates_of(
     alloc: Global,
     all: &[Definition<'_>],
@@ -147,7 +147,7 @@ fn candidates_of(
     Ok(candidates)
 }
 
-/// The types of a circle in order of use, but the one that it is cut at, which is the last; nothing where none cuts it.
+/// The types of a cycle in order of use, but the one that it is cut at, which is the last; nothing where none cuts it.
 fn cut(
     alloc: Global,
     all: &[Definition<'_>],
@@ -164,7 +164,7 @@ fn cut(
     Ok(None)
 }
 
-/// How a part leads back into the circle of the definition at a place.
+/// How a part leads back into the cycle of the definition at a place.
 fn tie_of(
     all: &[Definition<'_>],
     grouping: &Grouping,
@@ -185,7 +185,7 @@ fn tie_of(
     }
 }
 
-/// How each part of the definition at a place leads back into its circle.
+/// How each part of the definition at a place leads back into its cycle.
 fn ties_of(
     alloc: Global,
     all: &[Definition<'_>],
@@ -211,25 +211,25 @@ fn set_ties(parts: &mut Vec<Part<'_>>, ties: &[Tie]) {
     }
 }
 
-/// Says of the types of a circle that they are of it.
-fn set_circle(
+/// Says of the types of a cycle that they are of it.
+fn set_cycle(
     alloc: Global,
     all: &mut Vec<Definition<'_>>,
     grouping: &Grouping,
     group: &[usize],
-    circle: Circle,
+    cycle: Cycle,
 ) -> Result<(), AllocError> {
     for at in group.iter() {
-        let ties = ties_of(alloc, all.as_slice(), grouping, *at, circle.knot)?;
+        let ties = ties_of(alloc, all.as_slice(), grouping, *at, cycle.knot)?;
         if let Some(definition) = all.get_mut(*at) {
-            definition.circle = Some(circle);
+            definition.cycle = Some(cycle);
             set_ties(&mut definition.parts, ties.as_slice());
         }
     }
     Ok(())
 }
 
-/// Puts the types of a group behind others, in order of use; where they are a circle, each says so.
+/// Puts the types of a group behind others, in order of use; where they are a cycle, each says so.
 fn push_group(
     alloc: Global,
     all: &mut Vec<Definition<'_>>,
@@ -246,13 +246,13 @@ fn push_group(
         Some(places) => (places.as_slice(), places.last().copied()),
         None => (group, None),
     };
-    set_circle(alloc, all, grouping, group, Circle { number, knot })?;
+    set_cycle(alloc, all, grouping, group, Cycle { number, knot })?;
     order.extend_from_slice(places)
 }
 
-/// Finds the circles, says in each definition of which it is, and answers an order of use: each place behind those that it uses, the
-/// types of a circle together, the one that it is cut at behind the others.
-pub fn find_circles(
+/// Finds the cycles, says in each definition of which it is, and answers an order of use: each place behind those that it uses, the
+/// types of a cycle together, the one that it is cut at behind the others.
+pub fn find_cycles(
     alloc: Global,
     all: &mut Vec<Definition<'_>>,
 ) -> Result<Vec<usize>, AllocError> {

@@ -1,6 +1,6 @@
-//! Types that contain one another: which of them are printed, and all of a circle together.
+//! Types that contain one another: which of them are printed, and all of a cycle together.
 
-use asn1_layouts::definitions::{Circle, Definition, Part, Tie};
+use asn1_layouts::definitions::{Cycle, Definition, Part, Tie};
 use asn1_layouts::rows::{Position, Row};
 use asn1_layouts::scope::Scope;
 use asn1_modules::ast::{Body, Need, Type};
@@ -23,7 +23,7 @@ fn is_in_set_of(start: &Type) -> bool {
     false
 }
 
-/// Whether an addition that leads back into its circle is printed: it and those in front of it are OPTIONAL, and none is in a group.
+/// Whether an addition that leads back into its cycle is printed: it and those in front of it are OPTIONAL, and none is in a group.
 fn is_printed_addition(definition: &Definition<'_>, row: Row<'_>) -> bool {
     for part in definition.parts.iter() {
         let Some(one) = part.row else {
@@ -42,7 +42,7 @@ fn is_printed_addition(definition: &Definition<'_>, row: Row<'_>) -> bool {
     false
 }
 
-/// What can be read in the place of a component that leads back into its circle; nothing where it is printed.
+/// What can be read in the place of a component that leads back into its cycle; nothing where it is printed.
 fn unprinted_row(definition: &Definition<'_>, part: &Part<'_>) -> Option<&'static str> {
     let Some(row) = part.row else {
         return None;
@@ -60,7 +60,7 @@ fn unprinted_row(definition: &Definition<'_>, part: &Part<'_>) -> Option<&'stati
     }
 }
 
-/// What can be read in the place of a part that leads back into its circle; nothing where it is printed.
+/// What can be read in the place of a part that leads back into its cycle; nothing where it is printed.
 fn unprinted(definition: &Definition<'_>, part: &Part<'_>) -> Option<&'static str> {
     let whole = match part.row {
         Some(row) => row.of,
@@ -73,7 +73,7 @@ fn unprinted(definition: &Definition<'_>, part: &Part<'_>) -> Option<&'static st
     }
 }
 
-/// Refuses a type of a circle that holds knots in a form that isn't printed.
+/// Refuses a type of a cycle that holds knots in a form that isn't printed.
 fn require_form<'m>(scope: Scope<'m, '_>, definition: &Definition<'m>) -> Result<(), Refusal> {
     for part in definition.parts.iter() {
         if let (true, Some(reads)) = (part.tie != Tie::Plain, unprinted(definition, part)) {
@@ -83,11 +83,11 @@ fn require_form<'m>(scope: Scope<'m, '_>, definition: &Definition<'m>) -> Result
     Ok(())
 }
 
-/// Refuses a circle one of whose types holds knots in a form that isn't printed, and one that isn't cut.
-pub fn require_circle<'m>(
+/// Refuses a cycle one of whose types holds knots in a form that isn't printed, and one that isn't cut.
+pub fn require_cycle<'m>(
     scope: Scope<'m, '_>,
     all: &[Definition<'m>],
-    circle: Circle,
+    cycle: Cycle,
     run: &[usize],
 ) -> Result<(), Refusal> {
     for at in run.iter() {
@@ -95,7 +95,7 @@ pub fn require_circle<'m>(
             require_form(scope, definition)?;
         }
     }
-    match (circle.knot, run.first().and_then(|at| all.get(*at))) {
+    match (cycle.knot, run.first().and_then(|at| all.get(*at))) {
         (None, Some(first)) => Err(scope.refused(
             first.of.first,
             "types that contain themselves only through one of them: others aren't printed yet",
@@ -104,17 +104,17 @@ pub fn require_circle<'m>(
     }
 }
 
-/// The types of a circle among places, from the one at `turn` on.
+/// The types of a cycle among places, from the one at `turn` on.
 pub fn run_of<'o>(
     all: &[Definition<'_>],
     order: &'o [usize],
     turn: usize,
-    circle: Circle,
+    cycle: Cycle,
 ) -> &'o [usize] {
     let mut to = turn;
     for at in order.iter().skip(turn) {
-        match all.get(*at).and_then(|definition| definition.circle) {
-            Some(own) if own.number == circle.number => to = to.saturating_add(1),
+        match all.get(*at).and_then(|definition| definition.cycle) {
+            Some(own) if own.number == cycle.number => to = to.saturating_add(1),
             _ => break,
         }
     }
