@@ -5,7 +5,7 @@ usage: afl.py FOLDER [MINUTES [JOBS]]           (60 minutes and one job, if unse
        afl.py --inputs COUNT SEED               writes damaged octets of the rows to standard output, as hostile.c reads them
 
 FOLDER is made, and keeps what was found. The archive is built with nothing proved, with checks of bounds, overflows and unwraps, and with
-the calls by which AFL++ (Debian's package afl++) counts branches; the inputs to begin with are the rows of oer_vectors. The last job lays
+the calls by which AFL++ (Debian's package afl++) counts branches; the inputs to begin with are the rows of test_vectors. The last job lays
 each block against a page that can't be accessed (libdislocator), the others don't, or one job alone. Prints a line a job, and exits
 with 1 if anything aborted or hung.
 """

@@ -18,7 +18,7 @@ sys.dont_write_bytecode = True
 
 import header  # noqa: E402
 
-NAME = "recursive_types"
+NAME = "example_recursive"
 CRATE = f"{NAME}_c"
 SCRIPTS = ("archive.py", "unproved.py")
 CFLAGS = ["-std=c11", "-O1", "-Wall", "-Wextra", "-Werror"]

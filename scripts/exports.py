@@ -1,5 +1,5 @@
 #!/usr/bin/env python3
-"""Writes the functions of single types that the library for C exports: crates/jilgomt/src/types/*.rt, of the words of crates/oer_words.
+"""Writes the functions of single types that the library for C exports: crates/jilgomt/src/types/*.rt, of the words of crates/oertool_words.
 
 usage: exports.py            says which of these files, or the list of include/jilgomt.h, aren't as it would write them
        exports.py --write    writes the files
@@ -11,7 +11,7 @@ import re
 import sys
 
 top = pathlib.Path(__file__).resolve().parent.parent
-KNOWN = top / "crates/oer_words/src/known"
+KNOWN = top / "crates/oertool_words/src/known"
 TYPES = top / "crates/jilgomt/src/types"
 HEADER = top / "include/jilgomt.h"
 WORD = re.compile(r'"(\w+)" => Ok\(work\.on::<(.+)>\(\)\),')

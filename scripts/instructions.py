@@ -3,7 +3,7 @@
 
 usage: instructions.py [--write] [CRATES]
 
-CRATES is the folder with crates/oer_speed, whose binary lies in out/ once `rt run` or `rt ci` built it. Each row is run by
+CRATES is the folder with crates/bench_speed, whose binary lies in out/ once `rt run` or `rt ci` built it. Each row is run by
 `valgrind --tool=callgrind`, which counts what the processor does, not how long it takes: so the figures are the same on every
 machine, up to how its C library copies. A figure is a two-hundredth of what 202 runs take more than two. It may be at most 3 %
 and one instruction above the one in the file: what makes a row dearer is seen. One that is more than 3 % below is named, so that the file is made anew by
@@ -79,7 +79,7 @@ def write(figures):
 
 def main(words):
     folders = [it for it in words if it != "--write"]
-    program = pathlib.Path(folders[0] if folders else HERE.parent / "crates") / "oer_speed/out/oer_speed"
+    program = pathlib.Path(folders[0] if folders else HERE.parent / "crates") / "bench_speed/out/bench_speed"
     if not shutil.which("valgrind"):
         print("instructions: valgrind isn't installed, so no instructions were counted")
         return 0

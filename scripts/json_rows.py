@@ -1,5 +1,5 @@
 #!/usr/bin/env python3
-"""Turns the canonical octets of the rows of oer_vectors into JSON and back: `oershow --json`, then `oershow --from-json`.
+"""Turns the canonical octets of the rows of test_vectors into JSON and back: `oershow --json`, then `oershow --from-json`.
 
 usage: json_rows.py OERSHOW OERGEN
 
@@ -22,7 +22,7 @@ sys.dont_write_bytecode = True
 
 import words  # noqa: E402
 
-ROWS = top / "crates/oer_vectors/stdout"
+ROWS = top / "crates/test_vectors/stdout"
 # What is read of octets: its canonical octets.
 ROW = re.compile(r"(?:run|read) (?:oer|coer) (\S+) [0-9a-f]* => ([0-9a-f]*)(?:\|[0-9a-f]*\|;0|;[0-9a-f]*)")
 DEEPEST = 127

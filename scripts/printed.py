@@ -1,5 +1,5 @@
 #!/usr/bin/env python3
-"""Says where crates/sample_types or crates/recursive_types, or the line of one in crates.txt, isn't what oergen prints of its module
+"""Says where crates/example_printed or crates/example_recursive, or the line of one in crates.txt, isn't what oergen prints of its module
 in crates/oergen/data, where types of made modules are put into other crates than they should be, or lack names, comments, constants
 or boxes that they should have, where of the published modules in scripts/v2x.d a type is left out or isn't listed as listed.txt there has it, where the types of scripts/printed.d/cycle.asn, which contain each other, aren't printed with the definitions beside it,
 where what is printed of long.asn, which has long names and wide choices, or of comments, isn't in the layout that `rt fmt` leaves as it is, and
@@ -19,8 +19,8 @@ import tempfile
 top = pathlib.Path(__file__).resolve().parent.parent
 DATA = top / "scripts/printed.d"
 PUBLISHED = top / "scripts/v2x.d"
-MODULES = {"sample_types": "samples.asn", "recursive_types": "recursive.asn"}
-MORE = {"recursive_types": ("--keep-unknown",)}
+MODULES = {"example_printed": "samples.asn", "example_recursive": "recursive.asn"}
+MORE = {"example_recursive": ("--keep-unknown",)}
 
 
 def sequences(count):

@@ -3,7 +3,7 @@
 
 usage: printed_speed.py COPY PROGRAM [WORD..], for example: taskset -c 3 scripts/printed_speed.py /tmp/copy crates/oergen/out/oergen
 
-COPY is a folder to be made, in which the repository's crates are laid, and beside them the printed ones. There oer_speed reads the
+COPY is a folder to be made, in which the repository's crates are laid, and beside them the printed ones. There bench_speed reads the
 octets of each value of speed_values.py as a value of its type by hand, and as one of the printed type of TYPES; and both are
 written, or read, by the same calls: in ROUNDS rounds of some MILLISECONDS each, now the one, now the other. The program is built
 once, as `rt try` builds it: with checks, and unproved. Printed are the least nanoseconds of each, and their ratio.
@@ -24,7 +24,7 @@ ROUNDS, MILLISECONDS = 3, 300
 ROWS = [("ints", 1000), ("octets", 65536), ("nest", 64), ("link", 64), ("linked", 65536), ("added", 65536), ("additions", 30)]
 ROWS += [("seq2", 1), ("outer", 1), ("extopt", 1), ("foo", 1), ("seqs", 1000), ("intset", 1000), ("mixed", 1000)]
 ROWS += [("text", 65536), ("bits", 524288), ("great", 65536), ("times", 1000), ("colors", 1000)]
-# Words of oer_speed, and the printed type.
+# Words of bench_speed, and the printed type.
 TYPES = {
     "ints": "Integers", "intset": "IntegerBag", "nest": "Nest", "link": "Link", "added": "Adding", "additions": "Chain",
     "octets": "Content", "utf8": "Text", "bits": "Flags", "int": "Whole", "times": "Times", "colors": "Colours",
@@ -82,13 +82,13 @@ impl<'a, C: Clock> Octets<'a, C> {{
 def replaced(text, old, new):
     """The text with another in the place of one, which stands in it once."""
     if text.count(old) != 1:
-        sys.exit(f"printed_speed: oer_speed has '{old}' {text.count(old)} times")
+        sys.exit(f"printed_speed: bench_speed has '{old}' {text.count(old)} times")
     return text.replace(old, new)
 
 
 def turn(copy, types):
-    """Lets oer_speed measure each value as that of a printed type too."""
-    source = copy / "crates/oer_speed/src"
+    """Lets bench_speed measure each value as that of a printed type too."""
+    source = copy / "crates/bench_speed/src"
     text = replaced((source / "main.rt").read_text(), WITH_WORD, "    measuring::in_turns(word, work)\n")
     text = replaced(text, "use words::with_word;\n", "")
     text = replaced(text, '"{} octets, {} ns", it.octets, it.nanoseconds', '"{} octets, {} ns, {} ns", it.octets, it.nanoseconds, it.printed')
@@ -104,7 +104,7 @@ def turn(copy, types):
         file.write(f"    match word {{\n{arms}        _ => None,\n    }}\n}}\n")
     listed = (copy / "crates.txt").read_text()
     below = " ".join(sorted(set(types.values())))
-    (copy / "crates.txt").write_text(re.sub(r"^oer_speed:", f"oer_speed: {below}", listed, flags=re.M))
+    (copy / "crates.txt").write_text(re.sub(r"^bench_speed:", f"bench_speed: {below}", listed, flags=re.M))
 
 
 def measured(copy, rows):
@@ -115,7 +115,7 @@ def measured(copy, rows):
                 case = pathlib.Path(cases) / f"{word}_{count}_{way}"
                 case.write_text(digits(word, count))
                 pathlib.Path(f"{case}.args").write_text(f"{type_of(word)}\n{way}\n1\n")
-        ran = subprocess.run(["rt", "try", "--seconds", "300", "--cases", cases], cwd=copy / "crates/oer_speed", capture_output=True, text=True, check=False)
+        ran = subprocess.run(["rt", "try", "--seconds", "300", "--cases", cases], cwd=copy / "crates/bench_speed", capture_output=True, text=True, check=False)
     found = re.findall(r"== (\w+?)_(\d+)_(\w+)[^=]*?(\d+) octets, (\d+) ns, (\d+) ns", ran.stdout)
     if not found:
         sys.exit(f"printed_speed: {ran.stdout[-2000:]}{ran.stderr[-2000:]}")

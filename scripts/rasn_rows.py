@@ -1,5 +1,5 @@
 #!/usr/bin/env python3
-"""Counts the vectors of rasn's OER and COER tests that are rows of crates/oer_vectors, each under its test's name.
+"""Counts the vectors of rasn's OER and COER tests that are rows of crates/test_vectors, each under its test's name.
 
 usage: rasn_rows.py [FILE..]
 
@@ -13,7 +13,7 @@ import re
 import sys
 
 top = pathlib.Path(__file__).resolve().parent.parent
-crate = top / "crates/oer_vectors"
+crate = top / "crates/test_vectors"
 
 
 def lines(path):

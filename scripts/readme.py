@@ -1,5 +1,5 @@
 #!/usr/bin/env python3
-"""Says which code of README.md isn't that of crates/call_tests/src/readme.rt, and which of docs/OWN_TYPE.md
+"""Says which code of README.md isn't that of crates/test_calls/src/readme.rt, and which of docs/OWN_TYPE.md
 isn't in the files that it names. The gate proves these crates and runs their tests."""
 import pathlib
 import re
@@ -40,16 +40,16 @@ def with_named(shown, code, page):
 
 # All code of README from here on is the crate's, to the letter and in its order, and each function is shown or named.
 page = (top / "README.md").read_text().split("\n## The library by example\n")[1]
-code = pieces((top / "crates/call_tests/src/readme.rt").read_text())
+code = pieces((top / "crates/test_calls/src/readme.rt").read_text())
 said = with_named(pieces(code_of(page)), code, page)
 for it in said:
     if it not in code:
-        print("README.md has what crates/call_tests has not:\n" + it)
+        print("README.md has what crates/test_calls has not:\n" + it)
 for it in code:
     if it not in said:
-        print("crates/call_tests has what README.md neither shows nor names:\n" + it)
+        print("crates/test_calls has what README.md neither shows nor names:\n" + it)
 if said != code and set(said) == set(code):
-    print("README.md shows the code of crates/call_tests in another order, or twice")
+    print("README.md shows the code of crates/test_calls in another order, or twice")
 
 differs = said != code
 for page in ["docs/OWN_TYPE.md"]:

@@ -3,7 +3,7 @@
 
 usage: speed.py [CRATES [RUNS [WORD..]]]
 
-CRATES is the folder with crates/oer_speed, whose binary lies in out/ once `rt run` or `rt ci` built it. The octets of each value are
+CRATES is the folder with crates/bench_speed, whose binary lies in out/ once `rt run` or `rt ci` built it. The octets of each value are
 those of speed_values.py. A figure is the least of RUNS runs (15 if unset) of about SECONDS of user time each, less that of a run
 that only reads the value, or makes it where it is too deep. Requests are those of one run more, counted by the library of
 scripts/memory/refuse.c. Run it on a machine that does nothing else.
@@ -64,7 +64,7 @@ def measured(words, preload, octets, runs):
 def main():
     top = pathlib.Path(sys.argv[1]) if len(sys.argv) > 1 else HERE.parent / "crates"
     runs = int(sys.argv[2]) if len(sys.argv) > 2 else 15
-    program = str(top / "oer_speed/out/oer_speed")
+    program = str(top / "bench_speed/out/bench_speed")
     # 8,000 links outgrow 8 MiB
     resource.setrlimit(resource.RLIMIT_STACK, (1 << 26, resource.getrlimit(resource.RLIMIT_STACK)[1]))
     print("| value | octets | write, µs | MB/s | requests | read, µs | MB/s | requests | read leniently, µs |\n|---|---|---|---|---|---|---|---|---|")

@@ -1,9 +1,9 @@
 #!/usr/bin/env python3
-"""Prints the octets of a value that crates/oer_speed measures, in hexadecimal.
+"""Prints the octets of a value that crates/bench_speed measures, in hexadecimal.
 
-usage: speed_values.py VALUE COUNT, for example: scripts/speed_values.py ints 1000 | crates/oer_speed/out/oer_speed ints encode 10000
+usage: speed_values.py VALUE COUNT, for example: scripts/speed_values.py ints 1000 | crates/bench_speed/out/bench_speed ints encode 10000
 
-VALUE is a word of VALUES, with the word of the value's type, by which oer_speed reads it:
+VALUE is a word of VALUES, with the word of the value's type, by which bench_speed reads it:
 - ints, times, colors: a list of COUNT integers (COUNT - 1 down to 0), UTCTimes, enumerated values
 - intset, mixed: the same integers as a SET OF; a SET OF of COUNT integers below 1,000,003, in no order
 - octets, text, bits, great: an OCTET STRING, a UTF8String, a BIT STRING, an INTEGER of COUNT octets, letters, bits, octets
@@ -107,7 +107,7 @@ VALUES = {
 
 
 def type_of(word):
-    """The word by which oer_speed reads the value of that word."""
+    """The word by which bench_speed reads the value of that word."""
     return VALUES[word][0]
 
 

@@ -3,7 +3,7 @@
 
 usage: stack.py [CRATES [NAME..]]
 
-CRATES is the folder with oer_vectors and oer_speed, whose binaries lie in out/ once `rt run` or `rt ci` built them; NAME is a row of
+CRATES is the folder with test_vectors and bench_speed, whose binaries lie in out/ once `rt run` or `rt ci` built them; NAME is a row of
 TYPES, all if unset. A figure is the least KiB of `ulimit -s`, to STEP, with which the program ends with status 0 and answers.
 "Decoded" is the octets less their last, which are refused at the innermost level; "both ways" the octets decoded and encoded. A
 program that `rt try` made takes several times as much.
@@ -59,7 +59,7 @@ def row(program, name):
 
 def main(words):
     crates = pathlib.Path(words[0]) if words else pathlib.Path(__file__).resolve().parent.parent / "crates"
-    vectors, speed = (str(crates / it / "out" / it) for it in ("oer_vectors", "oer_speed"))
+    vectors, speed = (str(crates / it / "out" / it) for it in ("test_vectors", "bench_speed"))
     print("| type | decoded, 2 levels | 128 | 1,024 | both ways, 1,024 | octets a level, decoded |\n|---|---|---|---|---|---|")
     for name in words[1:] or TYPES:
         print(row(vectors, name), flush=True)

@@ -1,5 +1,5 @@
 #!/usr/bin/env python3
-"""Compares walks with the codec over the rows of oer_vectors and damaged octets: what the codec reads, the walk takes too, as far.
+"""Compares walks with the codec over the rows of test_vectors and damaged octets: what the codec reads, the walk takes too, as far.
 
 usage: walks.py OERGEN [COUNT [SEED]]
 

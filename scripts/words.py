@@ -1,11 +1,11 @@
 #!/usr/bin/env python3
-"""Runs the rows of oer_vectors over types that oergen prints of crates/oergen/data/words.asn, in the place of those by hand.
+"""Runs the rows of test_vectors over types that oergen prints of crates/oergen/data/words.asn, in the place of those by hand.
 
 usage: words.py COPY PROGRAM, for example: words.py /tmp/copy crates/oergen/out/oergen
 
-COPY is a folder to be made, in which the repository's crates are laid, and beside them the printed ones. There, in oer_words,
+COPY is a folder to be made, in which the repository's crates are laid, and beside them the printed ones. There, in oertool_words,
 each word stands for the printed type of `NAMES`; whatever else the rows' program does is as it was. `rt try` then runs it: it
-proves nothing. What it prints is compared, line by line, with crates/oer_vectors/stdout; of what `Debug` shows of a value,
+proves nothing. What it prints is compared, line by line, with crates/test_vectors/stdout; of what `Debug` shows of a value,
 without names of types.
 """
 import pathlib
@@ -79,12 +79,12 @@ def turn(copy, types):
         own = f"<{path} as asn1_core::AsnType>::CONSTRAINTS" if call == "under" else ""
         return f'"{word}" => {some}(work.{call}::<{path}>({own})),\n'
 
-    source = copy / "crates/oer_words/src"
+    source = copy / "crates/oertool_words/src"
     for file in (source / "constrained.rt", *(source / "known").glob("*.rt")):
         file.write_text(ARM.sub(arm, file.read_text()))
     listed = (copy / "crates.txt").read_text()
     below = " ".join(sorted(set(types.values())))
-    (copy / "crates.txt").write_text(re.sub(r"^oer_words:", f"oer_words: {below}", listed, flags=re.M))
+    (copy / "crates.txt").write_text(re.sub(r"^oertool_words:", f"oertool_words: {below}", listed, flags=re.M))
     return turned
 
 
@@ -157,7 +157,7 @@ def main(copy, program):
     lay(copy)
     types, left_out = printed(copy, pathlib.Path(program).resolve())
     turned = turn(copy, types)
-    folder = copy / "crates/oer_vectors"
+    folder = copy / "crates/test_vectors"
     # with checks, 1,024 levels of a value outgrow 8 MiB
     resource.setrlimit(resource.RLIMIT_STACK, (1 << 28, resource.getrlimit(resource.RLIMIT_STACK)[1]))
     # the vectors of rasn's tests show values in another form

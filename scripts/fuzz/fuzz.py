@@ -3,7 +3,7 @@
 
 usage: fuzz.py PROGRAM [COUNT [SEED]]
 
-PROGRAM is the binary of crates/oer_vectors, which asks every call that reads such octets, both modules and a decoder in the middle
+PROGRAM is the binary of crates/test_vectors, which asks every call that reads such octets, both modules and a decoder in the middle
 of an input, and says where they differ or where a refusal moved the decoder on. Of each input:
 - both modes end, with octets and a rest that is the input's rear, or with a named refusal;
 - what is read canonically is read leniently, with the same canonical octets and the same rest;
@@ -22,7 +22,7 @@ import sys
 
 import forms
 
-ROWS = pathlib.Path(__file__).resolve().parent.parent.parent / "crates/oer_vectors/stdout"
+ROWS = pathlib.Path(__file__).resolve().parent.parent.parent / "crates/test_vectors/stdout"
 ROW = re.compile(r"(?:(?:run|read) coer|fronts) (\S+) ([0-9a-f]*) => (?:([0-9a-f]*)\|[0-9a-f]*\|;0|([0-9a-f]*);[0-9a-f]*|\d+)")
 ANSWER = re.compile(r"([0-9a-f]*);([0-9a-f]*)|(Oer|Coer) (?!OutOfMemory)([A-Z][A-Za-z]+)( \{.*\})?: .*")
 BATCH = 5000

@@ -3,7 +3,7 @@
 
 usage: ample.py [CRATES]
 
-CRATES is the folder with crates/oer_vectors, whose binary lies in out/ once `rt ci` or `rt run` built it: it reads each row by every
+CRATES is the folder with crates/test_vectors, whose binary lies in out/ once `rt ci` or `rt run` built it: it reads each row by every
 call and writes it again by every call. All inputs of at most two octets are rows of that crate.
 """
 import pathlib
@@ -77,7 +77,7 @@ def rows():
 def main():
     top = pathlib.Path(sys.argv[1]) if len(sys.argv) > 1 else TOP / "crates"
     asked = [f"read {mode} {word} {octets.hex()}" for word, octets in rows() for mode in ("oer", "coer")]
-    program = str(top / "oer_vectors/out/oer_vectors")
+    program = str(top / "test_vectors/out/test_vectors")
     done = subprocess.run([program], input="\n".join(asked) + "\n", capture_output=True, text=True, timeout=120)
     answers = done.stdout.splitlines()
     faults = [row[:100] for row, line in zip(asked, answers) if line != f"{row} => {row.split(' ')[3]};"]

@@ -1,4 +1,4 @@
-"""The calls of crates/oer_memory with what each has to answer, typed by hand from docs/ENCODING.md, X.696 and X.690.
+"""The calls of crates/test_memory with what each has to answer, typed by hand from docs/ENCODING.md, X.696 and X.690.
 
 A row is a type's word, octets, the value that is read of the whole of them in each mode or the name of the refusal, and the
 canonical octets of that value. Each row goes through each call, where the word names constraints through the calls that take

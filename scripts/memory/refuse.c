@@ -2,7 +2,7 @@
    one of them. By the environment:
 
    REFUSE_NTH   which request is refused, from 1; 0 or nothing: none
-   REFUSE_FROM  `mark`: requests count from one of FIRST octets to one of LAST octets, the marks that crates/oer_memory sets
+   REFUSE_FROM  `mark`: requests count from one of FIRST octets to one of LAST octets, the marks that crates/test_memory sets
                 (src/marks.rt), which are never refused; `start`: from the program's start to its end
 
    At the program's end a line on standard error says how many requests counted, how many were refused, how many marks were

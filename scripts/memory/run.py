@@ -3,7 +3,7 @@
 
 usage: run.py [--table] [CRATES]
 
-CRATES is the folder with crates/oer_memory and crates/oertool, whose binaries lie in out/ once `rt ci` or `rt run` built them.
+CRATES is the folder with crates/test_memory and crates/oertool, whose binaries lie in out/ once `rt ci` or `rt run` built them.
 Of each call of cases.py: a run for N from 1, whose Nth request is refused, until a run meets no refusal. A run whose request was
 refused answers `OutOfMemory`, with what has to be unchanged, or exactly what is answered with ample memory; any other run exactly
 that. With --table the counts of requests are printed as a table.
@@ -164,7 +164,7 @@ def short(octets):
 def main():
     words = [word for word in sys.argv[1:] if word != "--table"]
     top = pathlib.Path(words[0]) if words else HERE.parent.parent / "crates"
-    memory, oertool = (str(top / name / "out" / name) for name in ("oer_memory", "oertool"))
+    memory, oertool = (str(top / name / "out" / name) for name in ("test_memory", "oertool"))
     with tempfile.TemporaryDirectory() as folder, concurrent.futures.ThreadPoolExecutor(os.cpu_count()) as pool:
         preload = library(folder)
         known = list(cases.all_cases())

@@ -5,8 +5,8 @@ usage: try.py [NAME..]
        try.py --read     says which patches can't be applied any more; nothing is built
 
 Few contracts rule out a body that wants memory where there is plenty, so tests have to. First the copy without a patch has
-to pass. A line a patch says how many rows of crates/oer_vectors are answered otherwise, and the first of them; a second one
-which tests of crates/call_tests fail. It takes some minutes; run by hand, with its last output in docs/TESTING.md.
+to pass. A line a patch says how many rows of crates/test_vectors are answered otherwise, and the first of them; a second one
+which tests of crates/test_calls fail. It takes some minutes; run by hand, with its last output in docs/TESTING.md.
 """
 import pathlib
 import re
@@ -64,7 +64,7 @@ def copied(folder):
 def rows_of(folder):
     """The rows that are answered otherwise than they have to be, and how many there are; no rows where nothing was built. Those of
     all short inputs (`tally`) are left out: an unproved program takes minutes for them."""
-    crate = folder / "crates/oer_vectors"
+    crate = folder / "crates/test_vectors"
     wanted = [row for row in (crate / "stdout").read_text().splitlines() if not row.startswith("tally ")]
     asked = "".join(row.split(" => ")[0] + "\n" for row in wanted)
     done = subprocess.run(["rt", "try", "--seconds", "900"], cwd=crate, input=asked, capture_output=True, text=True, check=False)
@@ -77,7 +77,7 @@ def rows_of(folder):
 
 def tests_of(folder):
     """The tests that fail, and how many there are; no tests where nothing was built."""
-    crate = folder / "crates/call_tests"
+    crate = folder / "crates/test_calls"
     done = subprocess.run(["rt", "try", "--test"], cwd=crate, capture_output=True, text=True, check=False)
     said = done.stdout + done.stderr
     named = re.findall(r"^test (\S+) \.\.\. (\w+)", said, re.M)

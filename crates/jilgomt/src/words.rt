@@ -9,7 +9,7 @@ use oer_calls::numbers::{
     canonicalise_by_numbers, check_by_numbers, convert_by_numbers, options_of,
 };
 use oer_types::{Sequence1, Sequence2};
-use oer_words::known::{OnType, with_type};
+use oertool_words::known::{OnType, with_type};
 use rasn_oer::oer::CodecError;
 use rasn_oer::prelude::*;
 use std::alloc::Global;

@@ -1,8 +1,8 @@
 //! What stands in the folders that crates are to be written into: only crates of an earlier print may, and of these no more than is
 //! printed again.
 
-use asn1_printer::files::HEAD;
-use asn1_printer::outputs::File;
+use oergen_print::files::HEAD;
+use oergen_print::outputs::File;
 use std::alloc::AllocError;
 use std::rt::Files;
 use std::{fs, io};

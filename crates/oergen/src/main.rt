@@ -6,13 +6,13 @@
 mod earlier;
 mod writing;
 
-use asn1_exports::exports::push_exports;
-use asn1_layouts::listing::list;
-use asn1_modules::refusal::Refusal;
-use asn1_printer::files::{Output, Wish, crates_of};
-use asn1_tables::tables::{refusal_line, table};
 use clap::{Arg, ArgAction, ArgMatches, Command};
 use earlier::fault_of;
+use oergen_layouts::listing::list;
+use oergen_parse::refusal::Refusal;
+use oergen_print::exports::push_exports;
+use oergen_print::files::{Output, Wish, crates_of};
+use oergen_tables::tables::{refusal_line, table};
 use std::alloc::{AllocError, Global};
 use std::process::ExitCode;
 use std::rt::{Env, Files};

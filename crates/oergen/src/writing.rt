@@ -1,6 +1,6 @@
 //! Writes files below a folder.
 
-use asn1_printer::outputs::File;
+use oergen_print::outputs::File;
 use std::rt::Files;
 use std::{fs, io};
 

@@ -2,8 +2,8 @@
 
 use crate::words::Wish;
 use anyhow::{Error, Result};
-use asn1_tables::tables::{refusal_line, table};
 use oer_json::Tables;
+use oergen_tables::tables::{refusal_line, table};
 use std::alloc::Global;
 use std::{fs, io};
 

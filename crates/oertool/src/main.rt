@@ -1,7 +1,7 @@
 //! `oertool oer|coer [depth N] TYPE HEX` reads octets as a value of a type, and prints its canonical octets and what is left.
 #![tactic(auto)]
 
-use oer_words::run::{run, run_without_text};
+use oertool_words::run::{run, run_without_text};
 use std::process::ExitCode;
 use std::rt::Env;
 use std::{env, io};

@@ -1,6 +1,0 @@
-use Rattle.std.proofs.Common.{◌≡◌, map, take}
-use Rattle.asn1_layouts.specs.Rows.{placed}
-use Rattle.asn1_layouts.proofs.rows.tagged_rows.Given as goal
-
-abbrev pub invariant-loop-row : goal.invariant-loop-row
-invariant-loop-row l = map placed l.all.items ≡ map placed (take l.row-index l.rows)

@@ -1,5 +1,0 @@
-use Rattle.oer_read.proofs.Rears.{adds_rear}
-use Rattle.call_tests.proofs.closures.addition.Goals as goal
-
-pub returns : goal.returns
-returns c = adds_rear _ _ _ _ _ _ _ c.decode_extension_addition_with_tag_and_constraints.ensures

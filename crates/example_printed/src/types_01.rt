@@ -1,0 +1,518 @@
+//! Types of ASN.1 modules, as oergen printed them.
+
+use rasn_oer::prelude::*;
+use std::alloc::{AllocError, Global};
+
+/// `Percent ::= INTEGER (0..100)`
+pub type Percent = Limited<u8, PercentLimits>;
+
+/// The limits of `Percent`.
+#[derive(Drop)]
+pub enum PercentLimits {}
+
+impl Limits for PercentLimits {
+    ghost use Rattle.std.specs.Prelude.{None, Some, false, negsuc, pos, refl};
+    ghost use Rattle.rasn_oer.specs.Bounded.{Range, Single};
+
+    ghost LIMITS = { record { value = Some (Range (Some (pos 0)) (Some (pos 100)), false); size = None } };
+
+    const LIMITS: Constraints = Constraints {
+        value: Some((
+            Bounded::Range {
+                start: Some(0),
+                end: Some(100),
+            },
+            false,
+        )),
+        size: None,
+    };
+
+    ghost consistent = { refl };
+}
+
+/// `Below ::= INTEGER (-5..MAX)`
+pub type Below = Limited<Integer, BelowLimits>;
+
+/// The limits of `Below`.
+#[derive(Drop)]
+pub enum BelowLimits {}
+
+impl Limits for BelowLimits {
+    ghost use Rattle.std.specs.Prelude.{None, Some, false, negsuc, pos, refl};
+    ghost use Rattle.rasn_oer.specs.Bounded.{Range, Single};
+
+    ghost LIMITS = { record { value = Some (Range (Some (negsuc 4)) None, false); size = None } };
+
+    const LIMITS: Constraints = Constraints {
+        value: Some((
+            Bounded::Range {
+                start: Some(-5),
+                end: None,
+            },
+            false,
+        )),
+        size: None,
+    };
+
+    ghost consistent = { refl };
+}
+
+/// `Again ::= Percent`
+pub type Again = Percent;
+
+/// `Narrow ::= Percent (0..9)`
+pub type Narrow = Limited<u8, NarrowLimits>;
+
+/// The limits of `Narrow`.
+#[derive(Drop)]
+pub enum NarrowLimits {}
+
+impl Limits for NarrowLimits {
+    ghost use Rattle.std.specs.Prelude.{None, Some, false, negsuc, pos, refl};
+    ghost use Rattle.rasn_oer.specs.Bounded.{Range, Single};
+
+    ghost LIMITS = { record { value = Some (Range (Some (pos 0)) (Some (pos 9)), false); size = None } };
+
+    const LIMITS: Constraints = Constraints {
+        value: Some((
+            Bounded::Range {
+                start: Some(0),
+                end: Some(9),
+            },
+            false,
+        )),
+        size: None,
+    };
+
+    ghost consistent = { refl };
+}
+
+/// `Key ::= OCTET STRING (SIZE(4))`
+pub type Key = Limited<Octets, KeyLimits>;
+
+/// The limits of `Key`.
+#[derive(Drop)]
+pub enum KeyLimits {}
+
+impl Limits for KeyLimits {
+    ghost use Rattle.std.specs.Prelude.{None, Some, false, negsuc, pos, refl};
+    ghost use Rattle.rasn_oer.specs.Bounded.{Range, Single};
+
+    ghost LIMITS = { record { value = None; size = Some (Single 4, false) } };
+
+    const LIMITS: Constraints = Constraints {
+        value: None,
+        size: Some((Bounded::Single(4), false)),
+    };
+
+    ghost consistent = { refl };
+}
+
+/// `Bits ::= BIT STRING { first(0), last(11) } (SIZE(12))`
+pub type Bits = Limited<BitString, BitsLimits>;
+
+/// The limits of `Bits`.
+#[derive(Drop)]
+pub enum BitsLimits {}
+
+impl Limits for BitsLimits {
+    ghost use Rattle.std.specs.Prelude.{None, Some, false, negsuc, pos, refl};
+    ghost use Rattle.rasn_oer.specs.Bounded.{Range, Single};
+
+    ghost LIMITS = { record { value = None; size = Some (Single 12, false) } };
+
+    const LIMITS: Constraints = Constraints {
+        value: None,
+        size: Some((Bounded::Single(12), false)),
+    };
+
+    ghost consistent = { refl };
+}
+
+/// `Name ::= IA5String (SIZE(1..8))`
+pub type Name = Limited<Ia5Text, NameLimits>;
+
+/// The limits of `Name`.
+#[derive(Drop)]
+pub enum NameLimits {}
+
+impl Limits for NameLimits {
+    ghost use Rattle.std.specs.Prelude.{None, Some, false, negsuc, pos, refl};
+    ghost use Rattle.rasn_oer.specs.Bounded.{Range, Single};
+
+    ghost LIMITS = { record { value = None; size = Some (Range (Some 1) (Some 8), false) } };
+
+    const LIMITS: Constraints = Constraints {
+        value: None,
+        size: Some((
+            Bounded::Range {
+                start: Some(1),
+                end: Some(8),
+            },
+            false,
+        )),
+    };
+
+    ghost consistent = { refl };
+}
+
+/// `Names ::= SEQUENCE OF Name`
+pub type Names = ListOf<Name>;
+
+/// `Colour ::= ENUMERATED { red, green(5), blue, ..., dark-grey }`
+pub type Colour = Enumeration<ColourValues>;
+
+/// The values of `Colour`.
+#[derive(Debug, Clone, Copy, PartialEq, Eq)]
+pub enum ColourValues {
+    Red = 0,
+    Green = 5,
+    Blue = 1,
+    DarkGrey = 2,
+}
+
+impl Numbered for ColourValues {
+    ghost use Rattle.std.specs.Prelude.{pos, negsuc, [], ◌∷◌, refl};
+    ghost use Rattle.example_printed.specs.declared.types_01.ColourValues.TheVariants.{Red, Green, Blue, DarkGrey};
+
+    ghost number = { elim [ Red ↦ (pos 0) | Green ↦ (pos 5) | Blue ↦ (pos 1) | DarkGrey ↦ (pos 2) ] };
+
+    ghost values = { Red ∷ Green ∷ Blue ∷ DarkGrey ∷ [] };
+
+    ghost listed = { elim [ Red ↦ (refl, refl) | Green ↦ (refl, refl) | Blue ↦ (refl, refl) | DarkGrey ↦ (refl, refl) ] };
+
+    fn number(self) -> isize {
+        self as isize
+    }
+
+    fn values() -> &'static [ColourValues] {
+        &[
+            ColourValues::Red,
+            ColourValues::Green,
+            ColourValues::Blue,
+            ColourValues::DarkGrey,
+        ]
+    }
+}
+
+/// `SEQUENCE { x INTEGER (0..255), colour Colour OPTIONAL }`
+pub type RowInner = Sequence<RowInnerComponents, 2, 0>;
+
+/// The components of `RowInner`.
+#[derive(Debug, PartialEq, Eq, Drop)]
+pub struct RowInnerComponents {
+    pub x: u8,
+    pub colour: Option<Colour>,
+}
+
+type RowInnerRow = Needs<Context<0>, u8, MayHave<Context<1>, Colour, NoMore>>;
+
+impl Rowed for RowInnerComponents {
+    ghost use Rattle.rasn_oer.specs.Values.{both};
+
+    type Values = <RowInnerRow as Components>::Values;
+
+    ghost EXTENSIBLE = { ⟦<RowInnerRow as Components>⟧.EXTENSIBLE };
+
+    const EXTENSIBLE: bool = false;
+
+    ghost row_schema = { ⟦<RowInnerRow as Components>⟧.schema };
+
+    ghost row_is_schema = { ⟦<RowInnerRow as Components>⟧.is_schema };
+
+    ghost components = { λ v. both v.x (both v.colour tt) };
+
+    fn from_row(row: Self::Values) -> Self {
+        built![RowInnerComponents from row:
+            x,
+            colour
+        ]
+    }
+}
+
+impl Takes for RowInnerComponents {
+    ghost Refuses = { ⟦<RowInnerRow as Reads>⟧.Refuses };
+
+    #[inline(always)]
+    fn take(alloc: Global, decoder: &mut Decoder<'_>) -> Result<Self, DecodeError> {
+        read_row::<Self, RowInnerRow>(alloc, decoder)
+    }
+}
+
+impl Tabled<2, 0> for RowInnerComponents {
+    ghost use Rattle.std.specs.Prelude.{refl};
+
+    const FIELDS: Fields<2> = Fields {
+        fields: fields![
+            0 Required Context 0 "x",
+            1 Optional Context 1 "colour"
+        ],
+    };
+
+    const EXTENDED_FIELDS: Option<Fields<0>> = None;
+
+    fn root_fields() -> &'static [Field<'static>] {
+        Self::FIELDS.fields
+    }
+
+    fn addition_fields() -> &'static [Field<'static>] {
+        rows_of!(Self::EXTENDED_FIELDS)
+    }
+
+    #[inline(always)]
+    fn put(&self, encoder: &mut Encoder<'_>) -> Result<(), EncodeError> {
+        let view = views![self:
+            x,
+            colour
+        ];
+        RowInnerRow::write(&view, encoder)
+    }
+
+    ghost counts = { (refl, refl) };
+}
+
+/// The default 3 of `RowPercent`.
+pub struct RowPercentDefault;
+
+impl Standard<u8> for RowPercentDefault {
+    ghost use Rattle.std.specs.Prelude.{negsuc, pos, refl};
+
+    ghost value = { 3 };
+
+    fn value(_alloc: Global) -> Result<u8, AllocError> {
+        Ok(3)
+    }
+
+    fn is_value(other: &u8) -> bool {
+        *other == 3
+    }
+
+    ghost admitted = { refl };
+}
+
+/// The default -2 of `RowType`.
+pub struct RowTypeDefault;
+
+impl Standard<Integer> for RowTypeDefault {
+    ghost use Rattle.std.specs.Prelude.{negsuc, pos, refl};
+
+    ghost value = { (negsuc 1) };
+
+    fn value(_alloc: Global) -> Result<Integer, AllocError> {
+        Ok(Integer::from_i128(-2))
+    }
+
+    fn is_value(other: &Integer) -> bool {
+        *other == Integer::from_i128(-2)
+    }
+
+    ghost admitted = { refl };
+}
+
+/// The addition group 1 of `Row`.
+pub type RowGroup1 = Sequence<RowGroup1Components, 2, 0>;
+
+/// The components of `RowGroup1`.
+#[derive(Debug, PartialEq, Eq, Drop)]
+pub struct RowGroup1Components {
+    pub bits: Bits,
+    pub level: Option<u16>,
+}
+
+type RowGroup1Row = Needs<Context<7>, Bits, MayHave<Context<8>, u16, NoMore>>;
+
+impl Rowed for RowGroup1Components {
+    ghost use Rattle.rasn_oer.specs.Values.{both};
+
+    type Values = <RowGroup1Row as Components>::Values;
+
+    ghost EXTENSIBLE = { ⟦<RowGroup1Row as Components>⟧.EXTENSIBLE };
+
+    const EXTENSIBLE: bool = false;
+
+    ghost row_schema = { ⟦<RowGroup1Row as Components>⟧.schema };
+
+    ghost row_is_schema = { ⟦<RowGroup1Row as Components>⟧.is_schema };
+
+    ghost components = { λ v. both v.bits (both v.level tt) };
+
+    fn from_row(row: Self::Values) -> Self {
+        built![RowGroup1Components from row:
+            bits,
+            level
+        ]
+    }
+}
+
+impl Takes for RowGroup1Components {
+    ghost Refuses = { ⟦<RowGroup1Row as Reads>⟧.Refuses };
+
+    #[inline(always)]
+    fn take(alloc: Global, decoder: &mut Decoder<'_>) -> Result<Self, DecodeError> {
+        read_row::<Self, RowGroup1Row>(alloc, decoder)
+    }
+}
+
+impl Tabled<2, 0> for RowGroup1Components {
+    ghost use Rattle.std.specs.Prelude.{refl};
+
+    const FIELDS: Fields<2> = Fields {
+        fields: fields![
+            0 Required Context 7 "bits",
+            1 Optional Context 8 "level"
+        ],
+    };
+
+    const EXTENDED_FIELDS: Option<Fields<0>> = None;
+
+    fn root_fields() -> &'static [Field<'static>] {
+        Self::FIELDS.fields
+    }
+
+    fn addition_fields() -> &'static [Field<'static>] {
+        rows_of!(Self::EXTENDED_FIELDS)
+    }
+
+    #[inline(always)]
+    fn put(&self, encoder: &mut Encoder<'_>) -> Result<(), EncodeError> {
+        let view = views![self:
+            bits,
+            level
+        ];
+        RowGroup1Row::write(&view, encoder)
+    }
+
+    ghost counts = { (refl, refl) };
+}
+
+/// `Row ::= SEQUENCE { ok BOOLEAN DEFAULT TRUE, percent Percent DEFAULT 3, key Key OPTIONAL, names Names,
+/// inner SEQUENCE { x INTEGER (0..255), colour Colour OPTIONAL }, type INTEGER DEFAULT -2, ...,
+/// next Below OPTIONAL, [[ bits Bits, level INTEGER (0..65535) OPTIONAL ]], sure BOOLEAN }`
+pub type Row = Sequence<RowComponents, 6, 3>;
+
+/// The components of `Row`.
+#[derive(Debug, PartialEq, Eq, Drop)]
+pub struct RowComponents {
+    pub ok: bool,
+    pub percent: Percent,
+    pub key: Option<Key>,
+    pub names: Names,
+    pub inner: RowInner,
+    pub r_type: Integer,
+    pub next: Option<Below>,
+    pub group_1: Option<RowGroup1>,
+    pub sure: Option<bool>,
+}
+
+type RowRow = Defaults<
+    Context<0>,
+    bool,
+    IsTrue,
+    Defaults<
+        Context<1>,
+        Percent,
+        Within<RowPercentDefault>,
+        MayHave<
+            Context<2>,
+            Key,
+            Needs<Context<3>, Names, Needs<Context<4>, RowInner, RowFromType>>,
+        >,
+    >,
+>;
+
+/// The components of `Row` from `r_type` on.
+type RowFromType = Defaults<Context<5>, Integer, RowTypeDefault, Extensible<RowAdditions>>;
+
+type RowAdditions = MayAdd<
+    Context<6>,
+    Below,
+    MayAddGroup<2, 0, RowGroup1, MayAdd<Context<9>, bool, NoMore>>,
+>;
+
+impl Rowed for RowComponents {
+    ghost use Rattle.rasn_oer.specs.Values.{both};
+
+    type Values = <RowRow as Components>::Values;
+
+    ghost EXTENSIBLE = { ⟦<RowRow as Components>⟧.EXTENSIBLE };
+
+    const EXTENSIBLE: bool = true;
+
+    ghost row_schema = { ⟦<RowRow as Components>⟧.schema };
+
+    ghost row_is_schema = { ⟦<RowRow as Components>⟧.is_schema };
+
+    ghost components = { λ v. both v.ok (both v.percent (both v.key (both v.names (both v.inner (both v.r_type (both v.next (both v.group_1 (both v.sure tt)))))))) };
+
+    fn from_row(row: Self::Values) -> Self {
+        built![RowComponents from row:
+            ok,
+            percent,
+            key,
+            names,
+            inner,
+            r_type,
+            next,
+            group_1,
+            sure
+        ]
+    }
+}
+
+impl Takes for RowComponents {
+    ghost Refuses = { ⟦<RowRow as Reads>⟧.Refuses };
+
+    #[inline(always)]
+    fn take(alloc: Global, decoder: &mut Decoder<'_>) -> Result<Self, DecodeError> {
+        read_row::<Self, RowRow>(alloc, decoder)
+    }
+}
+
+impl Tabled<6, 3> for RowComponents {
+    ghost use Rattle.std.specs.Prelude.{refl};
+
+    const FIELDS: Fields<6> = Fields {
+        fields: fields![
+            0 Default Context 0 "ok",
+            1 Default Context 1 "percent",
+            2 Optional Context 2 "key",
+            3 Required Context 3 "names",
+            4 Required Context 4 "inner",
+            5 Default Context 5 "type"
+        ],
+    };
+
+    const EXTENDED_FIELDS: Option<Fields<3>> = Some(Fields {
+        fields: fields![
+            0 Optional Context 6 "next",
+            1 Optional Universal 16 "group 1",
+            2 Optional Context 9 "sure"
+        ],
+    });
+
+    fn root_fields() -> &'static [Field<'static>] {
+        Self::FIELDS.fields
+    }
+
+    fn addition_fields() -> &'static [Field<'static>] {
+        rows_of!(Self::EXTENDED_FIELDS)
+    }
+
+    #[inline(always)]
+    fn put(&self, encoder: &mut Encoder<'_>) -> Result<(), EncodeError> {
+        let view = views![self:
+            ok,
+            percent,
+            key,
+            names,
+            inner,
+            r_type,
+            next,
+            group_1,
+            sure
+        ];
+        RowRow::write(&view, encoder)
+    }
+
+    ghost counts = { (refl, refl) };
+}

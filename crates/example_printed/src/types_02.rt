@@ -1,0 +1,546 @@
+//! Types of ASN.1 modules, as oergen printed them.
+
+use crate::{Key, Name, Percent};
+use rasn_oer::prelude::*;
+use std::alloc::Global;
+
+/// `Bag ::= SET { b [1] INTEGER (-128..127), a [APPLICATION 2] BOOLEAN OPTIONAL, c [0] Name,
+/// ..., more [3] NULL OPTIONAL }`
+pub type Bag = Set<BagComponents, 3, 1>;
+
+/// The components of `Bag`.
+#[derive(Debug, PartialEq, Eq, Drop)]
+pub struct BagComponents {
+    pub a: Option<bool>,
+    pub c: Name,
+    pub b: i8,
+    pub more: Option<()>,
+}
+
+type BagRow = MayHave<
+    Application<2>,
+    bool,
+    Needs<Context<0>, Name, Needs<Context<1>, i8, Extensible<BagAdditions>>>,
+>;
+
+type BagAdditions = MayAdd<Context<3>, (), NoMore>;
+
+impl Rowed for BagComponents {
+    ghost use Rattle.rasn_oer.specs.Values.{both};
+
+    type Values = <BagRow as Components>::Values;
+
+    ghost EXTENSIBLE = { ⟦<BagRow as Components>⟧.EXTENSIBLE };
+
+    const EXTENSIBLE: bool = true;
+
+    ghost row_schema = { ⟦<BagRow as Components>⟧.schema };
+
+    ghost row_is_schema = { ⟦<BagRow as Components>⟧.is_schema };
+
+    ghost components = { λ v. both v.a (both v.c (both v.b (both v.more tt))) };
+
+    fn from_row(row: Self::Values) -> Self {
+        built![BagComponents from row:
+            a,
+            c,
+            b,
+            more
+        ]
+    }
+}
+
+impl Takes for BagComponents {
+    ghost Refuses = { ⟦<BagRow as Reads>⟧.Refuses };
+
+    #[inline(always)]
+    fn take(alloc: Global, decoder: &mut Decoder<'_>) -> Result<Self, DecodeError> {
+        read_row::<Self, BagRow>(alloc, decoder)
+    }
+}
+
+impl Tabled<3, 1> for BagComponents {
+    ghost use Rattle.std.specs.Prelude.{refl};
+
+    const FIELDS: Fields<3> = Fields {
+        fields: fields![
+            0 Optional Application 2 "a",
+            1 Required Context 0 "c",
+            2 Required Context 1 "b"
+        ],
+    };
+
+    const EXTENDED_FIELDS: Option<Fields<1>> = Some(Fields {
+        fields: fields![
+            0 Optional Context 3 "more"
+        ],
+    });
+
+    fn root_fields() -> &'static [Field<'static>] {
+        Self::FIELDS.fields
+    }
+
+    fn addition_fields() -> &'static [Field<'static>] {
+        rows_of!(Self::EXTENDED_FIELDS)
+    }
+
+    #[inline(always)]
+    fn put(&self, encoder: &mut Encoder<'_>) -> Result<(), EncodeError> {
+        let view = views![self:
+            a,
+            c,
+            b,
+            more
+        ];
+        BagRow::write(&view, encoder)
+    }
+
+    ghost counts = { (refl, refl) };
+}
+
+const BAG_IN_TEXT_ORDER: &'static [Field<'static>] = fields![
+    0 Required Context 1 "b",
+    1 Optional Application 2 "a",
+    2 Required Context 0 "c"
+];
+
+impl TextOrder for BagComponents {
+    ghost use Rattle.std.specs.Prelude.{[], ◌∷◌};
+
+    ghost places = { 1 ∷ 2 ∷ 0 ∷ [] };
+}
+
+impl InTagOrder<3, 1> for BagComponents {
+    ghost use Rattle.std.specs.Prelude.{refl};
+
+    ghost in_order = { refl };
+
+    const SET_FIELDS: Fields<3> = Fields {
+        fields: BAG_IN_TEXT_ORDER,
+    };
+
+    fn text_fields() -> &'static [Field<'static>] {
+        Self::SET_FIELDS.fields
+    }
+}
+
+/// `Signal ::= CHOICE { busy NULL, level Percent, ..., new-key Key }`
+pub type Signal = OneOf<SignalAlternatives>;
+
+/// The alternatives of `Signal`.
+#[derive(Debug, PartialEq, Eq, Drop)]
+pub enum SignalAlternatives {
+    Busy(()),
+    Level(Percent),
+    NewKey(Key),
+}
+
+type SignalRow = Offers<Context<0>, (), Offers<Context<1>, Percent, Extensible<SignalAdditions>>>;
+
+type SignalAdditions = Offers<Context<2>, Key, NoMore>;
+
+const SIGNAL_ROOTS: &'static [Tag] = tags![Context 0, Context 1];
+
+const SIGNAL_ADDITIONS: &'static [Tag] = tags![Context 2];
+
+impl Alternating for SignalAlternatives {
+    ghost use Rattle.std.specs.Prelude.{refl};
+    ghost use Rattle.rasn_oer.specs.Alternative.{First, Rest};
+    ghost use Rattle.example_printed.specs.declared.types_02.SignalAlternatives.TheVariants.{Busy, Level, NewKey};
+
+    type Values = <SignalRow as Alternatives>::Values;
+
+    ghost row_choices = { ⟦<SignalRow as Alternatives>⟧.choices };
+
+    ghost row_are_choices = { ⟦<SignalRow as Alternatives>⟧.are_choices };
+
+    ghost alternative = { elim [ Busy held ↦ First held | Level held ↦ Rest (First held) | NewKey held ↦ Rest (Rest (First held)) ] };
+
+    const VARIANTS: &'static [Tag] = SIGNAL_ROOTS;
+
+    const EXTENDED_VARIANTS: Option<&'static [Tag]> = Some(SIGNAL_ADDITIONS);
+
+    fn root_tags() -> &'static [Tag] {
+        Self::VARIANTS
+    }
+
+    fn addition_tags() -> Option<&'static [Tag]> {
+        Self::EXTENDED_VARIANTS
+    }
+
+    fn from_alternative(value: Self::Values) -> Self {
+        from_row!(value => SignalAlternatives: Busy, Level, NewKey)
+    }
+
+    #[inline(always)]
+    fn put<E: Choice>(&self, encoder: &mut Encoder<'_>) -> Result<(), EncodeError> {
+        let view = to_row!(self => SignalAlternatives: Busy, Level, NewKey);
+        SignalRow::write_alternative::<E>(&view, encoder)
+    }
+
+    ghost apart = { refl };
+}
+
+impl TakesAlternative for SignalAlternatives {
+    ghost Refuses = { ⟦<SignalRow as ReadsAlternatives>⟧.Refuses };
+
+    fn take<D: Choice>(
+        alloc: Global,
+        decoder: &mut Decoder<'_>,
+        tag: Tag,
+    ) -> Result<Self, DecodeError> {
+        read_alternative::<Self, SignalRow, D>(alloc, decoder, tag)
+    }
+}
+
+/// The limits of `LetterHeadWide`.
+#[derive(Drop)]
+pub enum LetterHeadWideLimits {}
+
+impl Limits for LetterHeadWideLimits {
+    ghost use Rattle.std.specs.Prelude.{None, Some, false, negsuc, pos, refl};
+    ghost use Rattle.rasn_oer.specs.Bounded.{Range, Single};
+
+    ghost LIMITS = { record { value = None; size = Some (Single 2, false) } };
+
+    const LIMITS: Constraints = Constraints {
+        value: None,
+        size: Some((Bounded::Single(2), false)),
+    };
+
+    ghost consistent = { refl };
+}
+
+/// `SEQUENCE { from Name, key Key OPTIONAL, signal Signal, open ANY, digits NumericString, plain
+/// PrintableString, seen VisibleString, general GeneralString, graphic GraphicString, teletex
+/// TeletexString, wide BMPString (SIZE(2)) }`
+pub type LetterHead = Sequence<LetterHeadComponents, 11, 0>;
+
+/// The components of `LetterHead`.
+#[derive(Debug, PartialEq, Eq, Drop)]
+pub struct LetterHeadComponents {
+    pub from: Name,
+    pub key: Option<Key>,
+    pub signal: Signal,
+    pub open: OpenOctets,
+    pub digits: NumericText,
+    pub plain: PrintableText,
+    pub seen: VisibleText,
+    pub general: GeneralText,
+    pub graphic: GraphicText,
+    pub teletex: TeletexText,
+    pub wide: Limited<BmpText, LetterHeadWideLimits>,
+}
+
+type LetterHeadRow = Needs<
+    Context<0>,
+    Name,
+    MayHave<
+        Context<1>,
+        Key,
+        Needs<
+            Context<2>,
+            Signal,
+            Needs<Context<3>, OpenOctets, Needs<Context<4>, NumericText, LetterHeadFromPlain>>,
+        >,
+    >,
+>;
+
+/// The components of `LetterHead` from `plain` on.
+type LetterHeadFromPlain = Needs<
+    Context<5>,
+    PrintableText,
+    Needs<
+        Context<6>,
+        VisibleText,
+        Needs<
+            Context<7>,
+            GeneralText,
+            Needs<Context<8>, GraphicText, Needs<Context<9>, TeletexText, LetterHeadFromWide>>,
+        >,
+    >,
+>;
+
+/// The components of `LetterHead` from `wide` on.
+type LetterHeadFromWide = Needs<Context<10>, Limited<BmpText, LetterHeadWideLimits>, NoMore>;
+
+impl Rowed for LetterHeadComponents {
+    ghost use Rattle.rasn_oer.specs.Values.{both};
+
+    type Values = <LetterHeadRow as Components>::Values;
+
+    ghost EXTENSIBLE = { ⟦<LetterHeadRow as Components>⟧.EXTENSIBLE };
+
+    const EXTENSIBLE: bool = false;
+
+    ghost row_schema = { ⟦<LetterHeadRow as Components>⟧.schema };
+
+    ghost row_is_schema = { ⟦<LetterHeadRow as Components>⟧.is_schema };
+
+    ghost components = { λ v. both v.from (both v.key (both v.signal (both v.open (both v.digits (both v.plain (both v.seen (both v.general (both v.graphic (both v.teletex (both v.wide tt)))))))))) };
+
+    fn from_row(row: Self::Values) -> Self {
+        built![LetterHeadComponents from row:
+            from,
+            key,
+            signal,
+            open,
+            digits,
+            plain,
+            seen,
+            general,
+            graphic,
+            teletex,
+            wide
+        ]
+    }
+}
+
+impl Takes for LetterHeadComponents {
+    ghost Refuses = { ⟦<LetterHeadRow as Reads>⟧.Refuses };
+
+    #[inline(always)]
+    fn take(alloc: Global, decoder: &mut Decoder<'_>) -> Result<Self, DecodeError> {
+        read_row::<Self, LetterHeadRow>(alloc, decoder)
+    }
+}
+
+impl Tabled<11, 0> for LetterHeadComponents {
+    ghost use Rattle.std.specs.Prelude.{refl};
+
+    const FIELDS: Fields<11> = Fields {
+        fields: fields![
+            0 Required Context 0 "from",
+            1 Optional Context 1 "key",
+            2 Required Context 2 "signal",
+            3 Required Context 3 "open",
+            4 Required Context 4 "digits",
+            5 Required Context 5 "plain",
+            6 Required Context 6 "seen",
+            7 Required Context 7 "general",
+            8 Required Context 8 "graphic",
+            9 Required Context 9 "teletex",
+            10 Required Context 10 "wide"
+        ],
+    };
+
+    const EXTENDED_FIELDS: Option<Fields<0>> = None;
+
+    fn root_fields() -> &'static [Field<'static>] {
+        Self::FIELDS.fields
+    }
+
+    fn addition_fields() -> &'static [Field<'static>] {
+        rows_of!(Self::EXTENDED_FIELDS)
+    }
+
+    #[inline(always)]
+    fn put(&self, encoder: &mut Encoder<'_>) -> Result<(), EncodeError> {
+        let view = views![self:
+            from,
+            key,
+            signal,
+            open,
+            digits,
+            plain,
+            seen,
+            general,
+            graphic,
+            teletex,
+            wide
+        ];
+        LetterHeadRow::write(&view, encoder)
+    }
+
+    ghost counts = { (refl, refl) };
+}
+
+/// The limits of `LetterGroup1Stamp`.
+#[derive(Drop)]
+pub enum LetterGroup1StampLimits {}
+
+impl Limits for LetterGroup1StampLimits {
+    ghost use Rattle.std.specs.Prelude.{None, Some, false, negsuc, pos, refl};
+    ghost use Rattle.rasn_oer.specs.Bounded.{Range, Single};
+
+    ghost LIMITS = { record { value = None; size = Some (Single 2, false) } };
+
+    const LIMITS: Constraints = Constraints {
+        value: None,
+        size: Some((Bounded::Single(2), false)),
+    };
+
+    ghost consistent = { refl };
+}
+
+/// The addition group 1 of `Letter`.
+pub type LetterGroup1 = Sequence<LetterGroup1Components, 2, 0>;
+
+/// The components of `LetterGroup1`.
+#[derive(Debug, PartialEq, Eq, Drop)]
+pub struct LetterGroup1Components {
+    pub stamp: Limited<Octets, LetterGroup1StampLimits>,
+    pub note: Option<Utf8Text>,
+}
+
+type LetterGroup1Row = Needs<
+    Context<2>,
+    Limited<Octets, LetterGroup1StampLimits>,
+    MayHave<Context<3>, Utf8Text, NoMore>,
+>;
+
+impl Rowed for LetterGroup1Components {
+    ghost use Rattle.rasn_oer.specs.Values.{both};
+
+    type Values = <LetterGroup1Row as Components>::Values;
+
+    ghost EXTENSIBLE = { ⟦<LetterGroup1Row as Components>⟧.EXTENSIBLE };
+
+    const EXTENSIBLE: bool = false;
+
+    ghost row_schema = { ⟦<LetterGroup1Row as Components>⟧.schema };
+
+    ghost row_is_schema = { ⟦<LetterGroup1Row as Components>⟧.is_schema };
+
+    ghost components = { λ v. both v.stamp (both v.note tt) };
+
+    fn from_row(row: Self::Values) -> Self {
+        built![LetterGroup1Components from row:
+            stamp,
+            note
+        ]
+    }
+}
+
+impl Takes for LetterGroup1Components {
+    ghost Refuses = { ⟦<LetterGroup1Row as Reads>⟧.Refuses };
+
+    #[inline(always)]
+    fn take(alloc: Global, decoder: &mut Decoder<'_>) -> Result<Self, DecodeError> {
+        read_row::<Self, LetterGroup1Row>(alloc, decoder)
+    }
+}
+
+impl Tabled<2, 0> for LetterGroup1Components {
+    ghost use Rattle.std.specs.Prelude.{refl};
+
+    const FIELDS: Fields<2> = Fields {
+        fields: fields![
+            0 Required Context 2 "stamp",
+            1 Optional Context 3 "note"
+        ],
+    };
+
+    const EXTENDED_FIELDS: Option<Fields<0>> = None;
+
+    fn root_fields() -> &'static [Field<'static>] {
+        Self::FIELDS.fields
+    }
+
+    fn addition_fields() -> &'static [Field<'static>] {
+        rows_of!(Self::EXTENDED_FIELDS)
+    }
+
+    #[inline(always)]
+    fn put(&self, encoder: &mut Encoder<'_>) -> Result<(), EncodeError> {
+        let view = views![self:
+            stamp,
+            note
+        ];
+        LetterGroup1Row::write(&view, encoder)
+    }
+
+    ghost counts = { (refl, refl) };
+}
+
+/// `Letter ::= SEQUENCE { head SEQUENCE { from Name, key Key OPTIONAL, signal Signal, open ANY, digits
+/// NumericString, plain PrintableString, seen VisibleString, general GeneralString, graphic
+/// GraphicString, teletex TeletexString, wide BMPString (SIZE(2)) }, body OCTET STRING, ..., [[
+/// stamp OCTET STRING (SIZE(2)), note UTF8String OPTIONAL ]] }`
+pub type Letter = Sequence<LetterComponents, 2, 1>;
+
+/// The components of `Letter`.
+#[derive(Debug, PartialEq, Eq, Drop)]
+pub struct LetterComponents {
+    pub head: LetterHead,
+    pub body: Octets,
+    pub group_1: Option<LetterGroup1>,
+}
+
+type LetterRow = Needs<
+    Context<0>,
+    LetterHead,
+    Needs<Context<1>, Octets, Extensible<LetterAdditions>>,
+>;
+
+type LetterAdditions = MayAddGroup<2, 0, LetterGroup1, NoMore>;
+
+impl Rowed for LetterComponents {
+    ghost use Rattle.rasn_oer.specs.Values.{both};
+
+    type Values = <LetterRow as Components>::Values;
+
+    ghost EXTENSIBLE = { ⟦<LetterRow as Components>⟧.EXTENSIBLE };
+
+    const EXTENSIBLE: bool = true;
+
+    ghost row_schema = { ⟦<LetterRow as Components>⟧.schema };
+
+    ghost row_is_schema = { ⟦<LetterRow as Components>⟧.is_schema };
+
+    ghost components = { λ v. both v.head (both v.body (both v.group_1 tt)) };
+
+    fn from_row(row: Self::Values) -> Self {
+        built![LetterComponents from row:
+            head,
+            body,
+            group_1
+        ]
+    }
+}
+
+impl Takes for LetterComponents {
+    ghost Refuses = { ⟦<LetterRow as Reads>⟧.Refuses };
+
+    #[inline(always)]
+    fn take(alloc: Global, decoder: &mut Decoder<'_>) -> Result<Self, DecodeError> {
+        read_row::<Self, LetterRow>(alloc, decoder)
+    }
+}
+
+impl Tabled<2, 1> for LetterComponents {
+    ghost use Rattle.std.specs.Prelude.{refl};
+
+    const FIELDS: Fields<2> = Fields {
+        fields: fields![
+            0 Required Context 0 "head",
+            1 Required Context 1 "body"
+        ],
+    };
+
+    const EXTENDED_FIELDS: Option<Fields<1>> = Some(Fields {
+        fields: fields![
+            0 Optional Universal 16 "group 1"
+        ],
+    });
+
+    fn root_fields() -> &'static [Field<'static>] {
+        Self::FIELDS.fields
+    }
+
+    fn addition_fields() -> &'static [Field<'static>] {
+        rows_of!(Self::EXTENDED_FIELDS)
+    }
+
+    #[inline(always)]
+    fn put(&self, encoder: &mut Encoder<'_>) -> Result<(), EncodeError> {
+        let view = views![self:
+            head,
+            body,
+            group_1
+        ];
+        LetterRow::write(&view, encoder)
+    }
+
+    ghost counts = { (refl, refl) };
+}

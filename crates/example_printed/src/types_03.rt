@@ -1,0 +1,743 @@
+//! Types of ASN.1 modules, as oergen printed them.
+
+use crate::{Colour, ColourValues, Name, Names};
+use rasn_oer::prelude::*;
+use std::alloc::{AllocError, Global};
+
+/// `Rights ::= BIT STRING { read(0), write(1) } (SIZE(8))`
+pub type Rights = Limited<BitString, RightsLimits>;
+
+/// The limits of `Rights`.
+#[derive(Drop)]
+pub enum RightsLimits {}
+
+impl Limits for RightsLimits {
+    ghost use Rattle.std.specs.Prelude.{None, Some, false, negsuc, pos, refl};
+    ghost use Rattle.rasn_oer.specs.Bounded.{Range, Single};
+
+    ghost LIMITS = { record { value = None; size = Some (Single 8, false) } };
+
+    const LIMITS: Constraints = Constraints {
+        value: None,
+        size: Some((Bounded::Single(8), false)),
+    };
+
+    ghost consistent = { refl };
+}
+
+/// The default {read} of `PermitRights`.
+pub struct PermitRightsDefault;
+
+impl Standard<BitString> for PermitRightsDefault {
+    ghost use Rattle.std.specs.Prelude.{◌∷◌, [], take};
+    ghost use Rattle.rasn_oer.specs.Octets.{bits_of};
+
+    ghost value = { take 8 (bits_of (128 ∷ [])) };
+
+    fn value(alloc: Global) -> Result<BitString, AllocError> {
+        let octets: [u8; 1] = [0x80];
+        bits_from(alloc, &octets, 8)
+    }
+
+    fn is_value(other: &BitString) -> bool {
+        let octets: [u8; 1] = [0x80];
+        are_bits(other, &octets, 8)
+    }
+
+    ghost admitted = { tt };
+}
+
+/// The limits of `PermitMark`.
+#[derive(Drop)]
+pub enum PermitMarkLimits {}
+
+impl Limits for PermitMarkLimits {
+    ghost use Rattle.std.specs.Prelude.{None, Some, false, negsuc, pos, refl};
+    ghost use Rattle.rasn_oer.specs.Bounded.{Range, Single};
+
+    ghost LIMITS = { record { value = None; size = Some (Single 2, false) } };
+
+    const LIMITS: Constraints = Constraints {
+        value: None,
+        size: Some((Bounded::Single(2), false)),
+    };
+
+    ghost consistent = { refl };
+}
+
+/// The default 'AB01'H of `PermitMark`.
+pub struct PermitMarkDefault;
+
+impl Standard<Octets> for PermitMarkDefault {
+    ghost use Rattle.std.specs.Prelude.{◌∷◌, [], refl};
+    ghost use Rattle.rasn_oer.specs.Literals.{written};
+    ghost use Rattle.rasn_oer.specs.Texts as texts;
+
+    ghost value = { record { 0 = (171 ∷ 1 ∷ []) } };
+
+    fn value(alloc: Global) -> Result<Octets, AllocError> {
+        let octets: [u8; 2] = [0xAB, 0x01];
+        let content = OctetString::from_slice(alloc, &octets)?;
+        Ok(Octets(content))
+    }
+
+    fn is_value(other: &Octets) -> bool {
+        let octets: [u8; 2] = [0xAB, 0x01];
+        other.0.as_bytes() == octets.as_slice()
+    }
+
+    ghost admitted = { written texts.AnyOctets (171 ∷ 1 ∷ []) refl tt };
+}
+
+/// The default "home" of `PermitPlace`.
+pub struct PermitPlaceDefault;
+
+impl Standard<Ia5Text> for PermitPlaceDefault {
+    ghost use Rattle.std.specs.Prelude.{◌∷◌, [], refl};
+    ghost use Rattle.rasn_oer.specs.Literals.{written};
+    ghost use Rattle.rasn_oer.specs.Texts as texts;
+
+    ghost value = { record { 0 = (104 ∷ 111 ∷ 109 ∷ 101 ∷ []) } };
+
+    fn value(alloc: Global) -> Result<Ia5Text, AllocError> {
+        let octets: [u8; 4] = [0x68, 0x6F, 0x6D, 0x65];
+        let content = Ia5String::from_text(alloc, &octets)?;
+        Ok(Ia5Text(content))
+    }
+
+    fn is_value(other: &Ia5Text) -> bool {
+        let octets: [u8; 4] = [0x68, 0x6F, 0x6D, 0x65];
+        other.0.as_bytes() == octets.as_slice()
+    }
+
+    ghost admitted = { written texts.Ia5 (104 ∷ 111 ∷ 109 ∷ 101 ∷ []) refl refl };
+}
+
+/// The default green of `PermitColour`.
+pub struct PermitColourDefault;
+
+impl Standard<Colour> for PermitColourDefault {
+    ghost use Rattle.example_printed.specs.declared.types_01.ColourValues.TheVariants.{Green};
+
+    ghost value = { record { 0 = Green } };
+
+    fn value(_alloc: Global) -> Result<Colour, AllocError> {
+        Ok(Enumeration(ColourValues::Green))
+    }
+
+    fn is_value(other: &Colour) -> bool {
+        *other == Enumeration(ColourValues::Green)
+    }
+
+    ghost admitted = { tt };
+}
+
+/// The default '101'B of `PermitBits`.
+pub struct PermitBitsDefault;
+
+impl Standard<BitString> for PermitBitsDefault {
+    ghost use Rattle.std.specs.Prelude.{◌∷◌, [], take};
+    ghost use Rattle.rasn_oer.specs.Octets.{bits_of};
+
+    ghost value = { take 3 (bits_of (160 ∷ [])) };
+
+    fn value(alloc: Global) -> Result<BitString, AllocError> {
+        let octets: [u8; 1] = [0xA0];
+        bits_from(alloc, &octets, 3)
+    }
+
+    fn is_value(other: &BitString) -> bool {
+        let octets: [u8; 1] = [0xA0];
+        are_bits(other, &octets, 3)
+    }
+
+    ghost admitted = { tt };
+}
+
+/// The default "Hi" of `PermitSeal`.
+pub struct PermitSealDefault;
+
+impl Standard<BmpText> for PermitSealDefault {
+    ghost use Rattle.std.specs.Prelude.{◌∷◌, [], refl};
+    ghost use Rattle.rasn_oer.specs.Literals.{written};
+    ghost use Rattle.rasn_oer.specs.Texts as texts;
+
+    ghost value = { record { 0 = (0 ∷ 72 ∷ 0 ∷ 105 ∷ []) } };
+
+    fn value(alloc: Global) -> Result<BmpText, AllocError> {
+        let octets: [u8; 4] = [0x00, 0x48, 0x00, 0x69];
+        bmp_from(alloc, &octets)
+    }
+
+    fn is_value(other: &BmpText) -> bool {
+        let octets: [u8; 4] = [0x00, 0x48, 0x00, 0x69];
+        other.0.as_bytes() == octets.as_slice()
+    }
+
+    ghost admitted = { written texts.Bmp (0 ∷ 72 ∷ 0 ∷ 105 ∷ []) refl (2, refl) };
+}
+
+/// The default {write} of `PermitMore`.
+pub struct PermitMoreDefault;
+
+impl Standard<BitString> for PermitMoreDefault {
+    ghost use Rattle.std.specs.Prelude.{◌∷◌, [], take};
+    ghost use Rattle.rasn_oer.specs.Octets.{bits_of};
+
+    ghost value = { take 8 (bits_of (64 ∷ [])) };
+
+    fn value(alloc: Global) -> Result<BitString, AllocError> {
+        let octets: [u8; 1] = [0x40];
+        bits_from(alloc, &octets, 8)
+    }
+
+    fn is_value(other: &BitString) -> bool {
+        let octets: [u8; 1] = [0x40];
+        are_bits(other, &octets, 8)
+    }
+
+    ghost admitted = { tt };
+}
+
+/// `Permit ::= SEQUENCE { rights Rights DEFAULT usual, mark OCTET STRING (SIZE(2)) DEFAULT 'AB01'H,
+/// place Name DEFAULT "home", colour Colour DEFAULT green, bits BIT STRING DEFAULT '101'B, nothing NULL
+/// DEFAULT NULL, ..., seal BMPString DEFAULT "Hi", more Rights DEFAULT { write } }`
+pub type Permit = Sequence<PermitComponents, 6, 2>;
+
+/// The components of `Permit`.
+#[derive(Debug, PartialEq, Eq, Drop)]
+pub struct PermitComponents {
+    pub rights: Rights,
+    pub mark: Limited<Octets, PermitMarkLimits>,
+    pub place: Name,
+    pub colour: Colour,
+    pub bits: BitString,
+    pub nothing: (),
+    pub seal: BmpText,
+    pub more: Rights,
+}
+
+type PermitRow = Defaults<
+    Context<0>,
+    Rights,
+    Within<PermitRightsDefault>,
+    Defaults<
+        Context<1>,
+        Limited<Octets, PermitMarkLimits>,
+        Within<PermitMarkDefault>,
+        Defaults<
+            Context<2>,
+            Name,
+            Within<PermitPlaceDefault>,
+            Defaults<
+                Context<3>,
+                Colour,
+                PermitColourDefault,
+                Defaults<Context<4>, BitString, PermitBitsDefault, PermitFromNothing>,
+            >,
+        >,
+    >,
+>;
+
+/// The components of `Permit` from `nothing` on.
+type PermitFromNothing = Defaults<Context<5>, (), IsNull, Extensible<PermitAdditions>>;
+
+type PermitAdditions = AddDefaults<
+    Context<6>,
+    BmpText,
+    PermitSealDefault,
+    AddDefaults<Context<7>, Rights, Within<PermitMoreDefault>, NoMore>,
+>;
+
+impl Rowed for PermitComponents {
+    ghost use Rattle.rasn_oer.specs.Values.{both};
+
+    type Values = <PermitRow as Components>::Values;
+
+    ghost EXTENSIBLE = { ⟦<PermitRow as Components>⟧.EXTENSIBLE };
+
+    const EXTENSIBLE: bool = true;
+
+    ghost row_schema = { ⟦<PermitRow as Components>⟧.schema };
+
+    ghost row_is_schema = { ⟦<PermitRow as Components>⟧.is_schema };
+
+    ghost components = { λ v. both v.rights (both v.mark (both v.place (both v.colour (both v.bits (both v.nothing (both v.seal (both v.more tt))))))) };
+
+    fn from_row(row: Self::Values) -> Self {
+        built![PermitComponents from row:
+            rights,
+            mark,
+            place,
+            colour,
+            bits,
+            nothing,
+            seal,
+            more
+        ]
+    }
+}
+
+impl Takes for PermitComponents {
+    ghost Refuses = { ⟦<PermitRow as Reads>⟧.Refuses };
+
+    #[inline(always)]
+    fn take(alloc: Global, decoder: &mut Decoder<'_>) -> Result<Self, DecodeError> {
+        read_row::<Self, PermitRow>(alloc, decoder)
+    }
+}
+
+impl Tabled<6, 2> for PermitComponents {
+    ghost use Rattle.std.specs.Prelude.{refl};
+
+    const FIELDS: Fields<6> = Fields {
+        fields: fields![
+            0 Default Context 0 "rights",
+            1 Default Context 1 "mark",
+            2 Default Context 2 "place",
+            3 Default Context 3 "colour",
+            4 Default Context 4 "bits",
+            5 Default Context 5 "nothing"
+        ],
+    };
+
+    const EXTENDED_FIELDS: Option<Fields<2>> = Some(Fields {
+        fields: fields![
+            0 Default Context 6 "seal",
+            1 Default Context 7 "more"
+        ],
+    });
+
+    fn root_fields() -> &'static [Field<'static>] {
+        Self::FIELDS.fields
+    }
+
+    fn addition_fields() -> &'static [Field<'static>] {
+        rows_of!(Self::EXTENDED_FIELDS)
+    }
+
+    #[inline(always)]
+    fn put(&self, encoder: &mut Encoder<'_>) -> Result<(), EncodeError> {
+        let view = views![self:
+            rights,
+            mark,
+            place,
+            colour,
+            bits,
+            nothing,
+            seal,
+            more
+        ];
+        PermitRow::write(&view, encoder)
+    }
+
+    ghost counts = { (refl, refl) };
+}
+
+/// `Folder ::= SEQUENCE { names Names DEFAULT { }, numbers SET (SIZE(0..9)) OF INTEGER DEFAULT { },
+/// ..., more Names DEFAULT none }`
+pub type Folder = Sequence<FolderComponents, 2, 1>;
+
+/// The components of `Folder`.
+#[derive(Debug, PartialEq, Eq, Drop)]
+pub struct FolderComponents {
+    pub names: Names,
+    pub numbers: SetOf<Integer>,
+    pub more: Names,
+}
+
+type FolderRow = Defaults<
+    Context<0>,
+    Names,
+    IsEmptyList,
+    Defaults<Context<1>, SetOf<Integer>, IsEmptyList, Extensible<FolderAdditions>>,
+>;
+
+type FolderAdditions = AddDefaults<Context<2>, Names, IsEmptyList, NoMore>;
+
+impl Rowed for FolderComponents {
+    ghost use Rattle.rasn_oer.specs.Values.{both};
+
+    type Values = <FolderRow as Components>::Values;
+
+    ghost EXTENSIBLE = { ⟦<FolderRow as Components>⟧.EXTENSIBLE };
+
+    const EXTENSIBLE: bool = true;
+
+    ghost row_schema = { ⟦<FolderRow as Components>⟧.schema };
+
+    ghost row_is_schema = { ⟦<FolderRow as Components>⟧.is_schema };
+
+    ghost components = { λ v. both v.names (both v.numbers (both v.more tt)) };
+
+    fn from_row(row: Self::Values) -> Self {
+        built![FolderComponents from row:
+            names,
+            numbers,
+            more
+        ]
+    }
+}
+
+impl Takes for FolderComponents {
+    ghost Refuses = { ⟦<FolderRow as Reads>⟧.Refuses };
+
+    #[inline(always)]
+    fn take(alloc: Global, decoder: &mut Decoder<'_>) -> Result<Self, DecodeError> {
+        read_row::<Self, FolderRow>(alloc, decoder)
+    }
+}
+
+impl Tabled<2, 1> for FolderComponents {
+    ghost use Rattle.std.specs.Prelude.{refl};
+
+    const FIELDS: Fields<2> = Fields {
+        fields: fields![
+            0 Default Context 0 "names",
+            1 Default Context 1 "numbers"
+        ],
+    };
+
+    const EXTENDED_FIELDS: Option<Fields<1>> = Some(Fields {
+        fields: fields![
+            0 Default Context 2 "more"
+        ],
+    });
+
+    fn root_fields() -> &'static [Field<'static>] {
+        Self::FIELDS.fields
+    }
+
+    fn addition_fields() -> &'static [Field<'static>] {
+        rows_of!(Self::EXTENDED_FIELDS)
+    }
+
+    #[inline(always)]
+    fn put(&self, encoder: &mut Encoder<'_>) -> Result<(), EncodeError> {
+        let view = views![self:
+            names,
+            numbers,
+            more
+        ];
+        FolderRow::write(&view, encoder)
+    }
+
+    ghost counts = { (refl, refl) };
+}
+
+/// The default "h""é" of `LabelsTitle`.
+pub struct LabelsTitleDefault;
+
+impl Standard<Utf8Text> for LabelsTitleDefault {
+    ghost use Rattle.std.specs.Prelude.{◌∷◌, [], refl};
+    ghost use Rattle.rasn_oer.specs.Literals.{written, spelled};
+    ghost use Rattle.rasn_oer.specs.Texts as texts;
+
+    ghost value = { (104 ∷ 34 ∷ 195 ∷ 169 ∷ []) };
+
+    fn value(alloc: Global) -> Result<Utf8Text, AllocError> {
+        let octets: [u8; 4] = [0x68, 0x22, 0xC3, 0xA9];
+        utf8_from(alloc, &octets)
+    }
+
+    fn is_value(other: &Utf8Text) -> bool {
+        let octets: [u8; 4] = [0x68, 0x22, 0xC3, 0xA9];
+        other.0.as_bytes() == octets.as_slice()
+    }
+
+    ghost admitted = { written texts.Utf8 (104 ∷ 34 ∷ 195 ∷ 169 ∷ []) refl (spelled (104 ∷ 34 ∷ 195 ∷ 169 ∷ []) refl) };
+}
+
+/// The limits of `LabelsDigits`.
+#[derive(Drop)]
+pub enum LabelsDigitsLimits {}
+
+impl Limits for LabelsDigitsLimits {
+    ghost use Rattle.std.specs.Prelude.{None, Some, false, negsuc, pos, refl};
+    ghost use Rattle.rasn_oer.specs.Bounded.{Range, Single};
+
+    ghost LIMITS = { record { value = None; size = Some (Range (Some 1) (Some 4), false) } };
+
+    const LIMITS: Constraints = Constraints {
+        value: None,
+        size: Some((
+            Bounded::Range {
+                start: Some(1),
+                end: Some(4),
+            },
+            false,
+        )),
+    };
+
+    ghost consistent = { refl };
+}
+
+/// The default "0 1" of `LabelsDigits`.
+pub struct LabelsDigitsDefault;
+
+impl Standard<NumericText> for LabelsDigitsDefault {
+    ghost use Rattle.std.specs.Prelude.{◌∷◌, [], refl};
+    ghost use Rattle.rasn_oer.specs.Literals.{written};
+    ghost use Rattle.rasn_oer.specs.Texts as texts;
+
+    ghost value = { record { 0 = (48 ∷ 32 ∷ 49 ∷ []) } };
+
+    fn value(alloc: Global) -> Result<NumericText, AllocError> {
+        let octets: [u8; 3] = [0x30, 0x20, 0x31];
+        let content = NumericString::from_text(alloc, &octets)?;
+        Ok(NumericText(content))
+    }
+
+    fn is_value(other: &NumericText) -> bool {
+        let octets: [u8; 3] = [0x30, 0x20, 0x31];
+        other.0.as_bytes() == octets.as_slice()
+    }
+
+    ghost admitted = { written texts.Numeric (48 ∷ 32 ∷ 49 ∷ []) refl refl };
+}
+
+/// The default "A." of `LabelsPlain`.
+pub struct LabelsPlainDefault;
+
+impl Standard<PrintableText> for LabelsPlainDefault {
+    ghost use Rattle.std.specs.Prelude.{◌∷◌, [], refl};
+    ghost use Rattle.rasn_oer.specs.Literals.{written};
+    ghost use Rattle.rasn_oer.specs.Texts as texts;
+
+    ghost value = { record { 0 = (65 ∷ 46 ∷ []) } };
+
+    fn value(alloc: Global) -> Result<PrintableText, AllocError> {
+        let octets: [u8; 2] = [0x41, 0x2E];
+        let content = PrintableString::from_text(alloc, &octets)?;
+        Ok(PrintableText(content))
+    }
+
+    fn is_value(other: &PrintableText) -> bool {
+        let octets: [u8; 2] = [0x41, 0x2E];
+        other.0.as_bytes() == octets.as_slice()
+    }
+
+    ghost admitted = { written texts.Printable (65 ∷ 46 ∷ []) refl refl };
+}
+
+/// The default "~" of `LabelsSeen`.
+pub struct LabelsSeenDefault;
+
+impl Standard<VisibleText> for LabelsSeenDefault {
+    ghost use Rattle.std.specs.Prelude.{◌∷◌, [], refl};
+    ghost use Rattle.rasn_oer.specs.Literals.{written};
+    ghost use Rattle.rasn_oer.specs.Texts as texts;
+
+    ghost value = { record { 0 = (126 ∷ []) } };
+
+    fn value(alloc: Global) -> Result<VisibleText, AllocError> {
+        let octets: [u8; 1] = [0x7E];
+        let content = VisibleString::from_text(alloc, &octets)?;
+        Ok(VisibleText(content))
+    }
+
+    fn is_value(other: &VisibleText) -> bool {
+        let octets: [u8; 1] = [0x7E];
+        other.0.as_bytes() == octets.as_slice()
+    }
+
+    ghost admitted = { written texts.Visible (126 ∷ []) refl refl };
+}
+
+/// The default "" of `LabelsGeneral`.
+pub struct LabelsGeneralDefault;
+
+impl Standard<GeneralText> for LabelsGeneralDefault {
+    ghost use Rattle.std.specs.Prelude.{◌∷◌, [], refl};
+    ghost use Rattle.rasn_oer.specs.Literals.{written};
+    ghost use Rattle.rasn_oer.specs.Texts as texts;
+
+    ghost value = { record { 0 = ([]) } };
+
+    fn value(alloc: Global) -> Result<GeneralText, AllocError> {
+        let octets: [u8; 0] = [];
+        let content = GeneralString::from_text(alloc, &octets)?;
+        Ok(GeneralText(content))
+    }
+
+    fn is_value(other: &GeneralText) -> bool {
+        let octets: [u8; 0] = [];
+        other.0.as_bytes() == octets.as_slice()
+    }
+
+    ghost admitted = { written texts.General ([]) refl tt };
+}
+
+/// The default "g" of `LabelsGraphic`.
+pub struct LabelsGraphicDefault;
+
+impl Standard<GraphicText> for LabelsGraphicDefault {
+    ghost use Rattle.std.specs.Prelude.{◌∷◌, [], refl};
+    ghost use Rattle.rasn_oer.specs.Literals.{written};
+    ghost use Rattle.rasn_oer.specs.Texts as texts;
+
+    ghost value = { record { 0 = (103 ∷ []) } };
+
+    fn value(alloc: Global) -> Result<GraphicText, AllocError> {
+        let octets: [u8; 1] = [0x67];
+        let content = GraphicString::from_text(alloc, &octets)?;
+        Ok(GraphicText(content))
+    }
+
+    fn is_value(other: &GraphicText) -> bool {
+        let octets: [u8; 1] = [0x67];
+        other.0.as_bytes() == octets.as_slice()
+    }
+
+    ghost admitted = { written texts.Graphic (103 ∷ []) refl tt };
+}
+
+/// The default "t" of `LabelsTeletex`.
+pub struct LabelsTeletexDefault;
+
+impl Standard<TeletexText> for LabelsTeletexDefault {
+    ghost use Rattle.std.specs.Prelude.{◌∷◌, [], refl};
+    ghost use Rattle.rasn_oer.specs.Literals.{written};
+    ghost use Rattle.rasn_oer.specs.Texts as texts;
+
+    ghost value = { record { 0 = (116 ∷ []) } };
+
+    fn value(alloc: Global) -> Result<TeletexText, AllocError> {
+        let octets: [u8; 1] = [0x74];
+        let content = TeletexString::from_text(alloc, &octets)?;
+        Ok(TeletexText(content))
+    }
+
+    fn is_value(other: &TeletexText) -> bool {
+        let octets: [u8; 1] = [0x74];
+        other.0.as_bytes() == octets.as_slice()
+    }
+
+    ghost admitted = { written texts.Teletex (116 ∷ []) refl tt };
+}
+
+/// `Labels ::= SEQUENCE { title UTF8String DEFAULT "h""é", digits NumericString (SIZE(1..4))
+/// DEFAULT "0 1", plain PrintableString DEFAULT "A.", seen VisibleString DEFAULT "~", general
+/// GeneralString DEFAULT "", graphic GraphicString DEFAULT "g", teletex TeletexString DEFAULT "t" }`
+pub type Labels = Sequence<LabelsComponents, 7, 0>;
+
+/// The components of `Labels`.
+#[derive(Debug, PartialEq, Eq, Drop)]
+pub struct LabelsComponents {
+    pub title: Utf8Text,
+    pub digits: Limited<NumericText, LabelsDigitsLimits>,
+    pub plain: PrintableText,
+    pub seen: VisibleText,
+    pub general: GeneralText,
+    pub graphic: GraphicText,
+    pub teletex: TeletexText,
+}
+
+type LabelsRow = Defaults<
+    Context<0>,
+    Utf8Text,
+    LabelsTitleDefault,
+    Defaults<
+        Context<1>,
+        Limited<NumericText, LabelsDigitsLimits>,
+        Within<LabelsDigitsDefault>,
+        Defaults<
+            Context<2>,
+            PrintableText,
+            LabelsPlainDefault,
+            Defaults<
+                Context<3>,
+                VisibleText,
+                LabelsSeenDefault,
+                Defaults<Context<4>, GeneralText, LabelsGeneralDefault, LabelsFromGraphic>,
+            >,
+        >,
+    >,
+>;
+
+/// The components of `Labels` from `graphic` on.
+type LabelsFromGraphic = Defaults<
+    Context<5>,
+    GraphicText,
+    LabelsGraphicDefault,
+    Defaults<Context<6>, TeletexText, LabelsTeletexDefault, NoMore>,
+>;
+
+impl Rowed for LabelsComponents {
+    ghost use Rattle.rasn_oer.specs.Values.{both};
+
+    type Values = <LabelsRow as Components>::Values;
+
+    ghost EXTENSIBLE = { ⟦<LabelsRow as Components>⟧.EXTENSIBLE };
+
+    const EXTENSIBLE: bool = false;
+
+    ghost row_schema = { ⟦<LabelsRow as Components>⟧.schema };
+
+    ghost row_is_schema = { ⟦<LabelsRow as Components>⟧.is_schema };
+
+    ghost components = { λ v. both v.title (both v.digits (both v.plain (both v.seen (both v.general (both v.graphic (both v.teletex tt)))))) };
+
+    fn from_row(row: Self::Values) -> Self {
+        built![LabelsComponents from row:
+            title,
+            digits,
+            plain,
+            seen,
+            general,
+            graphic,
+            teletex
+        ]
+    }
+}
+
+impl Takes for LabelsComponents {
+    ghost Refuses = { ⟦<LabelsRow as Reads>⟧.Refuses };
+
+    #[inline(always)]
+    fn take(alloc: Global, decoder: &mut Decoder<'_>) -> Result<Self, DecodeError> {
+        read_row::<Self, LabelsRow>(alloc, decoder)
+    }
+}
+
+impl Tabled<7, 0> for LabelsComponents {
+    ghost use Rattle.std.specs.Prelude.{refl};
+
+    const FIELDS: Fields<7> = Fields {
+        fields: fields![
+            0 Default Context 0 "title",
+            1 Default Context 1 "digits",
+            2 Default Context 2 "plain",
+            3 Default Context 3 "seen",
+            4 Default Context 4 "general",
+            5 Default Context 5 "graphic",
+            6 Default Context 6 "teletex"
+        ],
+    };
+
+    const EXTENDED_FIELDS: Option<Fields<0>> = None;
+
+    fn root_fields() -> &'static [Field<'static>] {
+        Self::FIELDS.fields
+    }
+
+    fn addition_fields() -> &'static [Field<'static>] {
+        rows_of!(Self::EXTENDED_FIELDS)
+    }
+
+    #[inline(always)]
+    fn put(&self, encoder: &mut Encoder<'_>) -> Result<(), EncodeError> {
+        let view = views![self:
+            title,
+            digits,
+            plain,
+            seen,
+            general,
+            graphic,
+            teletex
+        ];
+        LabelsRow::write(&view, encoder)
+    }
+
+    ghost counts = { (refl, refl) };
+}

@@ -1,0 +1,577 @@
+//! Types of ASN.1 modules, as oergen printed them.
+
+use crate::Names;
+use rasn_oer::prelude::*;
+use std::alloc::Global;
+
+/// `Spot ::= SEQUENCE { x INTEGER (0..255), y INTEGER (0..255) }`
+pub type Spot = Sequence<SpotComponents, 2, 0>;
+
+/// The components of `Spot`.
+#[derive(Debug, PartialEq, Eq, Drop)]
+pub struct SpotComponents {
+    pub x: u8,
+    pub y: u8,
+}
+
+type SpotRow = Needs<Context<0>, u8, Needs<Context<1>, u8, NoMore>>;
+
+impl Rowed for SpotComponents {
+    ghost use Rattle.rasn_oer.specs.Values.{both};
+
+    type Values = <SpotRow as Components>::Values;
+
+    ghost EXTENSIBLE = { ⟦<SpotRow as Components>⟧.EXTENSIBLE };
+
+    const EXTENSIBLE: bool = false;
+
+    ghost row_schema = { ⟦<SpotRow as Components>⟧.schema };
+
+    ghost row_is_schema = { ⟦<SpotRow as Components>⟧.is_schema };
+
+    ghost components = { λ v. both v.x (both v.y tt) };
+
+    fn from_row(row: Self::Values) -> Self {
+        built![SpotComponents from row:
+            x,
+            y
+        ]
+    }
+}
+
+impl Takes for SpotComponents {
+    ghost Refuses = { ⟦<SpotRow as Reads>⟧.Refuses };
+
+    #[inline(always)]
+    fn take(alloc: Global, decoder: &mut Decoder<'_>) -> Result<Self, DecodeError> {
+        read_row::<Self, SpotRow>(alloc, decoder)
+    }
+}
+
+impl Tabled<2, 0> for SpotComponents {
+    ghost use Rattle.std.specs.Prelude.{refl};
+
+    const FIELDS: Fields<2> = Fields {
+        fields: fields![
+            0 Required Context 0 "x",
+            1 Required Context 1 "y"
+        ],
+    };
+
+    const EXTENDED_FIELDS: Option<Fields<0>> = None;
+
+    fn root_fields() -> &'static [Field<'static>] {
+        Self::FIELDS.fields
+    }
+
+    fn addition_fields() -> &'static [Field<'static>] {
+        rows_of!(Self::EXTENDED_FIELDS)
+    }
+
+    #[inline(always)]
+    fn put(&self, encoder: &mut Encoder<'_>) -> Result<(), EncodeError> {
+        let view = views![self:
+            x,
+            y
+        ];
+        SpotRow::write(&view, encoder)
+    }
+
+    ghost counts = { (refl, refl) };
+}
+
+/// `SEQUENCE { from Spot, to Spot }`
+pub type AreaBoxes = Sequence<AreaBoxesComponents, 2, 0>;
+
+/// The components of `AreaBoxes`.
+#[derive(Debug, PartialEq, Eq, Drop)]
+pub struct AreaBoxesComponents {
+    pub from: Spot,
+    pub to: Spot,
+}
+
+type AreaBoxesRow = Needs<Context<0>, Spot, Needs<Context<1>, Spot, NoMore>>;
+
+impl Rowed for AreaBoxesComponents {
+    ghost use Rattle.rasn_oer.specs.Values.{both};
+
+    type Values = <AreaBoxesRow as Components>::Values;
+
+    ghost EXTENSIBLE = { ⟦<AreaBoxesRow as Components>⟧.EXTENSIBLE };
+
+    const EXTENSIBLE: bool = false;
+
+    ghost row_schema = { ⟦<AreaBoxesRow as Components>⟧.schema };
+
+    ghost row_is_schema = { ⟦<AreaBoxesRow as Components>⟧.is_schema };
+
+    ghost components = { λ v. both v.from (both v.to tt) };
+
+    fn from_row(row: Self::Values) -> Self {
+        built![AreaBoxesComponents from row:
+            from,
+            to
+        ]
+    }
+}
+
+impl Takes for AreaBoxesComponents {
+    ghost Refuses = { ⟦<AreaBoxesRow as Reads>⟧.Refuses };
+
+    #[inline(always)]
+    fn take(alloc: Global, decoder: &mut Decoder<'_>) -> Result<Self, DecodeError> {
+        read_row::<Self, AreaBoxesRow>(alloc, decoder)
+    }
+}
+
+impl Tabled<2, 0> for AreaBoxesComponents {
+    ghost use Rattle.std.specs.Prelude.{refl};
+
+    const FIELDS: Fields<2> = Fields {
+        fields: fields![
+            0 Required Context 0 "from",
+            1 Required Context 1 "to"
+        ],
+    };
+
+    const EXTENDED_FIELDS: Option<Fields<0>> = None;
+
+    fn root_fields() -> &'static [Field<'static>] {
+        Self::FIELDS.fields
+    }
+
+    fn addition_fields() -> &'static [Field<'static>] {
+        rows_of!(Self::EXTENDED_FIELDS)
+    }
+
+    #[inline(always)]
+    fn put(&self, encoder: &mut Encoder<'_>) -> Result<(), EncodeError> {
+        let view = views![self:
+            from,
+            to
+        ];
+        AreaBoxesRow::write(&view, encoder)
+    }
+
+    ghost counts = { (refl, refl) };
+}
+
+/// `SEQUENCE { middle Spot, radius INTEGER (0..65535) }`
+pub type AreaRound = Sequence<AreaRoundComponents, 2, 0>;
+
+/// The components of `AreaRound`.
+#[derive(Debug, PartialEq, Eq, Drop)]
+pub struct AreaRoundComponents {
+    pub middle: Spot,
+    pub radius: u16,
+}
+
+type AreaRoundRow = Needs<Context<0>, Spot, Needs<Context<1>, u16, NoMore>>;
+
+impl Rowed for AreaRoundComponents {
+    ghost use Rattle.rasn_oer.specs.Values.{both};
+
+    type Values = <AreaRoundRow as Components>::Values;
+
+    ghost EXTENSIBLE = { ⟦<AreaRoundRow as Components>⟧.EXTENSIBLE };
+
+    const EXTENSIBLE: bool = false;
+
+    ghost row_schema = { ⟦<AreaRoundRow as Components>⟧.schema };
+
+    ghost row_is_schema = { ⟦<AreaRoundRow as Components>⟧.is_schema };
+
+    ghost components = { λ v. both v.middle (both v.radius tt) };
+
+    fn from_row(row: Self::Values) -> Self {
+        built![AreaRoundComponents from row:
+            middle,
+            radius
+        ]
+    }
+}
+
+impl Takes for AreaRoundComponents {
+    ghost Refuses = { ⟦<AreaRoundRow as Reads>⟧.Refuses };
+
+    #[inline(always)]
+    fn take(alloc: Global, decoder: &mut Decoder<'_>) -> Result<Self, DecodeError> {
+        read_row::<Self, AreaRoundRow>(alloc, decoder)
+    }
+}
+
+impl Tabled<2, 0> for AreaRoundComponents {
+    ghost use Rattle.std.specs.Prelude.{refl};
+
+    const FIELDS: Fields<2> = Fields {
+        fields: fields![
+            0 Required Context 0 "middle",
+            1 Required Context 1 "radius"
+        ],
+    };
+
+    const EXTENDED_FIELDS: Option<Fields<0>> = None;
+
+    fn root_fields() -> &'static [Field<'static>] {
+        Self::FIELDS.fields
+    }
+
+    fn addition_fields() -> &'static [Field<'static>] {
+        rows_of!(Self::EXTENDED_FIELDS)
+    }
+
+    #[inline(always)]
+    fn put(&self, encoder: &mut Encoder<'_>) -> Result<(), EncodeError> {
+        let view = views![self:
+            middle,
+            radius
+        ];
+        AreaRoundRow::write(&view, encoder)
+    }
+
+    ghost counts = { (refl, refl) };
+}
+
+/// `Area ::= CHOICE { boxes SEQUENCE OF SEQUENCE { from Spot, to Spot }, corners SEQUENCE (SIZE(3..MAX))
+/// OF Spot, names Names, round SEQUENCE { middle Spot, radius INTEGER (0..65535) }, ... }`
+pub type Area = OneOf<AreaAlternatives>;
+
+/// The alternatives of `Area`.
+#[derive(Debug, PartialEq, Eq, Drop)]
+pub enum AreaAlternatives {
+    Boxes(ListOf<AreaBoxes>),
+    Corners(ListOf<Spot>),
+    Names(Names),
+    Round(AreaRound),
+}
+
+type AreaRow = Offers<
+    Context<0>,
+    ListOf<AreaBoxes>,
+    Offers<
+        Context<1>,
+        ListOf<Spot>,
+        Offers<Context<2>, Names, Offers<Context<3>, AreaRound, Extensible<NoMore>>>,
+    >,
+>;
+
+const AREA_ROOTS: &'static [Tag] = tags![Context 0, Context 1, Context 2, Context 3];
+
+const AREA_ADDITIONS: &'static [Tag] = &[];
+
+impl Alternating for AreaAlternatives {
+    ghost use Rattle.std.specs.Prelude.{refl};
+    ghost use Rattle.rasn_oer.specs.Alternative.{First, Rest};
+    ghost use Rattle.example_printed.specs.declared.types_04.AreaAlternatives.TheVariants.{Boxes, Corners, Names, Round};
+
+    type Values = <AreaRow as Alternatives>::Values;
+
+    ghost row_choices = { ⟦<AreaRow as Alternatives>⟧.choices };
+
+    ghost row_are_choices = { ⟦<AreaRow as Alternatives>⟧.are_choices };
+
+    ghost alternative = { elim [ Boxes held ↦ First held | Corners held ↦ Rest (First held) | Names held ↦ Rest (Rest (First held)) | Round held ↦ Rest (Rest (Rest (First held))) ] };
+
+    const VARIANTS: &'static [Tag] = AREA_ROOTS;
+
+    const EXTENDED_VARIANTS: Option<&'static [Tag]> = Some(AREA_ADDITIONS);
+
+    fn root_tags() -> &'static [Tag] {
+        Self::VARIANTS
+    }
+
+    fn addition_tags() -> Option<&'static [Tag]> {
+        Self::EXTENDED_VARIANTS
+    }
+
+    fn from_alternative(value: Self::Values) -> Self {
+        from_row!(value => AreaAlternatives: Boxes, Corners, Names, Round)
+    }
+
+    #[inline(always)]
+    fn put<E: Choice>(&self, encoder: &mut Encoder<'_>) -> Result<(), EncodeError> {
+        let view = to_row!(self => AreaAlternatives: Boxes, Corners, Names, Round);
+        AreaRow::write_alternative::<E>(&view, encoder)
+    }
+
+    ghost apart = { refl };
+}
+
+impl TakesAlternative for AreaAlternatives {
+    ghost Refuses = { ⟦<AreaRow as ReadsAlternatives>⟧.Refuses };
+
+    fn take<D: Choice>(
+        alloc: Global,
+        decoder: &mut Decoder<'_>,
+        tag: Tag,
+    ) -> Result<Self, DecodeError> {
+        read_alternative::<Self, AreaRow, D>(alloc, decoder, tag)
+    }
+}
+
+/// `Named ::= INTEGER { low(-3), high(3) } (low..high)`
+pub type Named = Limited<i8, NamedLimits>;
+
+/// The limits of `Named`.
+#[derive(Drop)]
+pub enum NamedLimits {}
+
+impl Limits for NamedLimits {
+    ghost use Rattle.std.specs.Prelude.{None, Some, false, negsuc, pos, refl};
+    ghost use Rattle.rasn_oer.specs.Bounded.{Range, Single};
+
+    ghost LIMITS = { record { value = Some (Range (Some (negsuc 2)) (Some (pos 3)), false); size = None } };
+
+    const LIMITS: Constraints = Constraints {
+        value: Some((
+            Bounded::Range {
+                start: Some(-3),
+                end: Some(3),
+            },
+            false,
+        )),
+        size: None,
+    };
+
+    ghost consistent = { refl };
+}
+
+/// `Then ::= SEQUENCE { at UTCTime, on GeneralizedTime, day DATE }`
+pub type Then = Sequence<ThenComponents, 3, 0>;
+
+/// The components of `Then`.
+#[derive(Debug, PartialEq, Eq, Drop)]
+pub struct ThenComponents {
+    pub at: UtcTime,
+    pub on: GeneralizedTime,
+    pub day: Date,
+}
+
+type ThenRow = Needs<
+    Context<0>,
+    UtcTime,
+    Needs<Context<1>, GeneralizedTime, Needs<Context<2>, Date, NoMore>>,
+>;
+
+impl Rowed for ThenComponents {
+    ghost use Rattle.rasn_oer.specs.Values.{both};
+
+    type Values = <ThenRow as Components>::Values;
+
+    ghost EXTENSIBLE = { ⟦<ThenRow as Components>⟧.EXTENSIBLE };
+
+    const EXTENSIBLE: bool = false;
+
+    ghost row_schema = { ⟦<ThenRow as Components>⟧.schema };
+
+    ghost row_is_schema = { ⟦<ThenRow as Components>⟧.is_schema };
+
+    ghost components = { λ v. both v.at (both v.on (both v.day tt)) };
+
+    fn from_row(row: Self::Values) -> Self {
+        built![ThenComponents from row:
+            at,
+            on,
+            day
+        ]
+    }
+}
+
+impl Takes for ThenComponents {
+    ghost Refuses = { ⟦<ThenRow as Reads>⟧.Refuses };
+
+    #[inline(always)]
+    fn take(alloc: Global, decoder: &mut Decoder<'_>) -> Result<Self, DecodeError> {
+        read_row::<Self, ThenRow>(alloc, decoder)
+    }
+}
+
+impl Tabled<3, 0> for ThenComponents {
+    ghost use Rattle.std.specs.Prelude.{refl};
+
+    const FIELDS: Fields<3> = Fields {
+        fields: fields![
+            0 Required Context 0 "at",
+            1 Required Context 1 "on",
+            2 Required Context 2 "day"
+        ],
+    };
+
+    const EXTENDED_FIELDS: Option<Fields<0>> = None;
+
+    fn root_fields() -> &'static [Field<'static>] {
+        Self::FIELDS.fields
+    }
+
+    fn addition_fields() -> &'static [Field<'static>] {
+        rows_of!(Self::EXTENDED_FIELDS)
+    }
+
+    #[inline(always)]
+    fn put(&self, encoder: &mut Encoder<'_>) -> Result<(), EncodeError> {
+        let view = views![self:
+            at,
+            on,
+            day
+        ];
+        ThenRow::write(&view, encoder)
+    }
+
+    ghost counts = { (refl, refl) };
+}
+
+/// `Level ::= [PRIVATE 2] EXPLICIT INTEGER (0..top)`
+pub type Level = u16;
+
+/// `Colours ::= CHOICE { one [1] NULL, two [UNIVERSAL 7] NULL, three INTEGER }`
+pub type Colours = OneOf<ColoursAlternatives>;
+
+/// The alternatives of `Colours`.
+#[derive(Debug, PartialEq, Eq, Drop)]
+pub enum ColoursAlternatives {
+    One(()),
+    Two(()),
+    Three(Integer),
+}
+
+type ColoursRow = Offers<
+    Context<1>,
+    (),
+    Offers<Universal<7>, (), Offers<Universal<2>, Integer, NoMore>>,
+>;
+
+const COLOURS_ROOTS: &'static [Tag] = tags![Context 1, Universal 7, Universal 2];
+
+impl Alternating for ColoursAlternatives {
+    ghost use Rattle.std.specs.Prelude.{refl};
+    ghost use Rattle.rasn_oer.specs.Alternative.{First, Rest};
+    ghost use Rattle.example_printed.specs.declared.types_04.ColoursAlternatives.TheVariants.{One, Two, Three};
+
+    type Values = <ColoursRow as Alternatives>::Values;
+
+    ghost row_choices = { ⟦<ColoursRow as Alternatives>⟧.choices };
+
+    ghost row_are_choices = { ⟦<ColoursRow as Alternatives>⟧.are_choices };
+
+    ghost alternative = { elim [ One held ↦ First held | Two held ↦ Rest (First held) | Three held ↦ Rest (Rest (First held)) ] };
+
+    const VARIANTS: &'static [Tag] = COLOURS_ROOTS;
+
+    const EXTENDED_VARIANTS: Option<&'static [Tag]> = None;
+
+    fn root_tags() -> &'static [Tag] {
+        Self::VARIANTS
+    }
+
+    fn addition_tags() -> Option<&'static [Tag]> {
+        Self::EXTENDED_VARIANTS
+    }
+
+    fn from_alternative(value: Self::Values) -> Self {
+        from_row!(value => ColoursAlternatives: One, Two, Three)
+    }
+
+    #[inline(always)]
+    fn put<E: Choice>(&self, encoder: &mut Encoder<'_>) -> Result<(), EncodeError> {
+        let view = to_row!(self => ColoursAlternatives: One, Two, Three);
+        ColoursRow::write_alternative::<E>(&view, encoder)
+    }
+
+    ghost apart = { refl };
+}
+
+impl TakesAlternative for ColoursAlternatives {
+    ghost Refuses = { ⟦<ColoursRow as ReadsAlternatives>⟧.Refuses };
+
+    fn take<D: Choice>(
+        alloc: Global,
+        decoder: &mut Decoder<'_>,
+        tag: Tag,
+    ) -> Result<Self, DecodeError> {
+        read_alternative::<Self, ColoursRow, D>(alloc, decoder, tag)
+    }
+}
+
+/// `Plain ::= SEQUENCE { a BOOLEAN, l Levels.Level, c Colours OPTIONAL }`
+pub type Plain = Sequence<PlainComponents, 3, 0>;
+
+/// The components of `Plain`.
+#[derive(Debug, PartialEq, Eq, Drop)]
+pub struct PlainComponents {
+    pub a: bool,
+    pub l: Level,
+    pub c: Option<Colours>,
+}
+
+type PlainRow = Needs<
+    Universal<1>,
+    bool,
+    Needs<Private<2>, Level, MayHave<Universal<0>, Colours, NoMore>>,
+>;
+
+impl Rowed for PlainComponents {
+    ghost use Rattle.rasn_oer.specs.Values.{both};
+
+    type Values = <PlainRow as Components>::Values;
+
+    ghost EXTENSIBLE = { ⟦<PlainRow as Components>⟧.EXTENSIBLE };
+
+    const EXTENSIBLE: bool = false;
+
+    ghost row_schema = { ⟦<PlainRow as Components>⟧.schema };
+
+    ghost row_is_schema = { ⟦<PlainRow as Components>⟧.is_schema };
+
+    ghost components = { λ v. both v.a (both v.l (both v.c tt)) };
+
+    fn from_row(row: Self::Values) -> Self {
+        built![PlainComponents from row:
+            a,
+            l,
+            c
+        ]
+    }
+}
+
+impl Takes for PlainComponents {
+    ghost Refuses = { ⟦<PlainRow as Reads>⟧.Refuses };
+
+    #[inline(always)]
+    fn take(alloc: Global, decoder: &mut Decoder<'_>) -> Result<Self, DecodeError> {
+        read_row::<Self, PlainRow>(alloc, decoder)
+    }
+}
+
+impl Tabled<3, 0> for PlainComponents {
+    ghost use Rattle.std.specs.Prelude.{refl};
+
+    const FIELDS: Fields<3> = Fields {
+        fields: fields![
+            0 Required Universal 1 "a",
+            1 Required Private 2 "l",
+            2 Optional Universal 0 "c"
+        ],
+    };
+
+    const EXTENDED_FIELDS: Option<Fields<0>> = None;
+
+    fn root_fields() -> &'static [Field<'static>] {
+        Self::FIELDS.fields
+    }
+
+    fn addition_fields() -> &'static [Field<'static>] {
+        rows_of!(Self::EXTENDED_FIELDS)
+    }
+
+    #[inline(always)]
+    fn put(&self, encoder: &mut Encoder<'_>) -> Result<(), EncodeError> {
+        let view = views![self:
+            a,
+            l,
+            c
+        ];
+        PlainRow::write(&view, encoder)
+    }
+
+    ghost counts = { (refl, refl) };
+}

@@ -1,0 +1,445 @@
+//! Puts the text that they stand for in the place of types with parameters (X.683), of fields of classes of information objects (X.681)
+//! and of value sets (X.680, 16.6). Classes, sets of objects and assignments with parameters are left out: no octet depends on them.
+
+use crate::scope::{Scope, all_tokens};
+use oergen_parse::lexer::{Kind, Token};
+use oergen_parse::modules::read_tree;
+use oergen_parse::reader::Reader;
+use oergen_parse::refusal::Refusal;
+use oergen_parse::skips::skip_assignment;
+use std::alloc::{AllocError, Global};
+
+/// How many types with parameters may stand inside one another.
+const MAX_NESTING: usize = 64;
+
+/// How many tokens there may be before one more type with parameters is put in its place.
+const MAX_TOKENS: usize = 1000000;
+
+/// An assignment: its module, and the numbers of its first token, of the one behind its `::=`, and of the one behind it.
+#[derive(Clone, Copy)]
+struct Assignment {
+    module: usize,
+    start: usize,
+    body: usize,
+    end: usize,
+}
+
+/// The modules as they were handed in.
+#[derive(Clone, Copy)]
+struct Source<'m, 'a> {
+    scope: Scope<'m, 'a>,
+    assignments: &'m [Assignment],
+}
+
+/// The tokens from one number up to another.
+fn range<'t, 'a>(tokens: &'t [Token<'a>], start: usize, end: usize) -> &'t [Token<'a>] {
+    match tokens.get(start..end) {
+        Some(found) => found,
+        None => tokens.split_at(0).0,
+    }
+}
+
+/// Whether the token at a place has that text.
+fn is_at(tokens: &[Token<'_>], at: usize, text: &str) -> bool {
+    match tokens.get(at) {
+        Some(token) => token.text == text,
+        None => false,
+    }
+}
+
+/// Whether the token at a place is a name with a capital letter.
+fn is_name(tokens: &[Token<'_>], at: usize) -> bool {
+    match tokens.get(at) {
+        Some(token) => token.kind == Kind::Name,
+        None => false,
+    }
+}
+
+/// How many tokens there are up to the bracket that closes the first one, with that; all where none does.
+fn bracketed(tokens: &[Token<'_>]) -> usize {
+    let mut depth = 0usize;
+    for (at, token) in tokens.iter().enumerate() {
+        depth = token.depth_behind(depth);
+        if depth == 0 {
+            return at.saturating_add(1);
+        }
+    }
+    tokens.len()
+}
+
+/// What stands inside the brackets of which the first token opens one.
+fn inside<'t, 'a>(tokens: &'t [Token<'a>]) -> &'t [Token<'a>] {
+    range(tokens, 1, bracketed(tokens).saturating_sub(1))
+}
+
+/// What stands between commas, outside of brackets.
+fn parts_of<'t, 'a>(
+    alloc: Global,
+    tokens: &'t [Token<'a>],
+) -> Result<Vec<&'t [Token<'a>]>, AllocError> {
+    let mut parts = Vec::new(alloc);
+    let mut depth = 0usize;
+    let mut start = 0usize;
+    for (at, token) in tokens.iter().enumerate() {
+        if depth == 0 && token.text == "," {
+            parts.push(range(tokens, start, at))?;
+            start = at.saturating_add(1);
+        }
+        depth = token.depth_behind(depth);
+    }
+    if !tokens.is_empty() {
+        parts.push(range(tokens, start, tokens.len()))?;
+    }
+    Ok(parts)
+}
+
+/// Puts tokens behind others, as those of a copying.
+fn push_copied<'a>(
+    out: &mut Vec<Token<'a>>,
+    tokens: &[Token<'a>],
+    copy: usize,
+) -> Result<(), AllocError> {
+    for token in tokens.iter() {
+        out.push(Token { copy, ..*token })?;
+    }
+    Ok(())
+}
+
+/// Puts a sign or word of its own behind others, at the place of a token.
+fn push_word<'a>(
+    out: &mut Vec<Token<'a>>,
+    at: Token<'a>,
+    kind: Kind,
+    text: &'static str,
+) -> Result<(), AllocError> {
+    out.push(Token { kind, text, ..at })?;
+    Ok(())
+}
+
+/// Where what is assigned begins: behind the `::=`.
+fn body_of(tokens: &[Token<'_>], start: usize, end: usize) -> usize {
+    for (at, token) in range(tokens, start, end).iter().enumerate() {
+        if token.text == "::=" {
+            return start.saturating_add(at).saturating_add(1);
+        }
+    }
+    end
+}
+
+/// The assignments of a module.
+fn push_assignments(
+    scope: Scope<'_, '_>,
+    module: usize,
+    first: usize,
+    all: &mut Vec<Assignment>,
+) -> Result<(), AllocError> {
+    let Some(end) = scope.tokens.last() else {
+        return Ok(());
+    };
+    let mut reader = Reader::new(scope.alloc, scope.tokens, *end);
+    reader.skip(first);
+    for _ in 0..reader.left() {
+        if reader.is("END") || reader.peek().kind == Kind::End {
+            break;
+        }
+        let start = reader.id().index;
+        skip_assignment(&mut reader);
+        let end = reader.id().index;
+        let body = body_of(scope.tokens, start, end);
+        all.push(Assignment {
+            module,
+            start,
+            body,
+            end,
+        })?;
+    }
+    Ok(())
+}
+
+/// The assignments of all modules.
+fn assignments_of(scope: Scope<'_, '_>) -> Result<Vec<Assignment>, AllocError> {
+    let mut all = Vec::new(scope.alloc);
+    for (module, one) in scope.modules.iter().enumerate() {
+        push_assignments(scope, module, one.first.index, &mut all)?;
+    }
+    Ok(all)
+}
+
+impl<'m, 'a> Source<'m, 'a> {
+    /// The tokens from one number up to another.
+    fn range(&self, start: usize, end: usize) -> &'m [Token<'a>] {
+        range(self.scope.tokens, start, end)
+    }
+
+    /// The tokens from a number on.
+    fn rest(&self, start: usize) -> &'m [Token<'a>] {
+        range(self.scope.tokens, start, self.scope.tokens.len())
+    }
+
+    /// The module in which the name that a token is, is assigned: its own, or the one that it imports the name from.
+    fn home_of(&self, name: Token<'a>) -> usize {
+        let own = self.scope.module_at(name.place);
+        match self.scope.import_of(own, name.text) {
+            Some(from) => match self.scope.module_named(from) {
+                Ok(home) => home,
+                Err(_) => own,
+            },
+            None => own,
+        }
+    }
+
+    /// The assignment of the name that a token is.
+    fn find(&self, name: Token<'a>) -> Option<Assignment> {
+        let home = self.home_of(name);
+        for one in self.assignments.iter() {
+            if one.module == home && is_at(self.scope.tokens, one.start, name.text) {
+                return Some(*one);
+            }
+        }
+        None
+    }
+
+    /// Whether an assignment is one of a class.
+    fn is_class(&self, of: Assignment) -> bool {
+        is_at(self.scope.tokens, of.body, "CLASS")
+    }
+
+    /// Whether the name that a token is, is that of a class.
+    fn names_class(&self, name: Option<&Token<'a>>) -> bool {
+        match name.and_then(|name| self.find(*name)) {
+            Some(of) => self.is_class(of),
+            None => false,
+        }
+    }
+
+    /// Whether an assignment has parameters.
+    fn has_parameters(&self, of: Assignment) -> bool {
+        is_at(self.scope.tokens, of.start.saturating_add(1), "{")
+    }
+
+    /// Whether an assignment is one of a set of values or objects.
+    fn is_set(&self, of: Assignment) -> bool {
+        let second = of.start.saturating_add(1);
+        is_name(self.scope.tokens, of.start)
+            && second < of.body.saturating_sub(1)
+            && is_at(self.scope.tokens, of.body, "{")
+    }
+
+    /// Puts a value set behind others, as its type with a constraint.
+    fn push_set(&self, out: &mut Vec<Token<'a>>, of: Assignment) -> Result<(), AllocError> {
+        let second = of.start.saturating_add(1);
+        let assigns = of.body.saturating_sub(1);
+        out.extend_from_slice(self.range(of.start, second))?;
+        out.extend_from_slice(self.range(assigns, of.body))?;
+        out.extend_from_slice(self.range(second, assigns))?;
+        if let Some(open) = self.scope.tokens.get(of.body) {
+            push_word(out, *open, Kind::Sign, "(")?;
+            out.extend_from_slice(inside(self.range(of.body, of.end)))?;
+            push_word(out, *open, Kind::Sign, ")")?;
+        }
+        Ok(())
+    }
+
+    /// Puts an assignment behind others, where an octet can depend on it.
+    fn push_assignment(&self, out: &mut Vec<Token<'a>>, of: Assignment) -> Result<(), AllocError> {
+        let second = self.scope.tokens.get(of.start.saturating_add(1));
+        if self.is_class(of) || self.has_parameters(of) || self.names_class(second) {
+            return Ok(());
+        }
+        if self.is_set(of) {
+            return self.push_set(out, of);
+        }
+        out.extend_from_slice(self.range(of.start, of.end))
+    }
+
+    /// The tokens without what no octet depends on, and with value sets as types with a constraint.
+    fn plain_tokens(&self) -> Result<Vec<Token<'a>>, AllocError> {
+        let mut out = Vec::new(self.scope.alloc);
+        let mut at = 0usize;
+        for one in self.assignments.iter() {
+            out.extend_from_slice(self.range(at, one.start))?;
+            self.push_assignment(&mut out, *one)?;
+            at = one.end;
+        }
+        out.extend_from_slice(self.rest(at))?;
+        Ok(out)
+    }
+
+    /// What stands behind the name of a field of a class; nothing where it has no such field.
+    fn field_of(
+        &self,
+        class: Assignment,
+        name: &str,
+    ) -> Result<Option<&'m [Token<'a>]>, AllocError> {
+        let fields = inside(self.range(class.body.saturating_add(1), class.end));
+        for field in parts_of(self.scope.alloc, fields)? {
+            if is_at(field, 0, "&") && is_at(field, 1, name) {
+                return Ok(Some(range(field, 2, field.len())));
+            }
+        }
+        Ok(None)
+    }
+
+    /// Puts the type of a field of a class behind others, of which the tokens are `CLASS.&field`: an open type, or the type of its values.
+    /// Answers how many tokens that is; 0 where it is none.
+    fn push_field(
+        &self,
+        out: &mut Vec<Token<'a>>,
+        tokens: &[Token<'a>],
+        class: Assignment,
+        copy: usize,
+    ) -> Result<usize, AllocError> {
+        let (Some(first), Some(name)) = (tokens.first(), tokens.get(3)) else {
+            return Ok(0);
+        };
+        let Some(field) = self.field_of(class, name.text)? else {
+            return Ok(0);
+        };
+        if name.kind == Kind::Name {
+            push_word(out, Token { copy, ..*first }, Kind::Name, "ANY")?;
+        } else if field.is_empty() || is_at(field, 0, "&") {
+            return Ok(0);
+        } else {
+            push_copied(out, type_of(field), copy)?;
+        }
+        let rest = range(tokens, 4, tokens.len());
+        let has_table = is_at(rest, 0, "(") && is_at(rest, 1, "{");
+        Ok(if has_table {
+            bracketed(rest).saturating_add(4)
+        } else {
+            4
+        })
+    }
+
+    /// Puts what a type with parameters stands for behind others, of which the tokens are its name and the actual ones. Answers how many
+    /// tokens that is; 0 where they aren't as many as its parameters.
+    fn push_instance(
+        &self,
+        out: &mut Vec<Token<'a>>,
+        tokens: &[Token<'a>],
+        of: Assignment,
+        copy: usize,
+    ) -> Result<usize, AllocError> {
+        let actual = range(tokens, 1, tokens.len());
+        let given = parts_of(self.scope.alloc, inside(actual))?;
+        let dummies = inside(self.range(of.start.saturating_add(1), of.body));
+        let dummies = parts_of(self.scope.alloc, dummies)?;
+        if !self.has_parameters(of) || given.len() != dummies.len() {
+            return Ok(0);
+        }
+        for token in self.range(of.body, of.end).iter() {
+            match given_for(dummies.as_slice(), given.as_slice(), *token) {
+                Some(given) => out.extend_from_slice(given)?,
+                None => out.push(Token { copy, ..*token })?,
+            }
+        }
+        Ok(bracketed(actual).saturating_add(1))
+    }
+
+    /// Puts what the first of the tokens stand for behind others, as a copying of that number. Answers how many they are; 0 where they stand
+    /// for themselves.
+    fn push_meant(
+        &self,
+        out: &mut Vec<Token<'a>>,
+        tokens: &[Token<'a>],
+        copy: usize,
+    ) -> Result<usize, AllocError> {
+        let is_instance = is_at(tokens, 1, "{");
+        let is_field = is_at(tokens, 1, ".") && is_at(tokens, 2, "&");
+        if !(is_instance || is_field) || !is_name(tokens, 0) || out.len() > MAX_TOKENS {
+            return Ok(0);
+        }
+        match tokens.first().and_then(|name| self.find(*name)) {
+            Some(of) if is_instance => self.push_instance(out, tokens, of, copy),
+            Some(of) if self.is_class(of) => self.push_field(out, tokens, of, copy),
+            _ => Ok(0),
+        }
+    }
+
+    /// The tokens with what each stands for; in that more may stand for others. `copies` counts how often that was so.
+    fn replaced(
+        &self,
+        tokens: &[Token<'a>],
+        copies: &mut usize,
+    ) -> Result<Vec<Token<'a>>, AllocError> {
+        let mut out = Vec::new(self.scope.alloc);
+        let mut at = 0usize;
+        for _ in 0..tokens.len() {
+            let Some(first) = tokens.get(at) else {
+                break;
+            };
+            let copy = copies.saturating_add(1);
+            let rest = range(tokens, at, tokens.len());
+            let taken = self.push_meant(&mut out, rest, copy)?;
+            if taken == 0 {
+                out.push(*first)?;
+            } else {
+                *copies = copy;
+            }
+            at = at.saturating_add(taken.max(1));
+        }
+        Ok(out)
+    }
+}
+
+/// The type that a field of a class is declared with.
+fn type_of<'t, 'a>(field: &'t [Token<'a>]) -> &'t [Token<'a>] {
+    for (at, token) in field.iter().enumerate() {
+        if matches!(token.text, "UNIQUE" | "OPTIONAL" | "DEFAULT") {
+            return range(field, 0, at);
+        }
+    }
+    field
+}
+
+/// The actual parameter for the dummy that a token is: each dummy is the last token of its declaration.
+fn given_for<'t, 'a>(
+    dummies: &[&[Token<'a>]],
+    given: &[&'t [Token<'a>]],
+    token: Token<'a>,
+) -> Option<&'t [Token<'a>]> {
+    for (at, dummy) in dummies.iter().enumerate() {
+        let is_it = match dummy.last() {
+            Some(last) => last.kind == token.kind && last.text == token.text,
+            None => false,
+        };
+        if is_it {
+            return given.get(at).copied();
+        }
+    }
+    None
+}
+
+/// The tokens of modules, with what they stand for.
+fn expanded<'a>(scope: Scope<'_, 'a>) -> Result<Vec<Token<'a>>, AllocError> {
+    let assignments = assignments_of(scope)?;
+    let source = Source {
+        scope,
+        assignments: assignments.as_slice(),
+    };
+    let mut tokens = source.plain_tokens()?;
+    let mut copies = 0usize;
+    for _ in 0..MAX_NESTING {
+        let before = copies;
+        tokens = source.replaced(tokens.as_slice(), &mut copies)?;
+        if copies == before {
+            break;
+        }
+    }
+    Ok(tokens)
+}
+
+/// The tokens of the files' texts, with what types with parameters, fields of classes and value sets stand for. What can't be put in its
+/// place is left, and refused where it is read.
+pub fn tokens_of<'a>(alloc: Global, texts: &[&'a str]) -> Result<Vec<Token<'a>>, Refusal> {
+    let tokens = all_tokens(alloc, texts)?;
+    match read_tree(alloc, tokens.as_slice(), true) {
+        Ok(tree) => Ok(expanded(Scope {
+            alloc,
+            modules: tree.modules(),
+            tokens: tokens.as_slice(),
+        })?),
+        Err(Refusal::OutOfMemory) => Err(Refusal::OutOfMemory),
+        Err(Refusal::At { .. }) => Ok(tokens),
+    }
+}

@@ -1,0 +1,487 @@
+//! The defaults of components, each printed as a type of its own but where the library has one.
+ghost use Rattle.std.specs.Prelude.{◌≡◌, false, true, int_le, IfOk, IfSome};
+
+use crate::cells::variant_name;
+use crate::items::push_defined;
+use crate::literals::{
+    bits_of_literal, bits_of_names, fill_up, octets_of_text, packed, push_array, push_list,
+    push_written,
+};
+use crate::shapes::{number_of_octets, simple_type, sizes_of};
+use crate::templates::DEFAULT;
+use crate::text::{Text, Words};
+use oergen_layouts::definitions::Definition;
+use oergen_layouts::numbers::{Spot, names_of, number_of, settled};
+use oergen_layouts::rows::Row;
+use oergen_layouts::scope::Scope;
+use oergen_layouts::values::enumerated_default;
+use oergen_layouts::visible::Limits;
+use oergen_parse::ast::{Body, Simple, Type, Value};
+use oergen_parse::lexer::TokenId;
+use oergen_parse::refusal::Refusal;
+use std::alloc::Global;
+
+/// What can be read where a default isn't printed.
+const PRINTED: &str =
+    "a default that is a boolean, NULL, a number, an enumerated value, bits, octets, characters or an empty list: others aren't printed yet";
+
+/// What can be read where an empty list isn't printed.
+const COMPARED: &str =
+    "an empty list of elements that aren't sequences, sets or choices, as a default: others aren't printed yet";
+
+/// What can be read where a default is no value of its type.
+const ALLOWED: &str = "a default that the type's constraints allow";
+
+/// The number of a default. Refused where the limits don't allow it.
+fn default_number<'m>(
+    scope: Scope<'m, '_>,
+    spot: Spot<'m>,
+    first: TokenId,
+    limits: Limits,
+) -> Result<i128, Refusal>
+    ensures low { limits.is_extensible ≡ false → IfOk result (λ n. IfSome limits.low (λ l. int_le l n ≡ true)) }
+    ensures high { limits.is_extensible ≡ false → IfOk result (λ n. IfSome limits.high (λ h. int_le n h ≡ true)) }
+{
+    let number = number_of(scope, spot)?;
+    if allows(limits, number) {
+        Ok(number)
+    } else {
+        Err(scope.refused(first, ALLOWED))
+    }
+}
+
+/// Whether limits allow a number.
+fn allows(limits: Limits, number: i128) -> bool
+    ensures low { limits.is_extensible ≡ false → result ≡ true → IfSome limits.low (λ l. int_le l number ≡ true) }
+    ensures high { limits.is_extensible ≡ false → result ≡ true → IfSome limits.high (λ h. int_le number h ≡ true) }
+{
+    limits.is_extensible
+        || limits.low.unwrap_or(number) <= number && number <= limits.high.unwrap_or(number)
+}
+
+/// Prints a default by its words, and answers its name: where the component's type stands within limits, of a default within these.
+fn push_words(alloc: Global, out: &mut Text, name: &str, is_limited: bool, words: &Words) -> Text {
+    out.fill(DEFAULT, words);
+    let mut own = Text::new(alloc);
+    let around = if is_limited {
+        ("Within<", ">")
+    } else {
+        ("", "")
+    };
+    own.push_all(&[around.0, name, "Default", around.1]);
+    own
+}
+
+/// The words that each default has: its name, its Rust type without limits, and the name of the allocator, which is used or isn't.
+fn words_of(alloc: Global, name: &str, rust: &str, takes_memory: bool) -> Words {
+    let mut words = Words::new(alloc);
+    words.put("NAME", name);
+    words.put("TYPE", rust);
+    words.put("ALLOC", if takes_memory { "alloc" } else { "_alloc" });
+    words
+}
+
+/// The words of a number.
+fn number_words(alloc: Global, name: &str, number: i128, base: &str) -> Words {
+    const USES: &str = "ghost use Rattle.std.specs.Prelude.{negsuc, pos, refl};";
+    let mut words = words_of(alloc, name, base, false);
+    words.put("USES", USES);
+    words.begin("TEXT").push_number(number);
+    push_defined(words.begin("GHOST"), number, !base.starts_with('u'));
+    let literal = if base == "Integer" {
+        "Integer::from_i128(@TEXT@)"
+    } else {
+        "@TEXT@"
+    };
+    words.put_filled("LITERAL", literal);
+    words.put_filled("CODE", "Ok(@LITERAL@)");
+    words.put_filled("TEST", "*other == @LITERAL@");
+    words.put("ADMITTED", "refl");
+    words
+}
+
+/// Prints a number's default.
+fn push_number<'m>(
+    scope: Scope<'m, '_>,
+    out: &mut Text,
+    row: Row<'m>,
+    spot: Spot<'m>,
+    name: &str,
+) -> Result<Text, Refusal> {
+    let (base, is_limited, limits) = number_of_octets(scope, row.of)?;
+    let number = default_number(scope, spot, row.name, limits)?;
+    let words = number_words(scope.alloc, name, number, base);
+    Ok(push_words(scope.alloc, out, name, is_limited, &words))
+}
+
+/// Says what stands for octets: the line of an array of the code, and a list of definitions.
+fn put_octets(words: &mut Words, octets: &[u8]) {
+    words.begin("SIZE").push_count(octets.len());
+    push_array(words.begin("ARRAY"), octets);
+    words.put_filled("OCTETS", "let octets: [u8; @SIZE@] = @ARRAY@;\n        ");
+    push_list(words.begin("LIST"), octets);
+}
+
+/// The words of a bit string, but for its text.
+fn bits_words(alloc: Global, name: &str, octets: &[u8], count: usize) -> Words {
+    const USES: &str =
+        "ghost use Rattle.std.specs.Prelude.{◌∷◌, [], take};\n    ghost use Rattle.rasn_oer.specs.Octets.{bits_of};";
+    let mut words = words_of(alloc, name, "BitString", true);
+    words.put("USES", USES);
+    put_octets(&mut words, octets);
+    words.begin("COUNT").push_count(count);
+    words.put_filled("GHOST", "take @COUNT@ (bits_of @LIST@)");
+    words.put_filled("CODE", "@OCTETS@bits_from(alloc, &octets, @COUNT@)");
+    words.put_filled("TEST", "@OCTETS@are_bits(other, &octets, @COUNT@)");
+    words.put("ADMITTED", "tt");
+    words
+}
+
+/// The bits of a default of a BIT STRING, as far as they are written.
+fn written_bits<'m>(
+    scope: Scope<'m, '_>,
+    row: Row<'m>,
+    spot: Spot<'m>,
+) -> Result<Vec<bool>, Refusal> {
+    match spot.value {
+        Value::Literal(id) => Ok(bits_of_literal(scope, *id)?),
+        Value::Names(_, bits) => bits_of_names(scope, spot.names, bits.as_slice()),
+        Value::Negative(_) | Value::Reference(_) | Value::Braces(_) => {
+            Err(scope.refused(row.name, PRINTED))
+        }
+    }
+}
+
+/// The bits of a default of a BIT STRING; one with named bits has zero bits behind them, up to its least size (X.680, 22.7). Refused where
+/// the limits don't allow so many.
+fn default_bits<'m>(
+    scope: Scope<'m, '_>,
+    row: Row<'m>,
+    spot: Spot<'m>,
+    limits: Limits,
+) -> Result<Vec<bool>, Refusal> {
+    const MAX_BITS: i128 = 65536;
+    let mut bits = written_bits(scope, row, spot)?;
+    let least = limits.low.unwrap_or(0);
+    if !spot.names.is_empty() && least <= MAX_BITS {
+        fill_up(&mut bits, usize::try_from(least).unwrap_or(0))?;
+    }
+    if allows(limits, i128::try_from(bits.len()).unwrap_or(i128::MAX)) {
+        Ok(bits)
+    } else {
+        Err(scope.refused(row.name, ALLOWED))
+    }
+}
+
+/// Prints the default of a BIT STRING.
+fn push_bits<'m>(
+    scope: Scope<'m, '_>,
+    out: &mut Text,
+    row: Row<'m>,
+    spot: Spot<'m>,
+    name: &str,
+) -> Result<Text, Refusal> {
+    let (is_limited, limits) = sizes_of(scope, row.of)?;
+    let bits = default_bits(scope, row, spot, limits)?;
+    let octets = packed(scope.alloc, bits.as_slice())?;
+    let mut words = bits_words(scope.alloc, name, octets.as_slice(), bits.len());
+    push_written(scope, words.begin("TEXT"), spot.value);
+    Ok(push_words(scope.alloc, out, name, is_limited, &words))
+}
+
+/// What shows that octets obey a type's rule.
+#[derive(Clone, Copy)]
+enum Evidence {
+    /// All do.
+    Any,
+    /// Each of them is tested.
+    Each,
+    /// They are twice as many as so many.
+    Pairs,
+    /// They are UTF-8.
+    Utf8,
+}
+
+/// A type of octets or characters: the struct that holds it, its rule, what makes one of octets, and what shows that these obey the rule.
+#[derive(Clone, Copy)]
+struct Held {
+    holder: &'static str,
+    rule: &'static str,
+    from: &'static str,
+    evidence: Evidence,
+}
+
+/// The type of octets or characters; nothing of another type.
+fn held_of(simple: Simple) -> Option<Held> {
+    const TEXT: &str = "@RULE@String::from_text";
+    let (rule, from, evidence) = match simple {
+        Simple::OctetString => ("AnyOctets", "OctetString::from_slice", Evidence::Any),
+        Simple::Utf8String => ("Utf8", "utf8_from", Evidence::Utf8),
+        Simple::NumericString => ("Numeric", TEXT, Evidence::Each),
+        Simple::PrintableString => ("Printable", TEXT, Evidence::Each),
+        Simple::VisibleString => ("Visible", TEXT, Evidence::Each),
+        Simple::Ia5String => ("Ia5", TEXT, Evidence::Each),
+        Simple::GeneralString => ("General", TEXT, Evidence::Any),
+        Simple::GraphicString => ("Graphic", TEXT, Evidence::Any),
+        Simple::TeletexString => ("Teletex", TEXT, Evidence::Any),
+        Simple::BmpString => ("Bmp", "bmp_from", Evidence::Pairs),
+        Simple::Boolean | Simple::Null | Simple::ObjectIdentifier | Simple::Any => return None,
+        Simple::UtcTime | Simple::GeneralizedTime | Simple::Date => return None,
+    };
+    let holder = simple_type(simple);
+    Some(Held {
+        holder,
+        rule,
+        from,
+        evidence,
+    })
+}
+
+/// The words of octets or characters, but for their text.
+fn held_words(alloc: Global, name: &str, held: Held, octets: &[u8]) -> Words {
+    const USES: &str = "ghost use Rattle.std.specs.Prelude.{◌∷◌, [], refl};
+    ghost use Rattle.rasn_oer.specs.Literals.{written@SPELLED@};
+    ghost use Rattle.rasn_oer.specs.Texts as texts;";
+    const MADE: &str = "let content = @FROM@(alloc, &octets)?;\n        Ok(@TYPE@(content))";
+    const RECORD: &str = "record { 0 = @LIST@ }";
+    let mut words = words_of(alloc, name, held.holder, true);
+    put_octets(&mut words, octets);
+    words.begin("HALF").push_count(octets.len() / 2);
+    words.put("RULE", held.rule);
+    words.put_filled("FROM", held.from);
+    let (spelled, value, made, obeys) = match held.evidence {
+        Evidence::Any => ("", RECORD, MADE, "tt"),
+        Evidence::Each => ("", RECORD, MADE, "refl"),
+        Evidence::Pairs => ("", RECORD, "@FROM@(alloc, &octets)", "(@HALF@, refl)"),
+        Evidence::Utf8 => (
+            ", spelled",
+            "@LIST@",
+            "@FROM@(alloc, &octets)",
+            "(spelled @LIST@ refl)",
+        ),
+    };
+    words.put("SPELLED", spelled);
+    words.put_filled("USES", USES);
+    words.put_filled("GHOST", value);
+    words.put_filled("MADE", made);
+    words.put_filled("CODE", "@OCTETS@@MADE@");
+    words.put_filled("TEST", "@OCTETS@other.0.as_bytes() == octets.as_slice()");
+    words.put_filled("OBEYS", obeys);
+    words.put_filled("ADMITTED", "written texts.@RULE@ @LIST@ refl @OBEYS@");
+    words
+}
+
+/// The octets of a default of an OCTET STRING or a character string.
+fn default_octets<'m>(
+    scope: Scope<'m, '_>,
+    row: Row<'m>,
+    spot: Spot<'m>,
+    simple: Simple,
+) -> Result<Vec<u8>, Refusal> {
+    let Value::Literal(id) = spot.value else {
+        return Err(scope.refused(row.name, PRINTED));
+    };
+    if simple != Simple::OctetString {
+        return octets_of_text(scope, simple, *id);
+    }
+    let bits = bits_of_literal(scope, *id)?;
+    Ok(packed(scope.alloc, bits.as_slice())?)
+}
+
+/// Whether limits allow a string of so many octets.
+fn allows_octets(limits: Limits, simple: Simple, octets: usize) -> bool {
+    let unit = if simple == Simple::BmpString { 2 } else { 1 };
+    let size = octets.checked_div(unit).unwrap_or(0);
+    allows(limits, i128::try_from(size).unwrap_or(i128::MAX))
+}
+
+/// Prints the default of an OCTET STRING or a character string.
+fn push_held<'m>(
+    scope: Scope<'m, '_>,
+    out: &mut Text,
+    row: Row<'m>,
+    spot: Spot<'m>,
+    of: (Simple, Held),
+    name: &str,
+) -> Result<Text, Refusal> {
+    let (simple, held) = of;
+    let octets = default_octets(scope, row, spot, simple)?;
+    let (is_limited, limits) = sizes_of(scope, row.of)?;
+    if !allows_octets(limits, simple, octets.len()) {
+        return Err(scope.refused(row.name, ALLOWED));
+    }
+    let mut words = held_words(scope.alloc, name, held, octets.as_slice());
+    push_written(scope, words.begin("TEXT"), spot.value);
+    Ok(push_words(scope.alloc, out, name, is_limited, &words))
+}
+
+/// The Rust name of the definition of a type, and whether that keeps unknown values; no name where it has none.
+fn definition_of<'d>(all: &'d [Definition<'_>], base: &Type) -> (&'d str, bool) {
+    for definition in all.iter() {
+        if definition.of.first.index == base.first.index {
+            return (definition.rust_name.as_str(), definition.keeps_unknown);
+        }
+    }
+    ("", false)
+}
+
+/// Says how definitions and code write an enumerated value.
+fn put_enumerated(words: &mut Words, owner: &str, variant: &str, keeps_unknown: bool) {
+    const KEPT: &str = "
+    ghost use Rattle.std.specs.Prelude.{refl};
+    ghost use Rattle.oer_kept.specs.declared.enumerations.KeptEnumeration.TheVariants.{Known};";
+    words.put("OWNER", owner);
+    words.put("VARIANT", variant);
+    let uses = words.begin("USES");
+    uses.push_all(&["ghost use Rattle.@HOME:", owner, "Values@.", owner]);
+    uses.push_all(&["Values.TheVariants.{", variant, "};"]);
+    uses.push(if keeps_unknown { KEPT } else { "" });
+    let (value, code, admitted) = if keeps_unknown {
+        (
+            "Known @VARIANT@",
+            "KeptEnumeration::Known(@OWNER@Values::@VARIANT@)",
+            "(refl, refl)",
+        )
+    } else {
+        (
+            "record { 0 = @VARIANT@ }",
+            "Enumeration(@OWNER@Values::@VARIANT@)",
+            "tt",
+        )
+    };
+    words.put_filled("GHOST", value);
+    words.put_filled("VALUE", code);
+    words.put("ADMITTED", admitted);
+}
+
+/// The words of an enumerated value, by the names of the value, of its enum's owner, with whether that keeps unknown values, and of its
+/// variant.
+fn enumerated_words(
+    alloc: Global,
+    named: (&str, &str),
+    text: &str,
+    owner: (&str, bool),
+    variant: &str,
+) -> Words {
+    let (name, rust) = named;
+    let mut words = words_of(alloc, name, rust, false);
+    words.put("TEXT", text);
+    put_enumerated(&mut words, owner.0, variant, owner.1);
+    words.put_filled("CODE", "Ok(@VALUE@)");
+    words.put_filled("TEST", "*other == @VALUE@");
+    words
+}
+
+/// Prints the default of an ENUMERATED, by its name.
+fn push_enumerated<'m>(
+    scope: Scope<'m, '_>,
+    all: &[Definition<'m>],
+    out: &mut Text,
+    base: &'m Type,
+    spot: Spot<'m>,
+    named: (&str, &str),
+) -> Result<Text, Refusal> {
+    let text = scope.text(enumerated_default(scope, spot)?);
+    let variant = variant_name(scope.alloc, text, "Self").end()?;
+    let owner = definition_of(all, base);
+    let words = enumerated_words(scope.alloc, named, text, owner, variant.as_str());
+    Ok(push_words(scope.alloc, out, named.0, false, &words))
+}
+
+/// Whether the library compares the elements of a list, also of lists in it: not sequences, sets and choices.
+fn compares<'m>(scope: Scope<'m, '_>, list: &'m Type) -> Result<bool, Refusal> {
+    // more lists than may stand in one another (`depths`)
+    const LISTS: usize = 64;
+    let mut at = list;
+    for _ in 0..LISTS {
+        at = match &at.body {
+            Body::SequenceOf(element) | Body::SetOf(element) => scope.base_of(&**element)?,
+            Body::Sequence(_) | Body::Set(_) | Body::Choice(_) => return Ok(false),
+            Body::Simple(_) | Body::Integer(_) | Body::BitString(_) => return Ok(true),
+            Body::Enumerated(_, _) | Body::Reference(_) => return Ok(true),
+        };
+    }
+    Ok(false)
+}
+
+/// The default of a list, which is empty. As everywhere, no size of a list is looked at.
+fn list_default<'m>(
+    scope: Scope<'m, '_>,
+    row: Row<'m>,
+    spot: Spot<'m>,
+    base: &'m Type,
+) -> Result<Text, Refusal> {
+    let is_empty = matches!(spot.value, Value::Names(_, names) if names.is_empty());
+    if !is_empty {
+        return Err(scope.refused(row.name, PRINTED));
+    }
+    if !compares(scope, base)? {
+        return Err(scope.refused(row.name, COMPARED));
+    }
+    Ok(Text::of(scope.alloc, &["IsEmptyList"]))
+}
+
+/// The default of a type without parts: printed, but where the library has a type for it.
+fn push_simple<'m>(
+    scope: Scope<'m, '_>,
+    out: &mut Text,
+    row: Row<'m>,
+    spot: Spot<'m>,
+    simple: Simple,
+    name: &str,
+) -> Result<Text, Refusal> {
+    if let Some(held) = held_of(simple) {
+        return push_held(scope, out, row, settled(scope, spot)?, (simple, held), name);
+    }
+    if !matches!(simple, Simple::Boolean | Simple::Null) {
+        return Err(scope.refused(row.name, PRINTED));
+    }
+    let constant = constant_of(scope, settled(scope, spot)?);
+    Ok(Text::of(scope.alloc, &[constant]))
+}
+
+/// The type that stands for a default: printed, but where the library has one. Refused where its type's defaults aren't printed, or its
+/// constraints don't allow it.
+pub fn push_default<'m>(
+    scope: Scope<'m, '_>,
+    all: &[Definition<'m>],
+    out: &mut Text,
+    row: Row<'m>,
+    value: &'m Value,
+    named: (&str, &str),
+) -> Result<Text, Refusal> {
+    let base = scope.base_of(row.of)?;
+    let spot = Spot {
+        value,
+        names: names_of(base),
+    };
+    let (name, _) = named;
+    match &base.body {
+        Body::Integer(_) => push_number(scope, out, row, spot, name),
+        Body::Enumerated(_, _) => push_enumerated(scope, all, out, base, spot, named),
+        Body::BitString(_) => push_bits(scope, out, row, settled(scope, spot)?, name),
+        Body::Simple(simple) => push_simple(scope, out, row, spot, *simple, name),
+        Body::SequenceOf(_) | Body::SetOf(_) => list_default(
+            scope,
+            row,
+            settled(scope, spot)?,
+            base,
+        ),
+        Body::Sequence(_) | Body::Set(_) | Body::Choice(_) | Body::Reference(_) => {
+            Err(scope.refused(row.name, PRINTED))
+        }
+    }
+}
+
+/// The library's type for TRUE, FALSE or NULL.
+fn constant_of(scope: Scope<'_, '_>, spot: Spot<'_>) -> &'static str {
+    let text = match spot.value {
+        Value::Literal(id) => scope.text(*id),
+        _ => "",
+    };
+    match text {
+        "TRUE" => "IsTrue",
+        "NULL" => "IsNull",
+        _ => "IsFalse",
+    }
+}

@@ -1,0 +1,579 @@
+//! The files of the crates that the types are put into.
+
+use crate::constants::constants_of;
+use crate::kept::{KEPT_LIBRARY, keep_unknown, use_kept};
+use crate::knot_files::{has_knots, push_cycle_files, push_definition_names};
+use crate::knot_templates::KNOT_USES;
+use crate::outputs::{File, push_placed};
+use crate::printer::{LeftOut, Outcome, Printed, free_names, print_types};
+use crate::sizes::hold_large;
+use crate::text::Text;
+use crate::uses::{Homes, Paths, path_lines, push_path, use_lines};
+use oergen_layouts::cycles::find_cycles;
+use oergen_layouts::definitions::definitions;
+use oergen_layouts::expansion::tokens_of;
+use oergen_layouts::scope::Scope;
+use oergen_parse::ast::Module;
+use oergen_parse::lexer::Token;
+use oergen_parse::modules::read_tree;
+use oergen_parse::refusal::Refusal;
+use std::alloc::{AllocError, Global};
+use std::collections::BTreeMap;
+
+/// How many types a crate has, but for the rest of a cycle: so that its check stays within a few minutes.
+const TYPES_A_CRATE: usize = 40;
+
+/// How many lines a crate has, at least, that ends where a cycle begins: the cycle's own check takes as long as theirs.
+const LINES_BEFORE_A_CYCLE: usize = 1000;
+
+/// How many lines a file has, but for its last type or cycle.
+const LINES_A_FILE: usize = 500;
+
+/// The library that each printed crate uses.
+const LIBRARY: &str = "rasn_oer";
+
+/// Those that a crate with types that contain themselves uses.
+const KNOT_LIBRARIES: &str = "rasn_oer oer_write asn1_core";
+
+/// The module of a crate's first file.
+const FIRST_MODULE: &str = "types_01";
+
+/// The first line of each file: by it a later print knows an earlier one.
+pub const HEAD: &str = "//! Types of ASN.1 modules, as oergen printed them.\n";
+
+/// A type by its name, and the crate that has it.
+#[derive(Drop)]
+pub struct Named {
+    pub library: String,
+    pub name: String,
+}
+
+/// What is written: files, lines of `crates.txt`, and a line for each type that was left out; and the types that the files have.
+#[derive(Drop)]
+pub struct Output {
+    pub files: Vec<File>,
+    pub lines: String,
+    pub types: Vec<Named>,
+}
+
+/// Where a file's types stand: the crate, the file's module, and its first type and the one behind its last.
+#[derive(Drop)]
+struct Section {
+    library: String,
+    module: String,
+    from: usize,
+    to: usize,
+}
+
+/// Where a file's types stand: the numbers of its crate and of its module, from 1, and the places of the types.
+#[derive(Clone, Copy)]
+struct Cut {
+    library: usize,
+    module: usize,
+    from: usize,
+    to: usize,
+}
+
+impl Cut {
+    /// Where the next file begins, in the same crate or in another.
+    fn next(self, ends_crate: bool) -> Cut {
+        let (library, module) = if ends_crate {
+            (self.library.saturating_add(1), 1)
+        } else {
+            (self.library, self.module.saturating_add(1))
+        };
+        Cut {
+            library,
+            module,
+            from: self.to,
+            to: self.to,
+        }
+    }
+}
+
+/// Whether a type stands in the file of the one before.
+fn is_joined(types: &[Printed], at: usize) -> bool {
+    match types.get(at) {
+        Some(one) => one.is_joined,
+        None => false,
+    }
+}
+
+/// Whether a cycle of several types begins there.
+fn begins_cycle(types: &[Printed], at: usize) -> bool {
+    !is_joined(types, at) && is_joined(types, at.saturating_add(1))
+}
+
+/// Whether a crate of so many types and lines ends before the type.
+fn is_full(types: &[Printed], count: usize, lines: usize, at: usize) -> bool {
+    count >= TYPES_A_CRATE || lines >= LINES_BEFORE_A_CYCLE && begins_cycle(types, at)
+}
+
+/// Cuts the types into crates and files; a cycle isn't cut.
+fn cuts(alloc: Global, types: &[Printed]) -> Result<Vec<Cut>, AllocError> {
+    let mut all: Vec<Cut> = Vec::new(alloc);
+    let mut cut = Cut {
+        library: 1,
+        module: 1,
+        from: 0,
+        to: 0,
+    };
+    let mut crate_from = 0usize;
+    let mut crate_lines = 0usize;
+    let mut lines = 0usize;
+    for (at, one) in types.iter().enumerate() {
+        let count = one.text.as_str().lines().count();
+        lines = lines.saturating_add(count);
+        crate_lines = crate_lines.saturating_add(count);
+        cut.to = at.saturating_add(1);
+        let count = cut.to.saturating_sub(crate_from);
+        let ends_crate = is_full(types, count, crate_lines, cut.to) || cut.to == types.len();
+        if is_joined(types, cut.to) || !ends_crate && lines < LINES_A_FILE {
+            continue;
+        }
+        all.push(cut)?;
+        cut = cut.next(ends_crate);
+        if ends_crate {
+            crate_from = cut.from;
+            crate_lines = 0;
+        }
+        lines = 0;
+    }
+    Ok(all)
+}
+
+/// The section of a cut, in one of so many crates: by their numbers from 1.
+fn section_of(alloc: Global, name: &str, cut: Cut, count: usize) -> Result<Section, AllocError> {
+    let mut library = Text::of(alloc, &[name]);
+    if count > 1 {
+        library.push("_");
+        library.push_count(cut.library);
+    }
+    let mut module = Text::of(alloc, &[if cut.module < 10 { "types_0" } else { "types_" }]);
+    module.push_count(cut.module);
+    Ok(Section {
+        library: library.end()?,
+        module: module.end()?,
+        from: cut.from,
+        to: cut.to,
+    })
+}
+
+/// The types by crates and files.
+fn sections(alloc: Global, name: &str, types: &[Printed]) -> Result<Vec<Section>, AllocError> {
+    let cuts = cuts(alloc, types)?;
+    let count = match cuts.last() {
+        Some(last) => last.library,
+        None => 0,
+    };
+    let mut all = Vec::new(alloc);
+    for cut in cuts.iter() {
+        all.push(section_of(alloc, name, *cut, count)?)?;
+    }
+    Ok(all)
+}
+
+/// The types of a section.
+fn types_of<'t>(types: &'t [Printed], section: &Section) -> &'t [Printed] {
+    types.get(section.from..section.to).unwrap_or(&[])
+}
+
+/// Puts the names of a section to the homes of others.
+fn push_homes(homes: &mut Homes, types: &[Printed], section: &Section) -> Result<(), AllocError> {
+    for one in types.iter() {
+        for name in one.names.iter() {
+            let home = (section.library.clone()?, section.module.clone()?);
+            homes.insert(name.clone()?, home)?;
+        }
+    }
+    Ok(())
+}
+
+/// Where each name stands.
+fn homes_of(alloc: Global, types: &[Printed], all: &[Section]) -> Result<Homes, AllocError> {
+    let mut homes = BTreeMap::new(alloc);
+    for section in all.iter() {
+        push_homes(&mut homes, types_of(types, section), section)?;
+    }
+    Ok(homes)
+}
+
+/// The texts of types, one behind another.
+fn body_of(alloc: Global, types: &[Printed]) -> Result<String, AllocError> {
+    let mut body = Text::new(alloc);
+    for one in types.iter() {
+        body.push(one.text.as_str());
+    }
+    body.end()
+}
+
+/// Appends what stands behind a mark: the home of the name there, and the rest.
+fn push_behind_mark(out: &mut Text, piece: &str, homes: &Homes) {
+    let Some((name, rest)) = piece.split_once('@') else {
+        out.push(piece);
+        return;
+    };
+    if let Some((library, module)) = homes.get(name) {
+        out.push_all(&[library.as_str(), ".specs.declared.", module.as_str()]);
+    }
+    out.push(rest);
+}
+
+/// Appends a text with the homes of names in the place of their marks: `@HOME:NAME@`.
+fn push_with_homes(out: &mut Text, text: &str, homes: &Homes) {
+    for (at, piece) in text.split("@HOME:").enumerate() {
+        if at == 0 {
+            out.push(piece);
+        } else {
+            push_behind_mark(out, piece, homes);
+        }
+    }
+}
+
+/// The text of a section's file: its types, behind the names that they take from elsewhere.
+fn section_text(
+    alloc: Global,
+    types: &[Printed],
+    homes: &Homes,
+    section: &Section,
+) -> Result<String, AllocError> {
+    let library = section.library.as_str();
+    let module = section.module.as_str();
+    let has_knot = has_knots(types_of(types, section));
+    let types = body_of(alloc, types_of(types, section))?;
+    let uses = use_lines(alloc, types.as_str(), homes, library, module)?;
+    let mut body = Text::new(alloc);
+    push_placed(&mut body, types.as_str().trim_end(), library, module);
+    let mut out = Text::of(alloc, &[HEAD, if has_knot { KNOT_USES } else { "" }, "\n"]);
+    out.push_all(&[uses.as_str(), "\n"]);
+    push_with_homes(&mut out, body.as_str(), homes);
+    out.push("\n");
+    body.end()?;
+    out.end()
+}
+
+/// A section's file.
+fn section_file(
+    alloc: Global,
+    types: &[Printed],
+    homes: &Homes,
+    section: &Section,
+) -> Result<File, AllocError> {
+    let text = section_text(alloc, types, homes, section)?;
+    let path = [
+        section.library.as_str(),
+        "/src/",
+        section.module.as_str(),
+        ".rt",
+    ];
+    File::at(alloc, &path, text)
+}
+
+/// Puts the paths of a section's names to others.
+fn push_paths(
+    alloc: Global,
+    types: &[Printed],
+    section: &Section,
+    paths: &mut Paths,
+) -> Result<(), AllocError> {
+    for one in types_of(types, section).iter() {
+        for name in one.names.iter() {
+            push_path(alloc, paths, section.module.as_str(), name.as_str())?;
+        }
+    }
+    Ok(())
+}
+
+/// Appends the modules of a crate.
+fn push_modules(out: &mut Text, all: &[Section], library: &str) {
+    for section in all.iter() {
+        if section.library.as_str() == library {
+            out.push_all(&["mod ", section.module.as_str(), ";\n"]);
+        }
+    }
+}
+
+/// The lines that hand on the names of a crate's types.
+fn name_lines(
+    alloc: Global,
+    types: &[Printed],
+    all: &[Section],
+    library: &str,
+) -> Result<String, AllocError> {
+    let mut paths: Paths = BTreeMap::new(alloc);
+    for section in all.iter() {
+        if section.library.as_str() == library {
+            push_paths(alloc, types, section, &mut paths)?;
+        }
+    }
+    path_lines(alloc, "pub use", &paths)
+}
+
+/// A crate's root file.
+fn root_file(
+    alloc: Global,
+    types: &[Printed],
+    all: &[Section],
+    library: &str,
+    has_constants: bool,
+) -> Result<File, AllocError> {
+    let names = name_lines(alloc, types, all, library)?;
+    let mut text = Text::of(alloc, &[HEAD, "#![tactic(auto)]\n\n"]);
+    push_modules(&mut text, all, library);
+    text.push(if has_constants {
+        "pub mod values;\n"
+    } else {
+        ""
+    });
+    text.push_all(&["\n", names.as_str()]);
+    File::at(alloc, &[library, "/src/lib.rt"], text.end()?)
+}
+
+/// The file that names a crate's definitions; nothing where it has none.
+fn definitions_root(
+    alloc: Global,
+    types: &[Printed],
+    all: &[Section],
+    library: &str,
+) -> Result<Option<File>, AllocError> {
+    let mut text = Text::new(alloc);
+    for section in all.iter() {
+        if section.library.as_str() == library {
+            push_definition_names(&mut text, types_of(types, section));
+        }
+    }
+    let text = text.end()?;
+    if text.is_empty() {
+        return Ok(None);
+    }
+    Ok(Some(File::at(alloc, &[library, "/specs/Lib.antt"], text)?))
+}
+
+/// The file of constants.
+fn constants_file(alloc: Global, library: &str, constants: &str) -> Result<File, AllocError> {
+    let text = Text::of(alloc, &[HEAD, "\n", constants.trim_end(), "\n"]);
+    File::at(alloc, &[library, "/src/values.rt"], text.end()?)
+}
+
+/// Puts the root files of a crate behind others.
+fn push_root_files(
+    alloc: Global,
+    files: &mut Vec<File>,
+    types: &[Printed],
+    all: &[Section],
+    library: &str,
+    constants: &str,
+) -> Result<(), AllocError> {
+    let has_constants = !constants.is_empty();
+    files.push(root_file(alloc, types, all, library, has_constants)?)?;
+    if has_constants {
+        files.push(constants_file(alloc, library, constants)?)?;
+    }
+    if let Some(root) = definitions_root(alloc, types, all, library)? {
+        files.push(root)?;
+    }
+    Ok(())
+}
+
+/// The files of all crates; the first crate has the constants.
+fn crate_files(
+    alloc: Global,
+    types: &[Printed],
+    all: &[Section],
+    constants: &str,
+) -> Result<Vec<File>, AllocError> {
+    let homes = homes_of(alloc, types, all)?;
+    let mut files = Vec::new(alloc);
+    let mut left = constants;
+    for section in all.iter() {
+        files.push(section_file(alloc, types, &homes, section)?)?;
+        let place = (section.library.as_str(), section.module.as_str());
+        push_cycle_files(alloc, &mut files, types_of(types, section), place)?;
+        if section.module.as_str() == FIRST_MODULE {
+            push_root_files(
+                alloc,
+                &mut files,
+                types,
+                all,
+                section.library.as_str(),
+                left,
+            )?;
+            left = "";
+        }
+    }
+    Ok(files)
+}
+
+/// Appends the libraries that a crate uses beside those that are printed.
+fn push_libraries(out: &mut Text, types: &[Printed], all: &[Section], library: &str) {
+    let needs_knots = all.iter().any(|section| section.library.as_str() == library
+        && has_knots(types_of(types, section)));
+    let needs_kept = all.iter().any(|section| section.library.as_str() == library
+        && use_kept(types_of(types, section)));
+    out.push(if needs_knots { KNOT_LIBRARIES } else { LIBRARY });
+    if needs_kept {
+        out.push_all(&[" ", KEPT_LIBRARY]);
+    }
+    out.push("\n");
+}
+
+/// Appends the lines of `crates.txt`, lowest first.
+fn push_crates(alloc: Global, out: &mut Text, types: &[Printed], all: &[Section]) {
+    let mut lower = Text::new(alloc);
+    for section in all.iter() {
+        if section.module.as_str() == FIRST_MODULE {
+            let library = section.library.as_str();
+            out.push_all(&[library, ": "]);
+            out.push_text(&lower);
+            push_libraries(out, types, all, library);
+            lower.push_all(&[library, " "]);
+        }
+    }
+    out.heed(&lower);
+}
+
+/// Puts the types of a crate to others.
+fn push_named(
+    alloc: Global,
+    named: &mut Vec<Named>,
+    types: &[Printed],
+    library: &str,
+) -> Result<(), AllocError> {
+    for one in types.iter() {
+        named.push(Named {
+            library: String::from_str(alloc, library)?,
+            name: one.name.clone()?,
+        })?;
+    }
+    Ok(())
+}
+
+/// The types of all crates.
+fn named_types(
+    alloc: Global,
+    types: &[Printed],
+    all: &[Section],
+) -> Result<Vec<Named>, AllocError> {
+    let mut named = Vec::new(alloc);
+    for section in all.iter() {
+        push_named(
+            alloc,
+            &mut named,
+            types_of(types, section),
+            section.library.as_str(),
+        )?;
+    }
+    Ok(named)
+}
+
+/// What is asked for: the name of the crate, the names of the files that were handed in, whether what can't be read or printed is left
+/// out, and whether types keep what newer versions of them have.
+#[derive(Clone, Copy)]
+pub struct Wish<'w> {
+    pub name: &'w str,
+    pub files: &'w [&'w str],
+    pub leaves_out: bool,
+    pub keeps_unknown: bool,
+}
+
+/// The name of the file that a refusal speaks of.
+fn file_of<'w>(why: &Refusal, files: &[&'w str]) -> &'w str {
+    match why {
+        Refusal::At { place, .. } => files.get(place.file).copied().unwrap_or(""),
+        Refusal::OutOfMemory => "",
+    }
+}
+
+/// Appends a line that says why a name was left out.
+fn push_why(out: &mut Text, name: &str, why: &Refusal, files: &[&str]) -> Result<(), AllocError> {
+    let file = file_of(why, files);
+    let why = format!(in out.alloc(); "{why}")?;
+    out.push_all(&["# left out: ", name, ", ", file, ":", why.as_str(), "\n"]);
+    Ok(())
+}
+
+/// Appends a line for each type that was left out.
+fn push_left_out(out: &mut Text, left_out: &[LeftOut], files: &[&str]) -> Result<(), AllocError> {
+    for one in left_out.iter() {
+        push_why(out, one.name.as_str(), &one.why, files)?;
+    }
+    Ok(())
+}
+
+/// Appends a line for each assignment that a module has and that isn't read.
+fn push_unread(
+    scope: Scope<'_, '_>,
+    out: &mut Text,
+    module: &Module,
+    files: &[&str],
+) -> Result<(), AllocError> {
+    for one in module.unread.iter() {
+        push_why(out, scope.text(one.name), &one.why, files)?;
+    }
+    Ok(())
+}
+
+/// Appends a line for each assignment that isn't read.
+fn push_all_unread(scope: Scope<'_, '_>, out: &mut Text, files: &[&str]) -> Result<(), AllocError> {
+    for module in scope.modules.iter() {
+        push_unread(scope, out, module, files)?;
+    }
+    Ok(())
+}
+
+/// What is written of types that are printed or left out.
+fn output_of(
+    scope: Scope<'_, '_>,
+    outcome: &Outcome,
+    constants: &str,
+    wish: Wish<'_>,
+) -> Result<Output, AllocError> {
+    let alloc = scope.alloc;
+    let types = outcome.printed.as_slice();
+    let all = sections(alloc, wish.name, types)?;
+    let mut lines = Text::new(alloc);
+    push_crates(alloc, &mut lines, types, all.as_slice());
+    push_all_unread(scope, &mut lines, wish.files)?;
+    push_left_out(&mut lines, outcome.left_out.as_slice(), wish.files)?;
+    Ok(Output {
+        files: crate_files(alloc, types, all.as_slice(), constants)?,
+        lines: lines.end()?,
+        types: named_types(alloc, types, all.as_slice())?,
+    })
+}
+
+/// The crates of modules that were resolved.
+fn crates_of_scope(scope: Scope<'_, '_>, wish: Wish<'_>) -> Result<Output, Refusal> {
+    let mut all = definitions(scope, wish.leaves_out)?;
+    let order = find_cycles(scope.alloc, &mut all)?;
+    hold_large(scope.alloc, &mut all, order.as_slice())?;
+    if wish.keeps_unknown {
+        keep_unknown(&mut all);
+    }
+    free_names(scope, &mut all)?;
+    let outcome = print_types(scope, all.as_slice(), order.as_slice(), wish.leaves_out)?;
+    let constants = constants_of(scope, all.as_slice())?;
+    Ok(output_of(scope, &outcome, constants.as_str(), wish)?)
+}
+
+/// The crates of the modules in tokens.
+fn crates_of_tokens(
+    alloc: Global,
+    tokens: &[Token<'_>],
+    wish: Wish<'_>,
+) -> Result<Output, Refusal> {
+    let tree = read_tree(alloc, tokens, wish.leaves_out)?;
+    let scope = Scope {
+        alloc,
+        modules: tree.modules(),
+        tokens,
+    };
+    crates_of_scope(scope, wish)
+}
+
+/// The crates of the modules in the files' texts. Refused at the first place that can't be read, resolved or printed; where that is
+/// wished, assignments that can't be read, and types that can't be resolved or printed, are left out, and each has a line that says why.
+pub fn crates_of(alloc: Global, texts: &[&str], wish: Wish<'_>) -> Result<Output, Refusal> {
+    let tokens = tokens_of(alloc, texts)?;
+    crates_of_tokens(alloc, tokens.as_slice(), wish)
+}

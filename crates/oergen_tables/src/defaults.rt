@@ -1,0 +1,225 @@
+//! The values of defaults in JSON (X.697).
+
+use crate::leaves::named_number;
+use oergen_layouts::numbers::{Spot, named, names_of, settled};
+use oergen_layouts::rows::Row;
+use oergen_layouts::scope::Scope;
+use oergen_layouts::values::default_of;
+use oergen_layouts::visible::{Limits, Purpose, limits_of};
+use oergen_parse::ast::{Body, Need, Numbered, Simple, Type, Value};
+use oergen_parse::lexer::{Kind, Token, TokenId};
+use oergen_parse::refusal::Refusal;
+use std::alloc::{AllocError, Global};
+
+/// The most bits of a default that is filled up.
+const MAX_BITS: i128 = 65536;
+
+/// A text between quotation marks, as JSON has it.
+fn quoted(alloc: Global, text: &str) -> Result<String, AllocError> {
+    let mut out = String::from_str(alloc, "\"")?;
+    for character in text.chars() {
+        match character {
+            '"' => out.push_str("\\\"")?,
+            '\\' => out.push_str("\\\\")?,
+            _ if u32::from(character) < 32 => {
+                let code = u32::from(character);
+                out.push_str(format!(in alloc; "\\u{code:04x}")?.as_str())?;
+            }
+            _ => out.push(character)?,
+        }
+    }
+    out.push('"')?;
+    Ok(out)
+}
+
+/// A text as it stands in a module, with its quotation marks, of which two within stand for one (X.680, 12.14): in JSON. Nothing of a text
+/// of several lines.
+fn json_of_text(alloc: Global, text: &str) -> Result<Option<String>, AllocError> {
+    if text.contains('\n') {
+        return Ok(None);
+    }
+    let inside = text.strip_prefix('"').unwrap_or(text);
+    let inside = inside.strip_suffix('"').unwrap_or(inside);
+    let mut own = String::new(alloc);
+    let mut is_second = false;
+    for character in inside.chars() {
+        is_second = character == '"' && !is_second;
+        if !is_second {
+            own.push(character)?;
+        }
+    }
+    Ok(Some(quoted(alloc, own.as_str())?))
+}
+
+/// A word in small letters.
+fn small(alloc: Global, text: &str) -> Result<String, AllocError> {
+    text.chars().map(|c| c.to_ascii_lowercase()).collect(alloc)
+}
+
+/// Puts the bits that a digit stands for, four of a hexadecimal one; none of what is no digit.
+fn push_digit(bits: &mut Vec<bool>, digit: char, is_hex: bool) -> Result<(), AllocError> {
+    let Some(number) = digit.to_digit(16) else {
+        return Ok(());
+    };
+    if is_hex {
+        bits.push(number / 8 % 2 == 1)?;
+        bits.push(number / 4 % 2 == 1)?;
+        bits.push(number / 2 % 2 == 1)?;
+    }
+    bits.push(number % 2 == 1)?;
+    Ok(())
+}
+
+/// The bits of a literal between quotes, `'0101'B` or `'0AF'H`.
+fn literal_bits(alloc: Global, token: Token<'_>) -> Result<Vec<bool>, AllocError> {
+    let mut bits = Vec::new(alloc);
+    let is_hex = token.kind == Kind::Hex;
+    let inside = match token.text.rsplit_once('\'') {
+        Some((front, _)) => front,
+        None => "",
+    };
+    for digit in inside.chars() {
+        push_digit(&mut bits, digit, is_hex)?;
+    }
+    Ok(bits)
+}
+
+/// The numbers of named bits.
+fn bit_numbers<'m>(
+    scope: Scope<'m, '_>,
+    names: &'m [Numbered],
+    bits: &[TokenId],
+) -> Result<Vec<i128>, AllocError> {
+    let mut numbers = Vec::new(scope.alloc);
+    for bit in bits.iter() {
+        if let Some(item) = named(scope, names, *bit) {
+            numbers.push(named_number(scope, item)?.unwrap_or(MAX_BITS))?;
+        }
+    }
+    Ok(numbers)
+}
+
+/// So many bits, of which those with these numbers are set.
+fn numbered_bits(alloc: Global, numbers: &[i128], count: i128) -> Result<Vec<bool>, AllocError> {
+    let mut bits = Vec::new(alloc);
+    for number in 0..count {
+        bits.push(numbers.contains(&number))?;
+    }
+    Ok(bits)
+}
+
+/// Puts zero bits behind others, up to so many.
+fn fill_up(bits: &mut Vec<bool>, count: usize) -> Result<(), AllocError> {
+    for _ in bits.len()..count {
+        bits.push(false)?;
+    }
+    Ok(())
+}
+
+/// The octet of at most eight bits, the highest first.
+fn octet_of(bits: &[bool]) -> u8 {
+    let mut octet = 0u8;
+    let mut weight = 128u8;
+    for bit in bits.iter() {
+        if *bit {
+            octet = octet.saturating_add(weight);
+        }
+        weight /= 2;
+    }
+    octet
+}
+
+/// Bits in whole octets, filled up with zero bits, in hexadecimal.
+fn digits_of(alloc: Global, bits: &[bool]) -> Result<String, AllocError> {
+    let mut digits = String::new(alloc);
+    for eight in bits.chunks(8) {
+        let octet = octet_of(eight);
+        digits.push_str(format!(in alloc; "{octet:02X}")?.as_str())?;
+    }
+    Ok(digits)
+}
+
+/// The bits of a BIT STRING's default, up to its size where its bits have names (X.680, 22.7); nothing of a size that no default is filled
+/// up to.
+fn bits_of<'m>(
+    scope: Scope<'m, '_>,
+    names: &'m [Numbered],
+    value: &'m Value,
+    limits: Limits,
+) -> Result<Option<Vec<bool>>, Refusal> {
+    let size = if names.is_empty() {
+        0
+    } else {
+        limits.fixed().unwrap_or(0)
+    };
+    if size > MAX_BITS {
+        return Ok(None);
+    }
+    match settled(scope, Spot { value, names })?.value {
+        Value::Literal(id) => {
+            let mut bits = literal_bits(scope.alloc, scope.token(*id))?;
+            fill_up(&mut bits, usize::try_from(size).unwrap_or(0))?;
+            Ok(Some(bits))
+        }
+        Value::Names(_, named) => {
+            let numbers = bit_numbers(scope, names, named.as_slice())?;
+            Ok(Some(numbered_bits(scope.alloc, numbers.as_slice(), size)?))
+        }
+        Value::Negative(_) | Value::Reference(_) | Value::Braces(_) => Ok(None),
+    }
+}
+
+/// A BIT STRING's default in JSON: with its length where the type has no fixed size.
+fn json_of_bits<'m>(
+    scope: Scope<'m, '_>,
+    of: &'m Type,
+    names: &'m [Numbered],
+    value: &'m Value,
+) -> Result<Option<String>, Refusal> {
+    let alloc = scope.alloc;
+    let chain = scope.chain_of(of)?;
+    let limits = limits_of(scope, chain.as_slice(), &[], Purpose::Size)?;
+    let Some(bits) = bits_of(scope, names, value, limits)? else {
+        return Ok(None);
+    };
+    let digits = digits_of(alloc, bits.as_slice())?;
+    let digits = digits.as_str();
+    if limits.fixed().is_some() {
+        return Ok(Some(quoted(alloc, digits)?));
+    }
+    let count = bits.len();
+    Ok(Some(format!(in alloc; "{{\"value\": \"{digits}\", \"length\": {count}}}")?))
+}
+
+/// The octets of an OCTET STRING's default in JSON.
+fn json_of_octets<'m>(scope: Scope<'m, '_>, value: &'m Value) -> Result<Option<String>, Refusal> {
+    match settled(scope, Spot { value, names: &[] })?.value {
+        Value::Literal(id) => {
+            let bits = literal_bits(scope.alloc, scope.token(*id))?;
+            let digits = digits_of(scope.alloc, bits.as_slice())?;
+            Ok(Some(quoted(scope.alloc, digits.as_str())?))
+        }
+        Value::Negative(_) | Value::Reference(_) => Ok(None),
+        Value::Names(_, _) | Value::Braces(_) => Ok(None),
+    }
+}
+
+/// A component's default in JSON; nothing where it has none, or one that JSON isn't made of here.
+pub fn standard_of<'m>(scope: Scope<'m, '_>, row: Row<'m>) -> Result<Option<String>, Refusal> {
+    let Need::Default(value) = row.need else {
+        return Ok(None);
+    };
+    let alloc = scope.alloc;
+    let text = default_of(scope, row, value)?;
+    let base = scope.base_of(row.of)?;
+    match &base.body {
+        Body::Integer(_) => Ok(Some(text)),
+        Body::Enumerated(_, _) => Ok(Some(quoted(alloc, text.as_str())?)),
+        Body::BitString(names) => json_of_bits(scope, row.of, names.as_slice(), value),
+        Body::Simple(Simple::Boolean | Simple::Null) => Ok(Some(small(alloc, text.as_str())?)),
+        Body::Simple(Simple::OctetString) => json_of_octets(scope, value),
+        Body::Simple(_) => Ok(json_of_text(alloc, text.as_str())?),
+        Body::SequenceOf(_) | Body::SetOf(_) => Ok(Some(String::from_str(alloc, "[]")?)),
+        Body::Sequence(_) | Body::Set(_) | Body::Choice(_) | Body::Reference(_) => Ok(None),
+    }
+}
