@@ -2,7 +2,6 @@
 //! reading.
 #![tactic(auto)]
 
-mod branches;
 mod bushes;
 mod chains;
 mod choices;
@@ -10,7 +9,6 @@ pub mod components;
 mod constrained;
 mod deep_defaults;
 mod enums;
-mod envelopes;
 mod extended;
 mod extensible;
 mod extension_defaults;
@@ -32,7 +30,6 @@ mod top_levels;
 mod versions;
 mod wrappers;
 
-pub use branches::{Branch, BranchComponents, BranchContent};
 pub use bushes::{Bush, BushComponents, BushContent};
 pub use chains::{Chain, ChainComponents, ChainContent};
 pub use choices::{
@@ -42,7 +39,6 @@ pub use choices::{
 pub use constrained::ConstrainedOptions;
 pub use deep_defaults::DeepDefault;
 pub use enums::{Answer, Color, Enum3, Enum4};
-pub use envelopes::{Body, BodyAlternatives, Envelope, EnvelopeComponents, EnvelopeContent};
 pub use extended::ExtendedOptional;
 pub use extensible::{EmptyExtensible, Outer, Sequence1, Sequence2, Sequence5};
 pub use extension_defaults::{AddDef, Holder1, Holder2};

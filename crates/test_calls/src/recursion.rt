@@ -1,11 +1,10 @@
 //! Octets by hand from X.696, of types that contain themselves.
 
 use crate::own_types::agrees;
-use oer_types::{
-    BodyAlternatives, Branch, BranchComponents, Chain, ChainComponents, Envelope,
-    EnvelopeComponents, Node, NodeComponents,
-};
+use example_recursive::{BodyAlternatives, Envelope, EnvelopeComponents, Tree, TreeComponents};
+use oer_types::{Chain, ChainComponents, Node, NodeComponents};
 use rasn_oer::prelude::*;
+use std::alloc::Global;
 use std::test::Fail;
 
 fn node(value: i128, next: Option<Held<Node>>, last: bool) -> Node {
@@ -32,52 +31,68 @@ fn nodes_are_written_and_read(rt: HostRuntime) -> Result<(), Fail> {
     Ok(())
 }
 
-fn envelope(id: u8, body: BodyAlternatives<Envelope>, urgent: bool) -> Envelope {
-    Envelope(Sequence(EnvelopeComponents {
-        id,
+fn envelope(
+    alloc: Global,
+    id: [u8; 2],
+    body: BodyAlternatives<Envelope>,
+    urgent: Option<bool>,
+) -> Result<Envelope, Fail> {
+    let id = OctetString::from_slice(alloc, &id)?;
+    Ok(Envelope(Sequence(EnvelopeComponents {
+        id: Limited::new(Octets(id)),
         body: OneOf(body),
         urgent,
-    }))
+    })))
 }
 
 #[test]
 fn envelopes_are_written_and_read(rt: HostRuntime) -> Result<(), Fail> {
     let alloc = rt.alloc();
-    let text = Octets(OctetString::from_slice(alloc, &[0xAA, 0xBB])?);
-    let inner = envelope(7, BodyAlternatives::Text(text), false);
-    assert!(rt; agrees(alloc, &inner, &[0x00, 0x07, 0x80, 0x02, 0xAA, 0xBB])?);
-    let whole = envelope(
-        9,
-        BodyAlternatives::Inner(Held(Box::new(alloc, inner)?)),
-        true,
-    );
-    let octets = [0x80, 0x09, 0x81, 0x00, 0x07, 0x80, 0x02, 0xAA, 0xBB, 0xFF];
+    let text = Utf8Text(String::from_str(alloc, "a")?);
+    let inner = envelope(alloc, [0xAA, 0xBB], BodyAlternatives::Text(text), None)?;
+    assert!(rt; agrees(alloc, &inner, &[0x00, 0xAA, 0xBB, 0x80, 0x01, 0x61])?);
+    let held = BodyAlternatives::Inner(Held(Box::new(alloc, inner)?));
+    let whole = envelope(alloc, [0x00, 0x01], held, Some(true))?;
+    let octets = [
+        0x80, 0x00, 0x01, 0x81, 0x00, 0xAA, 0xBB, 0x80, 0x01, 0x61, 0x02, 0x07, 0x80, 0x01, 0xFF,
+    ];
     assert!(rt; agrees(alloc, &whole, &octets)?);
-    let count = envelope(1, BodyAlternatives::Count(Integer::from_i128(5)), false);
-    assert!(rt; agrees(alloc, &count, &[0x00, 0x01, 0x82, 0x02, 0x01, 0x05])?);
+    let number = BodyAlternatives::Count(Integer::from_i128(5));
+    let count = envelope(alloc, [0x00, 0x02], number, None)?;
+    assert!(rt; agrees(alloc, &count, &[0x00, 0x00, 0x02, 0x82, 0x02, 0x01, 0x05])?);
     Ok(())
 }
 
-fn branch(label: i128, children: Vec<Held<Branch>>, last: Option<bool>) -> Branch {
-    Branch(Sequence(BranchComponents {
-        label: Integer::from_i128(label),
-        children: ListOf(children),
-        last,
-    }))
+fn tree(
+    alloc: Global,
+    label: &str,
+    leaves: Vec<Bare<Tree>>,
+    shade: Option<Bare<Tree>>,
+) -> Result<Tree, Fail> {
+    let shade = match shade {
+        Some(one) => Some(ListOf(vec![in alloc; one]?)),
+        None => None,
+    };
+    Ok(Tree(Sequence(TreeComponents {
+        label: Ia5Text(Ia5String::from_text(alloc, label.as_bytes())?),
+        leaves: ListOf(leaves),
+        shade,
+    })))
 }
 
 #[test]
-fn branches_are_written_and_read(rt: HostRuntime) -> Result<(), Fail> {
+fn trees_are_written_and_read(rt: HostRuntime) -> Result<(), Fail> {
     let alloc = rt.alloc();
-    let leaf = branch(1, Vec::new(alloc), None);
-    assert!(rt; agrees(alloc, &leaf, &[0x00, 0x01, 0x01, 0x01, 0x00])?);
-    let mut children = Vec::new(alloc);
-    children.push(Held(Box::new(alloc, leaf)?))?;
-    children.push(Held(Box::new(alloc, branch(1, Vec::new(alloc), None))?))?;
-    let whole = branch(2, children, Some(true));
+    let leaf = tree(alloc, "a", Vec::new(alloc), None)?;
+    assert!(rt; agrees(alloc, &leaf, &[0x00, 0x01, 0x61, 0x01, 0x00])?);
+    let mut leaves = Vec::new(alloc);
+    leaves.push(Bare(leaf))?;
+    leaves.push(Bare(tree(alloc, "b", Vec::new(alloc), None)?))?;
+    let shade = tree(alloc, "c", Vec::new(alloc), None)?;
+    let whole = tree(alloc, "de", leaves, Some(Bare(shade)))?;
     let octets = [
-        0x80, 0x01, 0x02, 0x01, 0x02, 0x00, 0x01, 0x01, 0x01, 0x00, 0x00, 0x01, 0x01, 0x01, 0x00,
-        0x02, 0x07, 0x80, 0x01, 0xFF,
+        0x80, 0x02, 0x64, 0x65, 0x01, 0x02, 0x00, 0x01, 0x61, 0x01, 0x00, 0x00, 0x01, 0x62, 0x01,
+        0x00, 0x01, 0x01, 0x00, 0x01, 0x63, 0x01, 0x00,
     ];
     assert!(rt; agrees(alloc, &whole, &octets)?);
     Ok(())

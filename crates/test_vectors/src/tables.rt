@@ -3,13 +3,13 @@
 use anyhow::{Error, Result};
 use asn1_core::{AsnType, Choice, Constraints, Constructed, Field, Tag};
 use oer_types::{
-    AddDef, Adding, Addition7, AllDefault, AllOptional, Bare, Body, BoolChoice, BranchContent,
-    BushContent, ChainContent, ConstrainedOptions, DeepDefault, DefaultAndOptional, DefaultInteger,
-    Empty, EmptyExtensible, EnvelopeContent, ExtendedOptional, Foo, Group6, Held, Holder1, Holder2,
-    Holding, LinkChoice, LinkContent, ListOf, ManyOptional, Mixed, MixedSet, MixedSet2, Nested,
-    NodeContent, Omitted, OneToEight, OnlyChoice, Outer, Pair, PriorityChoice, Sequence1,
-    Sequence2, Sequence3, Sequence4, Sequence5, Sequence6, Sequence7, SequenceDuplicatesExtended,
-    Sure, TestChoice, TopLevelContent, WideChoice,
+    AddDef, Adding, Addition7, AllDefault, AllOptional, Bare, BoolChoice, BushContent,
+    ChainContent, ConstrainedOptions, DeepDefault, DefaultAndOptional, DefaultInteger, Empty,
+    EmptyExtensible, ExtendedOptional, Foo, Group6, Held, Holder1, Holder2, Holding, LinkChoice,
+    LinkContent, ListOf, ManyOptional, Mixed, MixedSet, MixedSet2, Nested, NodeContent, Omitted,
+    OneToEight, OnlyChoice, Outer, Pair, PriorityChoice, Sequence1, Sequence2, Sequence3,
+    Sequence4, Sequence5, Sequence6, Sequence7, SequenceDuplicatesExtended, Sure, TestChoice,
+    TopLevelContent, WideChoice,
 };
 use oer_write::Encode;
 use oertool_words::constrained::{UnderConstraints, with_word};
@@ -201,9 +201,7 @@ fn recursive_table(alloc: Global, word: &str) -> Result<String> {
 
 fn own_table(alloc: Global, word: &str) -> Result<String> {
     match word {
-        "Branch" => table_of::<2, 1, BranchContent<bool>>(alloc),
         "Chain" => table_of::<1, 1, ChainContent<bool>>(alloc),
-        "Envelope" => table_of::<3, 0, EnvelopeContent<bool>>(alloc),
         "Node" => table_of::<3, 0, NodeContent<bool>>(alloc),
         _ => Err(Error::msg("no such table")),
     }
@@ -248,7 +246,6 @@ fn recursive_tags(alloc: Global, word: &str) -> Result<String> {
     match word {
         "LinkChoice" => tags_of::<LinkChoice<bool>>(alloc),
         "TestChoice" => tags_of::<TestChoice<bool>>(alloc),
-        "Body" => tags_of::<Body<bool>>(alloc),
         _ => Err(Error::msg("no such choice")),
     }
 }
