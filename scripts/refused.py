@@ -25,6 +25,8 @@ PRINT = ("--out", "crates", "--name", "m")
 # what comes of a module, and of one whose types are all printed: the line for crates.txt, and any number of files
 PARTS = ("standard output", "standard error", "exit status", "number of files")
 PRINTED = ("m: rasn_oer\n", "", 0, None)
+KEPT = (*PRINT, "--keep-unknown")
+KEPT_PRINTED = ("m: rasn_oer oer_kept\n", "", 0, None)
 
 DEEP_SEQUENCE = (
     "2:7: met 'SEQUENCE'; can read a type that is at most 64 deep in Rust, as docs/COMPILER.md counts it: "
@@ -51,6 +53,8 @@ DEPTHS = (
     ("CHOICE { a ", " }", 31, DEEP_CHOICE),
     ("SEQUENCE OF ", "", 40, DEEP_LISTS),
 )
+# the same of choices that keep what is newer: the octets of an unknown alternative are deeper than NULL
+KEPT_DEPTH = ("CHOICE { a ", ", ... }", 27, DEEP_CHOICE)
 
 
 class Case(NamedTuple):
@@ -91,9 +95,14 @@ def unprinted():
     return [refusal(PRINT, *row) for row in found] + [Case(LIST, module_of(body), (None, "", 0, 0)) for body, _ in found]
 
 
-def bound(body_of, most, message):
+def bound(body_of, most, message, words=PRINT, printed=PRINTED):
     """At a bound all is printed, and one past it refused."""
-    return [Case(PRINT, module_of(body_of(most)), PRINTED), refusal(PRINT, body_of(most + 1), message)]
+    return [Case(words, module_of(body_of(most)), printed), refusal(words, body_of(most + 1), message)]
+
+
+def nested(front, behind):
+    """A type around NULL, so many times."""
+    return lambda levels: f"A ::= {front * levels}NULL{behind * levels}"
 
 
 def wide(count):
@@ -106,8 +115,9 @@ def bounds():
     """How deep types may stand in one another, and how many components side by side."""
     cases = bound(wide, 50, WIDE)
     for front, behind, most, message in DEPTHS:
-        cases += bound(lambda levels: f"A ::= {front * levels}NULL{behind * levels}", most, message)
-    return cases
+        cases += bound(nested(front, behind), most, message)
+    front, behind, most, message = KEPT_DEPTH
+    return cases + bound(nested(front, behind), most, message, KEPT, KEPT_PRINTED)
 
 
 def left_out():
