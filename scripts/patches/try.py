@@ -6,7 +6,7 @@ usage: try.py [NAME..]
 
 Few contracts rule out a body that wants memory where there is plenty, so tests have to. First the copy without a patch has
 to pass. A line a patch says how many rows of crates/test_vectors are answered otherwise, and the first of them; a second one
-which tests of crates/test_calls fail. It takes some minutes; run by hand, with its last output in docs/TESTING.md.
+which tests of crates/test_calls fail. It takes some minutes; run by hand.
 """
 import pathlib
 import re
