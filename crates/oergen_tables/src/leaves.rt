@@ -2,6 +2,7 @@
 ghost use Rattle.std.specs.Prelude.{◌≡◌, ◌<◌, ◌-◌, ◌^◌, IfOk, pos};
 
 use crate::forms::{Form, ValueName};
+use crate::kinds::Kind;
 use oergen_layouts::layouts::unit_of;
 use oergen_layouts::numbers::{Spot, enumerated_numbers, names_of, number_of};
 use oergen_layouts::scope::Scope;
@@ -9,31 +10,6 @@ use oergen_layouts::visible::{Limits, Purpose, limits_of};
 use oergen_parse::ast::{Body, Numbered, Simple, Type};
 use oergen_parse::refusal::Refusal;
 use std::alloc::{AllocError, Global};
-
-/// The kinds of types, by their numbers in a table.
-pub const BOOLEAN: usize = 0;
-
-pub const NULL: usize = 1;
-
-pub const FIXED_INTEGER: usize = 2;
-
-pub const INTEGER: usize = 3;
-
-pub const ENUMERATED: usize = 4;
-
-pub const FIXED_BIT_STRING: usize = 5;
-
-pub const BIT_STRING: usize = 6;
-
-pub const FIXED_STRING: usize = 7;
-
-pub const STRING: usize = 8;
-
-pub const LIST: usize = 10;
-
-pub const SEQUENCE: usize = 11;
-
-pub const CHOICE: usize = 12;
 
 /// What stands in a table for a number that isn't there: numbers are below it.
 const NO_NUMBER: i128 = 4294967295;
@@ -112,8 +88,12 @@ fn size_word(scope: Scope<'_, '_>, of: &Type, size: i128) -> Result<usize, Refus
 fn integer_form(alloc: Global, limits: Limits) -> Result<Form, AllocError> {
     let (octets, is_signed) = limits.width();
     let words = match octets {
-        Some(octets) => vec![in alloc; FIXED_INTEGER, usize::from(octets), usize::from(is_signed)]?,
-        None => vec![in alloc; INTEGER, usize::from(is_signed)]?,
+        Some(octets) => vec![in alloc;
+            Kind::FixedInteger.number(),
+            usize::from(octets),
+            usize::from(is_signed),
+        ]?,
+        None => vec![in alloc; Kind::Integer.number(), usize::from(is_signed)]?,
     };
     Ok(Form {
         range: limits,
@@ -124,8 +104,11 @@ fn integer_form(alloc: Global, limits: Limits) -> Result<Form, AllocError> {
 /// The form of a BIT STRING.
 fn bits_form(scope: Scope<'_, '_>, of: &Type, limits: Limits) -> Result<Form, Refusal> {
     let words = match limits.fixed() {
-        Some(bits) => vec![in scope.alloc; FIXED_BIT_STRING, size_word(scope, of, bits)?]?,
-        None => vec![in scope.alloc; BIT_STRING]?,
+        Some(bits) => vec![in scope.alloc;
+            Kind::FixedBitString.number(),
+            size_word(scope, of, bits)?,
+        ]?,
+        None => vec![in scope.alloc; Kind::BitString.number()]?,
     };
     Ok(Form {
         size: limits,
@@ -143,9 +126,9 @@ fn string_form(
     let words = match limits.fixed() {
         Some(size) => {
             let octets = size_word(scope, of, size.saturating_mul(unit))?;
-            vec![in scope.alloc; FIXED_STRING, octets, text]?
+            vec![in scope.alloc; Kind::FixedString.number(), octets, text]?
         }
-        None => vec![in scope.alloc; STRING, text]?,
+        None => vec![in scope.alloc; Kind::String.number(), text]?,
     };
     Ok(Form {
         size: limits,
@@ -156,9 +139,9 @@ fn string_form(
 /// The form of a type whose size isn't seen.
 fn sizeless_form(alloc: Global, simple: Simple) -> Result<Form, AllocError> {
     let words = match simple {
-        Simple::Boolean => vec![in alloc; BOOLEAN]?,
-        Simple::Null => vec![in alloc; NULL]?,
-        other => vec![in alloc; STRING, text_number(other)]?,
+        Simple::Boolean => vec![in alloc; Kind::Boolean.number()]?,
+        Simple::Null => vec![in alloc; Kind::Null.number()]?,
+        other => vec![in alloc; Kind::String.number(), text_number(other)]?,
     };
     Ok(Form::of(alloc, words))
 }
@@ -199,7 +182,10 @@ pub fn enumerated_form<'m>(
     items: &'m [Numbered],
     root: usize,
 ) -> Result<Form, Refusal> {
-    let mut form = Form::of(scope.alloc, vec![in scope.alloc; ENUMERATED]?);
+    let mut form = Form::of(
+        scope.alloc,
+        vec![in scope.alloc; Kind::Enumerated.number()]?,
+    );
     for (name, number) in enumerated_numbers(scope, items, root)?.iter() {
         let number = *number;
         let name = String::from_str(scope.alloc, scope.text(*name))?;

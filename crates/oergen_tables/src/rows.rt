@@ -1,7 +1,7 @@
 //! The forms of types with parts, by their components or alternatives.
 
 use crate::forms::{Form, Standard};
-use crate::leaves::{CHOICE, SEQUENCE};
+use crate::kinds::Kind;
 use asn1_core::Tag;
 use oergen_layouts::rows::Position;
 use std::alloc::{AllocError, Global};
@@ -76,7 +76,12 @@ pub fn sequence_form(
     fields: &[Field],
 ) -> Result<Form, AllocError> {
     let additions = fields.len().saturating_sub(roots);
-    let words = vec![in alloc; SEQUENCE, usize::from(is_extensible), roots, additions]?;
+    let words = vec![in alloc;
+        Kind::Sequence.number(),
+        usize::from(is_extensible),
+        roots,
+        additions,
+    ]?;
     let mut form = Form::of(alloc, words);
     for (component, field) in fields.iter().enumerate() {
         form.words.push(field.name)?;
@@ -119,7 +124,12 @@ pub fn choice_form(
         .filter(|field| field.position == Position::Root)
         .count();
     let additions = fields.len().saturating_sub(roots);
-    let mut words = vec![in alloc; CHOICE, usize::from(is_extensible), roots, additions]?;
+    let mut words = vec![in alloc;
+        Kind::Choice.number(),
+        usize::from(is_extensible),
+        roots,
+        additions,
+    ]?;
     push_alternatives(&mut words, fields, true)?;
     push_alternatives(&mut words, fields, false)?;
     Ok(Form::of(alloc, words))
