@@ -2,7 +2,8 @@
 
 use crate::defaults::standard_of;
 use crate::forms::{Entry, Form, Table};
-use crate::leaves::{LIST, enumerated_form, leaf_form, plain_name};
+use crate::kinds::Kind;
+use crate::leaves::{enumerated_form, leaf_form, plain_name};
 use crate::rows::{Addition, Field, choice_form, ordered, sequence_form};
 use oergen_layouts::definitions::{Definition, Part};
 use oergen_layouts::layouts::is_extensible;
@@ -164,7 +165,7 @@ impl<'m, 'a, 'd> Builder<'m, 'a, 'd> {
                 break;
             };
             let inner = self.element_number(part, element)?;
-            let words = vec![in self.alloc(); LIST, usize::from(is_set), inner]?;
+            let words = vec![in self.alloc(); Kind::List.number(), usize::from(is_set), inner]?;
             let form = Form::of(self.alloc(), words);
             self.set_form(own, form);
             own = inner;

@@ -1,4 +1,5 @@
 //! The types of a table, and its lines.
+ghost use Rattle.std.specs.Prelude.{◌≡◌, []};
 
 use oergen_layouts::visible::{Limits, UNLIMITED};
 use std::alloc::{AllocError, Global};
@@ -46,7 +47,13 @@ pub struct Table {
 
 impl Form {
     /// The form of these words alone.
-    pub fn of(alloc: Global, words: Vec<usize>) -> Form {
+    pub fn of(alloc: Global, words: Vec<usize>) -> Form
+        ensures words { result.words ≡ words }
+        ensures values { result.values.items ≡ [] }
+        ensures standards { result.standards.items ≡ [] }
+        ensures range { result.range ≡ UNLIMITED }
+        ensures size { result.size ≡ UNLIMITED }
+    {
         Form {
             words,
             values: Vec::new(alloc),

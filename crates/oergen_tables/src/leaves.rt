@@ -1,39 +1,23 @@
 //! The forms of types without parts.
-ghost use Rattle.std.specs.Prelude.{◌≡◌, ◌<◌, ◌-◌, ◌^◌, IfOk, pos};
+ghost use Rattle.std.specs.Prelude.{◌≡◌, ◌<◌, ◌-◌, ◌^◌, ◌*ℤ◌, ℤ, pos, List, [], ◌∷◌, map, IfErr, IfOk, IfSome, OnErr, OnOk};
+ghost use Rattle.std.specs.List.{All, AllZip, filter_map};
+ghost use Rattle.oergen_layouts.specs.Enumerations.{AreAllowed, AreNumbersOf, IsDigits, number_behind};
+ghost use Rattle.oergen_parse.specs.declared.ast.Body.{Body};
+ghost use Rattle.oergen_parse.specs.declared.refusal.Refusal.TheVariants.{OutOfMemory};
+ghost use Rattle.oergen_tables.specs.Forms.{AreLeafWords, IsWord, bits_words, fixed_size, integer_words, sizeless_words, string_words, text_number};
+ghost use Rattle.oergen_tables.specs.Kinds.{kind_number};
+ghost use Rattle.oergen_tables.specs.Names.{IsNamed, IsReadable, shown, value_of};
+ghost use Rattle.oergen_tables.specs.declared.kinds.Kind.TheVariants.{Enumerated};
 
 use crate::forms::{Form, ValueName};
+use crate::kinds::Kind;
 use oergen_layouts::layouts::unit_of;
 use oergen_layouts::numbers::{Spot, enumerated_numbers, names_of, number_of};
 use oergen_layouts::scope::Scope;
-use oergen_layouts::visible::{Limits, Purpose, limits_of};
+use oergen_layouts::visible::{Limits, Purpose, UNLIMITED, limits_of};
 use oergen_parse::ast::{Body, Numbered, Simple, Type};
 use oergen_parse::refusal::Refusal;
 use std::alloc::{AllocError, Global};
-
-/// The kinds of types, by their numbers in a table.
-pub const BOOLEAN: usize = 0;
-
-pub const NULL: usize = 1;
-
-pub const FIXED_INTEGER: usize = 2;
-
-pub const INTEGER: usize = 3;
-
-pub const ENUMERATED: usize = 4;
-
-pub const FIXED_BIT_STRING: usize = 5;
-
-pub const BIT_STRING: usize = 6;
-
-pub const FIXED_STRING: usize = 7;
-
-pub const STRING: usize = 8;
-
-pub const LIST: usize = 10;
-
-pub const SEQUENCE: usize = 11;
-
-pub const CHOICE: usize = 12;
 
 /// What stands in a table for a number that isn't there: numbers are below it.
 const NO_NUMBER: i128 = 4294967295;
@@ -77,7 +61,9 @@ fn simple_name(simple: Simple) -> &'static str {
 }
 
 /// The number that says what octets behind a length are, or as many as a type always has; 0 of other types.
-fn text_number(simple: Simple) -> usize {
+fn text_number(simple: Simple) -> usize
+    ensures { result ≡ text_number simple }
+{
     match simple {
         Simple::Boolean | Simple::Null | Simple::OctetString => 0,
         Simple::Utf8String => 1,
@@ -101,6 +87,7 @@ fn text_number(simple: Simple) -> usize {
 fn size_word(scope: Scope<'_, '_>, of: &Type, size: i128) -> Result<usize, Refusal>
     ensures size { IfOk result (λ word. pos word ≡ size) }
     ensures word { IfOk result (λ word. word < 2 ^ 32 - 1) }
+    ensures refused { IsWord size → OnErr result ⊥ }
 {
     match usize::try_from(size) {
         Ok(word) if size < NO_NUMBER => Ok(word),
@@ -108,12 +95,29 @@ fn size_word(scope: Scope<'_, '_>, of: &Type, size: i128) -> Result<usize, Refus
     }
 }
 
+/// The one size that limits leave, without an extension mark.
+fn fixed_size(limits: Limits) -> Option<i128>
+    ensures { result ≡ fixed_size limits }
+{
+    match (limits.low, limits.high) {
+        (Some(low), Some(high)) if low == high && !limits.is_extensible => Some(low),
+        _ => None,
+    }
+}
+
 /// The form of an INTEGER.
-fn integer_form(alloc: Global, limits: Limits) -> Result<Form, AllocError> {
+fn integer_form(alloc: Global, limits: Limits) -> Result<Form, AllocError>
+    ensures words { IfOk result (λ form. form.words.items ≡ integer_words limits) }
+    ensures limits { IfOk result (λ form. (form.range ≡ limits) × (form.size ≡ UNLIMITED)) }
+{
     let (octets, is_signed) = limits.width();
     let words = match octets {
-        Some(octets) => vec![in alloc; FIXED_INTEGER, usize::from(octets), usize::from(is_signed)]?,
-        None => vec![in alloc; INTEGER, usize::from(is_signed)]?,
+        Some(octets) => vec![in alloc;
+            Kind::FixedInteger.number(),
+            usize::from(octets),
+            usize::from(is_signed),
+        ]?,
+        None => vec![in alloc; Kind::Integer.number(), usize::from(is_signed)]?,
     };
     Ok(Form {
         range: limits,
@@ -122,10 +126,18 @@ fn integer_form(alloc: Global, limits: Limits) -> Result<Form, AllocError> {
 }
 
 /// The form of a BIT STRING.
-fn bits_form(scope: Scope<'_, '_>, of: &Type, limits: Limits) -> Result<Form, Refusal> {
-    let words = match limits.fixed() {
-        Some(bits) => vec![in scope.alloc; FIXED_BIT_STRING, size_word(scope, of, bits)?]?,
-        None => vec![in scope.alloc; BIT_STRING]?,
+fn bits_form(scope: Scope<'_, '_>, of: &Type, limits: Limits) -> Result<Form, Refusal>
+    ensures words { IfOk result (λ form. form.words.items ≡ bits_words (fixed_size limits)) }
+    ensures limits { IfOk result (λ form. (form.range ≡ UNLIMITED) × (form.size ≡ limits)) }
+    ensures fits { OnOk result (IfSome (fixed_size limits) IsWord) }
+    ensures refused { IfSome (fixed_size limits) IsWord → IfErr result (λ e. e ≡ OutOfMemory) }
+{
+    let words = match fixed_size(limits) {
+        Some(bits) => vec![in scope.alloc;
+            Kind::FixedBitString.number(),
+            size_word(scope, of, bits)?,
+        ]?,
+        None => vec![in scope.alloc; Kind::BitString.number()]?,
     };
     Ok(Form {
         size: limits,
@@ -137,15 +149,21 @@ fn bits_form(scope: Scope<'_, '_>, of: &Type, limits: Limits) -> Result<Form, Re
 fn string_form(
     scope: Scope<'_, '_>,
     of: &Type,
-    (text, unit): (usize, i128),
+    text: usize,
+    unit: i128,
     limits: Limits,
-) -> Result<Form, Refusal> {
-    let words = match limits.fixed() {
+) -> Result<Form, Refusal>
+    ensures words { IfOk result (λ form. form.words.items ≡ string_words text unit (fixed_size limits)) }
+    ensures limits { IfOk result (λ form. (form.range ≡ UNLIMITED) × (form.size ≡ limits)) }
+    ensures fits { OnOk result (IfSome (fixed_size limits) (λ size. IsWord (size *ℤ unit))) }
+    ensures refused { IfSome (fixed_size limits) (λ size. IsWord (size *ℤ unit)) → IfErr result (λ e. e ≡ OutOfMemory) }
+{
+    let words = match fixed_size(limits) {
         Some(size) => {
             let octets = size_word(scope, of, size.saturating_mul(unit))?;
-            vec![in scope.alloc; FIXED_STRING, octets, text]?
+            vec![in scope.alloc; Kind::FixedString.number(), octets, text]?
         }
-        None => vec![in scope.alloc; STRING, text]?,
+        None => vec![in scope.alloc; Kind::String.number(), text]?,
     };
     Ok(Form {
         size: limits,
@@ -154,11 +172,13 @@ fn string_form(
 }
 
 /// The form of a type whose size isn't seen.
-fn sizeless_form(alloc: Global, simple: Simple) -> Result<Form, AllocError> {
+fn sizeless_form(alloc: Global, simple: Simple) -> Result<Form, AllocError>
+    ensures { IfOk result (λ form. form.words.items ≡ sizeless_words simple) }
+{
     let words = match simple {
-        Simple::Boolean => vec![in alloc; BOOLEAN]?,
-        Simple::Null => vec![in alloc; NULL]?,
-        other => vec![in alloc; STRING, text_number(other)]?,
+        Simple::Boolean => vec![in alloc; Kind::Boolean.number()]?,
+        Simple::Null => vec![in alloc; Kind::Null.number()]?,
+        other => vec![in alloc; Kind::String.number(), text_number(other)]?,
     };
     Ok(Form::of(alloc, words))
 }
@@ -167,7 +187,9 @@ fn sizeless_form(alloc: Global, simple: Simple) -> Result<Form, AllocError> {
 fn named_values<'m>(
     scope: Scope<'m, '_>,
     names: &'m [Numbered],
-) -> Result<Vec<ValueName>, AllocError> {
+) -> Result<Vec<ValueName>, AllocError>
+    ensures { All (IsReadable scope.entry.tokens.now) names.now → IfOk result (λ values. map shown values.items ≡ filter_map (value_of scope.entry.tokens.now) names.now) }
+{
     let mut values = Vec::new(scope.alloc);
     for item in names.iter() {
         if let Some(number) = named_number(scope, item)? {
@@ -182,7 +204,9 @@ fn named_values<'m>(
 pub fn named_number<'m>(
     scope: Scope<'m, '_>,
     item: &'m Numbered,
-) -> Result<Option<i128>, AllocError> {
+) -> Result<Option<i128>, AllocError>
+    ensures { IsDigits scope.entry.tokens.now item.now → IfOk result (λ number. number ≡ number_behind scope.entry.tokens.now item.now) }
+{
     let Some(value) = &item.number else {
         return Ok(None);
     };
@@ -198,8 +222,16 @@ pub fn enumerated_form<'m>(
     scope: Scope<'m, '_>,
     items: &'m [Numbered],
     root: usize,
-) -> Result<Form, Refusal> {
-    let mut form = Form::of(scope.alloc, vec![in scope.alloc; ENUMERATED]?);
+) -> Result<Form, Refusal>
+    ensures words { IfOk result (λ form. form.words.items ≡ kind_number Enumerated ∷ []) }
+    ensures names { IfOk result (λ form. AllZip (IsNamed scope.entry.tokens.now) (map (λ item. item.name) items.now) form.values.items) }
+    ensures numbers { IfOk result (λ form. AreNumbersOf scope.entry.tokens.now items.now root (map (λ value. value.number) form.values.items)) }
+    ensures refused { (numbers : List ℤ) → AreAllowed scope.entry.tokens.now items.now root numbers → IfErr result (λ e. e ≡ OutOfMemory) }
+{
+    let mut form = Form::of(
+        scope.alloc,
+        vec![in scope.alloc; Kind::Enumerated.number()]?,
+    );
     for (name, number) in enumerated_numbers(scope, items, root)?.iter() {
         let number = *number;
         let name = String::from_str(scope.alloc, scope.text(*name))?;
@@ -209,35 +241,48 @@ pub fn enumerated_form<'m>(
 }
 
 /// The form of a type without parts. Refused where it is none, or has a size that no word of a table is.
-pub fn leaf_form<'m>(scope: Scope<'m, '_>, of: &'m Type) -> Result<Form, Refusal> {
+pub fn leaf_form<'m>(scope: Scope<'m, '_>, of: &'m Type) -> Result<Form, Refusal>
+    ensures { IfOk result (λ form. (body : Body) × AreLeafWords body form.range form.size form.words.items) }
+{
     let chain = scope.chain_of(of)?;
     let base = chain.last().copied().unwrap_or(of);
-    let names = names_of(base);
-    let mut form = match &base.body {
+    let mut form = base_form(scope, of, chain.as_slice(), base)?;
+    form.values = named_values(scope, names_of(base))?;
+    Ok(form)
+}
+
+/// The form of a type by the one that it stands for, at the end of a chain of names.
+fn base_form<'m>(
+    scope: Scope<'m, '_>,
+    of: &'m Type,
+    chain: &[&'m Type],
+    base: &'m Type,
+) -> Result<Form, Refusal>
+    ensures { IfOk result (λ form. AreLeafWords base.now.body form.range form.size form.words.items) }
+{
+    match &base.body {
         Body::Integer(_) => {
-            let limits = limits_of(scope, chain.as_slice(), names, Purpose::Value)?;
-            integer_form(scope.alloc, limits)?
+            let limits = limits_of(scope, chain, names_of(base), Purpose::Value)?;
+            Ok(integer_form(scope.alloc, limits)?)
         }
         Body::BitString(_) => {
-            let limits = limits_of(scope, chain.as_slice(), &[], Purpose::Size)?;
-            bits_form(scope, of, limits)?
+            let limits = limits_of(scope, chain, &[], Purpose::Size)?;
+            bits_form(scope, of, limits)
         }
         Body::Simple(simple) => match unit_of(*simple) {
             Some(unit) => {
-                let limits = limits_of(scope, chain.as_slice(), &[], Purpose::Size)?;
-                string_form(scope, of, (text_number(*simple), unit), limits)?
+                let limits = limits_of(scope, chain, &[], Purpose::Size)?;
+                string_form(scope, of, text_number(*simple), unit, limits)
             }
-            None => sizeless_form(scope.alloc, *simple)?,
+            None => Ok(sizeless_form(scope.alloc, *simple)?),
         },
         Body::Enumerated(_, _) | Body::Reference(_) | Body::Choice(_) | Body::Sequence(_) => {
-            return Err(scope.refused(of.first, NO_PARTS));
+            Err(scope.refused(of.first, NO_PARTS))
         }
         Body::Set(_) | Body::SequenceOf(_) | Body::SetOf(_) => {
-            return Err(scope.refused(of.first, NO_PARTS));
+            Err(scope.refused(of.first, NO_PARTS))
         }
-    };
-    form.values = named_values(scope, names)?;
-    Ok(form)
+    }
 }
 
 /// What can be read where a type has parts.

@@ -1,7 +1,9 @@
 //! The forms of types with parts, by their components or alternatives.
+ghost use Rattle.std.specs.Prelude.{◌≡◌, ◌++◌, IfOk, OnOk, map, string_bytes};
+ghost use Rattle.oergen_tables.specs.Forms.{alternatives, choice_words, defaults_from, sequence_words};
 
 use crate::forms::{Form, Standard};
-use crate::leaves::{CHOICE, SEQUENCE};
+use crate::kinds::Kind;
 use asn1_core::Tag;
 use oergen_layouts::rows::Position;
 use std::alloc::{AllocError, Global};
@@ -74,9 +76,17 @@ pub fn sequence_form(
     is_extensible: bool,
     roots: usize,
     fields: &[Field],
-) -> Result<Form, AllocError> {
+) -> Result<Form, AllocError>
+    ensures words { IfOk result (λ form. form.words.items ≡ sequence_words is_extensible roots fields.now) }
+    ensures defaults { IfOk result (λ form. map (λ one. (one.component, string_bytes one.value)) form.standards.items ≡ defaults_from 0 fields.now) }
+{
     let additions = fields.len().saturating_sub(roots);
-    let words = vec![in alloc; SEQUENCE, usize::from(is_extensible), roots, additions]?;
+    let words = vec![in alloc;
+        Kind::Sequence.number(),
+        usize::from(is_extensible),
+        roots,
+        additions,
+    ]?;
     let mut form = Form::of(alloc, words);
     for (component, field) in fields.iter().enumerate() {
         form.words.push(field.name)?;
@@ -95,7 +105,9 @@ fn push_alternatives(
     words: &mut Vec<usize>,
     fields: &[Field],
     is_root: bool,
-) -> Result<(), AllocError> {
+) -> Result<(), AllocError>
+    ensures { OnOk result (words.new.items ≡ words.old.items ++ alternatives is_root fields.now) }
+{
     for field in fields.iter() {
         if (field.position == Position::Root) == is_root {
             let tag = field.tag.unwrap_or(Tag::EOC);
@@ -109,17 +121,20 @@ fn push_alternatives(
 }
 
 /// The form of a CHOICE of these alternatives.
-pub fn choice_form(
-    alloc: Global,
-    is_extensible: bool,
-    fields: &[Field],
-) -> Result<Form, AllocError> {
+pub fn choice_form(alloc: Global, is_extensible: bool, fields: &[Field]) -> Result<Form, AllocError>
+    ensures { IfOk result (λ form. form.words.items ≡ choice_words is_extensible fields.now) }
+{
     let roots = fields
         .iter()
         .filter(|field| field.position == Position::Root)
         .count();
     let additions = fields.len().saturating_sub(roots);
-    let mut words = vec![in alloc; CHOICE, usize::from(is_extensible), roots, additions]?;
+    let mut words = vec![in alloc;
+        Kind::Choice.number(),
+        usize::from(is_extensible),
+        roots,
+        additions,
+    ]?;
     push_alternatives(&mut words, fields, true)?;
     push_alternatives(&mut words, fields, false)?;
     Ok(Form::of(alloc, words))
