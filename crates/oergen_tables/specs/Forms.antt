@@ -6,7 +6,6 @@ use Rattle.std.specs.Ordering.{int_eq}
 use Rattle.asn1_core.specs.Tags.{class_number}
 use Rattle.asn1_core.specs.declared.tag.Tag.{Tag}
 use Rattle.oergen_layouts.specs.Widths.{width_of}
-use Rattle.oergen_layouts.specs.declared.rows.Position.{Position}
 use Rattle.oergen_layouts.specs.declared.rows.Position.TheVariants.{Root, Addition, Group}
 use Rattle.oergen_layouts.specs.declared.visible.Limits.{Limits}
 use Rattle.oergen_parse.specs.declared.ast.Body.{Body}
@@ -14,7 +13,7 @@ use Rattle.oergen_parse.specs.declared.ast.Body.TheVariants.{Integer as IntegerB
 use Rattle.oergen_parse.specs.declared.ast.Simple.{Simple}
 use Rattle.oergen_parse.specs.declared.ast.Simple.TheVariants.{Boolean, Null, OctetString, ObjectIdentifier, Utf8String, NumericString, PrintableString, VisibleString, Ia5String, GeneralString, GraphicString, TeletexString, BmpString, UtcTime, GeneralizedTime, Date, Any}
 use Rattle.oergen_tables.specs.Kinds.{kind_number}
-use Rattle.oergen_tables.specs.declared.kinds.Kind.TheVariants.{Boolean as BooleanKind, Null as NullKind, FixedInteger, Integer, Enumerated, FixedBitString, BitString, FixedString, String, List as ListKind, Sequence, Choice}
+use Rattle.oergen_tables.specs.declared.kinds.Kind.TheVariants.{Boolean as BooleanKind, Null as NullKind, FixedInteger, Integer, FixedBitString, BitString, FixedString, String, Sequence, Choice}
 use Rattle.oergen_tables.specs.declared.rows.Field.{Field}
 
 -- a number that is a word of a table: below the one that stands for nothing
