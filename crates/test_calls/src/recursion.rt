@@ -65,7 +65,7 @@ fn envelopes_are_written_and_read(rt: HostRuntime) -> Result<(), Fail> {
 
 fn tree(
     alloc: Global,
-    label: &str,
+    label: &[u8],
     leaves: Vec<Bare<Tree>>,
     shade: Option<Bare<Tree>>,
 ) -> Result<Tree, Fail> {
@@ -74,7 +74,7 @@ fn tree(
         None => None,
     };
     Ok(Tree(Sequence(TreeComponents {
-        label: Ia5Text(Ia5String::from_text(alloc, label.as_bytes())?),
+        label: Ia5Text(Ia5String::from_bytes(alloc, label)?),
         leaves: ListOf(leaves),
         shade,
     })))
@@ -83,13 +83,13 @@ fn tree(
 #[test]
 fn trees_are_written_and_read(rt: HostRuntime) -> Result<(), Fail> {
     let alloc = rt.alloc();
-    let leaf = tree(alloc, "a", Vec::new(alloc), None)?;
+    let leaf = tree(alloc, b"a", Vec::new(alloc), None)?;
     assert!(rt; agrees(alloc, &leaf, &[0x00, 0x01, 0x61, 0x01, 0x00])?);
     let mut leaves = Vec::new(alloc);
     leaves.push(Bare(leaf))?;
-    leaves.push(Bare(tree(alloc, "b", Vec::new(alloc), None)?))?;
-    let shade = tree(alloc, "c", Vec::new(alloc), None)?;
-    let whole = tree(alloc, "de", leaves, Some(Bare(shade)))?;
+    leaves.push(Bare(tree(alloc, b"b", Vec::new(alloc), None)?))?;
+    let shade = tree(alloc, b"c", Vec::new(alloc), None)?;
+    let whole = tree(alloc, b"de", leaves, Some(Bare(shade)))?;
     let octets = [
         0x80, 0x02, 0x64, 0x65, 0x01, 0x02, 0x00, 0x01, 0x61, 0x01, 0x00, 0x00, 0x01, 0x62, 0x01,
         0x00, 0x01, 0x01, 0x00, 0x01, 0x63, 0x01, 0x00,
