@@ -17,13 +17,13 @@ pub struct BagComponents {
     pub more: Option<()>,
 }
 
-type BagRow = Optional<
+type BagRow = MayHave<
     Application<2>,
     bool,
-    Required<Context<0>, Name, Required<Context<1>, i8, Extensible<BagAdditions>>>,
+    Needs<Context<0>, Name, Needs<Context<1>, i8, Extensible<BagAdditions>>>,
 >;
 
-type BagAdditions = OptionalAddition<Context<3>, (), End>;
+type BagAdditions = MayAdd<Context<3>, (), NoMore>;
 
 impl Rowed for BagComponents {
     ghost use Rattle.rasn_oer.specs.Values.{both};
@@ -135,13 +135,9 @@ pub enum SignalAlternatives {
     NewKey(Key),
 }
 
-type SignalRow = Alternative<
-    Context<0>,
-    (),
-    Alternative<Context<1>, Percent, Extensible<SignalAdditions>>,
->;
+type SignalRow = Offers<Context<0>, (), Offers<Context<1>, Percent, Extensible<SignalAdditions>>>;
 
-type SignalAdditions = Alternative<Context<2>, Key, End>;
+type SignalAdditions = Offers<Context<2>, Key, NoMore>;
 
 const SIGNAL_ROOTS: &'static [Tag] = tags![Context 0, Context 1];
 
@@ -236,45 +232,37 @@ pub struct LetterHeadComponents {
     pub wide: Limited<BmpText, LetterHeadWideLimits>,
 }
 
-type LetterHeadRow = Required<
+type LetterHeadRow = Needs<
     Context<0>,
     Name,
-    Optional<
+    MayHave<
         Context<1>,
         Key,
-        Required<
+        Needs<
             Context<2>,
             Signal,
-            Required<
-                Context<3>,
-                OpenOctets,
-                Required<Context<4>, NumericText, LetterHeadFromPlain>,
-            >,
+            Needs<Context<3>, OpenOctets, Needs<Context<4>, NumericText, LetterHeadFromPlain>>,
         >,
     >,
 >;
 
 /// The components of `LetterHead` from `plain` on.
-type LetterHeadFromPlain = Required<
+type LetterHeadFromPlain = Needs<
     Context<5>,
     PrintableText,
-    Required<
+    Needs<
         Context<6>,
         VisibleText,
-        Required<
+        Needs<
             Context<7>,
             GeneralText,
-            Required<
-                Context<8>,
-                GraphicText,
-                Required<Context<9>, TeletexText, LetterHeadFromWide>,
-            >,
+            Needs<Context<8>, GraphicText, Needs<Context<9>, TeletexText, LetterHeadFromWide>>,
         >,
     >,
 >;
 
 /// The components of `LetterHead` from `wide` on.
-type LetterHeadFromWide = Required<Context<10>, Limited<BmpText, LetterHeadWideLimits>, End>;
+type LetterHeadFromWide = Needs<Context<10>, Limited<BmpText, LetterHeadWideLimits>, NoMore>;
 
 impl Rowed for LetterHeadComponents {
     ghost use Rattle.rasn_oer.specs.Values.{both};
@@ -395,10 +383,10 @@ pub struct LetterGroup1Components {
     pub note: Option<Utf8Text>,
 }
 
-type LetterGroup1Row = Required<
+type LetterGroup1Row = Needs<
     Context<2>,
     Limited<Octets, LetterGroup1StampLimits>,
-    Optional<Context<3>, Utf8Text, End>,
+    MayHave<Context<3>, Utf8Text, NoMore>,
 >;
 
 impl Rowed for LetterGroup1Components {
@@ -479,13 +467,13 @@ pub struct LetterComponents {
     pub group_1: Option<LetterGroup1>,
 }
 
-type LetterRow = Required<
+type LetterRow = Needs<
     Context<0>,
     LetterHead,
-    Required<Context<1>, Octets, Extensible<LetterAdditions>>,
+    Needs<Context<1>, Octets, Extensible<LetterAdditions>>,
 >;
 
-type LetterAdditions = AdditionGroup<2, 0, LetterGroup1, End>;
+type LetterAdditions = MayAddGroup<2, 0, LetterGroup1, NoMore>;
 
 impl Rowed for LetterComponents {
     ghost use Rattle.rasn_oer.specs.Values.{both};

@@ -28,7 +28,7 @@ impl Limits for RightsLimits {
 /// The default {read} of `PermitRights`.
 pub struct PermitRightsDefault;
 
-impl DefaultValue<BitString> for PermitRightsDefault {
+impl Standard<BitString> for PermitRightsDefault {
     ghost use Rattle.std.specs.Prelude.{◌∷◌, [], take};
     ghost use Rattle.rasn_oer.specs.Octets.{bits_of};
 
@@ -68,7 +68,7 @@ impl Limits for PermitMarkLimits {
 /// The default 'AB01'H of `PermitMark`.
 pub struct PermitMarkDefault;
 
-impl DefaultValue<Octets> for PermitMarkDefault {
+impl Standard<Octets> for PermitMarkDefault {
     ghost use Rattle.std.specs.Prelude.{◌∷◌, [], refl};
     ghost use Rattle.rasn_oer.specs.Literals.{written};
     ghost use Rattle.rasn_oer.specs.Texts as texts;
@@ -92,7 +92,7 @@ impl DefaultValue<Octets> for PermitMarkDefault {
 /// The default "home" of `PermitPlace`.
 pub struct PermitPlaceDefault;
 
-impl DefaultValue<Ia5Text> for PermitPlaceDefault {
+impl Standard<Ia5Text> for PermitPlaceDefault {
     ghost use Rattle.std.specs.Prelude.{◌∷◌, [], refl};
     ghost use Rattle.rasn_oer.specs.Literals.{written};
     ghost use Rattle.rasn_oer.specs.Texts as texts;
@@ -116,7 +116,7 @@ impl DefaultValue<Ia5Text> for PermitPlaceDefault {
 /// The default green of `PermitColour`.
 pub struct PermitColourDefault;
 
-impl DefaultValue<Colour> for PermitColourDefault {
+impl Standard<Colour> for PermitColourDefault {
     ghost use Rattle.example_printed.specs.declared.types_01.ColourValues.TheVariants.{Green};
 
     ghost value = { record { 0 = Green } };
@@ -135,7 +135,7 @@ impl DefaultValue<Colour> for PermitColourDefault {
 /// The default '101'B of `PermitBits`.
 pub struct PermitBitsDefault;
 
-impl DefaultValue<BitString> for PermitBitsDefault {
+impl Standard<BitString> for PermitBitsDefault {
     ghost use Rattle.std.specs.Prelude.{◌∷◌, [], take};
     ghost use Rattle.rasn_oer.specs.Octets.{bits_of};
 
@@ -157,7 +157,7 @@ impl DefaultValue<BitString> for PermitBitsDefault {
 /// The default "Hi" of `PermitSeal`.
 pub struct PermitSealDefault;
 
-impl DefaultValue<BmpText> for PermitSealDefault {
+impl Standard<BmpText> for PermitSealDefault {
     ghost use Rattle.std.specs.Prelude.{◌∷◌, [], refl};
     ghost use Rattle.rasn_oer.specs.Literals.{written};
     ghost use Rattle.rasn_oer.specs.Texts as texts;
@@ -180,7 +180,7 @@ impl DefaultValue<BmpText> for PermitSealDefault {
 /// The default {write} of `PermitMore`.
 pub struct PermitMoreDefault;
 
-impl DefaultValue<BitString> for PermitMoreDefault {
+impl Standard<BitString> for PermitMoreDefault {
     ghost use Rattle.std.specs.Prelude.{◌∷◌, [], take};
     ghost use Rattle.rasn_oer.specs.Octets.{bits_of};
 
@@ -217,36 +217,36 @@ pub struct PermitComponents {
     pub more: Rights,
 }
 
-type PermitRow = Defaulted<
+type PermitRow = Defaults<
     Context<0>,
     Rights,
     Within<PermitRightsDefault>,
-    Defaulted<
+    Defaults<
         Context<1>,
         Limited<Octets, PermitMarkLimits>,
         Within<PermitMarkDefault>,
-        Defaulted<
+        Defaults<
             Context<2>,
             Name,
             Within<PermitPlaceDefault>,
-            Defaulted<
+            Defaults<
                 Context<3>,
                 Colour,
                 PermitColourDefault,
-                Defaulted<Context<4>, BitString, PermitBitsDefault, PermitFromNothing>,
+                Defaults<Context<4>, BitString, PermitBitsDefault, PermitFromNothing>,
             >,
         >,
     >,
 >;
 
 /// The components of `Permit` from `nothing` on.
-type PermitFromNothing = Defaulted<Context<5>, (), IsNull, Extensible<PermitAdditions>>;
+type PermitFromNothing = Defaults<Context<5>, (), IsNull, Extensible<PermitAdditions>>;
 
-type PermitAdditions = DefaultedAddition<
+type PermitAdditions = AddDefaults<
     Context<6>,
     BmpText,
     PermitSealDefault,
-    DefaultedAddition<Context<7>, Rights, Within<PermitMoreDefault>, End>,
+    AddDefaults<Context<7>, Rights, Within<PermitMoreDefault>, NoMore>,
 >;
 
 impl Rowed for PermitComponents {
@@ -346,14 +346,14 @@ pub struct FolderComponents {
     pub more: Names,
 }
 
-type FolderRow = Defaulted<
+type FolderRow = Defaults<
     Context<0>,
     Names,
     IsEmptyList,
-    Defaulted<Context<1>, SetOf<Integer>, IsEmptyList, Extensible<FolderAdditions>>,
+    Defaults<Context<1>, SetOf<Integer>, IsEmptyList, Extensible<FolderAdditions>>,
 >;
 
-type FolderAdditions = DefaultedAddition<Context<2>, Names, IsEmptyList, End>;
+type FolderAdditions = AddDefaults<Context<2>, Names, IsEmptyList, NoMore>;
 
 impl Rowed for FolderComponents {
     ghost use Rattle.rasn_oer.specs.Values.{both};
@@ -428,7 +428,7 @@ impl Tabled<2, 1> for FolderComponents {
 /// The default "h""é" of `LabelsTitle`.
 pub struct LabelsTitleDefault;
 
-impl DefaultValue<Utf8Text> for LabelsTitleDefault {
+impl Standard<Utf8Text> for LabelsTitleDefault {
     ghost use Rattle.std.specs.Prelude.{◌∷◌, [], refl};
     ghost use Rattle.rasn_oer.specs.Literals.{written, spelled};
     ghost use Rattle.rasn_oer.specs.Texts as texts;
@@ -475,7 +475,7 @@ impl Limits for LabelsDigitsLimits {
 /// The default "0 1" of `LabelsDigits`.
 pub struct LabelsDigitsDefault;
 
-impl DefaultValue<NumericText> for LabelsDigitsDefault {
+impl Standard<NumericText> for LabelsDigitsDefault {
     ghost use Rattle.std.specs.Prelude.{◌∷◌, [], refl};
     ghost use Rattle.rasn_oer.specs.Literals.{written};
     ghost use Rattle.rasn_oer.specs.Texts as texts;
@@ -499,7 +499,7 @@ impl DefaultValue<NumericText> for LabelsDigitsDefault {
 /// The default "A." of `LabelsPlain`.
 pub struct LabelsPlainDefault;
 
-impl DefaultValue<PrintableText> for LabelsPlainDefault {
+impl Standard<PrintableText> for LabelsPlainDefault {
     ghost use Rattle.std.specs.Prelude.{◌∷◌, [], refl};
     ghost use Rattle.rasn_oer.specs.Literals.{written};
     ghost use Rattle.rasn_oer.specs.Texts as texts;
@@ -523,7 +523,7 @@ impl DefaultValue<PrintableText> for LabelsPlainDefault {
 /// The default "~" of `LabelsSeen`.
 pub struct LabelsSeenDefault;
 
-impl DefaultValue<VisibleText> for LabelsSeenDefault {
+impl Standard<VisibleText> for LabelsSeenDefault {
     ghost use Rattle.std.specs.Prelude.{◌∷◌, [], refl};
     ghost use Rattle.rasn_oer.specs.Literals.{written};
     ghost use Rattle.rasn_oer.specs.Texts as texts;
@@ -547,7 +547,7 @@ impl DefaultValue<VisibleText> for LabelsSeenDefault {
 /// The default "" of `LabelsGeneral`.
 pub struct LabelsGeneralDefault;
 
-impl DefaultValue<GeneralText> for LabelsGeneralDefault {
+impl Standard<GeneralText> for LabelsGeneralDefault {
     ghost use Rattle.std.specs.Prelude.{◌∷◌, [], refl};
     ghost use Rattle.rasn_oer.specs.Literals.{written};
     ghost use Rattle.rasn_oer.specs.Texts as texts;
@@ -571,7 +571,7 @@ impl DefaultValue<GeneralText> for LabelsGeneralDefault {
 /// The default "g" of `LabelsGraphic`.
 pub struct LabelsGraphicDefault;
 
-impl DefaultValue<GraphicText> for LabelsGraphicDefault {
+impl Standard<GraphicText> for LabelsGraphicDefault {
     ghost use Rattle.std.specs.Prelude.{◌∷◌, [], refl};
     ghost use Rattle.rasn_oer.specs.Literals.{written};
     ghost use Rattle.rasn_oer.specs.Texts as texts;
@@ -595,7 +595,7 @@ impl DefaultValue<GraphicText> for LabelsGraphicDefault {
 /// The default "t" of `LabelsTeletex`.
 pub struct LabelsTeletexDefault;
 
-impl DefaultValue<TeletexText> for LabelsTeletexDefault {
+impl Standard<TeletexText> for LabelsTeletexDefault {
     ghost use Rattle.std.specs.Prelude.{◌∷◌, [], refl};
     ghost use Rattle.rasn_oer.specs.Literals.{written};
     ghost use Rattle.rasn_oer.specs.Texts as texts;
@@ -633,34 +633,34 @@ pub struct LabelsComponents {
     pub teletex: TeletexText,
 }
 
-type LabelsRow = Defaulted<
+type LabelsRow = Defaults<
     Context<0>,
     Utf8Text,
     LabelsTitleDefault,
-    Defaulted<
+    Defaults<
         Context<1>,
         Limited<NumericText, LabelsDigitsLimits>,
         Within<LabelsDigitsDefault>,
-        Defaulted<
+        Defaults<
             Context<2>,
             PrintableText,
             LabelsPlainDefault,
-            Defaulted<
+            Defaults<
                 Context<3>,
                 VisibleText,
                 LabelsSeenDefault,
-                Defaulted<Context<4>, GeneralText, LabelsGeneralDefault, LabelsFromGraphic>,
+                Defaults<Context<4>, GeneralText, LabelsGeneralDefault, LabelsFromGraphic>,
             >,
         >,
     >,
 >;
 
 /// The components of `Labels` from `graphic` on.
-type LabelsFromGraphic = Defaulted<
+type LabelsFromGraphic = Defaults<
     Context<5>,
     GraphicText,
     LabelsGraphicDefault,
-    Defaulted<Context<6>, TeletexText, LabelsTeletexDefault, End>,
+    Defaults<Context<6>, TeletexText, LabelsTeletexDefault, NoMore>,
 >;
 
 impl Rowed for LabelsComponents {

@@ -7,7 +7,7 @@ use std::alloc::{AllocError, Global};
 /// The default 3 of `TakenPart`.
 pub struct TakenPartDefault;
 
-impl DefaultValue<u16> for TakenPartDefault {
+impl Standard<u16> for TakenPartDefault {
     ghost use Rattle.std.specs.Prelude.{negsuc, pos, refl};
 
     ghost value = { 3 };
@@ -39,24 +39,24 @@ pub struct TakenComponents {
     pub level: Option<Level>,
 }
 
-type TakenRow = Required<
+type TakenRow = Needs<
     Context<0>,
     UtcTime,
-    Required<
+    Needs<
         Context<1>,
         GeneralizedTime,
-        Required<
+        Needs<
             Context<2>,
             Date,
-            Defaulted<Context<3>, u16, TakenPartDefault, Optional<Context<4>, Plain, TakenFromOwn>>,
+            Defaults<Context<3>, u16, TakenPartDefault, MayHave<Context<4>, Plain, TakenFromOwn>>,
         >,
     >,
 >;
 
 /// The components of `Taken` from `own` on.
-type TakenFromOwn = Required<Context<5>, (), Extensible<TakenAdditions>>;
+type TakenFromOwn = Needs<Context<5>, (), Extensible<TakenAdditions>>;
 
-type TakenAdditions = OptionalAddition<Context<6>, Level, End>;
+type TakenAdditions = MayAdd<Context<6>, Level, NoMore>;
 
 impl Rowed for TakenComponents {
     ghost use Rattle.rasn_oer.specs.Values.{both};
@@ -451,73 +451,73 @@ pub struct LeavesComponents {
     pub id: ObjectIdentifier,
 }
 
-type LeavesRow = Required<
+type LeavesRow = Needs<
     Context<0>,
     (),
-    Required<
+    Needs<
         Context<1>,
         Limited<u16, LeavesTwoLimits>,
-        Required<
+        Needs<
             Context<2>,
             Limited<i16, LeavesWideLimits>,
-            Required<
+            Needs<
                 Context<3>,
                 Limited<Integer, LeavesLongLimits>,
-                Required<Context<4>, Integer, LeavesFromDown>,
+                Needs<Context<4>, Integer, LeavesFromDown>,
             >,
         >,
     >,
 >;
 
 /// The components of `Leaves` from `down` on.
-type LeavesFromDown = Required<
+type LeavesFromDown = Needs<
     Context<5>,
     Limited<Integer, LeavesDownLimits>,
-    Required<
+    Needs<
         Context<6>,
         Limited<u8, LeavesNamedLimits>,
-        Required<
+        Needs<
             Context<7>,
             Limited<u8, LeavesSingleLimits>,
-            Required<
+            Needs<
                 Context<8>,
                 Limited<u8, LeavesGapsLimits>,
-                Required<Context<9>, Limited<u8, LeavesCommonLimits>, LeavesFromLess>,
+                Needs<Context<9>, Limited<u8, LeavesCommonLimits>, LeavesFromLess>,
             >,
         >,
     >,
 >;
 
 /// The components of `Leaves` from `less` on.
-type LeavesFromLess = Required<
+type LeavesFromLess = Needs<
     Context<10>,
     Limited<u8, LeavesLessLimits>,
-    Required<
+    Needs<
         Context<11>,
         Octets,
-        Required<
+        Needs<
             Context<12>,
             Limited<Octets, LeavesSizesLimits>,
-            Required<
+            Needs<
                 Context<13>,
                 Octets,
-                Required<Context<14>, Limited<PrintableText, LeavesLettersLimits>, LeavesFromText>,
+                Needs<Context<14>, Limited<PrintableText, LeavesLettersLimits>, LeavesFromText>,
             >,
         >,
     >,
 >;
 
 /// The components of `Leaves` from `text` on.
-type LeavesFromText = Required<
+type LeavesFromText = Needs<
     Context<15>,
     Utf8Text,
-    Required<
+    Needs<
         Context<16>,
         ListOf<Ia5Text>,
-        Required<
+        Needs<
             Context<17>,
             SetOf<ListOf<Limited<VisibleText, LeavesListsLimits>>>,
-            Required<Context<18>, ObjectIdentifier, End>,
+            Needs<Context<18>, ObjectIdentifier, NoMore>,
         >,
     >,
 >;

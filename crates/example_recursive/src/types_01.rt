@@ -23,10 +23,10 @@ pub struct NodeComponents<K> {
     pub last: bool,
 }
 
-type NodeRow<K> = Required<
+type NodeRow<K> = Needs<
     Context<0>,
     u8,
-    OptionalKnot<Context<1>, Held<K>, Defaulted<Context<2>, bool, IsFalse, End>>,
+    MayHaveKnot<Context<1>, Held<K>, Defaults<Context<2>, bool, IsFalse, NoMore>>,
 >;
 
 impl<K> KnotRowed<K> for NodeComponents<K> {
@@ -255,13 +255,13 @@ pub enum BodyAlternatives<K> {
     Count(Integer),
 }
 
-type BodyRow<K> = Alternative<
+type BodyRow<K> = Offers<
     Context<0>,
     Utf8Text,
-    AlternativeKnot<Context<1>, Held<K>, Extensible<BodyAdditions>>,
+    OffersKnot<Context<1>, Held<K>, Extensible<BodyAdditions>>,
 >;
 
-type BodyAdditions = Alternative<Context<2>, Integer, End>;
+type BodyAdditions = Offers<Context<2>, Integer, NoMore>;
 
 const BODY_ROOTS: &'static [Tag] = tags![Context 0, Context 1];
 
@@ -368,13 +368,13 @@ pub struct EnvelopeComponents<K> {
     pub urgent: Option<bool>,
 }
 
-type EnvelopeRow<K> = Required<
+type EnvelopeRow<K> = Needs<
     Context<0>,
     Serial,
-    RequiredKnot<Context<1>, BodyContent<K>, Extensible<EnvelopeAdditions>>,
+    NeedsKnot<Context<1>, BodyContent<K>, Extensible<EnvelopeAdditions>>,
 >;
 
-type EnvelopeAdditions = OptionalAddition<Context<2>, bool, End>;
+type EnvelopeAdditions = MayAdd<Context<2>, bool, NoMore>;
 
 impl<K> KnotRowed<K> for EnvelopeComponents<K> {
     ghost use Rattle.rasn_oer.specs.Values.{both};

@@ -10,35 +10,35 @@ use std::alloc::Global;
 /// (likewise), ..., integer4 INTEGER OPTIONAL, octet4 OCTET STRING OPTIONAL, integer5, octet5 (likewise) }`
 pub type ExtendedOptional = Sequence<components::ExtendedOptional, 7, 4>;
 
-type ExtendedRow = Required<
+type ExtendedRow = Needs<
     Context<0>,
     Integer,
-    Optional<
+    MayHave<
         Context<1>,
         Integer,
-        Optional<
+        MayHave<
             Context<2>,
             OctetString,
-            Optional<Context<3>, Integer, Optional<Context<4>, OctetString, FromInteger3>>,
+            MayHave<Context<3>, Integer, MayHave<Context<4>, OctetString, FromInteger3>>,
         >,
     >,
 >;
 
 /// The components from `integer3` on.
-type FromInteger3 = Optional<
+type FromInteger3 = MayHave<
     Context<5>,
     Integer,
-    Optional<Context<6>, OctetString, Extensible<FromInteger4>>,
+    MayHave<Context<6>, OctetString, Extensible<FromInteger4>>,
 >;
 
 /// The additions, from `integer4` on.
-type FromInteger4 = OptionalAddition<
+type FromInteger4 = MayAdd<
     Context<7>,
     Integer,
-    OptionalAddition<
+    MayAdd<
         Context<8>,
         OctetString,
-        OptionalAddition<Context<9>, Integer, OptionalAddition<Context<10>, OctetString, End>>,
+        MayAdd<Context<9>, Integer, MayAdd<Context<10>, OctetString, NoMore>>,
     >,
 >;
 

@@ -9,35 +9,35 @@ use std::alloc::Global;
 /// `SEQUENCE` of an INTEGER and twelve optional components: integers, and three octet strings.
 pub type ManyOptional = Sequence<components::ManyOptional, 13, 0>;
 
-type ManyRow = Required<
+type ManyRow = Needs<
     Context<0>,
     Integer,
-    Optional<
+    MayHave<
         Context<1>,
         Integer,
-        Optional<Context<2>, OctetString, Optional<Context<3>, Integer, FromOctet2>>,
+        MayHave<Context<2>, OctetString, MayHave<Context<3>, Integer, FromOctet2>>,
     >,
 >;
 
 /// The components from `octet2` on.
-type FromOctet2 = Optional<
+type FromOctet2 = MayHave<
     Context<4>,
     OctetString,
-    Optional<Context<5>, Integer, Optional<Context<6>, OctetString, FromInteger4>>,
+    MayHave<Context<5>, Integer, MayHave<Context<6>, OctetString, FromInteger4>>,
 >;
 
 /// The components from `integer4` on.
-type FromInteger4 = Optional<
+type FromInteger4 = MayHave<
     Context<7>,
     Integer,
-    Optional<Context<8>, Integer, Optional<Context<9>, Integer, FromInteger7>>,
+    MayHave<Context<8>, Integer, MayHave<Context<9>, Integer, FromInteger7>>,
 >;
 
 /// The components from `integer7` on.
-type FromInteger7 = Optional<
+type FromInteger7 = MayHave<
     Context<10>,
     Integer,
-    Optional<Context<11>, Integer, Optional<Context<12>, Integer, End>>,
+    MayHave<Context<11>, Integer, MayHave<Context<12>, Integer, NoMore>>,
 >;
 
 impl Rowed for components::ManyOptional {

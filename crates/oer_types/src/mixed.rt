@@ -16,11 +16,7 @@ pub struct MixedComponents {
     pub names: ListOf<OctetString>,
 }
 
-type MixedRow = Required<
-    Context<0>,
-    PriorityChoice,
-    Required<Context<1>, ListOf<OctetString>, End>,
->;
+type MixedRow = Needs<Context<0>, PriorityChoice, Needs<Context<1>, ListOf<OctetString>, NoMore>>;
 
 impl Rowed for MixedComponents {
     type Values = <MixedRow as Components>::Values;

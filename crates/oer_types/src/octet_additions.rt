@@ -9,11 +9,7 @@ use std::alloc::Global;
 /// `SEQUENCE { a OCTET STRING OPTIONAL, ..., omitted NULL OPTIONAL }`
 pub type Omitted = Sequence<components::Omitted, 1, 1>;
 
-type OmittedRow = Optional<
-    Context<0>,
-    OctetString,
-    Extensible<OptionalAddition<Context<1>, (), End>>,
->;
+type OmittedRow = MayHave<Context<0>, OctetString, Extensible<MayAdd<Context<1>, (), NoMore>>>;
 
 impl Rowed for components::Omitted {
     type Values = <OmittedRow as Components>::Values;
@@ -67,17 +63,13 @@ impl Tabled<1, 1> for components::Omitted {
 /// component has its type's own tag: several have the same
 pub type SequenceDuplicatesExtended = Sequence<components::SequenceDuplicatesExtended, 3, 1>;
 
-type SequenceDuplicatesExtendedRow = Required<
+type SequenceDuplicatesExtendedRow = Needs<
     Universal<2>,
     Integer,
-    Optional<
+    MayHave<
         Universal<4>,
         OctetString,
-        Optional<
-            Universal<2>,
-            Integer,
-            Extensible<RequiredAddition<Universal<4>, OctetString, End>>,
-        >,
+        MayHave<Universal<2>, Integer, Extensible<Adds<Universal<4>, OctetString, NoMore>>>,
     >,
 >;
 

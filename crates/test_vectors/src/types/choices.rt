@@ -16,7 +16,7 @@ pub enum PairAlternatives {
     B(Pair),
 }
 
-type PairRow = Alternative<Context<0>, bool, Alternative<Context<1>, Pair, End>>;
+type PairRow = Offers<Context<0>, bool, Offers<Context<1>, Pair, NoMore>>;
 
 impl Alternating for PairAlternatives {
     ghost use Rattle.test_vectors.specs.declared.types.choices.PairAlternatives.TheVariants.{A, B};
@@ -76,11 +76,7 @@ pub enum NestedAlternatives {
     B(BoolChoice),
 }
 
-type NestedRow = Alternative<
-    Context<0>,
-    bool,
-    Alternative<Context<1>, BoolChoice, Extensible<End>>,
->;
+type NestedRow = Offers<Context<0>, bool, Offers<Context<1>, BoolChoice, Extensible<NoMore>>>;
 
 /// The tags of both choices.
 const ROOTS: &'static [Tag] = tags![Context 0, Context 1];
