@@ -199,13 +199,9 @@ impl<'input> Decoder<'input> {
         ensures err { IfErr result (OpenRefused (D.tree _constraints) D.IsValue (λ s r t. FnOnceReturnsAtMut F.FnOnce f s r t) self.now content.entry.now) }
     {
         let mut inner: Decoder<'input> = self.inside(content);
-        match f(&mut inner) {
-            Err(e) => Err(e),
-            Ok(value) => match self.require_whole(inner.remaining()) {
-                Err(e) => Err(e),
-                Ok(()) => Ok(value),
-            },
-        }
+        let value = f(&mut inner)?;
+        self.require_whole(inner.remaining())?;
+        Ok(value)
     }
 
     /// An addition, asked by its tag or, for a group, by its row alone, whose value `f` reads.
