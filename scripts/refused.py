@@ -132,8 +132,21 @@ NULL_LISTED = ("A of M: NULL, no octets\n", "", 0, 0)
 NOT_UTF8 = "m.asn:2:39: met a string with octets that aren't UTF-8; can read UTF-8: other octets only in comments\n"
 
 
+def lines_ended():
+    """Each end of a line ends a comment, and begins a new line: a carriage return with the line feed behind it one."""
+    table = "A of M: NULL, no octets\nB of M: A, NULL, no octets\n"
+    cases = []
+    for end in ("\n", "\r", "\v", "\f", "\r\n"):
+        body = f"A ::= NULL -- x{end}B ::= A -- y"
+        cases.append(Case(LIST, module_of(body).replace("\n", end).encode(), (table, "", 0, 0)))
+        body = f"A ::= NULL /* x{end}{end} */ B ::= C"
+        absent = "m.asn:4:11: met 'C'; can read the name of a type that is assigned or imported\n"
+        cases.append(Case(LIST, module_of(body).encode(), ("", absent, 1, 0)))
+    return cases
+
+
 def odd_files():
-    """A byte order mark, octets that aren't UTF-8 in a comment and in a string, and a file that isn't there."""
+    """Ends of lines, a byte order mark, octets that aren't UTF-8 in a comment and in a string, and a file that isn't there."""
     absent = (None, "absent.asn: can't be read: No such file or directory (os error 2)\n", 1, 0)
     latin = module_of('A ::= SEQUENCE { a UTF8String DEFAULT "caf@" }').encode().replace(b"@", b"\xe9")
     cases = [
@@ -143,7 +156,7 @@ def odd_files():
     for words in (LIST, TABLE, PRINT):
         cases.append(Case(words, latin, ("", NOT_UTF8, 1, 0)))
         cases.append(Case(words, module_of("A ::= NULL"), absent, names=("m.asn", "absent.asn")))
-    return cases
+    return cases + lines_ended()
 
 
 HEAD = "//! Types of ASN.1 modules, as oergen printed them.\n"
