@@ -3,6 +3,7 @@
 
 pub mod ast;
 pub mod constraints;
+pub mod lengths;
 pub mod lexer;
 pub mod modules;
 pub mod reader;
@@ -10,3 +11,4 @@ pub mod refusal;
 pub mod skips;
 pub mod types;
 pub mod values;
+pub mod words;

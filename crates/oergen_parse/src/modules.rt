@@ -7,10 +7,14 @@ use crate::refusal::Refusal;
 use crate::skips::skip_assignment;
 use crate::types::read_whole_type;
 use crate::values::read_value;
+use crate::words::is_reserved;
 use std::alloc::Global;
 
 /// What stands where an assignment begins.
 const NAME: &str = "a type's or a value's name, or END";
+
+/// What stands there in place of a word that is no name.
+const OWN_NAME: &str = "a type's or a value's name that X.680 doesn't keep for itself, or END";
 
 /// Modules that were read. It is let go by a function of its own: else each crate that holds one proves anew how all types of the
 /// tree are let go.
@@ -253,6 +257,9 @@ fn require_next(reader: &Reader<'_>) -> Result<(), Refusal> {
 
 /// `Name ::= Type`
 fn read_type_assignment(reader: &mut Reader<'_>) -> Result<TypeAssignment, Refusal> {
+    if is_reserved(reader.peek().text) {
+        return Err(reader.refused(OWN_NAME));
+    }
     let name = reader.takes(Kind::Name, NAME)?;
     reader.expects("::=")?;
     let of = read_whole_type(reader)?;

@@ -6,6 +6,7 @@ use crate::lexer::Kind;
 use crate::reader::Reader;
 use crate::refusal::Refusal;
 use crate::values::{goes_on, read_enumerated, read_exception, read_numbers, read_value};
+use crate::words::is_unread;
 use asn1_core::Class;
 
 /// Types without parts, by their first word.
@@ -31,13 +32,6 @@ static SIMPLE: [(&str, Simple); 19] = [
     ("OBJECT", Simple::ObjectIdentifier),
 ];
 
-/// Words of X.680 that begin a type which isn't read, or that are no type's name (X.680, 12.38).
-const RESERVED: &str =
-    "REAL EXTERNAL EMBEDDED CHARACTER UniversalString VideotexString ObjectDescriptor RELATIVE-OID \
-RELATIVE-OID-IRI OID-IRI TIME TIME-OF-DAY DATE-TIME DURATION CLASS INSTANCE TYPE-IDENTIFIER ABSTRACT-SYNTAX ABSENT ALL \
-APPLICATION AUTOMATIC BEGIN BY COMPONENTS DEFAULT DEFINITIONS END EXPLICIT EXPORTS FALSE FROM IMPLICIT IMPORTS MAX MIN \
-OF OPTIONAL PRIVATE SIZE STRING TAGS TRUE UNIVERSAL";
-
 /// The simple type that a word begins.
 fn simple_of(word: &str) -> Option<Simple> {
     for (text, simple) in SIMPLE.iter() {
@@ -46,11 +40,6 @@ fn simple_of(word: &str) -> Option<Simple> {
         }
     }
     None
-}
-
-/// Whether a word is kept for X.680 itself.
-fn is_reserved(word: &str) -> bool {
-    RESERVED.split(' ').any(|kept| kept == word)
 }
 
 /// A type, with at most 64 types inside one another.
@@ -145,7 +134,7 @@ fn read_simple(reader: &mut Reader<'_>) -> Result<Body, Refusal> {
         skip_rest(reader, simple)?;
         return Ok(Body::Simple(simple));
     }
-    if is_reserved(first.text) {
+    if is_unread(first.text) {
         return Err(reader.refused("a type that docs/COMPILER.md lists"));
     }
     let name = read_type_name(reader)?;
