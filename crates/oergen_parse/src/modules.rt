@@ -4,7 +4,7 @@ use crate::ast::{Import, Module, Tagging, TypeAssignment, Unread, ValueAssignmen
 use crate::lexer::{Kind, Token, TokenId};
 use crate::reader::Reader;
 use crate::refusal::Refusal;
-use crate::skips::skip_assignment;
+use crate::skips::{defines_macro, skip_assignment};
 use crate::types::read_whole_type;
 use crate::values::read_value;
 use crate::words::is_reserved;
@@ -82,7 +82,7 @@ fn read_module(reader: &mut Reader<'_>, leaves_out: bool) -> Result<Module, Refu
         types,
         values,
         unread,
-    } = read_assignments(reader, leaves_out)?;
+    } = read_assignments(reader, imports.as_slice(), leaves_out)?;
     Ok(Module {
         name,
         tagging,
@@ -200,7 +200,11 @@ fn read_import(reader: &mut Reader<'_>) -> Result<Import, Refusal> {
 }
 
 /// Types and values, up to `END`.
-fn read_assignments(reader: &mut Reader<'_>, leaves_out: bool) -> Result<Assignments, Refusal> {
+fn read_assignments(
+    reader: &mut Reader<'_>,
+    imports: &[Import],
+    leaves_out: bool,
+) -> Result<Assignments, Refusal> {
     let mut all = Assignments {
         types: Vec::new(reader.alloc),
         values: Vec::new(reader.alloc),
@@ -211,7 +215,7 @@ fn read_assignments(reader: &mut Reader<'_>, leaves_out: bool) -> Result<Assignm
             return Ok(all);
         }
         let start = *reader;
-        match push_assignment(reader, &mut all) {
+        match push_assignment(reader, imports, &mut all) {
             Ok(()) => {}
             Err(why) if leaves_out && start.peek().kind != Kind::End => {
                 *reader = start;
@@ -233,18 +237,64 @@ fn unread(reader: &mut Reader<'_>, why: Refusal) -> Result<Unread, Refusal> {
     Ok(Unread { name, why })
 }
 
-/// Reads a type or a value, and puts it to the others.
-fn push_assignment(reader: &mut Reader<'_>, all: &mut Assignments) -> Result<(), Refusal> {
-    if reader.peek().kind == Kind::Word {
-        let value = read_value_assignment(reader)?;
-        require_next(reader)?;
-        all.values.push(value)?;
-    } else {
-        let of = read_type_assignment(reader)?;
-        require_next(reader)?;
-        all.types.push(of)?;
+/// Whether a name stands among others.
+fn has_name(reader: &Reader<'_>, names: &[TokenId], name: &str) -> bool {
+    names.iter().any(|id| reader.text(*id) == name)
+}
+
+/// Whether a module imports a name.
+fn is_imported(reader: &Reader<'_>, imports: &[Import], name: &str) -> bool {
+    for import in imports.iter() {
+        if has_name(reader, import.names.as_slice(), name) {
+            return true;
+        }
+    }
+    false
+}
+
+/// Whether what stands behind a value's name can be a macro's name (X.208), without small letters: it is defined, or imported.
+fn uses_macro(reader: &Reader<'_>, imports: &[Import]) -> bool {
+    let name = reader.second().text;
+    let is_capital = !name.chars().any(|c| c.is_ascii_lowercase());
+    reader.second().kind == Kind::Name
+        && is_capital
+        && !is_reserved(name)
+        && (is_imported(reader, imports, name) || defines_macro(reader.tokens(), name))
+}
+
+/// Reads a value and puts it to the others. One of a macro that can't be read is passed over: no octet depends on it.
+fn push_value(
+    reader: &mut Reader<'_>,
+    imports: &[Import],
+    all: &mut Assignments,
+) -> Result<(), Refusal> {
+    let start = *reader;
+    match read_value_assignment(reader) {
+        Ok(value) => all.values.push(value)?,
+        Err(Refusal::At { .. }) if uses_macro(&start, imports) => {
+            *reader = start;
+            skip_assignment(reader);
+        }
+        Err(why) => return Err(why),
     }
     Ok(())
+}
+
+/// Reads a type or a value, and puts it to the others. Macros are passed over.
+fn push_assignment(
+    reader: &mut Reader<'_>,
+    imports: &[Import],
+    all: &mut Assignments,
+) -> Result<(), Refusal> {
+    if reader.peek().kind == Kind::Word {
+        push_value(reader, imports, all)
+    } else if reader.second().text == "MACRO" {
+        skip_assignment(reader);
+        Ok(())
+    } else {
+        all.types.push(read_type_assignment(reader)?)?;
+        Ok(())
+    }
 }
 
 /// Refuses what can't stand behind an assignment.
@@ -263,6 +313,7 @@ fn read_type_assignment(reader: &mut Reader<'_>) -> Result<TypeAssignment, Refus
     let name = reader.takes(Kind::Name, NAME)?;
     reader.expects("::=")?;
     let of = read_whole_type(reader)?;
+    require_next(reader)?;
     Ok(TypeAssignment { name, of })
 }
 
@@ -272,5 +323,6 @@ fn read_value_assignment(reader: &mut Reader<'_>) -> Result<ValueAssignment, Ref
     let of = read_whole_type(reader)?;
     reader.expects("::=")?;
     let value = read_value(reader)?;
+    require_next(reader)?;
     Ok(ValueAssignment { name, of, value })
 }
