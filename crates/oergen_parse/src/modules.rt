@@ -187,12 +187,27 @@ fn read_imports(reader: &mut Reader<'_>) -> Result<Vec<Import>, Refusal> {
     Err(reader.refused("';'"))
 }
 
+/// Passes over the name of a value that stands for a module's object identifier: behind a name that is imported, what follows is another
+/// (X.680, 13.1).
+fn skip_defined(reader: &mut Reader<'_>) -> Result<(), Refusal> {
+    let kind = reader.peek().kind;
+    let behind = reader.second().text;
+    if kind == Kind::Name && behind == "." {
+        reader.skip(2);
+        let _ = reader.takes(Kind::Word, "a value's name")?;
+    } else if kind == Kind::Word && !matches!(behind, "," | "FROM" | "{") {
+        let _ = reader.next();
+    }
+    Ok(())
+}
+
 /// Names, and the module that they are imported from; whether a later version of it will do is passed over (X.680, 13.16).
 fn read_import(reader: &mut Reader<'_>) -> Result<Import, Refusal> {
     let names = read_names(reader)?;
     reader.expects("FROM")?;
     let from = reader.takes(Kind::Name, "a module's name")?;
     skip_identifier(reader)?;
+    skip_defined(reader)?;
     if reader.eats("WITH") && !reader.eats("SUCCESSORS") {
         reader.expects("DESCENDANTS")?;
     }
