@@ -239,6 +239,7 @@ class Parser:
                 continue
             if self.eats("..."):
                 marks += 1
+                self.exception()
                 found.append(Member(None, None, None, marks, None))
             elif self.eats("[["):
                 groups, in_group = groups + 1, True
@@ -277,6 +278,12 @@ class Parser:
             return "name", (word, self.next()), self.module
         return "name", (None, word), self.module
 
+    def exception(self):
+        """Passes over what is said of exceptions (X.680, 53)."""
+        if self.eats("!"):
+            while self.peek() not in (",", ")", "}"):
+                self.next()
+
     def constraint(self):
         self.expects("(")
         return self.marked(")")
@@ -289,6 +296,7 @@ class Parser:
             self.expects("...")
             if self.eats(","):
                 self.union()
+        self.exception()
         self.expects(close)
         return found, has_mark
 

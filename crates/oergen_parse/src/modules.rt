@@ -6,7 +6,7 @@ use crate::reader::Reader;
 use crate::refusal::Refusal;
 use crate::skips::{defines_macro, skip_assignment};
 use crate::types::read_whole_type;
-use crate::values::read_value;
+use crate::values::read_any_value;
 use crate::words::is_reserved;
 use std::alloc::Global;
 
@@ -337,7 +337,7 @@ fn read_value_assignment(reader: &mut Reader<'_>) -> Result<ValueAssignment, Ref
     let name = reader.next();
     let of = read_whole_type(reader)?;
     reader.expects("::=")?;
-    let value = read_value(reader)?;
+    let value = read_any_value(reader)?;
     require_next(reader)?;
     Ok(ValueAssignment { name, of, value })
 }
