@@ -169,8 +169,9 @@ def text(rng):
     maker.types, maker.sequences, maker.is_automatic = list(shared), [], False
     found = [maker.assignment() for _ in range(6)]
     tagging = rng.choice(("IMPLICIT TAGS ", "EXPLICIT TAGS ", ""))
+    implied = [rng.choice(("", "EXTENSIBILITY IMPLIED ")) for _ in range(2)]
     imports = ", ".join([*shared, "CLASS-OF", "Objects", "Pair{}", "yes", "least", "most"])
     return (
-        f"First DEFINITIONS AUTOMATIC TAGS ::= BEGIN\n{first}\nEND\n"
-        f"Second DEFINITIONS {tagging}::= BEGIN\nIMPORTS {imports} FROM First WITH SUCCESSORS;\n" + "\n".join(found) + "\nEND\n"
+        f"First DEFINITIONS AUTOMATIC TAGS {implied[0]}::= BEGIN\n{first}\nEND\n"
+        f"Second DEFINITIONS {tagging}{implied[1]}::= BEGIN\nIMPORTS {imports} FROM First WITH SUCCESSORS;\n" + "\n".join(found) + "\nEND\n"
     )

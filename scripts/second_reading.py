@@ -44,6 +44,7 @@ class Member:
 class Module:
     def __init__(self, name):
         self.name, self.tagging, self.imports = name, "EXPLICIT", {}
+        self.implies_marks = False
         self.types, self.values, self.classes = {}, {}, {}
 
 
@@ -94,6 +95,7 @@ class Parser:
             if self.peek() in ("AUTOMATIC", "IMPLICIT", "EXPLICIT"):
                 self.module.tagging = self.next()
                 self.expects("TAGS")
+            self.module.implies_marks = self.eats("EXTENSIBILITY", "IMPLIED")
             self.expects("::=")
             self.expects("BEGIN")
             self.front()
@@ -183,7 +185,9 @@ class Parser:
         if word in SIMPLE:
             return word, None
         if word == "ENUMERATED":
-            return word, self.numbers()
+            values = self.numbers()
+            is_marked = any(name is None for name, _ in values)
+            return word, values if is_marked or not self.module.implies_marks else [*values, (None, None)]
         if word in ("SEQUENCE", "SET") and self.peek() != "{":
             if self.eats("SIZE") or self.peek() == "(":
                 self.skip()
@@ -256,6 +260,8 @@ class Parser:
                 elif self.eats("DEFAULT"):
                     need = self.value()
                 found.append(Member(name, of, need, marks, groups if in_group else None))
+        if self.module.implies_marks and marks == 0:  # X.680, 13.4
+            found.append(Member(None, None, None, 1, None))
         return found
 
     def value(self):

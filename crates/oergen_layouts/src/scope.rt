@@ -5,6 +5,7 @@ ghost use Rattle.oergen_layouts.specs.Tags.{AreAutomatic};
 
 use oergen_parse::ast::{Body, Module, Reference, Tagging, Type, ValueAssignment};
 use oergen_parse::lexer::{Kind, Token, TokenId, tokens};
+use oergen_parse::marks::with_marks;
 use oergen_parse::refusal::{Place, Refusal};
 use std::alloc::Global;
 
@@ -39,11 +40,12 @@ pub struct Found<'m> {
     pub of: &'m Type,
 }
 
-/// The tokens of the files' texts, in turn.
+/// The tokens of the files' texts, in turn, with the extension marks that are implied.
 pub fn all_tokens<'a>(alloc: Global, texts: &[&'a str]) -> Result<Vec<Token<'a>>, Refusal> {
     let mut all = Vec::new(alloc);
     for (file, text) in texts.iter().enumerate() {
-        all.extend_from_slice(tokens(alloc, file, *text)?.as_slice())?;
+        let own = tokens(alloc, file, *text)?;
+        all.extend_from_slice(with_marks(alloc, own.as_slice())?.as_slice())?;
     }
     Ok(all)
 }

@@ -5,6 +5,7 @@ pub mod ast;
 pub mod constraints;
 pub mod lengths;
 pub mod lexer;
+pub mod marks;
 pub mod modules;
 pub mod reader;
 pub mod refusal;

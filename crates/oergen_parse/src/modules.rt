@@ -95,12 +95,15 @@ fn read_module(reader: &mut Reader<'_>, leaves_out: bool) -> Result<Module, Refu
     })
 }
 
-/// A module's name and how its types are tagged, up to `BEGIN`.
+/// A module's name and how its types are tagged, up to `BEGIN`. The extension marks that are implied stand in its types.
 fn read_header(reader: &mut Reader<'_>) -> Result<(TokenId, Tagging), Refusal> {
     let name = reader.takes(Kind::Name, "a module's name")?;
     skip_identifier(reader)?;
     reader.expects("DEFINITIONS")?;
     let tagging = read_tagging(reader)?;
+    if reader.eats("EXTENSIBILITY") {
+        reader.expects("IMPLIED")?;
+    }
     reader.expects("::=")?;
     reader.expects("BEGIN")?;
     Ok((name, tagging))
