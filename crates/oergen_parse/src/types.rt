@@ -5,7 +5,9 @@ use crate::constraints::{MAX_NESTING, read_constraint, read_constraints, read_ty
 use crate::lexer::Kind;
 use crate::reader::Reader;
 use crate::refusal::Refusal;
-use crate::values::{goes_on, read_enumerated, read_exception, read_numbers, read_value};
+use crate::values::{
+    goes_on, read_default, read_enumerated, read_exception, read_numbers, read_value,
+};
 use crate::words::is_unread;
 use asn1_core::Class;
 
@@ -252,21 +254,22 @@ fn read_member(reader: &mut Reader<'_>, levels: u32) -> Result<Member, Refusal> 
 /// A component, or an alternative.
 #[cycle(types)]
 fn read_component(reader: &mut Reader<'_>, levels: u32) -> Result<Component, Refusal> {
+    let text = reader.peek().text;
     let name = reader.takes(
         Kind::Word,
         "a component's name, '...', '[[' or COMPONENTS OF",
     )?;
     let of = read_type(reader, levels)?;
-    let need = read_need(reader)?;
+    let need = read_need(reader, text)?;
     Ok(Component { name, of, need })
 }
 
-/// `OPTIONAL`, `DEFAULT` and its value, or nothing.
-fn read_need(reader: &mut Reader<'_>) -> Result<Need, Refusal> {
+/// `OPTIONAL`, `DEFAULT` and its value, or nothing, behind the component of that name.
+fn read_need(reader: &mut Reader<'_>, name: &str) -> Result<Need, Refusal> {
     if reader.eats("OPTIONAL") {
         Ok(Need::Optional)
     } else if reader.eats("DEFAULT") {
-        Ok(Need::Default(read_value(reader)?))
+        Ok(Need::Default(read_default(reader, name)?))
     } else {
         Ok(Need::Required)
     }

@@ -41,6 +41,19 @@ pub fn read_any_value(reader: &mut Reader<'_>) -> Result<Value, Refusal> {
     })
 }
 
+/// The value of a DEFAULT, of the component of that name.
+pub fn read_default(reader: &mut Reader<'_>, name: &str) -> Result<Value, Refusal> {
+    let start = *reader;
+    let value = read_value(reader)?;
+    if !reader.is(":") && !reader.is(".") && !reader.is("{") {
+        return Ok(value);
+    }
+    let reads = format!(in reader.alloc;
+        "a default of '{name}' that is TRUE or FALSE, NULL, a number, a value's name, a string, named bits, or {{}}"
+    )?;
+    Err(start.refused(reads.as_str()))
+}
+
 /// `TRUE`, `FALSE`, `NULL`, or a value of another module.
 fn read_named(reader: &mut Reader<'_>) -> Result<Value, Refusal> {
     if reader.is("TRUE") || reader.is("FALSE") || reader.is("NULL") {
@@ -126,7 +139,7 @@ fn read_named_number(reader: &mut Reader<'_>) -> Result<Numbered, Refusal> {
 
 /// A name, and its number between parentheses where there is one.
 fn read_numbered(reader: &mut Reader<'_>) -> Result<Numbered, Refusal> {
-    let name = reader.takes(Kind::Word, "a name")?;
+    let name = reader.takes(Kind::Word, "a name that begins with a small letter")?;
     let mut number = None;
     if reader.eats("(") {
         number = Some(read_value(reader)?);
