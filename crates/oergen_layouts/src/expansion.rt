@@ -1,6 +1,7 @@
 //! Puts the text that they stand for in the place of types with parameters (X.683), of fields of classes of information objects (X.681)
 //! and of value sets (X.680, 16.6). Classes, sets of objects and assignments with parameters are left out: no octet depends on them.
 
+use crate::cuts::{bracketed, inside, is_at, is_name, parts_of, push_copied, push_word, range};
 use crate::scope::{Scope, all_tokens};
 use oergen_parse::lexer::{Kind, Token};
 use oergen_parse::modules::read_tree;
@@ -29,91 +30,6 @@ struct Assignment {
 struct Source<'m, 'a> {
     scope: Scope<'m, 'a>,
     assignments: &'m [Assignment],
-}
-
-/// The tokens from one number up to another.
-fn range<'t, 'a>(tokens: &'t [Token<'a>], start: usize, end: usize) -> &'t [Token<'a>] {
-    match tokens.get(start..end) {
-        Some(found) => found,
-        None => tokens.split_at(0).0,
-    }
-}
-
-/// Whether the token at a place has that text.
-fn is_at(tokens: &[Token<'_>], at: usize, text: &str) -> bool {
-    match tokens.get(at) {
-        Some(token) => token.text == text,
-        None => false,
-    }
-}
-
-/// Whether the token at a place is a name with a capital letter.
-fn is_name(tokens: &[Token<'_>], at: usize) -> bool {
-    match tokens.get(at) {
-        Some(token) => token.kind == Kind::Name,
-        None => false,
-    }
-}
-
-/// How many tokens there are up to the bracket that closes the first one, with that; all where none does.
-fn bracketed(tokens: &[Token<'_>]) -> usize {
-    let mut depth = 0usize;
-    for (at, token) in tokens.iter().enumerate() {
-        depth = token.depth_behind(depth);
-        if depth == 0 {
-            return at.saturating_add(1);
-        }
-    }
-    tokens.len()
-}
-
-/// What stands inside the brackets of which the first token opens one.
-fn inside<'t, 'a>(tokens: &'t [Token<'a>]) -> &'t [Token<'a>] {
-    range(tokens, 1, bracketed(tokens).saturating_sub(1))
-}
-
-/// What stands between commas, outside of brackets.
-fn parts_of<'t, 'a>(
-    alloc: Global,
-    tokens: &'t [Token<'a>],
-) -> Result<Vec<&'t [Token<'a>]>, AllocError> {
-    let mut parts = Vec::new(alloc);
-    let mut depth = 0usize;
-    let mut start = 0usize;
-    for (at, token) in tokens.iter().enumerate() {
-        if depth == 0 && token.text == "," {
-            parts.push(range(tokens, start, at))?;
-            start = at.saturating_add(1);
-        }
-        depth = token.depth_behind(depth);
-    }
-    if !tokens.is_empty() {
-        parts.push(range(tokens, start, tokens.len()))?;
-    }
-    Ok(parts)
-}
-
-/// Puts tokens behind others, as those of a copying.
-fn push_copied<'a>(
-    out: &mut Vec<Token<'a>>,
-    tokens: &[Token<'a>],
-    copy: usize,
-) -> Result<(), AllocError> {
-    for token in tokens.iter() {
-        out.push(Token { copy, ..*token })?;
-    }
-    Ok(())
-}
-
-/// Puts a sign or word of its own behind others, at the place of a token.
-fn push_word<'a>(
-    out: &mut Vec<Token<'a>>,
-    at: Token<'a>,
-    kind: Kind,
-    text: &'static str,
-) -> Result<(), AllocError> {
-    out.push(Token { kind, text, ..at })?;
-    Ok(())
 }
 
 /// Where what is assigned begins: behind the `::=`.
