@@ -1,6 +1,7 @@
 //! Puts the text that they stand for in the place of types with parameters (X.683), of fields of classes of information objects (X.681)
 //! and of value sets (X.680, 16.6). Classes, sets of objects and assignments with parameters are left out: no octet depends on them.
 
+use crate::classes::{FieldType, field_type};
 use crate::cuts::{bracketed, inside, is_at, is_name, parts_of, push_copied, push_word, range};
 use crate::scope::{Scope, all_tokens};
 use oergen_parse::lexer::{Kind, Token};
@@ -181,23 +182,13 @@ impl<'m, 'a> Source<'m, 'a> {
         Ok(out)
     }
 
-    /// What stands behind the name of a field of a class; nothing where it has no such field.
-    fn field_of(
-        &self,
-        class: Assignment,
-        name: &str,
-    ) -> Result<Option<&'m [Token<'a>]>, AllocError> {
-        let fields = inside(self.range(class.body.saturating_add(1), class.end));
-        for field in parts_of(self.scope.alloc, fields)? {
-            if is_at(field, 0, "&") && is_at(field, 1, name) {
-                return Ok(Some(range(field, 2, field.len())));
-            }
-        }
-        Ok(None)
+    /// What stands between the braces of a class.
+    fn fields_of(&self, class: Assignment) -> &'m [Token<'a>] {
+        inside(self.range(class.body.saturating_add(1), class.end))
     }
 
-    /// Puts the type of a field of a class behind others, of which the tokens are `CLASS.&field`: an open type, or the type of its values.
-    /// Answers how many tokens that is; 0 where it is none.
+    /// Puts the type of a field of a class behind others, of which the tokens are `CLASS.&field`. Answers how many tokens that is, with the
+    /// set of objects behind it; 0 where there is none.
     fn push_field(
         &self,
         out: &mut Vec<Token<'a>>,
@@ -208,23 +199,13 @@ impl<'m, 'a> Source<'m, 'a> {
         let (Some(first), Some(name)) = (tokens.first(), tokens.get(3)) else {
             return Ok(0);
         };
-        let Some(field) = self.field_of(class, name.text)? else {
-            return Ok(0);
-        };
-        if name.kind == Kind::Name {
-            push_word(out, Token { copy, ..*first }, Kind::Name, "ANY")?;
-        } else if field.is_empty() || is_at(field, 0, "&") {
-            return Ok(0);
-        } else {
-            push_copied(out, type_of(field), copy)?;
+        match field_type(self.scope.alloc, self.fields_of(class), *name)? {
+            Some(FieldType::Open) => push_word(out, Token { copy, ..*first }, Kind::Name, "ANY")?,
+            Some(FieldType::Declared(of)) => push_copied(out, of, copy)?,
+            None => return Ok(0),
         }
         let rest = range(tokens, 4, tokens.len());
-        let has_table = is_at(rest, 0, "(") && is_at(rest, 1, "{");
-        Ok(if has_table {
-            bracketed(rest).saturating_add(4)
-        } else {
-            4
-        })
+        Ok(table_length(rest).saturating_add(4))
     }
 
     /// Puts what a type with parameters stands for behind others, of which the tokens are its name and the actual ones. Answers how many
@@ -298,14 +279,13 @@ impl<'m, 'a> Source<'m, 'a> {
     }
 }
 
-/// The type that a field of a class is declared with.
-fn type_of<'t, 'a>(field: &'t [Token<'a>]) -> &'t [Token<'a>] {
-    for (at, token) in field.iter().enumerate() {
-        if matches!(token.text, "UNIQUE" | "OPTIONAL" | "DEFAULT") {
-            return range(field, 0, at);
-        }
+/// How many tokens a constraint by a set of objects has, where one stands in front.
+fn table_length(tokens: &[Token<'_>]) -> usize {
+    if is_at(tokens, 0, "(") && is_at(tokens, 1, "{") {
+        bracketed(tokens)
+    } else {
+        0
     }
-    field
 }
 
 /// The actual parameter for the dummy that a token is: each dummy is the last token of its declaration.
