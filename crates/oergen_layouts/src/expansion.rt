@@ -3,6 +3,7 @@
 
 use crate::classes::{FieldType, field_type};
 use crate::cuts::{bracketed, inside, is_at, is_name, parts_of, push_copied, push_word, range};
+use crate::parameters::{Given, Parameter, dummy_at, governor_of, push_elements, push_given};
 use crate::scope::{Scope, all_tokens};
 use oergen_parse::lexer::{Kind, Token};
 use oergen_parse::modules::read_tree;
@@ -149,12 +150,7 @@ impl<'m, 'a> Source<'m, 'a> {
         out.extend_from_slice(self.range(of.start, second))?;
         out.extend_from_slice(self.range(assigns, of.body))?;
         out.extend_from_slice(self.range(second, assigns))?;
-        if let Some(open) = self.scope.tokens.get(of.body) {
-            push_word(out, *open, Kind::Sign, "(")?;
-            out.extend_from_slice(inside(self.range(of.body, of.end)))?;
-            push_word(out, *open, Kind::Sign, ")")?;
-        }
-        Ok(())
+        push_elements(out, self.range(of.body, of.end))
     }
 
     /// Puts an assignment behind others, where an octet can depend on it.
@@ -208,6 +204,56 @@ impl<'m, 'a> Source<'m, 'a> {
         Ok(table_length(rest).saturating_add(4))
     }
 
+    /// The parameters of a type, by their declarations and what is given for each.
+    fn parameters_of<'t>(
+        &self,
+        dummies: &[&'t [Token<'a>]],
+        given: &[&'t [Token<'a>]],
+    ) -> Result<Vec<Parameter<'t, 'a>>, AllocError> {
+        let mut all = Vec::new(self.scope.alloc);
+        for (at, declared) in dummies.iter().enumerate() {
+            if let (Some(dummy), Some(own)) = (declared.last(), given.get(at)) {
+                let governor = governor_of(*declared);
+                let governor = given_for(dummies, given, governor).unwrap_or(governor);
+                all.push(Parameter {
+                    governor,
+                    dummy: *dummy,
+                    given: *own,
+                    is: self.sort_of(*dummy, governor, *own),
+                })?;
+            }
+        }
+        Ok(all)
+    }
+
+    /// What is given for a dummy: values between braces, where that is no set of objects.
+    fn sort_of(&self, dummy: Token<'a>, governor: &[Token<'a>], given: &[Token<'a>]) -> Given {
+        let is_set = dummy.kind == Kind::Name && !governor.is_empty() && is_at(given, 0, "{");
+        if is_set && !self.names_class(governor.first()) {
+            Given::Values
+        } else {
+            Given::Text
+        }
+    }
+
+    /// Puts the text of a type with parameters behind others, with what is given for its dummies.
+    fn push_body(
+        &self,
+        out: &mut Vec<Token<'a>>,
+        of: Assignment,
+        parameters: &[Parameter<'_, 'a>],
+        copy: usize,
+    ) -> Result<(), AllocError> {
+        let body = self.range(of.body, of.end);
+        for (at, token) in body.iter().enumerate() {
+            match dummy_at(parameters, body, at) {
+                Some(parameter) => push_given(out, parameter, range(body, 0, at), copy)?,
+                None => out.push(Token { copy, ..*token })?,
+            }
+        }
+        Ok(())
+    }
+
     /// Puts what a type with parameters stands for behind others, of which the tokens are its name and the actual ones. Answers how many
     /// tokens that is; 0 where they aren't as many as its parameters.
     fn push_instance(
@@ -224,12 +270,8 @@ impl<'m, 'a> Source<'m, 'a> {
         if !self.has_parameters(of) || given.len() != dummies.len() {
             return Ok(0);
         }
-        for token in self.range(of.body, of.end).iter() {
-            match given_for(dummies.as_slice(), given.as_slice(), *token) {
-                Some(given) => out.extend_from_slice(given)?,
-                None => out.push(Token { copy, ..*token })?,
-            }
-        }
+        let parameters = self.parameters_of(dummies.as_slice(), given.as_slice())?;
+        self.push_body(out, of, parameters.as_slice(), copy)?;
         Ok(bracketed(actual).saturating_add(1))
     }
 
@@ -288,18 +330,22 @@ fn table_length(tokens: &[Token<'_>]) -> usize {
     }
 }
 
-/// The actual parameter for the dummy that a token is: each dummy is the last token of its declaration.
+/// Whether a governor is the dummy of a parameter.
+fn is_dummy(governor: &[Token<'_>], declared: &[Token<'_>]) -> bool {
+    match (governor.first(), declared.last()) {
+        (Some(first), Some(last)) => governor.len() == 1 && first.text == last.text,
+        _ => false,
+    }
+}
+
+/// What is given for the dummy that a governor is; nothing where it is none.
 fn given_for<'t, 'a>(
-    dummies: &[&[Token<'a>]],
+    dummies: &[&'t [Token<'a>]],
     given: &[&'t [Token<'a>]],
-    token: Token<'a>,
+    governor: &[Token<'a>],
 ) -> Option<&'t [Token<'a>]> {
-    for (at, dummy) in dummies.iter().enumerate() {
-        let is_it = match dummy.last() {
-            Some(last) => last.kind == token.kind && last.text == token.text,
-            None => false,
-        };
-        if is_it {
+    for (at, declared) in dummies.iter().enumerate() {
+        if is_dummy(governor, *declared) {
             return given.get(at).copied();
         }
     }

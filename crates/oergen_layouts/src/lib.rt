@@ -11,6 +11,7 @@ pub mod listing;
 pub mod names;
 pub mod numbers;
 pub mod order;
+pub mod parameters;
 pub mod rows;
 pub mod scope;
 pub mod values;
