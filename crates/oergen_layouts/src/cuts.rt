@@ -27,6 +27,17 @@ pub fn is_name(tokens: &[Token<'_>], at: usize) -> bool {
     }
 }
 
+/// How many tokens the name in front has, with the module's where it is one of another module: three; 0 where there is none.
+pub fn name_length(tokens: &[Token<'_>]) -> usize {
+    if !is_name(tokens, 0) {
+        0
+    } else if is_at(tokens, 1, ".") && is_name(tokens, 2) {
+        3
+    } else {
+        1
+    }
+}
+
 /// How many tokens there are up to the bracket that closes the first one, with that; all where none does.
 pub fn bracketed(tokens: &[Token<'_>]) -> usize {
     let mut depth = 0usize;

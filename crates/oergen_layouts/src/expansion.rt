@@ -1,8 +1,8 @@
 //! Puts the text that they stand for in the place of types with parameters (X.683), of fields of classes of information objects (X.681)
 //! and of value sets (X.680, 16.6). Classes, sets of objects and assignments with parameters are left out: no octet depends on them.
 
-use crate::classes::{FieldType, field_type};
-use crate::cuts::{bracketed, inside, is_at, is_name, parts_of, push_copied, push_word, range};
+use crate::classes::{BuiltIn, FieldType, field_type, push_declared};
+use crate::cuts::{bracketed, inside, is_at, is_name, name_length, parts_of, push_word, range};
 use crate::parameters::{Given, Parameter, dummy_at, governor_of, push_elements, push_given};
 use crate::scope::{Scope, all_tokens};
 use oergen_parse::lexer::{Kind, Token};
@@ -32,6 +32,7 @@ struct Assignment {
 struct Source<'m, 'a> {
     scope: Scope<'m, 'a>,
     assignments: &'m [Assignment],
+    built_in: &'m BuiltIn<'a>,
 }
 
 /// Where what is assigned begins: behind the `::=`.
@@ -94,21 +95,29 @@ impl<'m, 'a> Source<'m, 'a> {
         range(self.scope.tokens, start, self.scope.tokens.len())
     }
 
-    /// The module in which the name that a token is, is assigned: its own, or the one that it imports the name from.
-    fn home_of(&self, name: Token<'a>) -> usize {
-        let own = self.scope.module_at(name.place);
-        match self.scope.import_of(own, name.text) {
-            Some(from) => match self.scope.module_named(from) {
-                Ok(home) => home,
-                Err(_) => own,
-            },
-            None => own,
+    /// The module in which a name is assigned that stands in a module: that one, or the one that it is imported from, past those that
+    /// import it themselves.
+    fn home_of(&self, module: usize, name: &str) -> usize {
+        let mut home = module;
+        for _ in 0..MAX_NESTING {
+            match self.scope.home_behind(home, name) {
+                Some(next) => home = next,
+                None => break,
+            }
         }
+        home
     }
 
-    /// The assignment of the name that a token is.
-    fn find(&self, name: Token<'a>) -> Option<Assignment> {
-        let home = self.home_of(name);
+    /// The assignment of the name in front.
+    fn find(&self, tokens: &[Token<'a>]) -> Option<Assignment> {
+        let last = name_length(tokens).checked_sub(1)?;
+        let (first, name) = (tokens.first()?, tokens.get(last)?);
+        let module = if last == 0 {
+            self.scope.module_at(name.place)
+        } else {
+            self.scope.module_by_name(first.text)?
+        };
+        let home = self.home_of(module, name.text);
         for one in self.assignments.iter() {
             if one.module == home && is_at(self.scope.tokens, one.start, name.text) {
                 return Some(*one);
@@ -117,17 +126,35 @@ impl<'m, 'a> Source<'m, 'a> {
         None
     }
 
-    /// Whether an assignment is one of a class.
-    fn is_class(&self, of: Assignment) -> bool {
-        is_at(self.scope.tokens, of.body, "CLASS")
+    /// What is assigned to the name in front, or what it is without that.
+    fn assigned(&self, tokens: &[Token<'a>]) -> Option<&'m [Token<'a>]> {
+        if let Some(class) = self.built_in.class(tokens.first()?.text) {
+            return Some(class);
+        }
+        let of = self.find(tokens)?;
+        Some(self.range(of.body, of.end))
     }
 
-    /// Whether the name that a token is, is that of a class.
-    fn names_class(&self, name: Option<&Token<'a>>) -> bool {
-        match name.and_then(|name| self.find(*name)) {
-            Some(of) => self.is_class(of),
-            None => false,
+    /// The fields of the class whose name stands in front, past other names of it; nothing where none does.
+    fn fields_of(&self, tokens: &[Token<'a>]) -> Option<&'m [Token<'a>]> {
+        let mut body = self.assigned(tokens)?;
+        for _ in 0..MAX_NESTING {
+            if is_at(body, 0, "CLASS") {
+                return Some(inside(range(body, 1, body.len())));
+            }
+            if name_length(body) != body.len() {
+                return None;
+            }
+            body = self.assigned(body)?;
         }
+        None
+    }
+
+    /// Whether an assignment is one of a class: with its fields, or as another's name.
+    fn is_class(&self, of: Assignment) -> bool {
+        let body = self.range(of.body, of.end);
+        is_at(body, 0, "CLASS")
+            || (name_length(body) == body.len() && self.fields_of(body).is_some())
     }
 
     /// Whether an assignment has parameters.
@@ -155,8 +182,8 @@ impl<'m, 'a> Source<'m, 'a> {
 
     /// Puts an assignment behind others, where an octet can depend on it.
     fn push_assignment(&self, out: &mut Vec<Token<'a>>, of: Assignment) -> Result<(), AllocError> {
-        let second = self.scope.tokens.get(of.start.saturating_add(1));
-        if self.is_class(of) || self.has_parameters(of) || self.names_class(second) {
+        let second = self.range(of.start.saturating_add(1), of.body);
+        if self.is_class(of) || self.has_parameters(of) || self.fields_of(second).is_some() {
             return Ok(());
         }
         if self.is_set(of) {
@@ -178,30 +205,47 @@ impl<'m, 'a> Source<'m, 'a> {
         Ok(out)
     }
 
-    /// What stands between the braces of a class.
-    fn fields_of(&self, class: Assignment) -> &'m [Token<'a>] {
-        inside(self.range(class.body.saturating_add(1), class.end))
-    }
-
-    /// Puts the type of a field of a class behind others, of which the tokens are `CLASS.&field`. Answers how many tokens that is, with the
-    /// set of objects behind it; 0 where there is none.
+    /// Puts the type of a field of a class behind others, of which the tokens are the class's name and `.&field`, as a copying of that
+    /// number. Answers how many tokens that is, with the set of objects behind it; 0 where there is none.
     fn push_field(
         &self,
         out: &mut Vec<Token<'a>>,
         tokens: &[Token<'a>],
-        class: Assignment,
         copy: usize,
     ) -> Result<usize, AllocError> {
-        let (Some(first), Some(name)) = (tokens.first(), tokens.get(3)) else {
+        let field = name_length(tokens).saturating_add(2);
+        let (Some(first), Some(name)) = (tokens.first(), tokens.get(field)) else {
             return Ok(0);
         };
-        match field_type(self.scope.alloc, self.fields_of(class), *name)? {
-            Some(FieldType::Open) => push_word(out, Token { copy, ..*first }, Kind::Name, "ANY")?,
-            Some(FieldType::Declared(of)) => push_copied(out, of, copy)?,
+        let Some(fields) = self.fields_of(tokens) else {
+            return Ok(0);
+        };
+        let at = Token { copy, ..*first };
+        match field_type(self.scope.alloc, fields, *name)? {
+            Some(FieldType::Open) => push_word(out, at, Kind::Name, "ANY")?,
+            Some(FieldType::Declared(of)) => push_declared(out, of, at)?,
             None => return Ok(0),
         }
-        let rest = range(tokens, 4, tokens.len());
-        Ok(table_length(rest).saturating_add(4))
+        let end = field.saturating_add(1);
+        Ok(end.saturating_add(table_length(range(tokens, end, tokens.len()))))
+    }
+
+    /// Puts what `INSTANCE OF` a class stands for behind others, of which the tokens are that, as a copying of that number. Answers how many
+    /// tokens that is, with the set of objects behind it; 0 where it is no class.
+    fn push_instance_of(
+        &self,
+        out: &mut Vec<Token<'a>>,
+        tokens: &[Token<'a>],
+        copy: usize,
+    ) -> Result<usize, AllocError> {
+        let class = range(tokens, 2, tokens.len());
+        let (Some(first), Some(_)) = (tokens.first(), self.fields_of(class)) else {
+            return Ok(0);
+        };
+        self.built_in
+            .push_instance(out, class, Token { copy, ..*first })?;
+        let end = name_length(class).saturating_add(2);
+        Ok(end.saturating_add(table_length(range(tokens, end, tokens.len()))))
     }
 
     /// The parameters of a type, by their declarations and what is given for each.
@@ -229,7 +273,7 @@ impl<'m, 'a> Source<'m, 'a> {
     /// What is given for a dummy: values between braces, where that is no set of objects.
     fn sort_of(&self, dummy: Token<'a>, governor: &[Token<'a>], given: &[Token<'a>]) -> Given {
         let is_set = dummy.kind == Kind::Name && !governor.is_empty() && is_at(given, 0, "{");
-        if is_set && !self.names_class(governor.first()) {
+        if is_set && self.fields_of(governor).is_none() {
             Given::Values
         } else {
             Given::Text
@@ -254,16 +298,19 @@ impl<'m, 'a> Source<'m, 'a> {
         Ok(())
     }
 
-    /// Puts what a type with parameters stands for behind others, of which the tokens are its name and the actual ones. Answers how many
-    /// tokens that is; 0 where they aren't as many as its parameters.
+    /// Puts what a type with parameters stands for behind others, of which the tokens are its name and the actual ones, as a copying of
+    /// that number. Answers how many tokens that is; 0 where they aren't as many as its parameters.
     fn push_instance(
         &self,
         out: &mut Vec<Token<'a>>,
         tokens: &[Token<'a>],
-        of: Assignment,
         copy: usize,
     ) -> Result<usize, AllocError> {
-        let actual = range(tokens, 1, tokens.len());
+        let Some(of) = self.find(tokens) else {
+            return Ok(0);
+        };
+        let named = name_length(tokens);
+        let actual = range(tokens, named, tokens.len());
         let given = parts_of(self.scope.alloc, inside(actual))?;
         let dummies = inside(self.range(of.start.saturating_add(1), of.body));
         let dummies = parts_of(self.scope.alloc, dummies)?;
@@ -272,7 +319,7 @@ impl<'m, 'a> Source<'m, 'a> {
         }
         let parameters = self.parameters_of(dummies.as_slice(), given.as_slice())?;
         self.push_body(out, of, parameters.as_slice(), copy)?;
-        Ok(bracketed(actual).saturating_add(1))
+        Ok(bracketed(actual).saturating_add(named))
     }
 
     /// Puts what the first of the tokens stand for behind others, as a copying of that number. Answers how many they are; 0 where they stand
@@ -283,15 +330,18 @@ impl<'m, 'a> Source<'m, 'a> {
         tokens: &[Token<'a>],
         copy: usize,
     ) -> Result<usize, AllocError> {
-        let is_instance = is_at(tokens, 1, "{");
-        let is_field = is_at(tokens, 1, ".") && is_at(tokens, 2, "&");
-        if !(is_instance || is_field) || !is_name(tokens, 0) || out.len() > MAX_TOKENS {
-            return Ok(0);
-        }
-        match tokens.first().and_then(|name| self.find(*name)) {
-            Some(of) if is_instance => self.push_instance(out, tokens, of, copy),
-            Some(of) if self.is_class(of) => self.push_field(out, tokens, of, copy),
-            _ => Ok(0),
+        let named = name_length(tokens);
+        let behind = named.saturating_add(1);
+        if named == 0 || out.len() > MAX_TOKENS {
+            Ok(0)
+        } else if is_at(tokens, named, "{") {
+            self.push_instance(out, tokens, copy)
+        } else if is_at(tokens, named, ".") && is_at(tokens, behind, "&") {
+            self.push_field(out, tokens, copy)
+        } else if is_at(tokens, 0, "INSTANCE") && is_at(tokens, 1, "OF") {
+            self.push_instance_of(out, tokens, copy)
+        } else {
+            Ok(0)
         }
     }
 
@@ -353,11 +403,13 @@ fn given_for<'t, 'a>(
 }
 
 /// The tokens of modules, with what they stand for.
-fn expanded<'a>(scope: Scope<'_, 'a>) -> Result<Vec<Token<'a>>, AllocError> {
+fn expanded<'a>(scope: Scope<'_, 'a>) -> Result<Vec<Token<'a>>, Refusal> {
     let assignments = assignments_of(scope)?;
+    let built_in = BuiltIn::new(scope.alloc)?;
     let source = Source {
         scope,
         assignments: assignments.as_slice(),
+        built_in: &built_in,
     };
     let mut tokens = source.plain_tokens()?;
     let mut copies = 0usize;
@@ -376,11 +428,11 @@ fn expanded<'a>(scope: Scope<'_, 'a>) -> Result<Vec<Token<'a>>, AllocError> {
 pub fn tokens_of<'a>(alloc: Global, texts: &[&'a str]) -> Result<Vec<Token<'a>>, Refusal> {
     let tokens = all_tokens(alloc, texts)?;
     match read_tree(alloc, tokens.as_slice(), true) {
-        Ok(tree) => Ok(expanded(Scope {
+        Ok(tree) => expanded(Scope {
             alloc,
             modules: tree.modules(),
             tokens: tokens.as_slice(),
-        })?),
+        }),
         Err(Refusal::OutOfMemory) => Err(Refusal::OutOfMemory),
         Err(Refusal::At { .. }) => Ok(tokens),
     }

@@ -24,6 +24,7 @@ pub struct Parameter<'t, 'a> {
 }
 
 /// What values that are given for a dummy are where it is written.
+#[derive(Clone, Copy)]
 enum Use {
     /// A type: the governor's, less all other values.
     Type,
