@@ -113,6 +113,23 @@ fn field_of<'t, 'a>(
     Ok(None)
 }
 
+/// What stands behind the `DEFAULT` of the field of that name; nothing where it has none.
+pub fn default_of<'t, 'a>(
+    alloc: Global,
+    fields: &'t [Token<'a>],
+    name: &str,
+) -> Result<Option<&'t [Token<'a>]>, AllocError> {
+    let Some(field) = field_of(alloc, fields, name)? else {
+        return Ok(None);
+    };
+    let rest = range(field, declared(field).len(), field.len());
+    Ok(if is_at(rest, 0, "DEFAULT") {
+        Some(range(rest, 1, rest.len()))
+    } else {
+        None
+    })
+}
+
 /// What a field is declared with: all in front of whether it is unique or may be left out.
 fn declared<'t, 'a>(field: &'t [Token<'a>]) -> &'t [Token<'a>] {
     let mut depth = 0usize;

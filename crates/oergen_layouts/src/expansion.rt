@@ -2,7 +2,10 @@
 //! and of value sets (X.680, 16.6). Classes, sets of objects and assignments with parameters are left out: no octet depends on them.
 
 use crate::classes::{BuiltIn, FieldType, field_type, push_declared};
-use crate::cuts::{bracketed, inside, is_at, is_name, name_length, parts_of, push_word, range};
+use crate::cuts::{
+    bracketed, inside, is_at, is_name, name_length, parts_of, push_copied, push_word, range,
+};
+use crate::objects::value_of;
 use crate::parameters::{Given, Parameter, dummy_at, governor_of, push_elements, push_given};
 use crate::scope::{Scope, all_tokens};
 use oergen_parse::lexer::{Kind, Token};
@@ -108,6 +111,17 @@ impl<'m, 'a> Source<'m, 'a> {
         home
     }
 
+    /// The assignment of a name that stands in a module.
+    fn find_in(&self, module: usize, name: &str) -> Option<Assignment> {
+        let home = self.home_of(module, name);
+        for one in self.assignments.iter() {
+            if one.module == home && is_at(self.scope.tokens, one.start, name) {
+                return Some(*one);
+            }
+        }
+        None
+    }
+
     /// The assignment of the name in front.
     fn find(&self, tokens: &[Token<'a>]) -> Option<Assignment> {
         let last = name_length(tokens).checked_sub(1)?;
@@ -117,13 +131,7 @@ impl<'m, 'a> Source<'m, 'a> {
         } else {
             self.scope.module_by_name(first.text)?
         };
-        let home = self.home_of(module, name.text);
-        for one in self.assignments.iter() {
-            if one.module == home && is_at(self.scope.tokens, one.start, name.text) {
-                return Some(*one);
-            }
-        }
-        None
+        self.find_in(module, name.text)
     }
 
     /// What is assigned to the name in front, or what it is without that.
@@ -135,12 +143,12 @@ impl<'m, 'a> Source<'m, 'a> {
         Some(self.range(of.body, of.end))
     }
 
-    /// The fields of the class whose name stands in front, past other names of it; nothing where none does.
-    fn fields_of(&self, tokens: &[Token<'a>]) -> Option<&'m [Token<'a>]> {
+    /// The class whose name stands in front, past other names of it, from its `CLASS` on; nothing where none does.
+    fn class_of(&self, tokens: &[Token<'a>]) -> Option<&'m [Token<'a>]> {
         let mut body = self.assigned(tokens)?;
         for _ in 0..MAX_NESTING {
             if is_at(body, 0, "CLASS") {
-                return Some(inside(range(body, 1, body.len())));
+                return Some(body);
             }
             if name_length(body) != body.len() {
                 return None;
@@ -154,7 +162,7 @@ impl<'m, 'a> Source<'m, 'a> {
     fn is_class(&self, of: Assignment) -> bool {
         let body = self.range(of.body, of.end);
         is_at(body, 0, "CLASS")
-            || (name_length(body) == body.len() && self.fields_of(body).is_some())
+            || (name_length(body) == body.len() && self.class_of(body).is_some())
     }
 
     /// Whether an assignment has parameters.
@@ -183,7 +191,7 @@ impl<'m, 'a> Source<'m, 'a> {
     /// Puts an assignment behind others, where an octet can depend on it.
     fn push_assignment(&self, out: &mut Vec<Token<'a>>, of: Assignment) -> Result<(), AllocError> {
         let second = self.range(of.start.saturating_add(1), of.body);
-        if self.is_class(of) || self.has_parameters(of) || self.fields_of(second).is_some() {
+        if self.is_class(of) || self.has_parameters(of) || self.class_of(second).is_some() {
             return Ok(());
         }
         if self.is_set(of) {
@@ -217,9 +225,10 @@ impl<'m, 'a> Source<'m, 'a> {
         let (Some(first), Some(name)) = (tokens.first(), tokens.get(field)) else {
             return Ok(0);
         };
-        let Some(fields) = self.fields_of(tokens) else {
+        let Some(class) = self.class_of(tokens) else {
             return Ok(0);
         };
+        let fields = inside(range(class, 1, class.len()));
         let at = Token { copy, ..*first };
         match field_type(self.scope.alloc, fields, *name)? {
             Some(FieldType::Open) => push_word(out, at, Kind::Name, "ANY")?,
@@ -228,6 +237,32 @@ impl<'m, 'a> Source<'m, 'a> {
         }
         let end = field.saturating_add(1);
         Ok(end.saturating_add(table_length(range(tokens, end, tokens.len()))))
+    }
+
+    /// Puts the value of an object's field behind others, of which the tokens are the object's name and `.&field`, as a copying of that
+    /// number. Answers how many tokens that is; 0 where there is none.
+    fn push_value(
+        &self,
+        out: &mut Vec<Token<'a>>,
+        tokens: &[Token<'a>],
+        copy: usize,
+    ) -> Result<usize, AllocError> {
+        let (Some(name), Some(field)) = (tokens.first(), tokens.get(3)) else {
+            return Ok(0);
+        };
+        let module = self.scope.module_at(name.place);
+        let Some(of) = self.find_in(module, name.text) else {
+            return Ok(0);
+        };
+        let Some(class) = self.class_of(self.range(of.start.saturating_add(1), of.body)) else {
+            return Ok(0);
+        };
+        let object = inside(self.range(of.body, of.end));
+        match value_of(self.scope.alloc, object, class, field.text)? {
+            Some(value) if field.kind == Kind::Word => push_copied(out, value, copy)?,
+            _ => return Ok(0),
+        }
+        Ok(4)
     }
 
     /// Puts what `INSTANCE OF` a class stands for behind others, of which the tokens are that, as a copying of that number. Answers how many
@@ -239,7 +274,7 @@ impl<'m, 'a> Source<'m, 'a> {
         copy: usize,
     ) -> Result<usize, AllocError> {
         let class = range(tokens, 2, tokens.len());
-        let (Some(first), Some(_)) = (tokens.first(), self.fields_of(class)) else {
+        let (Some(first), Some(_)) = (tokens.first(), self.class_of(class)) else {
             return Ok(0);
         };
         self.built_in
@@ -273,7 +308,7 @@ impl<'m, 'a> Source<'m, 'a> {
     /// What is given for a dummy: values between braces, where that is no set of objects.
     fn sort_of(&self, dummy: Token<'a>, governor: &[Token<'a>], given: &[Token<'a>]) -> Given {
         let is_set = dummy.kind == Kind::Name && !governor.is_empty() && is_at(given, 0, "{");
-        if is_set && self.fields_of(governor).is_none() {
+        if is_set && self.class_of(governor).is_none() {
             Given::Values
         } else {
             Given::Text
@@ -330,15 +365,22 @@ impl<'m, 'a> Source<'m, 'a> {
         tokens: &[Token<'a>],
         copy: usize,
     ) -> Result<usize, AllocError> {
-        let named = name_length(tokens);
-        let behind = named.saturating_add(1);
-        if named == 0 || out.len() > MAX_TOKENS {
+        let Some(first) = tokens.first() else {
+            return Ok(0);
+        };
+        let named = name_length(tokens).max(1);
+        let is_field = is_at(tokens, named, ".") && is_at(tokens, named.saturating_add(1), "&");
+        if out.len() > MAX_TOKENS {
+            Ok(0)
+        } else if first.kind == Kind::Word && is_field {
+            self.push_value(out, tokens, copy)
+        } else if first.kind != Kind::Name {
             Ok(0)
         } else if is_at(tokens, named, "{") {
             self.push_instance(out, tokens, copy)
-        } else if is_at(tokens, named, ".") && is_at(tokens, behind, "&") {
+        } else if is_field {
             self.push_field(out, tokens, copy)
-        } else if is_at(tokens, 0, "INSTANCE") && is_at(tokens, 1, "OF") {
+        } else if first.text == "INSTANCE" && is_at(tokens, 1, "OF") {
             self.push_instance_of(out, tokens, copy)
         } else {
             Ok(0)

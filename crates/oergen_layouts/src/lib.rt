@@ -10,6 +10,7 @@ pub mod layouts;
 pub mod listing;
 pub mod names;
 pub mod numbers;
+pub mod objects;
 pub mod order;
 pub mod parameters;
 pub mod rows;
