@@ -203,6 +203,32 @@ impl<'m, 'a> Scope<'m, 'a> {
         count
     }
 
+    /// Whether a module's assignment of a name was left out.
+    fn is_left_out(&self, home: usize, name: &str) -> bool {
+        match self.modules.get(home) {
+            Some(module) => module.unread.iter().any(|one| self.text(one.name) == name),
+            None => false,
+        }
+    }
+
+    /// The refusal of a name that no type has in the module where it should be assigned.
+    fn no_type(&self, name: TokenId, home: usize) -> Refusal {
+        if self.is_left_out(home, self.text(name)) {
+            return self.refused(name, "the name of a type that isn't left out");
+        }
+        if home == self.module_of(name) {
+            let reads = "the name of a type that is assigned or imported, without parameters";
+            return self.refused(name, reads);
+        }
+        let module = self.module_name(home);
+        match format!(in self.alloc;
+            "the name of a type that {module} assigns, without parameters"
+        ) {
+            Ok(reads) => self.refused(name, reads.as_str()),
+            Err(_) => Refusal::OutOfMemory,
+        }
+    }
+
     /// The type of a name.
     pub fn find_type(&self, reference: Reference) -> Result<Found<'m>, Refusal> {
         let home = self.home_of(reference)?;
@@ -216,10 +242,7 @@ impl<'m, 'a> Scope<'m, 'a> {
                 index = index.saturating_add(1);
             }
         }
-        Err(self.refused(
-            reference.name,
-            "the name of a type that is assigned or imported",
-        ))
+        Err(self.no_type(reference.name, home))
     }
 
     /// The assignment of a value's name.
