@@ -48,10 +48,18 @@ class Member:
         self.name, self.of, self.need, self.place, self.group = name, of, need, place, group
 
 
+class Fields(dict):
+    """The types of a class's fields, what stands for those that may be left out, and the syntax of its objects; none where it has none."""
+
+    def __init__(self):
+        super().__init__()
+        self.defaults, self.syntax = {}, None
+
+
 class Module:
     def __init__(self, name):
         self.name, self.tagging, self.imports = name, "EXPLICIT", {}
-        self.types, self.values, self.classes = {}, {}, {}
+        self.types, self.values, self.classes, self.objects = {}, {}, {}, {}
 
 
 def classes_of(texts):
@@ -93,13 +101,13 @@ class Parser:
             raise ValueError(f"{' '.join(self.all[max(0, self.at - 12):self.at])}: not {word!r}")
 
     def skip(self):
-        """Passes over brackets."""
-        depth = 0
+        """Passes over brackets; what stands in them."""
+        start, depth = self.at, 0
         while True:
             word = self.next()
             depth += (word in ("{", "(", "[", "[[")) - (word in ("}", ")", "]", "]]"))
             if depth == 0:
-                return
+                return self.all[start + 1 : self.at - 1]
 
     def modules(self):
         while self.peek():
@@ -147,7 +155,7 @@ class Parser:
             of = self.type()
             self.expects("::=")
             if is_object:
-                self.skip()
+                self.module.objects[name] = (of.inside[:2], self.skip())
                 return
             self.module.values[name] = (of, self.value())
         elif self.peek() == "::=" and name in self.classes and self.peek(1) != "CLASS":
@@ -156,7 +164,7 @@ class Parser:
         elif self.eats("::=", "CLASS"):
             self.module.classes[name] = self.fields()
             if self.eats("WITH", "SYNTAX"):
-                self.skip()
+                self.module.classes[name].syntax = self.skip()
         elif self.eats("::="):
             self.module.types[name] = (dummies, self.type())
         else:
@@ -196,7 +204,7 @@ class Parser:
 
     def fields(self):
         """The types of a class's fields (X.681, 9 and 14): nothing where it is an open type, since the field is a type, or values of another's."""
-        fields = {}
+        fields = Fields()
         self.expects("{")
         while not self.eats("}"):
             name = self.next()
@@ -205,13 +213,22 @@ class Parser:
                 self.next()
             elif self.peek() not in (",", "}", "OPTIONAL", "DEFAULT"):
                 fields[name] = self.type()
-            while self.peek() not in (",", "}"):
-                if self.peek() in ("(", "{"):
-                    self.skip()
-                else:
-                    self.next()
+            while self.peek() in ("UNIQUE", "OPTIONAL"):
+                self.next()
+            if self.eats("DEFAULT"):
+                fields.defaults[name] = self.setting({",", "}"})
             self.eats(",")
         return fields
+
+    def setting(self, ends):
+        """What stands in front of the ends."""
+        start = self.at
+        while self.peek() and self.peek() not in ends:
+            if self.peek() in ("(", "{"):
+                self.skip()
+            else:
+                self.next()
+        return self.all[start : self.at]
 
     def type(self):
         tags = []
@@ -342,6 +359,9 @@ class Parser:
         if word[0].isupper():
             self.expects(".")
             return "name", (word, self.next()), self.module
+        if self.peek() == "." and self.peek(1).startswith("&"):
+            self.next()
+            return "field", (word, self.next()), self.module
         return "name", (None, word), self.module
 
     def constraint(self):
@@ -522,6 +542,8 @@ class World:
 
     def number(self, value, around, names=()):
         sort, said, module = value
+        if sort == "field":
+            return self.field_number(value, around)
         if sort != "name":
             return said
         home, name = said
@@ -533,6 +555,52 @@ class World:
         of, found = self.home(module, home, name).values[name]
         base = self.base(of, {})[0]
         return self.number(found, {}, base.inside if base.sort in ("INTEGER", "ENUMERATED") else ())
+
+    def settings(self, syntax, tokens):
+        """What each field of an object is set to, by the syntax of its class (X.681, 10 and 11)."""
+        parser, found = Parser("", self.classes), {}
+        parser.all = tokens
+        words = {it for it in syntax if it[0] not in "&["} | {","}
+
+        def take(items):
+            at = 0
+            while at < len(items):
+                if items[at] == "[":
+                    depth, end = 1, at
+                    while depth:
+                        end += 1
+                        depth += (items[end] == "[") - (items[end] == "]")
+                    if parser.peek() == items[at + 1]:
+                        take(items[at + 1 : end])
+                    at = end
+                elif items[at][0] == "&":
+                    found[items[at]] = parser.setting(words)
+                else:
+                    parser.expects(items[at])
+                at += 1
+
+        take(syntax)
+        return found
+
+    def field_number(self, value, around):
+        """The number that an object's field is."""
+        _, (name, field), module = value
+        if name in around:
+            _, value, around = around[name]
+            return self.field_number(("field", (value[1][1], field), value[2]), around)
+        home = self.home(module, None, name)
+        (of_home, of), tokens_of = home.objects[name]
+        class_home, fields = self.class_of(home, of_home, of, {})
+        syntax = fields.syntax
+        if syntax is None:
+            found = dict(zip((it for it in tokens_of if it[0] == "&"), " ".join(tokens_of).split(",")))
+            found = {one: it.split()[1:] for one, it in found.items()}
+        else:
+            found = self.settings(syntax, tokens_of)
+        parser = Parser("", self.classes)
+        parser.module = home if field in found else class_home
+        parser.all = found.get(field) or fields.defaults[field]
+        return self.number(parser.value(), {})
 
     def see(self, element, around, names, of_sizes):
         """The limits of a set; None where it isn't seen."""
