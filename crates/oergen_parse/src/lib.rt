@@ -3,6 +3,7 @@
 
 pub mod ast;
 pub mod constraints;
+pub mod instead;
 pub mod lengths;
 pub mod lexer;
 pub mod marks;

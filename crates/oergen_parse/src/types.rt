@@ -2,6 +2,7 @@
 
 use crate::ast::{Body, Component, Member, Need, Simple, Type, WrittenTag};
 use crate::constraints::{MAX_NESTING, read_constraint, read_constraints, read_type_name};
+use crate::instead::instead_of;
 use crate::lexer::Kind;
 use crate::reader::Reader;
 use crate::refusal::Refusal;
@@ -137,7 +138,7 @@ fn read_simple(reader: &mut Reader<'_>) -> Result<Body, Refusal> {
         return Ok(Body::Simple(simple));
     }
     if is_unread(first.text) {
-        return Err(reader.refused("a type that docs/COMPILER.md lists"));
+        return Err(reader.refused(instead_of(first.text)));
     }
     let name = read_type_name(reader)?;
     if reader.is("{") {
