@@ -191,7 +191,9 @@ impl<'m, 'a> Source<'m, 'a> {
     /// Puts an assignment behind others, where an octet can depend on it.
     fn push_assignment(&self, out: &mut Vec<Token<'a>>, of: Assignment) -> Result<(), AllocError> {
         let second = self.range(of.start.saturating_add(1), of.body);
-        if self.is_class(of) || self.has_parameters(of) || self.class_of(second).is_some() {
+        let is_field = second.iter().any(|token| token.text == "&");
+        let is_object = !is_field && self.class_of(second).is_some();
+        if self.is_class(of) || self.has_parameters(of) || is_object {
             return Ok(());
         }
         if self.is_set(of) {
