@@ -7,6 +7,7 @@ use Rattle.asn1_core.specs.Octets.{Octets, joined}
 use Rattle.asn1_core.specs.declared.codec.Codec.{Codec}
 use Rattle.asn1_core.specs.declared.codec.Codec.TheVariants.{Oer, Coer}
 use Rattle.asn1_core.specs.declared.error.DecodeError.{DecodeError}
+use Rattle.oer_spec.proofs.Empties.{reordered_empties}
 use Rattle.oer_spec.proofs.Lists.{Reorders-refl, Reorders-length, head_same, tail_same, not_nil}
 use Rattle.oer_spec.specs.Encoding.{IsTree, IsEncoding, AreElements, canonical_elements, empties}
 use Rattle.oer_spec.specs.Leaves.{TooManyEmpty as TooManyFail}
@@ -42,23 +43,6 @@ empties_front [] [] ps = omega arith
 empties_front [] (x ∷ o) ps = omega arith
 empties_front ([] ∷ os) o ps = let h = empties_front os o ps in omega (arith, h)
 empties_front ((x ∷ p) ∷ os) o ps = empties_front os o ps
-
--- as many have no octets, whatever the order
-taken_empties : (os : List Octets) (o : Octets) (rest : List Octets) → Stands os o rest → empties os ≡ empties (o ∷ rest)
-taken_empties [] o rest s = absurd s
-taken_empties (p ∷ os) o rest (inl (e, f)) = ap₂ (λ (z : Octets) (zs : List Octets). empties (z ∷ zs)) e f
-taken_empties ([] ∷ os) [] rest (inr (rs, e, s)) = ap suc (taken_empties os [] rs s) ∙ ap (λ (z : List Octets). empties ([] ∷ z)) (sym e)
-taken_empties ([] ∷ os) (y ∷ o) rest (inr (rs, e, s)) = ap suc (taken_empties os (y ∷ o) rs s) ∙ ap (λ (z : List Octets). empties z) (sym e)
-taken_empties ((x ∷ p) ∷ os) [] rest (inr (rs, e, s)) = taken_empties os [] rs s ∙ ap (λ (z : List Octets). empties ([] ∷ z)) (sym e)
-taken_empties ((x ∷ p) ∷ os) (y ∷ o) rest (inr (rs, e, s)) = taken_empties os (y ∷ o) rs s ∙ ap (λ (z : List Octets). empties z) (sym e)
-
-same_more : (o : Octets) (ps qs : List Octets) → empties ps ≡ empties qs → empties (o ∷ ps) ≡ empties (o ∷ qs)
-same_more [] ps qs e = ap suc e
-same_more (x ∷ o) ps qs e = e
-
-reordered_empties : (read os : List Octets) → Reorders read os → empties read ≡ empties os
-reordered_empties [] os r = ap empties (sym r)
-reordered_empties (o ∷ read) os (rest, s, r) = same_more o read rest (reordered_empties read rest r) ∙ sym (taken_empties os o rest s)
 
 module _ {A : Type 0} (tree : A → Tree) (IsPart : A → Type 0) (Ran : State → Result A DecodeError → State → Type 0) (promise : (s : State) (r : Result A DecodeError) (t : State) → Ran s r t → Decodes tree IsPart s r t) where
   abbrev mode : State → Mode

@@ -21,10 +21,12 @@ impl<'input> Decoder<'input> {
     /// Reads a BIT STRING (X.696, 13) under the size constraint, which counts bits: of a fixed size its bits, else a
     /// length, the count of unused bits, and the octets.
     ///
-    /// Refused, the first that applies: of a fixed size `Incomplete`, else what the length is refused by; no octets, in
-    /// canonical mode by `NotValidCanonicalEncoding`; `InvalidBitString`; above `usize::MAX / 8` octets by
-    /// `LengthExceedsPlatformWidth`; `Incomplete`; a nonzero unused bit, in canonical mode by
-    /// `NotValidCanonicalEncoding`; `SizeConstraintNotSatisfied` with the size in bits. `OutOfMemory` comes last.
+    /// Refused, the first that applies: of a fixed size `Incomplete`; else what the length is refused by; a length of
+    /// zero, in canonical mode by `NotValidCanonicalEncoding`; where the count of unused bits isn't there `Incomplete`; a
+    /// count above 7 or above the bits that there are by `InvalidBitString`; above `usize::MAX / 8` octets by
+    /// `LengthExceedsPlatformWidth`; where octets are missing `Incomplete`. Then, of any size, a nonzero unused bit in
+    /// canonical mode by `NotValidCanonicalEncoding`; `SizeConstraintNotSatisfied` with the size in bits. `OutOfMemory`
+    /// comes last.
     #[inline(always)]
     pub fn decode_bit_string(
         &mut self,
@@ -42,8 +44,9 @@ impl<'input> Decoder<'input> {
     /// Reads an OCTET STRING (X.696, 14) under the size constraint, which counts octets: as many octets as a fixed size
     /// has, else a length and that many. What is answered are octets of the input; no memory is taken.
     ///
-    /// Refused, the first that applies: what the length is refused by; above `usize::MAX / 8` octets by
-    /// `LengthExceedsPlatformWidth`; `Incomplete`; `SizeConstraintNotSatisfied` with the size in octets.
+    /// Refused, the first that applies: of a fixed size `Incomplete`; else what the length is refused by; above
+    /// `usize::MAX / 8` octets by `LengthExceedsPlatformWidth`; `Incomplete`; `SizeConstraintNotSatisfied` with the size
+    /// in octets.
     #[inline(always)]
     pub fn decode_octet_string(
         &mut self,
