@@ -87,11 +87,11 @@ class Printed:
     def cells(self, name):
         """The cells of a row, and those of its additions; none where it has no mark."""
         found, (cell, inside) = [], self.aliases.get(name, (name, []))
-        while cell not in ("NoMore", "Extensible"):
+        while cell not in ("End", "Extensible"):
             if cell in self.aliases:
                 cell, inside = self.aliases[cell]
                 continue
-            at = 2 if cell in ("MayAddGroup",) else 0
+            at = 2 if cell in ("AdditionGroup",) else 0
             tag = inside[at][0] + "".join(number for number, _ in inside[at][1])
             found.append((cell, tag, inside))
             cell, inside = inside[-1]
@@ -100,8 +100,8 @@ class Printed:
 
 # the cells of components in the root, and of additions
 CELLS = {
-    ("required", 0): "Needs", ("optional", 0): "MayHave", ("default", 0): "Defaults",
-    ("required", 1): "MayAdd", ("optional", 1): "MayAdd", ("default", 1): "AddDefaults",
+    ("required", 0): "Required", ("optional", 0): "Optional", ("default", 0): "Defaulted",
+    ("required", 1): "OptionalAddition", ("optional", 1): "OptionalAddition", ("default", 1): "DefaultedAddition",
 }  # fmt: skip
 
 
@@ -193,11 +193,11 @@ class Comparison:
         self.says(rust, len(found), len(wanted))
         for (cell, tag, inside), it in zip(found, wanted):
             if isinstance(it, int):
-                self.says(rust, (cell, tag), ("MayAddGroup", f"{rust}Group{it}"))
+                self.says(rust, (cell, tag), ("AdditionGroup", f"{rust}Group{it}"))
                 continue
             member, (lists, target, _), of, own = it
             need = member.need if isinstance(member.need, str) else "default"
-            name = "Offers" if sort == "CHOICE" else CELLS[need, addition]
+            name = "Alternative" if sort == "CHOICE" else CELLS[need, addition]
             self.says(f"{rust}.{member.name}", (cell, tag), (name, self.tag(own)))
             self.says(f"{rust}.{member.name}", self.printed.shape(inside[1]), self.shape(lists, target, of))
 

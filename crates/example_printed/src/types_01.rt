@@ -205,7 +205,7 @@ pub struct RowInnerComponents {
     pub colour: Option<Colour>,
 }
 
-type RowInnerRow = Needs<Context<0>, u8, MayHave<Context<1>, Colour, NoMore>>;
+type RowInnerRow = Required<Context<0>, u8, Optional<Context<1>, Colour, End>>;
 
 impl Rowed for RowInnerComponents {
     ghost use Rattle.rasn_oer.specs.Values.{both};
@@ -274,7 +274,7 @@ impl Tabled<2, 0> for RowInnerComponents {
 /// The default 3 of `RowPercent`.
 pub struct RowPercentDefault;
 
-impl Standard<u8> for RowPercentDefault {
+impl DefaultValue<u8> for RowPercentDefault {
     ghost use Rattle.std.specs.Prelude.{negsuc, pos, refl};
 
     ghost value = { 3 };
@@ -293,7 +293,7 @@ impl Standard<u8> for RowPercentDefault {
 /// The default -2 of `RowType`.
 pub struct RowTypeDefault;
 
-impl Standard<Integer> for RowTypeDefault {
+impl DefaultValue<Integer> for RowTypeDefault {
     ghost use Rattle.std.specs.Prelude.{negsuc, pos, refl};
 
     ghost value = { (negsuc 1) };
@@ -319,7 +319,7 @@ pub struct RowGroup1Components {
     pub level: Option<u16>,
 }
 
-type RowGroup1Row = Needs<Context<7>, Bits, MayHave<Context<8>, u16, NoMore>>;
+type RowGroup1Row = Required<Context<7>, Bits, Optional<Context<8>, u16, End>>;
 
 impl Rowed for RowGroup1Components {
     ghost use Rattle.rasn_oer.specs.Values.{both};
@@ -404,29 +404,29 @@ pub struct RowComponents {
     pub sure: Option<bool>,
 }
 
-type RowRow = Defaults<
+type RowRow = Defaulted<
     Context<0>,
     bool,
     IsTrue,
-    Defaults<
+    Defaulted<
         Context<1>,
         Percent,
         Within<RowPercentDefault>,
-        MayHave<
+        Optional<
             Context<2>,
             Key,
-            Needs<Context<3>, Names, Needs<Context<4>, RowInner, RowFromType>>,
+            Required<Context<3>, Names, Required<Context<4>, RowInner, RowFromType>>,
         >,
     >,
 >;
 
 /// The components of `Row` from `r_type` on.
-type RowFromType = Defaults<Context<5>, Integer, RowTypeDefault, Extensible<RowAdditions>>;
+type RowFromType = Defaulted<Context<5>, Integer, RowTypeDefault, Extensible<RowAdditions>>;
 
-type RowAdditions = MayAdd<
+type RowAdditions = OptionalAddition<
     Context<6>,
     Below,
-    MayAddGroup<2, 0, RowGroup1, MayAdd<Context<9>, bool, NoMore>>,
+    AdditionGroup<2, 0, RowGroup1, OptionalAddition<Context<9>, bool, End>>,
 >;
 
 impl Rowed for RowComponents {

@@ -17,13 +17,13 @@ pub struct BagComponents {
     pub more: Option<()>,
 }
 
-type BagRow = MayHave<
+type BagRow = Optional<
     Application<2>,
     bool,
-    Needs<Context<0>, Name, Needs<Context<1>, i8, Extensible<BagAdditions>>>,
+    Required<Context<0>, Name, Required<Context<1>, i8, Extensible<BagAdditions>>>,
 >;
 
-type BagAdditions = MayAdd<Context<3>, (), NoMore>;
+type BagAdditions = OptionalAddition<Context<3>, (), End>;
 
 impl Rowed for BagComponents {
     ghost use Rattle.rasn_oer.specs.Values.{both};
@@ -135,9 +135,13 @@ pub enum SignalAlternatives {
     NewKey(Key),
 }
 
-type SignalRow = Offers<Context<0>, (), Offers<Context<1>, Percent, Extensible<SignalAdditions>>>;
+type SignalRow = Alternative<
+    Context<0>,
+    (),
+    Alternative<Context<1>, Percent, Extensible<SignalAdditions>>,
+>;
 
-type SignalAdditions = Offers<Context<2>, Key, NoMore>;
+type SignalAdditions = Alternative<Context<2>, Key, End>;
 
 const SIGNAL_ROOTS: &'static [Tag] = tags![Context 0, Context 1];
 
@@ -232,37 +236,45 @@ pub struct LetterHeadComponents {
     pub wide: Limited<BmpText, LetterHeadWideLimits>,
 }
 
-type LetterHeadRow = Needs<
+type LetterHeadRow = Required<
     Context<0>,
     Name,
-    MayHave<
+    Optional<
         Context<1>,
         Key,
-        Needs<
+        Required<
             Context<2>,
             Signal,
-            Needs<Context<3>, OpenOctets, Needs<Context<4>, NumericText, LetterHeadFromPlain>>,
+            Required<
+                Context<3>,
+                OpenOctets,
+                Required<Context<4>, NumericText, LetterHeadFromPlain>,
+            >,
         >,
     >,
 >;
 
 /// The components of `LetterHead` from `plain` on.
-type LetterHeadFromPlain = Needs<
+type LetterHeadFromPlain = Required<
     Context<5>,
     PrintableText,
-    Needs<
+    Required<
         Context<6>,
         VisibleText,
-        Needs<
+        Required<
             Context<7>,
             GeneralText,
-            Needs<Context<8>, GraphicText, Needs<Context<9>, TeletexText, LetterHeadFromWide>>,
+            Required<
+                Context<8>,
+                GraphicText,
+                Required<Context<9>, TeletexText, LetterHeadFromWide>,
+            >,
         >,
     >,
 >;
 
 /// The components of `LetterHead` from `wide` on.
-type LetterHeadFromWide = Needs<Context<10>, Limited<BmpText, LetterHeadWideLimits>, NoMore>;
+type LetterHeadFromWide = Required<Context<10>, Limited<BmpText, LetterHeadWideLimits>, End>;
 
 impl Rowed for LetterHeadComponents {
     ghost use Rattle.rasn_oer.specs.Values.{both};
@@ -383,10 +395,10 @@ pub struct LetterGroup1Components {
     pub note: Option<Utf8Text>,
 }
 
-type LetterGroup1Row = Needs<
+type LetterGroup1Row = Required<
     Context<2>,
     Limited<Octets, LetterGroup1StampLimits>,
-    MayHave<Context<3>, Utf8Text, NoMore>,
+    Optional<Context<3>, Utf8Text, End>,
 >;
 
 impl Rowed for LetterGroup1Components {
@@ -467,13 +479,13 @@ pub struct LetterComponents {
     pub group_1: Option<LetterGroup1>,
 }
 
-type LetterRow = Needs<
+type LetterRow = Required<
     Context<0>,
     LetterHead,
-    Needs<Context<1>, Octets, Extensible<LetterAdditions>>,
+    Required<Context<1>, Octets, Extensible<LetterAdditions>>,
 >;
 
-type LetterAdditions = MayAddGroup<2, 0, LetterGroup1, NoMore>;
+type LetterAdditions = AdditionGroup<2, 0, LetterGroup1, End>;
 
 impl Rowed for LetterComponents {
     ghost use Rattle.rasn_oer.specs.Values.{both};

@@ -28,7 +28,7 @@ impl Limits for RightsLimits {
 /// The default {read} of `PermitRights`.
 pub struct PermitRightsDefault;
 
-impl Standard<BitString> for PermitRightsDefault {
+impl DefaultValue<BitString> for PermitRightsDefault {
     ghost use Rattle.std.specs.Prelude.{◌∷◌, [], take};
     ghost use Rattle.rasn_oer.specs.Octets.{bits_of};
 
@@ -68,7 +68,7 @@ impl Limits for PermitMarkLimits {
 /// The default 'AB01'H of `PermitMark`.
 pub struct PermitMarkDefault;
 
-impl Standard<Octets> for PermitMarkDefault {
+impl DefaultValue<Octets> for PermitMarkDefault {
     ghost use Rattle.std.specs.Prelude.{◌∷◌, [], refl};
     ghost use Rattle.rasn_oer.specs.Literals.{written};
     ghost use Rattle.rasn_oer.specs.Texts as texts;
@@ -92,7 +92,7 @@ impl Standard<Octets> for PermitMarkDefault {
 /// The default "home" of `PermitPlace`.
 pub struct PermitPlaceDefault;
 
-impl Standard<Ia5Text> for PermitPlaceDefault {
+impl DefaultValue<Ia5Text> for PermitPlaceDefault {
     ghost use Rattle.std.specs.Prelude.{◌∷◌, [], refl};
     ghost use Rattle.rasn_oer.specs.Literals.{written};
     ghost use Rattle.rasn_oer.specs.Texts as texts;
@@ -116,7 +116,7 @@ impl Standard<Ia5Text> for PermitPlaceDefault {
 /// The default green of `PermitColour`.
 pub struct PermitColourDefault;
 
-impl Standard<Colour> for PermitColourDefault {
+impl DefaultValue<Colour> for PermitColourDefault {
     ghost use Rattle.example_printed.specs.declared.types_01.ColourValues.TheVariants.{Green};
 
     ghost value = { record { 0 = Green } };
@@ -135,7 +135,7 @@ impl Standard<Colour> for PermitColourDefault {
 /// The default '101'B of `PermitBits`.
 pub struct PermitBitsDefault;
 
-impl Standard<BitString> for PermitBitsDefault {
+impl DefaultValue<BitString> for PermitBitsDefault {
     ghost use Rattle.std.specs.Prelude.{◌∷◌, [], take};
     ghost use Rattle.rasn_oer.specs.Octets.{bits_of};
 
@@ -157,7 +157,7 @@ impl Standard<BitString> for PermitBitsDefault {
 /// The default "Hi" of `PermitSeal`.
 pub struct PermitSealDefault;
 
-impl Standard<BmpText> for PermitSealDefault {
+impl DefaultValue<BmpText> for PermitSealDefault {
     ghost use Rattle.std.specs.Prelude.{◌∷◌, [], refl};
     ghost use Rattle.rasn_oer.specs.Literals.{written};
     ghost use Rattle.rasn_oer.specs.Texts as texts;
@@ -180,7 +180,7 @@ impl Standard<BmpText> for PermitSealDefault {
 /// The default {write} of `PermitMore`.
 pub struct PermitMoreDefault;
 
-impl Standard<BitString> for PermitMoreDefault {
+impl DefaultValue<BitString> for PermitMoreDefault {
     ghost use Rattle.std.specs.Prelude.{◌∷◌, [], take};
     ghost use Rattle.rasn_oer.specs.Octets.{bits_of};
 
@@ -217,36 +217,36 @@ pub struct PermitComponents {
     pub more: Rights,
 }
 
-type PermitRow = Defaults<
+type PermitRow = Defaulted<
     Context<0>,
     Rights,
     Within<PermitRightsDefault>,
-    Defaults<
+    Defaulted<
         Context<1>,
         Limited<Octets, PermitMarkLimits>,
         Within<PermitMarkDefault>,
-        Defaults<
+        Defaulted<
             Context<2>,
             Name,
             Within<PermitPlaceDefault>,
-            Defaults<
+            Defaulted<
                 Context<3>,
                 Colour,
                 PermitColourDefault,
-                Defaults<Context<4>, BitString, PermitBitsDefault, PermitFromNothing>,
+                Defaulted<Context<4>, BitString, PermitBitsDefault, PermitFromNothing>,
             >,
         >,
     >,
 >;
 
 /// The components of `Permit` from `nothing` on.
-type PermitFromNothing = Defaults<Context<5>, (), IsNull, Extensible<PermitAdditions>>;
+type PermitFromNothing = Defaulted<Context<5>, (), IsNull, Extensible<PermitAdditions>>;
 
-type PermitAdditions = AddDefaults<
+type PermitAdditions = DefaultedAddition<
     Context<6>,
     BmpText,
     PermitSealDefault,
-    AddDefaults<Context<7>, Rights, Within<PermitMoreDefault>, NoMore>,
+    DefaultedAddition<Context<7>, Rights, Within<PermitMoreDefault>, End>,
 >;
 
 impl Rowed for PermitComponents {
@@ -346,14 +346,14 @@ pub struct FolderComponents {
     pub more: Names,
 }
 
-type FolderRow = Defaults<
+type FolderRow = Defaulted<
     Context<0>,
     Names,
     IsEmptyList,
-    Defaults<Context<1>, SetOf<Integer>, IsEmptyList, Extensible<FolderAdditions>>,
+    Defaulted<Context<1>, SetOf<Integer>, IsEmptyList, Extensible<FolderAdditions>>,
 >;
 
-type FolderAdditions = AddDefaults<Context<2>, Names, IsEmptyList, NoMore>;
+type FolderAdditions = DefaultedAddition<Context<2>, Names, IsEmptyList, End>;
 
 impl Rowed for FolderComponents {
     ghost use Rattle.rasn_oer.specs.Values.{both};
@@ -428,7 +428,7 @@ impl Tabled<2, 1> for FolderComponents {
 /// The default "h""é" of `LabelsTitle`.
 pub struct LabelsTitleDefault;
 
-impl Standard<Utf8Text> for LabelsTitleDefault {
+impl DefaultValue<Utf8Text> for LabelsTitleDefault {
     ghost use Rattle.std.specs.Prelude.{◌∷◌, [], refl};
     ghost use Rattle.rasn_oer.specs.Literals.{written, spelled};
     ghost use Rattle.rasn_oer.specs.Texts as texts;
@@ -475,7 +475,7 @@ impl Limits for LabelsDigitsLimits {
 /// The default "0 1" of `LabelsDigits`.
 pub struct LabelsDigitsDefault;
 
-impl Standard<NumericText> for LabelsDigitsDefault {
+impl DefaultValue<NumericText> for LabelsDigitsDefault {
     ghost use Rattle.std.specs.Prelude.{◌∷◌, [], refl};
     ghost use Rattle.rasn_oer.specs.Literals.{written};
     ghost use Rattle.rasn_oer.specs.Texts as texts;
@@ -499,7 +499,7 @@ impl Standard<NumericText> for LabelsDigitsDefault {
 /// The default "A." of `LabelsPlain`.
 pub struct LabelsPlainDefault;
 
-impl Standard<PrintableText> for LabelsPlainDefault {
+impl DefaultValue<PrintableText> for LabelsPlainDefault {
     ghost use Rattle.std.specs.Prelude.{◌∷◌, [], refl};
     ghost use Rattle.rasn_oer.specs.Literals.{written};
     ghost use Rattle.rasn_oer.specs.Texts as texts;
@@ -523,7 +523,7 @@ impl Standard<PrintableText> for LabelsPlainDefault {
 /// The default "~" of `LabelsSeen`.
 pub struct LabelsSeenDefault;
 
-impl Standard<VisibleText> for LabelsSeenDefault {
+impl DefaultValue<VisibleText> for LabelsSeenDefault {
     ghost use Rattle.std.specs.Prelude.{◌∷◌, [], refl};
     ghost use Rattle.rasn_oer.specs.Literals.{written};
     ghost use Rattle.rasn_oer.specs.Texts as texts;
@@ -547,7 +547,7 @@ impl Standard<VisibleText> for LabelsSeenDefault {
 /// The default "" of `LabelsGeneral`.
 pub struct LabelsGeneralDefault;
 
-impl Standard<GeneralText> for LabelsGeneralDefault {
+impl DefaultValue<GeneralText> for LabelsGeneralDefault {
     ghost use Rattle.std.specs.Prelude.{◌∷◌, [], refl};
     ghost use Rattle.rasn_oer.specs.Literals.{written};
     ghost use Rattle.rasn_oer.specs.Texts as texts;
@@ -571,7 +571,7 @@ impl Standard<GeneralText> for LabelsGeneralDefault {
 /// The default "g" of `LabelsGraphic`.
 pub struct LabelsGraphicDefault;
 
-impl Standard<GraphicText> for LabelsGraphicDefault {
+impl DefaultValue<GraphicText> for LabelsGraphicDefault {
     ghost use Rattle.std.specs.Prelude.{◌∷◌, [], refl};
     ghost use Rattle.rasn_oer.specs.Literals.{written};
     ghost use Rattle.rasn_oer.specs.Texts as texts;
@@ -595,7 +595,7 @@ impl Standard<GraphicText> for LabelsGraphicDefault {
 /// The default "t" of `LabelsTeletex`.
 pub struct LabelsTeletexDefault;
 
-impl Standard<TeletexText> for LabelsTeletexDefault {
+impl DefaultValue<TeletexText> for LabelsTeletexDefault {
     ghost use Rattle.std.specs.Prelude.{◌∷◌, [], refl};
     ghost use Rattle.rasn_oer.specs.Literals.{written};
     ghost use Rattle.rasn_oer.specs.Texts as texts;
@@ -633,34 +633,34 @@ pub struct LabelsComponents {
     pub teletex: TeletexText,
 }
 
-type LabelsRow = Defaults<
+type LabelsRow = Defaulted<
     Context<0>,
     Utf8Text,
     LabelsTitleDefault,
-    Defaults<
+    Defaulted<
         Context<1>,
         Limited<NumericText, LabelsDigitsLimits>,
         Within<LabelsDigitsDefault>,
-        Defaults<
+        Defaulted<
             Context<2>,
             PrintableText,
             LabelsPlainDefault,
-            Defaults<
+            Defaulted<
                 Context<3>,
                 VisibleText,
                 LabelsSeenDefault,
-                Defaults<Context<4>, GeneralText, LabelsGeneralDefault, LabelsFromGraphic>,
+                Defaulted<Context<4>, GeneralText, LabelsGeneralDefault, LabelsFromGraphic>,
             >,
         >,
     >,
 >;
 
 /// The components of `Labels` from `graphic` on.
-type LabelsFromGraphic = Defaults<
+type LabelsFromGraphic = Defaulted<
     Context<5>,
     GraphicText,
     LabelsGraphicDefault,
-    Defaults<Context<6>, TeletexText, LabelsTeletexDefault, NoMore>,
+    Defaulted<Context<6>, TeletexText, LabelsTeletexDefault, End>,
 >;
 
 impl Rowed for LabelsComponents {

@@ -14,7 +14,7 @@ pub struct SpotComponents {
     pub y: u8,
 }
 
-type SpotRow = Needs<Context<0>, u8, Needs<Context<1>, u8, NoMore>>;
+type SpotRow = Required<Context<0>, u8, Required<Context<1>, u8, End>>;
 
 impl Rowed for SpotComponents {
     ghost use Rattle.rasn_oer.specs.Values.{both};
@@ -90,7 +90,7 @@ pub struct AreaBoxesComponents {
     pub to: Spot,
 }
 
-type AreaBoxesRow = Needs<Context<0>, Spot, Needs<Context<1>, Spot, NoMore>>;
+type AreaBoxesRow = Required<Context<0>, Spot, Required<Context<1>, Spot, End>>;
 
 impl Rowed for AreaBoxesComponents {
     ghost use Rattle.rasn_oer.specs.Values.{both};
@@ -166,7 +166,7 @@ pub struct AreaRoundComponents {
     pub radius: u16,
 }
 
-type AreaRoundRow = Needs<Context<0>, Spot, Needs<Context<1>, u16, NoMore>>;
+type AreaRoundRow = Required<Context<0>, Spot, Required<Context<1>, u16, End>>;
 
 impl Rowed for AreaRoundComponents {
     ghost use Rattle.rasn_oer.specs.Values.{both};
@@ -245,13 +245,13 @@ pub enum AreaAlternatives {
     Round(AreaRound),
 }
 
-type AreaRow = Offers<
+type AreaRow = Alternative<
     Context<0>,
     ListOf<AreaBoxes>,
-    Offers<
+    Alternative<
         Context<1>,
         ListOf<Spot>,
-        Offers<Context<2>, Names, Offers<Context<3>, AreaRound, Extensible<NoMore>>>,
+        Alternative<Context<2>, Names, Alternative<Context<3>, AreaRound, Extensible<End>>>,
     >,
 >;
 
@@ -347,10 +347,10 @@ pub struct ThenComponents {
     pub day: Date,
 }
 
-type ThenRow = Needs<
+type ThenRow = Required<
     Context<0>,
     UtcTime,
-    Needs<Context<1>, GeneralizedTime, Needs<Context<2>, Date, NoMore>>,
+    Required<Context<1>, GeneralizedTime, Required<Context<2>, Date, End>>,
 >;
 
 impl Rowed for ThenComponents {
@@ -434,10 +434,10 @@ pub enum ColoursAlternatives {
     Three(Integer),
 }
 
-type ColoursRow = Offers<
+type ColoursRow = Alternative<
     Context<1>,
     (),
-    Offers<Universal<7>, (), Offers<Universal<2>, Integer, NoMore>>,
+    Alternative<Universal<7>, (), Alternative<Universal<2>, Integer, End>>,
 >;
 
 const COLOURS_ROOTS: &'static [Tag] = tags![Context 1, Universal 7, Universal 2];
@@ -503,10 +503,10 @@ pub struct PlainComponents {
     pub c: Option<Colours>,
 }
 
-type PlainRow = Needs<
+type PlainRow = Required<
     Universal<1>,
     bool,
-    Needs<Private<2>, Level, MayHave<Universal<0>, Colours, NoMore>>,
+    Required<Private<2>, Level, Optional<Universal<0>, Colours, End>>,
 >;
 
 impl Rowed for PlainComponents {

@@ -7,7 +7,7 @@ use std::alloc::{AllocError, Global};
 /// The default 3 of `TakenPart`.
 pub struct TakenPartDefault;
 
-impl Standard<u16> for TakenPartDefault {
+impl DefaultValue<u16> for TakenPartDefault {
     ghost use Rattle.std.specs.Prelude.{negsuc, pos, refl};
 
     ghost value = { 3 };
@@ -39,24 +39,24 @@ pub struct TakenComponents {
     pub level: Option<Level>,
 }
 
-type TakenRow = Needs<
+type TakenRow = Required<
     Context<0>,
     UtcTime,
-    Needs<
+    Required<
         Context<1>,
         GeneralizedTime,
-        Needs<
+        Required<
             Context<2>,
             Date,
-            Defaults<Context<3>, u16, TakenPartDefault, MayHave<Context<4>, Plain, TakenFromOwn>>,
+            Defaulted<Context<3>, u16, TakenPartDefault, Optional<Context<4>, Plain, TakenFromOwn>>,
         >,
     >,
 >;
 
 /// The components of `Taken` from `own` on.
-type TakenFromOwn = Needs<Context<5>, (), Extensible<TakenAdditions>>;
+type TakenFromOwn = Required<Context<5>, (), Extensible<TakenAdditions>>;
 
-type TakenAdditions = MayAdd<Context<6>, Level, NoMore>;
+type TakenAdditions = OptionalAddition<Context<6>, Level, End>;
 
 impl Rowed for TakenComponents {
     ghost use Rattle.rasn_oer.specs.Values.{both};
@@ -451,73 +451,73 @@ pub struct LeavesComponents {
     pub id: ObjectIdentifier,
 }
 
-type LeavesRow = Needs<
+type LeavesRow = Required<
     Context<0>,
     (),
-    Needs<
+    Required<
         Context<1>,
         Limited<u16, LeavesTwoLimits>,
-        Needs<
+        Required<
             Context<2>,
             Limited<i16, LeavesWideLimits>,
-            Needs<
+            Required<
                 Context<3>,
                 Limited<Integer, LeavesLongLimits>,
-                Needs<Context<4>, Integer, LeavesFromDown>,
+                Required<Context<4>, Integer, LeavesFromDown>,
             >,
         >,
     >,
 >;
 
 /// The components of `Leaves` from `down` on.
-type LeavesFromDown = Needs<
+type LeavesFromDown = Required<
     Context<5>,
     Limited<Integer, LeavesDownLimits>,
-    Needs<
+    Required<
         Context<6>,
         Limited<u8, LeavesNamedLimits>,
-        Needs<
+        Required<
             Context<7>,
             Limited<u8, LeavesSingleLimits>,
-            Needs<
+            Required<
                 Context<8>,
                 Limited<u8, LeavesGapsLimits>,
-                Needs<Context<9>, Limited<u8, LeavesCommonLimits>, LeavesFromLess>,
+                Required<Context<9>, Limited<u8, LeavesCommonLimits>, LeavesFromLess>,
             >,
         >,
     >,
 >;
 
 /// The components of `Leaves` from `less` on.
-type LeavesFromLess = Needs<
+type LeavesFromLess = Required<
     Context<10>,
     Limited<u8, LeavesLessLimits>,
-    Needs<
+    Required<
         Context<11>,
         Octets,
-        Needs<
+        Required<
             Context<12>,
             Limited<Octets, LeavesSizesLimits>,
-            Needs<
+            Required<
                 Context<13>,
                 Octets,
-                Needs<Context<14>, Limited<PrintableText, LeavesLettersLimits>, LeavesFromText>,
+                Required<Context<14>, Limited<PrintableText, LeavesLettersLimits>, LeavesFromText>,
             >,
         >,
     >,
 >;
 
 /// The components of `Leaves` from `text` on.
-type LeavesFromText = Needs<
+type LeavesFromText = Required<
     Context<15>,
     Utf8Text,
-    Needs<
+    Required<
         Context<16>,
         ListOf<Ia5Text>,
-        Needs<
+        Required<
             Context<17>,
             SetOf<ListOf<Limited<VisibleText, LeavesListsLimits>>>,
-            Needs<Context<18>, ObjectIdentifier, NoMore>,
+            Required<Context<18>, ObjectIdentifier, End>,
         >,
     >,
 >;

@@ -23,10 +23,10 @@ pub struct NodeComponents<K> {
     pub last: bool,
 }
 
-type NodeRow<K> = Needs<
+type NodeRow<K> = Required<
     Context<0>,
     u8,
-    MayHaveKnot<Context<1>, Held<K>, Defaults<Context<2>, bool, IsFalse, NoMore>>,
+    OptionalKnot<Context<1>, Held<K>, Defaulted<Context<2>, bool, IsFalse, End>>,
 >;
 
 impl<K> KnotRowed<K> for NodeComponents<K> {
@@ -255,13 +255,13 @@ pub enum BodyAlternatives<K> {
     Count(Integer),
 }
 
-type BodyRow<K> = Offers<
+type BodyRow<K> = Alternative<
     Context<0>,
     Utf8Text,
-    OffersKnot<Context<1>, Held<K>, Extensible<BodyAdditions>>,
+    AlternativeKnot<Context<1>, Held<K>, Extensible<BodyAdditions>>,
 >;
 
-type BodyAdditions = Offers<Context<2>, Integer, NoMore>;
+type BodyAdditions = Alternative<Context<2>, Integer, End>;
 
 const BODY_ROOTS: &'static [Tag] = tags![Context 0, Context 1];
 
@@ -368,13 +368,13 @@ pub struct EnvelopeComponents<K> {
     pub urgent: Option<bool>,
 }
 
-type EnvelopeRow<K> = Needs<
+type EnvelopeRow<K> = Required<
     Context<0>,
     Serial,
-    NeedsKnot<Context<1>, BodyContent<K>, Extensible<EnvelopeAdditions>>,
+    RequiredKnot<Context<1>, BodyContent<K>, Extensible<EnvelopeAdditions>>,
 >;
 
-type EnvelopeAdditions = MayAdd<Context<2>, bool, NoMore>;
+type EnvelopeAdditions = OptionalAddition<Context<2>, bool, End>;
 
 impl<K> KnotRowed<K> for EnvelopeComponents<K> {
     ghost use Rattle.rasn_oer.specs.Values.{both};

@@ -31,10 +31,10 @@ pub struct TreeComponents<K> {
     pub shade: Option<ForestContent<K>>,
 }
 
-type TreeRow<K> = Needs<
+type TreeRow<K> = Required<
     Context<0>,
     Ia5Text,
-    NeedsKnot<Context<1>, ForestContent<K>, MayHaveKnot<Context<2>, ForestContent<K>, NoMore>>,
+    RequiredKnot<Context<1>, ForestContent<K>, OptionalKnot<Context<2>, ForestContent<K>, End>>,
 >;
 
 impl<K> KnotRowed<K> for TreeComponents<K> {
@@ -372,9 +372,9 @@ pub enum WayAlternatives {
     Sea(State),
 }
 
-type WayRow = Offers<Context<0>, (), Offers<Context<1>, u8, Extensible<WayAdditions>>>;
+type WayRow = Alternative<Context<0>, (), Alternative<Context<1>, u8, Extensible<WayAdditions>>>;
 
-type WayAdditions = Offers<Context<2>, State, NoMore>;
+type WayAdditions = Alternative<Context<2>, State, End>;
 
 const WAY_ROOTS: &'static [Tag] = tags![Context 0, Context 1];
 
@@ -433,7 +433,7 @@ impl TakesAlternative for WayAlternatives {
 /// The default sent of `PostState`.
 pub struct PostStateDefault;
 
-impl Standard<State> for PostStateDefault {
+impl DefaultValue<State> for PostStateDefault {
     ghost use Rattle.example_recursive.specs.declared.types_02.StateValues.TheVariants.{Sent};
     ghost use Rattle.std.specs.Prelude.{refl};
     ghost use Rattle.oer_kept.specs.declared.enumerations.KeptEnumeration.TheVariants.{Known};
@@ -466,13 +466,13 @@ pub struct PostComponents {
     pub way: Option<Way>,
 }
 
-type PostRow = Needs<
+type PostRow = Required<
     Context<0>,
     Envelope,
-    MayHave<
+    Optional<
         Context<1>,
         Body,
-        Defaults<Context<2>, State, PostStateDefault, MayHave<Context<3>, Way, NoMore>>,
+        Defaulted<Context<2>, State, PostStateDefault, Optional<Context<3>, Way, End>>,
     >,
 >;
 

@@ -37,11 +37,11 @@ pub struct MessageComponents {
     pub path: ListOf<Octets>,
 }
 
-type MessageRow = Needs<Context<0>, u8, MayHave<Context<1>, u64, FromLevel>>;
+type MessageRow = Required<Context<0>, u8, Optional<Context<1>, u64, FromLevel>>;
 
-type FromLevel = Defaults<Context<2>, Integer, IsNumber<5>, FromKey>;
+type FromLevel = Defaulted<Context<2>, Integer, IsNumber<5>, FromKey>;
 
-type FromKey = Needs<Context<3>, Key, Needs<Context<4>, ListOf<Octets>, NoMore>>;
+type FromKey = Required<Context<3>, Key, Required<Context<4>, ListOf<Octets>, End>>;
 
 impl Rowed for MessageComponents {
     type Values = <MessageRow as Components>::Values;

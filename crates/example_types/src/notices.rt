@@ -15,7 +15,7 @@ pub struct ClosingComponents {
     pub count: Option<u16>,
 }
 
-type ClosingRow = Needs<Context<2>, bool, MayHave<Context<3>, u16, NoMore>>;
+type ClosingRow = Required<Context<2>, bool, Optional<Context<3>, u16, End>>;
 
 impl Rowed for ClosingComponents {
     type Values = <ClosingRow as Components>::Values;
@@ -78,9 +78,9 @@ pub struct NoticeComponents {
     pub closing: Option<Closing>,
 }
 
-type NoticeRow = Needs<Context<0>, bool, Extensible<NoticeAdditions>>;
+type NoticeRow = Required<Context<0>, bool, Extensible<NoticeAdditions>>;
 
-type NoticeAdditions = MayAdd<Context<1>, Integer, MayAddGroup<2, 0, Closing, NoMore>>;
+type NoticeAdditions = OptionalAddition<Context<1>, Integer, AdditionGroup<2, 0, Closing, End>>;
 
 impl Rowed for NoticeComponents {
     type Values = <NoticeRow as Components>::Values;

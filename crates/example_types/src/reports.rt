@@ -15,7 +15,7 @@ pub struct ReportComponents {
     pub number: Option<Integer>,
 }
 
-type ReportRow = Defaults<Context<0>, bool, IsFalse, MayHave<Context<1>, Integer, NoMore>>;
+type ReportRow = Defaulted<Context<0>, bool, IsFalse, Optional<Context<1>, Integer, End>>;
 
 impl Rowed for ReportComponents {
     type Values = <ReportRow as Components>::Values;

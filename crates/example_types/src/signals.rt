@@ -16,9 +16,9 @@ pub enum SignalAlternatives {
     Count(u16),
 }
 
-type SignalRow = Offers<Context<0>, bool, Offers<Context<1>, Integer, SignalAdditions>>;
+type SignalRow = Alternative<Context<0>, bool, Alternative<Context<1>, Integer, SignalAdditions>>;
 
-type SignalAdditions = Extensible<Offers<Context<2>, u16, NoMore>>;
+type SignalAdditions = Extensible<Alternative<Context<2>, u16, End>>;
 
 const SIGNAL_ROOTS: &'static [Tag] = tags![Context 0, Context 1];
 

@@ -5,7 +5,7 @@ ghost use Rattle.oer_read.specs.Law.{Decodes};
 
 use asn1_core::{Choice, DecodeError, Tag};
 use oer_read::{Decode, Decoder};
-use oer_rows::{Extensible, NoMore, Place};
+use oer_rows::{End, Extensible, Place};
 use oer_spec::Spelled;
 use std::alloc::Global;
 use std::convert::Infallible;
@@ -60,7 +60,7 @@ pub trait ReadsAlternatives: Alternatives {
 }
 
 /// An alternative of type `B` with the tag `G`, and the row `R` after it.
-pub struct Offers<G, B, R>(PhantomData<(G, B, R)>);
+pub struct Alternative<G, B, R>(PhantomData<(G, B, R)>);
 
 /// Whether two tags are one.
 fn is_same(a: Tag, b: Tag) -> bool
@@ -70,7 +70,7 @@ fn is_same(a: Tag, b: Tag) -> bool
     a == b
 }
 
-impl Alternatives for NoMore {
+impl Alternatives for End {
     ghost use Rattle.oer_choices.specs.Choosing.{no_choice, no_choice_is};
 
     type Values = Infallible;
@@ -80,7 +80,7 @@ impl Alternatives for NoMore {
     ghost are_choices = { no_choice_is };
 }
 
-impl ReadsAlternatives for NoMore {
+impl ReadsAlternatives for End {
     ghost use Rattle.oer_choices.specs.Refusals.{NoAlternative};
 
     ghost Refuses = { λ g s e. NoAlternative g s e };
@@ -94,7 +94,7 @@ impl ReadsAlternatives for NoMore {
     }
 }
 
-impl<G: Place, B: Spelled, R: Alternatives> Alternatives for Offers<G, B, R> {
+impl<G: Place, B: Spelled, R: Alternatives> Alternatives for Alternative<G, B, R> {
     ghost use Rattle.oer_choices.specs.Choosing.{one_of, one_of_is};
     ghost use Rattle.oer_rows.specs.Schema.{typed, typed_is};
 
@@ -105,7 +105,7 @@ impl<G: Place, B: Spelled, R: Alternatives> Alternatives for Offers<G, B, R> {
     ghost are_choices = { one_of_is G.tag (typed B.tree B.CONSTRAINTS B.IsValue) R.choices (typed_is B.tree B.IsValue B.is_tree B.alike B.CONSTRAINTS B.consistent) R.are_choices };
 }
 
-impl<G: Place, B: Decode, R: ReadsAlternatives> ReadsAlternatives for Offers<G, B, R> {
+impl<G: Place, B: Decode, R: ReadsAlternatives> ReadsAlternatives for Alternative<G, B, R> {
     ghost use Rattle.oer_choices.specs.Refusals.{AlternativeRefused};
 
     ghost Refuses = { λ g s e. AlternativeRefused G.tag (B.Answered B.CONSTRAINTS) R.Refuses g s e };

@@ -7,8 +7,8 @@ mod choices;
 mod enumerations;
 mod views;
 
-pub use alternatives::{Alternatives, Either, Offers, ReadsAlternatives};
+pub use alternatives::{Alternative, Alternatives, Either, ReadsAlternatives};
 pub use choices::{Alternating, OneOf, TakesAlternative, read_alternative};
 pub use enumerations::{Enumeration, Numbered};
-pub use oer_rows::{Application, Context, Extensible, NoMore, Place, Private, Universal};
+pub use oer_rows::{Application, Context, End, Extensible, Place, Private, Universal};
 pub use views::{AlternativeViews, put_alternative};

@@ -1,9 +1,9 @@
 //! Alternatives, written from references.
 ghost use Rattle.oer_choices.specs.Putting.{PutsOne};
 
-use crate::alternatives::{Alternatives, Either, Offers};
+use crate::alternatives::{Alternative, Alternatives, Either};
 use asn1_core::{Choice, EncodeError, Tag};
-use oer_rows::{Extensible, NoMore, Place};
+use oer_rows::{End, Extensible, Place};
 use oer_write::{Encode, Encoder};
 
 /// Writes the alternative of the choice `E` with that tag, which holds the value (X.696, 20): `Ok` only for an admitted
@@ -40,7 +40,7 @@ pub trait AlternativeViews<'v>: Alternatives {
         ensures { SeesOne view.now (λ v. PutsOne E.root_tags E.addition_tags (Self.choices.tag_of v) (Self.choices.child v) (Self.choices.IsValue v) encoder.old result encoder.new) };
 }
 
-impl<'v> AlternativeViews<'v> for NoMore {
+impl<'v> AlternativeViews<'v> for End {
     type View = ();
 
     ghost use Rattle.std.specs.Prelude.{⊤};
@@ -57,7 +57,7 @@ impl<'v> AlternativeViews<'v> for NoMore {
 }
 
 impl<'v, G: Place, B: Encode + 'v, R: AlternativeViews<'v>> AlternativeViews<'v>
-    for Offers<G, B, R> {
+    for Alternative<G, B, R> {
     type View = Either<&'v B, R::View>;
 
     ghost use Rattle.oer_choices.specs.declared.alternatives.Either.TheVariants.{First, Rest};

@@ -25,19 +25,19 @@ module _ {K : Type 0} where
 
 -- ---- an addition without knots before others
 module _ {K B R : Type 0} (tag : Tag) (b : Typed B) (table : Typed K → Table R) (weight : (K → ℕ) → R → ℕ) (t : TiesTable table weight) where
-  pub may_add_ties : IsTyped b → TiesTable (λ of. optional tag b (λ (v : Both (Option B) R). v.0) (λ v. v.1) (table of)) (λ size v. weight size v.1)
-  may_add_ties i = record {
+  pub optional_addition_ties : IsTyped b → TiesTable (λ of. optional tag b (λ (v : Both (Option B) R). v.0) (λ v. v.1) (table of)) (λ size v. weight size v.1)
+  optional_addition_ties i = record {
     is = λ of o. optional_is tag b (λ v. v.0) (λ v. v.1) (table of) i (t.is of o);
     local = λ size of to v a. let h = t.local size of to v.1 a in record { rows = ap (Optional tag (slot_of b.tree v.0)) h.rows; part = λ p. (p.0, h.part p.1) };
   }
 
 -- ---- an addition with knots before others
 module _ {K B R : Type 0} (tag : Tag) (tied : Typed K → Typed B) (part : (K → ℕ) → B → ℕ) (table : Typed K → Table R) (weight : (K → ℕ) → R → ℕ) (b : Ties tied part) (t : TiesTable table weight) where
-  abbrev pub may_add_weight : (K → ℕ) → Both (Option B) R → ℕ
-  may_add_weight size v = max (option_weight (part size) v.0) (weight size v.1)
+  abbrev pub optional_addition_weight : (K → ℕ) → Both (Option B) R → ℕ
+  optional_addition_weight size v = max (option_weight (part size) v.0) (weight size v.1)
 
-  pub may_add_knot_ties : TiesTable (λ of. optional tag (tied of) (λ (v : Both (Option B) R). v.0) (λ v. v.1) (table of)) may_add_weight
-  may_add_knot_ties = record {
+  pub optional_addition_knot_ties : TiesTable (λ of. optional tag (tied of) (λ (v : Both (Option B) R). v.0) (λ v. v.1) (table of)) optional_addition_weight
+  optional_addition_knot_ties = record {
     is = λ of o. optional_is tag (tied of) (λ v. v.0) (λ v. v.1) (table of) (b.is of o) (t.is of o);
     local = λ size of to v a.
         let n = agree_less size _ _ of to (le_left (option_weight (part size) v.0) (weight size v.1)) a in

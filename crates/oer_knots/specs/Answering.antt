@@ -113,8 +113,8 @@ alternative_also tag Did Also Others More g s e did others (Other p k) = Other p
 
 module _ {K : Type 0} where
   -- an alternative and the row behind it
-  abbrev pub offered : {B : Type 0} → Tag → Answering K B → (Tag → Refusing K) → Tag → Refusing K
-  offered tag a rest g = record {
+  abbrev pub alternative_before : {B : Type 0} → Tag → Answering K B → (Tag → Refusing K) → Tag → Refusing K
+  alternative_before tag a rest g = record {
     Refuses = λ P s e. AlternativeRefused tag (a.Answered P) (λ g s e. (rest g).Refuses P s e) g s e;
     also = λ P Q h s e k. alternative_also tag (a.Answered P) (a.Answered Q) (λ g s e. (rest g).Refuses P s e) (λ g s e. (rest g).Refuses Q s e) g s e (a.also P Q h) ((rest g).also P Q h s e) k;
   }

@@ -35,15 +35,15 @@ module _ {K R : Type 0} where
 
 -- ---- an alternative without knots
 module _ {K B R : Type 0} (tag : Tag) (b : Typed B) (choices : Typed K → Choices R) (weight : (K → ℕ) → R → ℕ) (t : TiesChoice choices weight) where
-  abbrev pub offers_weight : (K → ℕ) → Either B R → ℕ
-  offers_weight size v = either_weight (λ w. 0) (weight size) v
+  abbrev pub alternative_weight : (K → ℕ) → Either B R → ℕ
+  alternative_weight size v = either_weight (λ w. 0) (weight size) v
 
-  offers_agrees : (size : K → ℕ) (of to : Typed K) (v : Either B R) → AgreeTo size (offers_weight size v) of to → AgreeChoice (one_of tag b (choices of)) (one_of tag b (choices to)) v
-  offers_agrees size of to (First v) a = record { roots = ap (λ (gs : List Tag). tag ∷ gs) (t.tags of to).0; additions = (t.tags of to).1; tag = refl; child = refl; part = λ i. i }
-  offers_agrees size of to (Rest r) a = let h = t.local size of to r a in record { roots = ap (λ (gs : List Tag). tag ∷ gs) h.roots; additions = h.additions; tag = h.tag; child = h.child; part = h.part }
+  alternative_agrees : (size : K → ℕ) (of to : Typed K) (v : Either B R) → AgreeTo size (alternative_weight size v) of to → AgreeChoice (one_of tag b (choices of)) (one_of tag b (choices to)) v
+  alternative_agrees size of to (First v) a = record { roots = ap (λ (gs : List Tag). tag ∷ gs) (t.tags of to).0; additions = (t.tags of to).1; tag = refl; child = refl; part = λ i. i }
+  alternative_agrees size of to (Rest r) a = let h = t.local size of to r a in record { roots = ap (λ (gs : List Tag). tag ∷ gs) h.roots; additions = h.additions; tag = h.tag; child = h.child; part = h.part }
 
-  pub offers_ties : IsTyped b → TiesChoice (λ of. one_of tag b (choices of)) offers_weight
-  offers_ties i = record { is = λ of o. one_of_is tag b (choices of) i (t.is of o); tags = λ of to. (ap (λ (gs : List Tag). tag ∷ gs) (t.tags of to).0, (t.tags of to).1); local = offers_agrees }
+  pub alternative_ties : IsTyped b → TiesChoice (λ of. one_of tag b (choices of)) alternative_weight
+  alternative_ties i = record { is = λ of o. one_of_is tag b (choices of) i (t.is of o); tags = λ of to. (ap (λ (gs : List Tag). tag ∷ gs) (t.tags of to).0, (t.tags of to).1); local = alternative_agrees }
 
 -- ---- an alternative with knots
 module _ {K B R : Type 0} (tag : Tag) (tied : Typed K → Typed B) (part : (K → ℕ) → B → ℕ) (choices : Typed K → Choices R) (weight : (K → ℕ) → R → ℕ) (b : Ties tied part) (t : TiesChoice choices weight) where

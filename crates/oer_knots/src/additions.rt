@@ -13,7 +13,7 @@ use crate::ties::{DecodeKnot, HoldsKnot};
 use asn1_core::{DecodeError, EncodeError, Tag};
 use oer_read::{Decode, Decoder};
 use oer_rows::{
-    AdditionViews, Additions, Both, MayAdd, NoMore, Place, ReadsAdditions, put_addition,
+    AdditionViews, Additions, Both, End, OptionalAddition, Place, ReadsAdditions, put_addition,
     read_addition,
 };
 use oer_spec::Spelled;
@@ -22,7 +22,7 @@ use std::alloc::Global;
 use std::marker::PhantomData;
 
 /// An OPTIONAL addition of type `B`, which holds knots, with the tag `G`, and those after it.
-pub struct MayAddKnot<G, B, R>(PhantomData<(G, B, R)>);
+pub struct OptionalAdditionKnot<G, B, R>(PhantomData<(G, B, R)>);
 
 /// Additions by the values of `K` that they hold.
 pub trait KnotAdditions<K> {
@@ -41,7 +41,7 @@ pub trait KnotAdditions<K> {
     ghost ties: { TiesTable table weight };
 }
 
-impl<K> KnotAdditions<K> for NoMore {
+impl<K> KnotAdditions<K> for End {
     ghost use Rattle.oer_rows.specs.Schema.{none, none_is};
     ghost use Rattle.oer_knots.specs.Additions.{plain_table_ties};
     ghost use Rattle.oer_knots.specs.Rows.{no_weight};
@@ -55,9 +55,9 @@ impl<K> KnotAdditions<K> for NoMore {
     ghost ties = { plain_table_ties none none_is };
 }
 
-impl<K, G: Place, B: Spelled, R: KnotAdditions<K>> KnotAdditions<K> for MayAdd<G, B, R> {
+impl<K, G: Place, B: Spelled, R: KnotAdditions<K>> KnotAdditions<K> for OptionalAddition<G, B, R> {
     ghost use Rattle.oer_rows.specs.Schema.{typed, typed_is, optional};
-    ghost use Rattle.oer_knots.specs.Additions.{may_add_ties};
+    ghost use Rattle.oer_knots.specs.Additions.{optional_addition_ties};
 
     type More = Both<Option<B>, R::More>;
 
@@ -65,23 +65,24 @@ impl<K, G: Place, B: Spelled, R: KnotAdditions<K>> KnotAdditions<K> for MayAdd<G
 
     ghost weight = { λ size v. R.weight size v.1 };
 
-    ghost ties = { may_add_ties G.tag (typed B.tree B.CONSTRAINTS B.IsValue) R.table R.weight R.ties (typed_is B.tree B.IsValue B.is_tree B.alike B.CONSTRAINTS B.consistent) };
+    ghost ties = { optional_addition_ties G.tag (typed B.tree B.CONSTRAINTS B.IsValue) R.table R.weight R.ties (typed_is B.tree B.IsValue B.is_tree B.alike B.CONSTRAINTS B.consistent) };
 }
 
-impl<K, G: Place, B: HoldsKnot<K>, R: KnotAdditions<K>> KnotAdditions<K> for MayAddKnot<G, B, R> {
+impl<K, G: Place, B: HoldsKnot<K>, R: KnotAdditions<K>> KnotAdditions<K>
+    for OptionalAdditionKnot<G, B, R> {
     ghost use Rattle.oer_rows.specs.Schema.{optional};
-    ghost use Rattle.oer_knots.specs.Additions.{may_add_weight, may_add_knot_ties};
+    ghost use Rattle.oer_knots.specs.Additions.{optional_addition_weight, optional_addition_knot_ties};
 
     type More = Both<Option<B>, R::More>;
 
     ghost table = { λ of. optional G.tag (B.tied of) (λ v. v.0) (λ v. v.1) (R.table of) };
 
-    ghost weight = { may_add_weight G.tag B.tied B.weight R.table R.weight B.ties R.ties };
+    ghost weight = { optional_addition_weight G.tag B.tied B.weight R.table R.weight B.ties R.ties };
 
-    ghost ties = { may_add_knot_ties G.tag B.tied B.weight R.table R.weight B.ties R.ties };
+    ghost ties = { optional_addition_knot_ties G.tag B.tied B.weight R.table R.weight B.ties R.ties };
 }
 
-impl<G: Place, B: Spelled, R: Additions> Additions for MayAddKnot<G, B, R> {
+impl<G: Place, B: Spelled, R: Additions> Additions for OptionalAdditionKnot<G, B, R> {
     ghost use Rattle.oer_rows.specs.Schema.{typed, typed_is, optional, optional_is};
 
     type More = Both<Option<B>, R::More>;
@@ -91,7 +92,7 @@ impl<G: Place, B: Spelled, R: Additions> Additions for MayAddKnot<G, B, R> {
     ghost is_table = { optional_is G.tag (typed B.tree B.CONSTRAINTS B.IsValue) (λ v. v.0) (λ v. v.1) R.table (typed_is B.tree B.IsValue B.is_tree B.alike B.CONSTRAINTS B.consistent) R.is_table };
 }
 
-impl<G: Place, B: Decode, R: ReadsAdditions> ReadsAdditions for MayAddKnot<G, B, R> {
+impl<G: Place, B: Decode, R: ReadsAdditions> ReadsAdditions for OptionalAdditionKnot<G, B, R> {
     ghost use Rattle.oer_rows.specs.Refusals.{RowRefused};
     ghost use Rattle.oer_rows.specs.Slots.{with_optional, optional_once};
 
@@ -124,7 +125,8 @@ impl<G: Place, B: Decode, R: ReadsAdditions> ReadsAdditions for MayAddKnot<G, B,
     }
 }
 
-impl<'v, G: Place, B: Encode + 'v, R: AdditionViews<'v>> AdditionViews<'v> for MayAddKnot<G, B, R> {
+impl<'v, G: Place, B: Encode + 'v, R: AdditionViews<'v>> AdditionViews<'v>
+    for OptionalAdditionKnot<G, B, R> {
     type MoreView = Both<&'v Option<B>, R::MoreView>;
 
     ghost seen = { λ v. both v.0.now (R.seen v.1) };
@@ -202,7 +204,7 @@ fn read_added<K: Spelled, B: DecodeKnot<K>, F: Fn(&mut Decoder<'_>) -> Result<K,
     )
 }
 
-impl<K: Spelled> ReadsKnotAdditions<K> for NoMore {
+impl<K: Spelled> ReadsKnotAdditions<K> for End {
     ghost use Rattle.std.specs.Prelude.{refl};
     ghost use Rattle.oer_knots.specs.Answering.{unknotted};
 
@@ -233,7 +235,7 @@ impl<K: Spelled> ReadsKnotAdditions<K> for NoMore {
 }
 
 impl<K: Spelled, G: Place, B: Decode, R: ReadsKnotAdditions<K>> ReadsKnotAdditions<K>
-    for MayAdd<G, B, R> {
+    for OptionalAddition<G, B, R> {
     ghost use Rattle.oer_knots.specs.Answering.{plain, before};
     ghost use Rattle.oer_rows.specs.Slots.{with_optional, optional_once};
 
@@ -268,7 +270,7 @@ impl<K: Spelled, G: Place, B: Decode, R: ReadsKnotAdditions<K>> ReadsKnotAdditio
 }
 
 impl<K: Spelled, G: Place, B: DecodeKnot<K>, R: ReadsKnotAdditions<K>> ReadsKnotAdditions<K>
-    for MayAddKnot<G, B, R> {
+    for OptionalAdditionKnot<G, B, R> {
     ghost use Rattle.oer_knots.specs.Answering.{added, before};
     ghost use Rattle.oer_rows.specs.Slots.{with_optional, optional_once};
 

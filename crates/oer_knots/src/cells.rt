@@ -12,13 +12,13 @@ use oer_write::{Encode, Encoder};
 use std::alloc::Global;
 use std::marker::PhantomData;
 
-/// A required component of type `B`, which holds knots, with the tag `G`, and the row `R` after it.
-pub struct NeedsKnot<G, B, R>(PhantomData<(G, B, R)>);
+/// A component of type `B`, which holds knots, with the tag `G`, neither OPTIONAL nor DEFAULT, and the row `R` after it.
+pub struct RequiredKnot<G, B, R>(PhantomData<(G, B, R)>);
 
 /// An OPTIONAL component of type `B`, which holds knots, with the tag `G`, and the row `R` after it.
-pub struct MayHaveKnot<G, B, R>(PhantomData<(G, B, R)>);
+pub struct OptionalKnot<G, B, R>(PhantomData<(G, B, R)>);
 
-impl<G: Place, B: Spelled, R: Components> Components for NeedsKnot<G, B, R> {
+impl<G: Place, B: Spelled, R: Components> Components for RequiredKnot<G, B, R> {
     ghost use Rattle.oer_rows.specs.Schema.{typed, typed_is, needed_then, needed_then_is};
 
     type Values = Both<B, R::Values>;
@@ -32,7 +32,7 @@ impl<G: Place, B: Spelled, R: Components> Components for NeedsKnot<G, B, R> {
     ghost is_schema = { needed_then_is G.tag (typed B.tree B.CONSTRAINTS B.IsValue) R.schema R.EXTENSIBLE (typed_is B.tree B.IsValue B.is_tree B.alike B.CONSTRAINTS B.consistent) R.is_schema };
 }
 
-impl<G: Place, B: Decode, R: Reads> Reads for NeedsKnot<G, B, R> {
+impl<G: Place, B: Decode, R: Reads> Reads for RequiredKnot<G, B, R> {
     ghost use Rattle.oer_read.specs.Law.{Promised};
     ghost use Rattle.oer_rows.specs.Refusals.{RowRefused};
     ghost use Rattle.oer_rows.specs.Slots.{with_needed, needed_once};
@@ -66,7 +66,7 @@ impl<G: Place, B: Decode, R: Reads> Reads for NeedsKnot<G, B, R> {
     }
 }
 
-impl<G: Place, B: Spelled, R: Components> Components for MayHaveKnot<G, B, R> {
+impl<G: Place, B: Spelled, R: Components> Components for OptionalKnot<G, B, R> {
     ghost use Rattle.oer_rows.specs.Schema.{typed, typed_is, optional_then, optional_then_is};
 
     type Values = Both<Option<B>, R::Values>;
@@ -80,7 +80,7 @@ impl<G: Place, B: Spelled, R: Components> Components for MayHaveKnot<G, B, R> {
     ghost is_schema = { optional_then_is G.tag (typed B.tree B.CONSTRAINTS B.IsValue) R.schema R.EXTENSIBLE (typed_is B.tree B.IsValue B.is_tree B.alike B.CONSTRAINTS B.consistent) R.is_schema };
 }
 
-impl<G: Place, B: Decode, R: Reads> Reads for MayHaveKnot<G, B, R> {
+impl<G: Place, B: Decode, R: Reads> Reads for OptionalKnot<G, B, R> {
     ghost use Rattle.oer_read.specs.Components.{Asks};
     ghost use Rattle.oer_rows.specs.Refusals.{RowRefused};
     ghost use Rattle.oer_rows.specs.Slots.{with_optional, optional_once};
@@ -114,7 +114,7 @@ impl<G: Place, B: Decode, R: Reads> Reads for MayHaveKnot<G, B, R> {
     }
 }
 
-impl<'v, G: Place, B: Encode + 'v, R: Views<'v>> Views<'v> for NeedsKnot<G, B, R> {
+impl<'v, G: Place, B: Encode + 'v, R: Views<'v>> Views<'v> for RequiredKnot<G, B, R> {
     type View = Both<&'v B, R::View>;
 
     ghost seen = { λ v. both v.0.now (R.seen v.1) };
@@ -126,7 +126,7 @@ impl<'v, G: Place, B: Encode + 'v, R: Views<'v>> Views<'v> for NeedsKnot<G, B, R
     }
 }
 
-impl<'v, G: Place, B: Encode + 'v, R: Views<'v>> Views<'v> for MayHaveKnot<G, B, R> {
+impl<'v, G: Place, B: Encode + 'v, R: Views<'v>> Views<'v> for OptionalKnot<G, B, R> {
     type View = Both<&'v Option<B>, R::View>;
 
     ghost seen = { λ v. both v.0.now (R.seen v.1) };

@@ -10,11 +10,11 @@ ghost use Rattle.oer_knots.specs.Reading.{ReadsKnots};
 use crate::ties::{DecodeInside, DecodeKnot, HoldsKnot};
 use asn1_core::{AsnType, Choice, DecodeError, EncodeError, Tag};
 use oer_choices::{
-    Alternating, AlternativeViews, Alternatives, Either, Offers, OneOf, ReadsAlternatives,
+    Alternating, Alternative, AlternativeViews, Alternatives, Either, OneOf, ReadsAlternatives,
     put_alternative,
 };
 use oer_read::{Decode, Decoder};
-use oer_rows::{Extensible, NoMore, Place};
+use oer_rows::{End, Extensible, Place};
 use oer_spec::Spelled;
 use oer_write::{Encode, Encoder};
 use std::alloc::Global;
@@ -22,7 +22,7 @@ use std::convert::Infallible;
 use std::marker::PhantomData;
 
 /// An alternative of type `B`, which holds knots, with the tag `G`, and the row `R` after it.
-pub struct OffersKnot<G, B, R>(PhantomData<(G, B, R)>);
+pub struct AlternativeKnot<G, B, R>(PhantomData<(G, B, R)>);
 
 /// Alternatives by the values of `K` that they hold.
 pub trait KnotAlternatives<K> {
@@ -42,7 +42,7 @@ pub trait KnotAlternatives<K> {
     ghost ties: { TiesChoice choices weight };
 }
 
-impl<K> KnotAlternatives<K> for NoMore {
+impl<K> KnotAlternatives<K> for End {
     ghost use Rattle.oer_choices.specs.Choosing.{no_choice};
     ghost use Rattle.oer_knots.specs.Choices.{no_choice_ties};
 
@@ -55,22 +55,22 @@ impl<K> KnotAlternatives<K> for NoMore {
     ghost ties = { no_choice_ties };
 }
 
-impl<K, G: Place, B: Spelled, R: KnotAlternatives<K>> KnotAlternatives<K> for Offers<G, B, R> {
+impl<K, G: Place, B: Spelled, R: KnotAlternatives<K>> KnotAlternatives<K> for Alternative<G, B, R> {
     ghost use Rattle.oer_rows.specs.Schema.{typed, typed_is};
     ghost use Rattle.oer_choices.specs.Choosing.{one_of};
-    ghost use Rattle.oer_knots.specs.Choices.{offers_weight, offers_ties};
+    ghost use Rattle.oer_knots.specs.Choices.{alternative_weight, alternative_ties};
 
     type Values = Either<B, R::Values>;
 
     ghost choices = { λ of. one_of G.tag (typed B.tree B.CONSTRAINTS B.IsValue) (R.choices of) };
 
-    ghost weight = { offers_weight G.tag (typed B.tree B.CONSTRAINTS B.IsValue) R.choices R.weight R.ties };
+    ghost weight = { alternative_weight G.tag (typed B.tree B.CONSTRAINTS B.IsValue) R.choices R.weight R.ties };
 
-    ghost ties = { offers_ties G.tag (typed B.tree B.CONSTRAINTS B.IsValue) R.choices R.weight R.ties (typed_is B.tree B.IsValue B.is_tree B.alike B.CONSTRAINTS B.consistent) };
+    ghost ties = { alternative_ties G.tag (typed B.tree B.CONSTRAINTS B.IsValue) R.choices R.weight R.ties (typed_is B.tree B.IsValue B.is_tree B.alike B.CONSTRAINTS B.consistent) };
 }
 
 impl<K, G: Place, B: HoldsKnot<K>, R: KnotAlternatives<K>> KnotAlternatives<K>
-    for OffersKnot<G, B, R> {
+    for AlternativeKnot<G, B, R> {
     ghost use Rattle.oer_choices.specs.Choosing.{one_of};
     ghost use Rattle.oer_knots.specs.Choices.{knot_weight, knot_ties};
 
@@ -96,7 +96,7 @@ impl<K, R: KnotAlternatives<K>> KnotAlternatives<K> for Extensible<R> {
     ghost ties = { adding_ties R.choices R.weight R.ties };
 }
 
-impl<G: Place, B: Spelled, R: Alternatives> Alternatives for OffersKnot<G, B, R> {
+impl<G: Place, B: Spelled, R: Alternatives> Alternatives for AlternativeKnot<G, B, R> {
     ghost use Rattle.oer_choices.specs.Choosing.{one_of, one_of_is};
     ghost use Rattle.oer_rows.specs.Schema.{typed, typed_is};
 
@@ -107,7 +107,7 @@ impl<G: Place, B: Spelled, R: Alternatives> Alternatives for OffersKnot<G, B, R>
     ghost are_choices = { one_of_is G.tag (typed B.tree B.CONSTRAINTS B.IsValue) R.choices (typed_is B.tree B.IsValue B.is_tree B.alike B.CONSTRAINTS B.consistent) R.are_choices };
 }
 
-impl<G: Place, B: Decode, R: ReadsAlternatives> ReadsAlternatives for OffersKnot<G, B, R> {
+impl<G: Place, B: Decode, R: ReadsAlternatives> ReadsAlternatives for AlternativeKnot<G, B, R> {
     ghost use Rattle.oer_choices.specs.Refusals.{AlternativeRefused};
 
     ghost Refuses = { λ g s e. AlternativeRefused G.tag (B.Answered B.CONSTRAINTS) R.Refuses g s e };
@@ -132,7 +132,7 @@ impl<G: Place, B: Decode, R: ReadsAlternatives> ReadsAlternatives for OffersKnot
 }
 
 impl<'v, G: Place, B: Encode + 'v, R: AlternativeViews<'v>> AlternativeViews<'v>
-    for OffersKnot<G, B, R> {
+    for AlternativeKnot<G, B, R> {
     type View = Either<&'v B, R::View>;
 
     ghost use Rattle.oer_choices.specs.declared.alternatives.Either.TheVariants.{First, Rest};
@@ -183,7 +183,7 @@ pub trait ReadsKnotAlternatives<K: Spelled>: Alternatives {
         ensures refused { IfErr result (λ e. (Self.refusing tag).Refuses (FnReturnsAtMut F.Fn knot.now) decoder.old e) };
 }
 
-impl<K: Spelled> ReadsKnotAlternatives<K> for NoMore {
+impl<K: Spelled> ReadsKnotAlternatives<K> for End {
     ghost use Rattle.oer_choices.specs.Refusals.{NoAlternative};
     ghost use Rattle.oer_knots.specs.Answering.{unknotted};
 
@@ -200,10 +200,10 @@ impl<K: Spelled> ReadsKnotAlternatives<K> for NoMore {
 }
 
 impl<K: Spelled, G: Place, B: Decode, R: ReadsKnotAlternatives<K>> ReadsKnotAlternatives<K>
-    for Offers<G, B, R> {
-    ghost use Rattle.oer_knots.specs.Answering.{plain, offered};
+    for Alternative<G, B, R> {
+    ghost use Rattle.oer_knots.specs.Answering.{plain, alternative_before};
 
-    ghost refusing = { offered G.tag (plain (B.Answered B.CONSTRAINTS)) R.refusing };
+    ghost refusing = { alternative_before G.tag (plain (B.Answered B.CONSTRAINTS)) R.refusing };
 
     fn read_knots<D: Choice, F: Fn(&mut Decoder<'_>) -> Result<K, DecodeError>>(
         alloc: Global,
@@ -226,10 +226,10 @@ impl<K: Spelled, G: Place, B: Decode, R: ReadsKnotAlternatives<K>> ReadsKnotAlte
 }
 
 impl<K: Spelled, G: Place, B: DecodeKnot<K>, R: ReadsKnotAlternatives<K>> ReadsKnotAlternatives<K>
-    for OffersKnot<G, B, R> {
-    ghost use Rattle.oer_knots.specs.Answering.{offered};
+    for AlternativeKnot<G, B, R> {
+    ghost use Rattle.oer_knots.specs.Answering.{alternative_before};
 
-    ghost refusing = { offered G.tag B.answering R.refusing };
+    ghost refusing = { alternative_before G.tag B.answering R.refusing };
 
     fn read_knots<D: Choice, F: Fn(&mut Decoder<'_>) -> Result<K, DecodeError>>(
         alloc: Global,

@@ -15,11 +15,11 @@ mod sequences;
 mod sets;
 mod ties;
 
-pub use additions::{KnotAdditions, MayAddKnot, ReadsKnotAdditions};
-pub use cells::{MayHaveKnot, NeedsKnot};
+pub use additions::{KnotAdditions, OptionalAdditionKnot, ReadsKnotAdditions};
+pub use cells::{OptionalKnot, RequiredKnot};
 pub use choices::{
-    KnotAlternating, KnotAlternatives, OffersKnot, ReadsKnotAlternatives, TakesKnotAlternative,
-    read_knot_alternative,
+    AlternativeKnot, KnotAlternating, KnotAlternatives, ReadsKnotAlternatives,
+    TakesKnotAlternative, read_knot_alternative,
 };
 pub use held::{Bare, Held};
 pub use knots::{Knot, Layered, decode_knotted, layer_of};

@@ -3,11 +3,14 @@
 use crate::additions::{KnotAdditions, ReadsKnotAdditions};
 use asn1_core::{Constructed, DecodeError};
 use oer_read::{Decode, Decoder};
-use oer_rows::{AddDefaults, Additions, Adds, Both, MayAddGroup, Place, ReadsAdditions, Standard};
+use oer_rows::{
+    AdditionGroup, Additions, Both, DefaultValue, DefaultedAddition, Place, ReadsAdditions,
+    RequiredAddition,
+};
 use oer_spec::{EqualAsSpelled, Spelled};
 use std::alloc::Global;
 
-impl<K, G: Place, B: Spelled, R: Additions> KnotAdditions<K> for Adds<G, B, R> {
+impl<K, G: Place, B: Spelled, R: Additions> KnotAdditions<K> for RequiredAddition<G, B, R> {
     ghost use Rattle.oer_rows.specs.Schema.{typed, typed_is, needed, needed_is};
     ghost use Rattle.oer_knots.specs.Rows.{no_weight};
     ghost use Rattle.oer_knots.specs.Additions.{plain_table_ties};
@@ -21,7 +24,8 @@ impl<K, G: Place, B: Spelled, R: Additions> KnotAdditions<K> for Adds<G, B, R> {
     ghost ties = { plain_table_ties (needed G.tag (typed B.tree B.CONSTRAINTS B.IsValue) (λ v. v.0) (λ v. v.1) R.table) (needed_is G.tag (typed B.tree B.CONSTRAINTS B.IsValue) (λ v. v.0) (λ v. v.1) R.table (typed_is B.tree B.IsValue B.is_tree B.alike B.CONSTRAINTS B.consistent) R.is_table) };
 }
 
-impl<K: Spelled, G: Place, B: Decode, R: ReadsAdditions> ReadsKnotAdditions<K> for Adds<G, B, R> {
+impl<K: Spelled, G: Place, B: Decode, R: ReadsAdditions> ReadsKnotAdditions<K>
+    for RequiredAddition<G, B, R> {
     ghost use Rattle.oer_knots.specs.Answering.{unknotted};
     ghost use Rattle.oer_rows.specs.Slots.{with_needed, needed_once};
 
@@ -31,7 +35,7 @@ impl<K: Spelled, G: Place, B: Decode, R: ReadsAdditions> ReadsKnotAdditions<K> f
 
     ghost filled_once = { needed_once R.filled R.filled_once };
 
-    ghost refusing = { unknotted ⟦<Adds<G, B, R> as ReadsAdditions>⟧.Refuses };
+    ghost refusing = { unknotted ⟦<RequiredAddition<G, B, R> as ReadsAdditions>⟧.Refuses };
 
     fn empty() -> Self::Slots {
         <Self as ReadsAdditions>::empty()
@@ -51,8 +55,8 @@ impl<K: Spelled, G: Place, B: Decode, R: ReadsAdditions> ReadsKnotAdditions<K> f
     }
 }
 
-impl<K, G: Place, B: EqualAsSpelled, D: Standard<B>, R: Additions> KnotAdditions<K>
-    for AddDefaults<G, B, D, R> {
+impl<K, G: Place, B: EqualAsSpelled, D: DefaultValue<B>, R: Additions> KnotAdditions<K>
+    for DefaultedAddition<G, B, D, R> {
     ghost use Rattle.oer_rows.specs.Schema.{typed, defaulted, defaulted_is};
     ghost use Rattle.oer_knots.specs.Rows.{no_weight};
     ghost use Rattle.oer_knots.specs.Additions.{plain_table_ties};
@@ -70,9 +74,9 @@ impl<
     K: Spelled,
     G: Place,
     B: Decode + EqualAsSpelled,
-    D: Standard<B>,
+    D: DefaultValue<B>,
     R: ReadsAdditions,
-> ReadsKnotAdditions<K> for AddDefaults<G, B, D, R> {
+> ReadsKnotAdditions<K> for DefaultedAddition<G, B, D, R> {
     ghost use Rattle.oer_knots.specs.Answering.{unknotted};
     ghost use Rattle.oer_rows.specs.Slots.{with_needed, needed_once};
 
@@ -82,7 +86,7 @@ impl<
 
     ghost filled_once = { needed_once R.filled R.filled_once };
 
-    ghost refusing = { unknotted ⟦<AddDefaults<G, B, D, R> as ReadsAdditions>⟧.Refuses };
+    ghost refusing = { unknotted ⟦<DefaultedAddition<G, B, D, R> as ReadsAdditions>⟧.Refuses };
 
     fn empty() -> Self::Slots {
         <Self as ReadsAdditions>::empty()
@@ -108,7 +112,7 @@ impl<
     const EC: usize,
     B: Spelled + Constructed<RC, EC>,
     R: Additions,
-> KnotAdditions<K> for MayAddGroup<RC, EC, B, R> {
+> KnotAdditions<K> for AdditionGroup<RC, EC, B, R> {
     ghost use Rattle.oer_rows.specs.Schema.{typed, typed_is, optional, optional_is};
     ghost use Rattle.oer_knots.specs.Rows.{no_weight};
     ghost use Rattle.oer_knots.specs.Additions.{plain_table_ties};
@@ -128,7 +132,7 @@ impl<
     const EC: usize,
     B: Decode + Constructed<RC, EC>,
     R: ReadsAdditions,
-> ReadsKnotAdditions<K> for MayAddGroup<RC, EC, B, R> {
+> ReadsKnotAdditions<K> for AdditionGroup<RC, EC, B, R> {
     ghost use Rattle.oer_knots.specs.Answering.{unknotted};
     ghost use Rattle.oer_rows.specs.Slots.{with_optional, optional_once};
 
@@ -138,7 +142,7 @@ impl<
 
     ghost filled_once = { optional_once R.filled R.filled_once };
 
-    ghost refusing = { unknotted ⟦<MayAddGroup<RC, EC, B, R> as ReadsAdditions>⟧.Refuses };
+    ghost refusing = { unknotted ⟦<AdditionGroup<RC, EC, B, R> as ReadsAdditions>⟧.Refuses };
 
     fn empty() -> Self::Slots {
         <Self as ReadsAdditions>::empty()

@@ -7,12 +7,13 @@ ghost use Rattle.oer_read.specs.Parts.{Takes, Stops};
 ghost use Rattle.oer_knots.specs.Reading.{ReadsKnots};
 
 use crate::additions::ReadsKnotAdditions;
-use crate::cells::{MayHaveKnot, NeedsKnot};
+use crate::cells::{OptionalKnot, RequiredKnot};
 use crate::ties::DecodeKnot;
 use asn1_core::{DecodeError, Tag};
 use oer_read::{Decode, Decoder};
 use oer_rows::{
-    Both, Components, Defaults, Extensible, MayHave, Needs, NoMore, Place, Standard, read_default,
+    Both, Components, DefaultValue, Defaulted, End, Extensible, Optional, Place, Required,
+    read_default,
 };
 use oer_spec::{EqualAsSpelled, Spelled};
 use std::alloc::Global;
@@ -80,7 +81,7 @@ fn read_optional<K: Spelled, B: DecodeKnot<K>, F: Fn(&mut Decoder<'_>) -> Result
     )
 }
 
-impl<K: Spelled> ReadsKnot<K> for NoMore {
+impl<K: Spelled> ReadsKnot<K> for End {
     ghost use Rattle.std.specs.Prelude.{refl};
     ghost use Rattle.oer_knots.specs.Answering.{unknotted};
 
@@ -137,7 +138,7 @@ impl<K: Spelled, R: ReadsKnotAdditions<K>> ReadsKnot<K> for Extensible<R> {
     }
 }
 
-impl<K: Spelled, G: Place, B: Decode, R: ReadsKnot<K>> ReadsKnot<K> for Needs<G, B, R> {
+impl<K: Spelled, G: Place, B: Decode, R: ReadsKnot<K>> ReadsKnot<K> for Required<G, B, R> {
     ghost use Rattle.oer_knots.specs.Answering.{plain, before};
     ghost use Rattle.oer_rows.specs.Slots.{with_needed, needed_once};
 
@@ -171,7 +172,7 @@ impl<K: Spelled, G: Place, B: Decode, R: ReadsKnot<K>> ReadsKnot<K> for Needs<G,
     }
 }
 
-impl<K: Spelled, G: Place, B: Decode, R: ReadsKnot<K>> ReadsKnot<K> for MayHave<G, B, R> {
+impl<K: Spelled, G: Place, B: Decode, R: ReadsKnot<K>> ReadsKnot<K> for Optional<G, B, R> {
     ghost use Rattle.oer_knots.specs.Answering.{plain, before};
     ghost use Rattle.oer_rows.specs.Slots.{with_optional, optional_once};
 
@@ -205,10 +206,15 @@ impl<K: Spelled, G: Place, B: Decode, R: ReadsKnot<K>> ReadsKnot<K> for MayHave<
     }
 }
 
-impl<K: Spelled, G: Place, B: Decode + EqualAsSpelled, D: Standard<B>, R: ReadsKnot<K>> ReadsKnot<K>
-    for Defaults<G, B, D, R> {
+impl<
+    K: Spelled,
+    G: Place,
+    B: Decode + EqualAsSpelled,
+    D: DefaultValue<B>,
+    R: ReadsKnot<K>,
+> ReadsKnot<K> for Defaulted<G, B, D, R> {
     ghost use Rattle.oer_knots.specs.Answering.{plain, before};
-    ghost use Rattle.oer_rows.specs.Standards.{AsksStandard};
+    ghost use Rattle.oer_rows.specs.DefaultValues.{AsksDefaultValue};
     ghost use Rattle.oer_rows.specs.Slots.{with_needed, needed_once};
 
     type Slots = Both<Option<B>, R::Slots>;
@@ -217,7 +223,7 @@ impl<K: Spelled, G: Place, B: Decode + EqualAsSpelled, D: Standard<B>, R: ReadsK
 
     ghost filled_once = { needed_once R.filled R.filled_once };
 
-    ghost refusing = { before (plain (λ s r t. AsksStandard (B.tree B.CONSTRAINTS) B.IsValue (B.Answered B.CONSTRAINTS) B.eq D.wants_memory s G.tag D.value r t)) R.refusing };
+    ghost refusing = { before (plain (λ s r t. AsksDefaultValue (B.tree B.CONSTRAINTS) B.IsValue (B.Answered B.CONSTRAINTS) B.eq D.wants_memory s G.tag D.value r t)) R.refusing };
 
     fn empty() -> Self::Slots {
         Both(None, R::empty())
@@ -241,7 +247,8 @@ impl<K: Spelled, G: Place, B: Decode + EqualAsSpelled, D: Standard<B>, R: ReadsK
     }
 }
 
-impl<K: Spelled, G: Place, B: DecodeKnot<K>, R: ReadsKnot<K>> ReadsKnot<K> for NeedsKnot<G, B, R> {
+impl<K: Spelled, G: Place, B: DecodeKnot<K>, R: ReadsKnot<K>> ReadsKnot<K>
+    for RequiredKnot<G, B, R> {
     ghost use Rattle.oer_knots.specs.Answering.{promised, before};
     ghost use Rattle.oer_rows.specs.Slots.{with_needed, needed_once};
 
@@ -276,7 +283,7 @@ impl<K: Spelled, G: Place, B: DecodeKnot<K>, R: ReadsKnot<K>> ReadsKnot<K> for N
 }
 
 impl<K: Spelled, G: Place, B: DecodeKnot<K>, R: ReadsKnot<K>> ReadsKnot<K>
-    for MayHaveKnot<G, B, R> {
+    for OptionalKnot<G, B, R> {
     ghost use Rattle.oer_knots.specs.Answering.{asked, before};
     ghost use Rattle.oer_rows.specs.Slots.{with_optional, optional_once};
 

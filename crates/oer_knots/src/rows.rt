@@ -1,9 +1,11 @@
 //! Rows with components that hold knots: how their trees and values follow from those of the knot.
 
 use crate::additions::KnotAdditions;
-use crate::cells::{MayHaveKnot, NeedsKnot};
+use crate::cells::{OptionalKnot, RequiredKnot};
 use crate::ties::HoldsKnot;
-use oer_rows::{Both, Components, Defaults, Extensible, MayHave, Needs, NoMore, Place, Standard};
+use oer_rows::{
+    Both, Components, DefaultValue, Defaulted, End, Extensible, Optional, Place, Required,
+};
 use oer_spec::{EqualAsSpelled, Spelled};
 
 /// A row by the values of `K` that its components hold.
@@ -28,7 +30,7 @@ pub trait KnotRow<K> {
     ghost ties: { TiesRow schema EXTENSIBLE weight };
 }
 
-impl<K> KnotRow<K> for NoMore {
+impl<K> KnotRow<K> for End {
     ghost use Rattle.std.specs.Prelude.{false};
     ghost use Rattle.oer_rows.specs.Schema.{empty, empty_is};
     ghost use Rattle.oer_knots.specs.Rows.{no_weight, plain_ties};
@@ -64,7 +66,7 @@ impl<K, R: KnotAdditions<K>> KnotRow<K> for Extensible<R> {
     ghost ties = { extended_ties R.table R.weight R.ties };
 }
 
-impl<K, G: Place, B: Spelled, R: KnotRow<K>> KnotRow<K> for Needs<G, B, R> {
+impl<K, G: Place, B: Spelled, R: KnotRow<K>> KnotRow<K> for Required<G, B, R> {
     ghost use Rattle.oer_rows.specs.Schema.{typed, typed_is, needed_then};
     ghost use Rattle.oer_knots.specs.Rows.{needed_ties};
 
@@ -81,7 +83,7 @@ impl<K, G: Place, B: Spelled, R: KnotRow<K>> KnotRow<K> for Needs<G, B, R> {
     ghost ties = { needed_ties G.tag (typed B.tree B.CONSTRAINTS B.IsValue) R.schema R.EXTENSIBLE R.weight R.ties (typed_is B.tree B.IsValue B.is_tree B.alike B.CONSTRAINTS B.consistent) };
 }
 
-impl<K, G: Place, B: Spelled, R: KnotRow<K>> KnotRow<K> for MayHave<G, B, R> {
+impl<K, G: Place, B: Spelled, R: KnotRow<K>> KnotRow<K> for Optional<G, B, R> {
     ghost use Rattle.oer_rows.specs.Schema.{typed, typed_is, optional_then};
     ghost use Rattle.oer_knots.specs.Rows.{optional_ties};
 
@@ -98,8 +100,8 @@ impl<K, G: Place, B: Spelled, R: KnotRow<K>> KnotRow<K> for MayHave<G, B, R> {
     ghost ties = { optional_ties G.tag (typed B.tree B.CONSTRAINTS B.IsValue) R.schema R.EXTENSIBLE R.weight R.ties (typed_is B.tree B.IsValue B.is_tree B.alike B.CONSTRAINTS B.consistent) };
 }
 
-impl<K, G: Place, B: EqualAsSpelled, D: Standard<B>, R: KnotRow<K>> KnotRow<K>
-    for Defaults<G, B, D, R> {
+impl<K, G: Place, B: EqualAsSpelled, D: DefaultValue<B>, R: KnotRow<K>> KnotRow<K>
+    for Defaulted<G, B, D, R> {
     ghost use Rattle.oer_rows.specs.Schema.{typed, default_then};
     ghost use Rattle.oer_knots.specs.Rows.{default_ties};
 
@@ -116,7 +118,7 @@ impl<K, G: Place, B: EqualAsSpelled, D: Standard<B>, R: KnotRow<K>> KnotRow<K>
     ghost ties = { default_ties G.tag (typed B.tree B.CONSTRAINTS B.IsValue) R.schema R.EXTENSIBLE R.weight R.ties B.eq D.value };
 }
 
-impl<K, G: Place, B: HoldsKnot<K>, R: KnotRow<K>> KnotRow<K> for NeedsKnot<G, B, R> {
+impl<K, G: Place, B: HoldsKnot<K>, R: KnotRow<K>> KnotRow<K> for RequiredKnot<G, B, R> {
     ghost use Rattle.oer_rows.specs.Schema.{needed_then};
     ghost use Rattle.oer_knots.specs.Rows.{needed_weight, needed_knot_ties};
 
@@ -133,7 +135,7 @@ impl<K, G: Place, B: HoldsKnot<K>, R: KnotRow<K>> KnotRow<K> for NeedsKnot<G, B,
     ghost ties = { needed_knot_ties G.tag B.tied B.weight R.schema R.EXTENSIBLE R.weight B.ties R.ties };
 }
 
-impl<K, G: Place, B: HoldsKnot<K>, R: KnotRow<K>> KnotRow<K> for MayHaveKnot<G, B, R> {
+impl<K, G: Place, B: HoldsKnot<K>, R: KnotRow<K>> KnotRow<K> for OptionalKnot<G, B, R> {
     ghost use Rattle.oer_rows.specs.Schema.{optional_then};
     ghost use Rattle.oer_knots.specs.Rows.{optional_weight, optional_knot_ties};
 

@@ -20,7 +20,7 @@ use Rattle.oer_read.specs.State.{State}
 use Rattle.oer_rows.specs.Schema.{Schema, IsSchema, IsOf, HasTables, tree_of}
 use Rattle.oer_read.specs.Additions.{Adds, Added, AddRefused}
 use Rattle.oer_rows.specs.Slots.{IfThere}
-use Rattle.oer_rows.specs.Standards.{Settles, AsksStandard, AddsStandard}
+use Rattle.oer_rows.specs.DefaultValues.{Settles, AsksDefaultValue, AddsDefaultValue}
 use Rattle.oer_read.specs.Components.{Asked, AskRefused, Asks}
 use Rattle.oer_read.specs.Defaults.{AsksDefault, AddsDefault, IsDefault, Defaulted, Unset, Set, DefaultRefused, NotRead, SpelledOut}
 use Rattle.oer_read.specs.Scopes.{SequenceRead, SequenceRefused}
@@ -108,35 +108,35 @@ added_default_value {B} tree IsPart Says eq s u answer flow v def handed g d p i
 -- ---- a component whose default may want memory
 
 -- the answer of a component that was asked, settled
-pub asks_standard : {B : Type 0} (tree : B → Tree) (IsPart : B → Type 0) (Says : State → Result B DecodeError → State → Type 0) (eq : B → B → Bool) (takes : Bool) (s u : State) (g : Tag) (def : B) (codec : Codec) (o : Option B) (result : Result B DecodeError)
-    → Asked tree IsPart Says s g o u → codec ≡ s.codec → Settles takes eq def codec o result → AsksStandard tree IsPart Says eq takes s g def result u
-asks_standard tree IsPart Says eq takes s u g def codec None (Ok v) a c k = record { read = record { read = Unset a k; same = tt; refused = tt }; refused = tt }
-asks_standard tree IsPart Says eq takes s u g def codec None (Err e) a c k = record { read = tt; refused = inl (k.0, (k.1.0, k.1.1 ∙ c)) }
-asks_standard tree IsPart Says eq takes s u g def codec (Some w) (Ok v) a c k =
+pub asks_default_value : {B : Type 0} (tree : B → Tree) (IsPart : B → Type 0) (Says : State → Result B DecodeError → State → Type 0) (eq : B → B → Bool) (takes : Bool) (s u : State) (g : Tag) (def : B) (codec : Codec) (o : Option B) (result : Result B DecodeError)
+    → Asked tree IsPart Says s g o u → codec ≡ s.codec → Settles takes eq def codec o result → AsksDefaultValue tree IsPart Says eq takes s g def result u
+asks_default_value tree IsPart Says eq takes s u g def codec None (Ok v) a c k = record { read = record { read = Unset a k; same = tt; refused = tt }; refused = tt }
+asks_default_value tree IsPart Says eq takes s u g def codec None (Err e) a c k = record { read = tt; refused = inl (k.0, (k.1.0, k.1.1 ∙ c)) }
+asks_default_value tree IsPart Says eq takes s u g def codec (Some w) (Ok v) a c k =
     let other : s.codec ≡ Coer → eq w def ≡ false = λ e. k.1 (c ∙ e) in
-    subst (λ (z : _). AsksStandard tree IsPart Says eq takes s g def (Ok z) u) (sym k.0) (record { read = record { read = Set a other; same = tt; refused = tt }; refused = tt })
-asks_standard tree IsPart Says eq takes s u g def codec (Some w) (Err e) a c k = record { read = tt; refused = inr (SpelledOut w u a (sym c ∙ k.0) k.1 (k.2 ∙ ap (λ (z : Codec). record { kind = NotValidCanonicalEncoding; codec = z }) c)) }
+    subst (λ (z : _). AsksDefaultValue tree IsPart Says eq takes s g def (Ok z) u) (sym k.0) (record { read = record { read = Set a other; same = tt; refused = tt }; refused = tt })
+asks_default_value tree IsPart Says eq takes s u g def codec (Some w) (Err e) a c k = record { read = tt; refused = inr (SpelledOut w u a (sym c ∙ k.0) k.1 (k.2 ∙ ap (λ (z : Codec). record { kind = NotValidCanonicalEncoding; codec = z }) c)) }
 
-pub asks_standard_not : {B : Type 0} (tree : B → Tree) (IsPart : B → Type 0) (Says : State → Result B DecodeError → State → Type 0) (eq : B → B → Bool) (takes : Bool) (Q : DecodeError → Type 0) (s u : State) (g : Tag) (def : B) (answer : Result (Option B) DecodeError) (flow : _) (x : _) (result : Result B DecodeError)
-    → Asks tree IsPart Says s g answer u → answer ≡ result_from_control_flow flow → flow ≡ Break x → IsErrAnd result Q → ((y : DecodeError) → Q y → y ≡ x.0) → AsksStandard tree IsPart Says eq takes s g def result u
-asks_standard_not tree IsPart Says eq takes Q s u g def answer flow x (Ok v) d e f h q = absurd h
-asks_standard_not tree IsPart Says eq takes Q s u g def answer flow x (Err y) d e f h q =
+pub asks_default_value_not : {B : Type 0} (tree : B → Tree) (IsPart : B → Type 0) (Says : State → Result B DecodeError → State → Type 0) (eq : B → B → Bool) (takes : Bool) (Q : DecodeError → Type 0) (s u : State) (g : Tag) (def : B) (answer : Result (Option B) DecodeError) (flow : _) (x : _) (result : Result B DecodeError)
+    → Asks tree IsPart Says s g answer u → answer ≡ result_from_control_flow flow → flow ≡ Break x → IsErrAnd result Q → ((y : DecodeError) → Q y → y ≡ x.0) → AsksDefaultValue tree IsPart Says eq takes s g def result u
+asks_default_value_not tree IsPart Says eq takes Q s u g def answer flow x (Ok v) d e f h q = absurd h
+asks_default_value_not tree IsPart Says eq takes Q s u g def answer flow x (Err y) d e f h q =
     let n = at_err (λ y. AskRefused tree IsPart Says s g y) answer flow x e f d.refused in
     record { read = tt; refused = inr (NotRead (subst (λ (z : DecodeError). AskRefused tree IsPart Says s g z) (sym (q y h)) n)) }
 
-pub adds_standard : {B : Type 0} (tree : B → Tree) (IsPart : B → Type 0) (Says : State → Result B DecodeError → State → Type 0) (eq : B → B → Bool) (takes : Bool) (s u : State) (g : Tag) (def : B) (codec : Codec) (o : Option B) (result : Result B DecodeError)
-    → Added tree IsPart Says s (Some g) o u → AreOctets s.input → codec ≡ s.codec → Settles takes eq def codec o result → AddsStandard tree IsPart Says eq takes s g def result u
-adds_standard tree IsPart Says eq takes s u g def codec None (Ok v) a i c k = record { read = record { read = Unset a k; same = tt; refused = tt; octets = i }; refused = tt; octets = i }
-adds_standard tree IsPart Says eq takes s u g def codec None (Err e) a i c k = record { read = tt; refused = inl (k.0, (k.1.0, k.1.1 ∙ c)); octets = i }
-adds_standard tree IsPart Says eq takes s u g def codec (Some w) (Ok v) a i c k =
+pub adds_default_value : {B : Type 0} (tree : B → Tree) (IsPart : B → Type 0) (Says : State → Result B DecodeError → State → Type 0) (eq : B → B → Bool) (takes : Bool) (s u : State) (g : Tag) (def : B) (codec : Codec) (o : Option B) (result : Result B DecodeError)
+    → Added tree IsPart Says s (Some g) o u → AreOctets s.input → codec ≡ s.codec → Settles takes eq def codec o result → AddsDefaultValue tree IsPart Says eq takes s g def result u
+adds_default_value tree IsPart Says eq takes s u g def codec None (Ok v) a i c k = record { read = record { read = Unset a k; same = tt; refused = tt; octets = i }; refused = tt; octets = i }
+adds_default_value tree IsPart Says eq takes s u g def codec None (Err e) a i c k = record { read = tt; refused = inl (k.0, (k.1.0, k.1.1 ∙ c)); octets = i }
+adds_default_value tree IsPart Says eq takes s u g def codec (Some w) (Ok v) a i c k =
     let other : s.codec ≡ Coer → eq w def ≡ false = λ e. k.1 (c ∙ e) in
-    subst (λ (z : _). AddsStandard tree IsPart Says eq takes s g def (Ok z) u) (sym k.0) (record { read = record { read = Set a other; same = tt; refused = tt; octets = i }; refused = tt; octets = i })
-adds_standard tree IsPart Says eq takes s u g def codec (Some w) (Err e) a i c k = record { read = tt; refused = inr (SpelledOut w u a (sym c ∙ k.0) k.1 (k.2 ∙ ap (λ (z : Codec). record { kind = NotValidCanonicalEncoding; codec = z }) c)); octets = i }
+    subst (λ (z : _). AddsDefaultValue tree IsPart Says eq takes s g def (Ok z) u) (sym k.0) (record { read = record { read = Set a other; same = tt; refused = tt; octets = i }; refused = tt; octets = i })
+adds_default_value tree IsPart Says eq takes s u g def codec (Some w) (Err e) a i c k = record { read = tt; refused = inr (SpelledOut w u a (sym c ∙ k.0) k.1 (k.2 ∙ ap (λ (z : Codec). record { kind = NotValidCanonicalEncoding; codec = z }) c)); octets = i }
 
-pub adds_standard_not : {B : Type 0} (tree : B → Tree) (IsPart : B → Type 0) (Says : State → Result B DecodeError → State → Type 0) (eq : B → B → Bool) (takes : Bool) (Q : DecodeError → Type 0) (s u : State) (g : Tag) (def : B) (answer : Result (Option B) DecodeError) (flow : _) (x : _) (result : Result B DecodeError)
-    → Adds tree IsPart Says s (Some g) answer u → answer ≡ result_from_control_flow flow → flow ≡ Break x → IsErrAnd result Q → ((y : DecodeError) → Q y → y ≡ x.0) → AddsStandard tree IsPart Says eq takes s g def result u
-adds_standard_not tree IsPart Says eq takes Q s u g def answer flow x (Ok v) d e f h q = absurd h
-adds_standard_not tree IsPart Says eq takes Q s u g def answer flow x (Err y) d e f h q =
+pub adds_default_value_not : {B : Type 0} (tree : B → Tree) (IsPart : B → Type 0) (Says : State → Result B DecodeError → State → Type 0) (eq : B → B → Bool) (takes : Bool) (Q : DecodeError → Type 0) (s u : State) (g : Tag) (def : B) (answer : Result (Option B) DecodeError) (flow : _) (x : _) (result : Result B DecodeError)
+    → Adds tree IsPart Says s (Some g) answer u → answer ≡ result_from_control_flow flow → flow ≡ Break x → IsErrAnd result Q → ((y : DecodeError) → Q y → y ≡ x.0) → AddsDefaultValue tree IsPart Says eq takes s g def result u
+adds_default_value_not tree IsPart Says eq takes Q s u g def answer flow x (Ok v) d e f h q = absurd h
+adds_default_value_not tree IsPart Says eq takes Q s u g def answer flow x (Err y) d e f h q =
     let n = at_err (λ y. AddRefused tree IsPart Says s (Some g) y) answer flow x e f d.refused in
     record { read = tt; refused = inr (NotRead (subst (λ (z : DecodeError). AddRefused tree IsPart Says s (Some g) z) (sym (q y h)) n)); octets = d.octets }
 
@@ -145,23 +145,23 @@ memory_stops : {A : Type 0} (s : State) (ps qs : Parts) (x y : DecodeError) → 
 memory_stops s ps qs x y m e = record { mode = ap (λ (z : DecodeError). z.codec) e ∙ m.1; none = λ n. absurd (n (ap (λ (z : DecodeError). z.kind) e ∙ m.0)) }
 
 module _ {B : Type 0} (tree : B → Tree) (IsPart : B → Type 0) (Says : State → Result B DecodeError → State → Type 0) (eq : B → B → Bool) (takes : Bool) where
-  pub standard_read : (s u t : State) (answer : Result B DecodeError) (flow : _) (v def : B) (k g : Tag) (w : Tree) (sl : Slot) (ps qs : Parts) (r a : Rows)
-      → AsksStandard tree IsPart Says eq takes s k def answer u → answer ≡ result_from_control_flow flow → flow ≡ Continue v → k ≡ g → IsDefault tree IsPart eq def → w ≡ tree def → sl ≡ present_unless (eq v def) (tree v) → Takes u ps qs r a t
+  pub default_value_read : (s u t : State) (answer : Result B DecodeError) (flow : _) (v def : B) (k g : Tag) (w : Tree) (sl : Slot) (ps qs : Parts) (r a : Rows)
+      → AsksDefaultValue tree IsPart Says eq takes s k def answer u → answer ≡ result_from_control_flow flow → flow ≡ Continue v → k ≡ g → IsDefault tree IsPart eq def → w ≡ tree def → sl ≡ present_unless (eq v def) (tree v) → Takes u ps qs r a t
       → Takes s (DefaultPart g w (Admits tree IsPart) ps) qs (Default g w sl r) a t
-  standard_read s u t answer flow v def k g w sl ps qs r a d e f p known i j took =
+  default_value_read s u t answer flow v def k g w sl ps qs r a d e f p known i j took =
       default_read tree IsPart Says eq s u t (Ok v) (Continue v) v def def g k w sl ps qs r a (at_ok (λ v. AsksDefault tree IsPart Says eq s k def (Ok v) u) answer flow v e f d.read) p refl refl refl known i j took
 
-  pub standard_passed : {A : Type 0} (s u : State) (answer : Result B DecodeError) (flow : _) (v def : B) (k g : Tag) (w : Tree) (ps qs : Parts) (result : Result A DecodeError)
-      → AsksStandard tree IsPart Says eq takes s k def answer u → answer ≡ result_from_control_flow flow → flow ≡ Continue v → k ≡ g → IsDefault tree IsPart eq def → w ≡ tree def → Stops u ps qs result
+  pub default_value_passed : {A : Type 0} (s u : State) (answer : Result B DecodeError) (flow : _) (v def : B) (k g : Tag) (w : Tree) (ps qs : Parts) (result : Result A DecodeError)
+      → AsksDefaultValue tree IsPart Says eq takes s k def answer u → answer ≡ result_from_control_flow flow → flow ≡ Continue v → k ≡ g → IsDefault tree IsPart eq def → w ≡ tree def → Stops u ps qs result
       → Stops s (DefaultPart g w (Admits tree IsPart) ps) qs result
-  standard_passed s u answer flow v def k g w ps qs result d e f p known i took =
+  default_value_passed s u answer flow v def k g w ps qs result d e f p known i took =
       default_passed tree IsPart Says eq s u (Ok v) (Continue v) v def def g k w ps qs result (at_ok (λ v. AsksDefault tree IsPart Says eq s k def (Ok v) u) answer flow v e f d.read) p refl refl refl known i took
 
-  pub standard_stops : {A : Type 0} (Q : DecodeError → Type 0) (s u : State) (answer : Result B DecodeError) (flow : _) (x : _) (def : B) (k g : Tag) (w : Tree) (ps qs : Parts) (result : Result A DecodeError)
-      → AsksStandard tree IsPart Says eq takes s k def answer u → answer ≡ result_from_control_flow flow → flow ≡ Break x → k ≡ g → IsDefault tree IsPart eq def → w ≡ tree def → IsErrAnd result Q → ((y : DecodeError) → Q y → y ≡ x.0)
+  pub default_value_stops : {A : Type 0} (Q : DecodeError → Type 0) (s u : State) (answer : Result B DecodeError) (flow : _) (x : _) (def : B) (k g : Tag) (w : Tree) (ps qs : Parts) (result : Result A DecodeError)
+      → AsksDefaultValue tree IsPart Says eq takes s k def answer u → answer ≡ result_from_control_flow flow → flow ≡ Break x → k ≡ g → IsDefault tree IsPart eq def → w ≡ tree def → IsErrAnd result Q → ((y : DecodeError) → Q y → y ≡ x.0)
       → Stops s (DefaultPart g w (Admits tree IsPart) ps) qs result
-  standard_stops Q s u answer flow x def k g w ps qs (Ok z) d e f p known i l b = absurd l
-  standard_stops {A} Q s u answer flow x def k g w ps qs (Err y) d e f p known i l b = go (at_err (λ y. ((takes ≡ true) × WantsMemory s y) ⊎ WasRefused y) answer flow x e f d.refused)
+  default_value_stops Q s u answer flow x def k g w ps qs (Ok z) d e f p known i l b = absurd l
+  default_value_stops {A} Q s u answer flow x def k g w ps qs (Err y) d e f p known i l b = go (at_err (λ y. ((takes ≡ true) × WantsMemory s y) ⊎ WasRefused y) answer flow x e f d.refused)
     where
       WasRefused : DecodeError → Type 0
       WasRefused y = DefaultRefused eq (Asked tree IsPart Says s k) (AskRefused tree IsPart Says s k) s def y
@@ -170,29 +170,29 @@ module _ {B : Type 0} (tree : B → Tree) (IsPart : B → Type 0) (Says : State 
       go (inl m) = memory_stops s (DefaultPart g w (Admits tree IsPart) ps) qs x.0 y m.1 (b y l)
       go (inr n) = default_stops tree IsPart Says eq Q s s (Err x.0) (Break x) x def def g k w ps qs (Err y) (record { read = tt; same = refl; refused = n }) p refl refl refl known i l b
 
-  pub standard_value : (s u : State) (answer : Result B DecodeError) (flow : _) (v def : B) (g : Tag)
-      → AsksStandard tree IsPart Says eq takes s g def answer u → IsPart def → answer ≡ result_from_control_flow flow → flow ≡ Continue v → IsPart v
-  standard_value s u answer flow v def g d i e f =
+  pub default_value_admitted : (s u : State) (answer : Result B DecodeError) (flow : _) (v def : B) (g : Tag)
+      → AsksDefaultValue tree IsPart Says eq takes s g def answer u → IsPart def → answer ≡ result_from_control_flow flow → flow ≡ Continue v → IsPart v
+  default_value_admitted s u answer flow v def g d i e f =
       default_value tree IsPart Says eq s u (Ok v) (Continue v) v def def g (at_ok (λ v. AsksDefault tree IsPart Says eq s g def (Ok v) u) answer flow v e f d.read) refl i refl refl
 
   -- the same of an addition
-  pub standard_addition_read : (s u t : State) (answer : Result B DecodeError) (flow : _) (v def : B) (k g : Tag) (w : Tree) (sl : Slot) (qs : Parts) (a : Rows)
-      → AddsStandard tree IsPart Says eq takes s k def answer u → answer ≡ result_from_control_flow flow → flow ≡ Continue v → IsDefault tree IsPart eq def → k ≡ g → w ≡ tree def → sl ≡ present_unless (eq v def) (tree v) → Takes u NoParts qs NoRows a t
+  pub added_default_value_read : (s u t : State) (answer : Result B DecodeError) (flow : _) (v def : B) (k g : Tag) (w : Tree) (sl : Slot) (qs : Parts) (a : Rows)
+      → AddsDefaultValue tree IsPart Says eq takes s k def answer u → answer ≡ result_from_control_flow flow → flow ≡ Continue v → IsDefault tree IsPart eq def → k ≡ g → w ≡ tree def → sl ≡ present_unless (eq v def) (tree v) → Takes u NoParts qs NoRows a t
       → Takes s NoParts (DefaultPart g w (Admits tree IsPart) qs) NoRows (Default g w sl a) t
-  standard_addition_read s u t answer flow v def k g w sl qs a d e f known p i j took =
+  added_default_value_read s u t answer flow v def k g w sl qs a d e f known p i j took =
       default_addition_read tree IsPart Says eq s u t (Ok v) (Continue v) v def def k g w sl qs a (at_ok (λ v. AddsDefault tree IsPart Says eq s k def (Ok v) u) answer flow v e f d.read) refl refl refl known p i j took
 
-  pub standard_addition_passed : {A : Type 0} (s u : State) (answer : Result B DecodeError) (flow : _) (v def : B) (k g : Tag) (w : Tree) (qs : Parts) (result : Result A DecodeError)
-      → AddsStandard tree IsPart Says eq takes s k def answer u → answer ≡ result_from_control_flow flow → flow ≡ Continue v → IsDefault tree IsPart eq def → k ≡ g → w ≡ tree def → Stops u NoParts qs result
+  pub added_default_value_passed : {A : Type 0} (s u : State) (answer : Result B DecodeError) (flow : _) (v def : B) (k g : Tag) (w : Tree) (qs : Parts) (result : Result A DecodeError)
+      → AddsDefaultValue tree IsPart Says eq takes s k def answer u → answer ≡ result_from_control_flow flow → flow ≡ Continue v → IsDefault tree IsPart eq def → k ≡ g → w ≡ tree def → Stops u NoParts qs result
       → Stops s NoParts (DefaultPart g w (Admits tree IsPart) qs) result
-  standard_addition_passed s u answer flow v def k g w qs result d e f known p i took =
+  added_default_value_passed s u answer flow v def k g w qs result d e f known p i took =
       default_addition_passed tree IsPart Says eq s u (Ok v) (Continue v) v def def k g w qs result (at_ok (λ v. AddsDefault tree IsPart Says eq s k def (Ok v) u) answer flow v e f d.read) refl refl refl known p i took
 
-  pub standard_addition_stops : {A : Type 0} (Q : DecodeError → Type 0) (s u : State) (answer : Result B DecodeError) (flow : _) (x : _) (def : B) (k g : Tag) (w : Tree) (qs : Parts) (result : Result A DecodeError)
-      → AddsStandard tree IsPart Says eq takes s k def answer u → answer ≡ result_from_control_flow flow → flow ≡ Break x → IsDefault tree IsPart eq def → k ≡ g → w ≡ tree def → IsErrAnd result Q → ((y : DecodeError) → Q y → y ≡ x.0)
+  pub added_default_value_stops : {A : Type 0} (Q : DecodeError → Type 0) (s u : State) (answer : Result B DecodeError) (flow : _) (x : _) (def : B) (k g : Tag) (w : Tree) (qs : Parts) (result : Result A DecodeError)
+      → AddsDefaultValue tree IsPart Says eq takes s k def answer u → answer ≡ result_from_control_flow flow → flow ≡ Break x → IsDefault tree IsPart eq def → k ≡ g → w ≡ tree def → IsErrAnd result Q → ((y : DecodeError) → Q y → y ≡ x.0)
       → Stops s NoParts (DefaultPart g w (Admits tree IsPart) qs) result
-  standard_addition_stops Q s u answer flow x def k g w qs (Ok z) d e f known p i l b = absurd l
-  standard_addition_stops {A} Q s u answer flow x def k g w qs (Err y) d e f known p i l b = go (at_err (λ y. ((takes ≡ true) × WantsMemory s y) ⊎ WasRefused y) answer flow x e f d.refused)
+  added_default_value_stops Q s u answer flow x def k g w qs (Ok z) d e f known p i l b = absurd l
+  added_default_value_stops {A} Q s u answer flow x def k g w qs (Err y) d e f known p i l b = go (at_err (λ y. ((takes ≡ true) × WantsMemory s y) ⊎ WasRefused y) answer flow x e f d.refused)
     where
       WasRefused : DecodeError → Type 0
       WasRefused y = DefaultRefused eq (Added tree IsPart Says s (Some k)) (AddRefused tree IsPart Says s (Some k)) s def y
@@ -201,9 +201,9 @@ module _ {B : Type 0} (tree : B → Tree) (IsPart : B → Type 0) (Says : State 
       go (inl m) = memory_stops s NoParts (DefaultPart g w (Admits tree IsPart) qs) x.0 y m.1 (b y l)
       go (inr n) = default_addition_stops tree IsPart Says eq Q s s (Err x.0) (Break x) x def def k g w qs (Err y) (record { read = tt; same = refl; refused = n; octets = d.octets }) refl refl refl known p i l b
 
-  pub standard_addition_value : (s u : State) (answer : Result B DecodeError) (flow : _) (v def : B) (g : Tag)
-      → AddsStandard tree IsPart Says eq takes s g def answer u → IsPart def → answer ≡ result_from_control_flow flow → flow ≡ Continue v → IsPart v
-  standard_addition_value s u answer flow v def g d i e f =
+  pub added_default_value_admitted : (s u : State) (answer : Result B DecodeError) (flow : _) (v def : B) (g : Tag)
+      → AddsDefaultValue tree IsPart Says eq takes s g def answer u → IsPart def → answer ≡ result_from_control_flow flow → flow ≡ Continue v → IsPart v
+  added_default_value_admitted s u answer flow v def g d i e f =
       added_default_value tree IsPart Says eq s u (Ok v) (Continue v) v def def g (at_ok (λ v. AddsDefault tree IsPart Says eq s g def (Ok v) u) answer flow v e f d.read) refl i refl refl
 
 -- ---- what is admitted of a component that may be absent
@@ -273,4 +273,4 @@ schema_law {A} k of_row is_schema of extensible table more tables tree IsValue i
     ran (Err e) d = tt
 
 -- the components before, and the rest
-pub ruleset chained = (asked_there, added_there, reading, standard_read, standard_passed, standard_stops, standard_addition_read, standard_addition_passed, standard_addition_stops, added_read, added_passed, added_stops, needed_added_read, needed_added_passed, needed_added_absent, needed_added_stops, rest_stops)
+pub ruleset chained = (asked_there, added_there, reading, default_value_read, default_value_passed, default_value_stops, added_default_value_read, added_default_value_passed, added_default_value_stops, added_read, added_passed, added_stops, needed_added_read, needed_added_passed, needed_added_absent, needed_added_stops, rest_stops)

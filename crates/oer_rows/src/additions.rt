@@ -5,7 +5,7 @@ ghost use Rattle.oer_read.specs.Additions.{Adds};
 ghost use Rattle.oer_read.specs.Parts.{NoParts, Takes, Stops};
 
 use crate::both::Both;
-use crate::components::{Components, NoMore, Reads};
+use crate::components::{Components, End, Reads};
 use crate::places::Place;
 use asn1_core::{DecodeError, Tag};
 use oer_read::{Decode, Decoder};
@@ -68,7 +68,7 @@ pub trait ReadsAdditions: Additions {
 pub struct Extensible<R>(PhantomData<R>);
 
 /// An OPTIONAL addition of type `B` with the tag `G`, and those after it.
-pub struct MayAdd<G, B, R>(PhantomData<(G, B, R)>);
+pub struct OptionalAddition<G, B, R>(PhantomData<(G, B, R)>);
 
 /// Reads an OPTIONAL addition under its type's constraints (X.696, 16.4 and 30).
 ///
@@ -84,7 +84,7 @@ pub fn read_addition<B: Decode>(
     decoder.decode_extension_addition_with_tag_and_constraints(alloc, tag, B::CONSTRAINTS)
 }
 
-impl Additions for NoMore {
+impl Additions for End {
     ghost use Rattle.oer_rows.specs.Schema.{none, none_is};
 
     type More = ();
@@ -94,7 +94,7 @@ impl Additions for NoMore {
     ghost is_table = { none_is };
 }
 
-impl ReadsAdditions for NoMore {
+impl ReadsAdditions for End {
     ghost use Rattle.std.specs.Prelude.{refl};
 
     type Slots = ();
@@ -125,7 +125,7 @@ impl ReadsAdditions for NoMore {
     }
 }
 
-impl<G: Place, B: Spelled, R: Additions> Additions for MayAdd<G, B, R> {
+impl<G: Place, B: Spelled, R: Additions> Additions for OptionalAddition<G, B, R> {
     ghost use Rattle.oer_rows.specs.Schema.{typed, typed_is, optional, optional_is};
 
     type More = Both<Option<B>, R::More>;
@@ -135,7 +135,7 @@ impl<G: Place, B: Spelled, R: Additions> Additions for MayAdd<G, B, R> {
     ghost is_table = { optional_is G.tag (typed B.tree B.CONSTRAINTS B.IsValue) (λ v. v.0) (λ v. v.1) R.table (typed_is B.tree B.IsValue B.is_tree B.alike B.CONSTRAINTS B.consistent) R.is_table };
 }
 
-impl<G: Place, B: Decode, R: ReadsAdditions> ReadsAdditions for MayAdd<G, B, R> {
+impl<G: Place, B: Decode, R: ReadsAdditions> ReadsAdditions for OptionalAddition<G, B, R> {
     ghost use Rattle.std.specs.Prelude.{Some};
     ghost use Rattle.oer_read.specs.Additions.{Adds};
     ghost use Rattle.oer_rows.specs.Refusals.{RowRefused};

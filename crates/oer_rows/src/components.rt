@@ -4,7 +4,7 @@ ghost use Rattle.oer_read.specs.Parts.{Takes, Stops};
 
 use crate::both::Both;
 use crate::defaults::read_default;
-use crate::places::{Place, Standard};
+use crate::places::{DefaultValue, Place};
 use asn1_core::DecodeError;
 use oer_read::{Decode, Decoder};
 use oer_spec::{EqualAsSpelled, Spelled};
@@ -73,19 +73,19 @@ pub trait Reads: Components {
         ensures { slots ≡ filled result };
 }
 
-/// No further component.
-pub struct NoMore;
+/// The end of a row: no further component.
+pub struct End;
 
-/// A required component of type `B` with the tag `G`, and the row `R` after it.
-pub struct Needs<G, B, R>(PhantomData<(G, B, R)>);
+/// A component of type `B` with the tag `G` that is neither OPTIONAL nor DEFAULT, and the row `R` after it.
+pub struct Required<G, B, R>(PhantomData<(G, B, R)>);
 
 /// An OPTIONAL component of type `B` with the tag `G`, and the row `R` after it.
-pub struct MayHave<G, B, R>(PhantomData<(G, B, R)>);
+pub struct Optional<G, B, R>(PhantomData<(G, B, R)>);
 
 /// A component of type `B` with the tag `G` and the DEFAULT `D`, and the row `R` after it.
-pub struct Defaults<G, B, D, R>(PhantomData<(G, B, D, R)>);
+pub struct Defaulted<G, B, D, R>(PhantomData<(G, B, D, R)>);
 
-impl Components for NoMore {
+impl Components for End {
     ghost use Rattle.std.specs.Prelude.{false};
     ghost use Rattle.oer_rows.specs.Schema.{empty, empty_is};
 
@@ -100,7 +100,7 @@ impl Components for NoMore {
     ghost is_schema = { empty_is };
 }
 
-impl Reads for NoMore {
+impl Reads for End {
     ghost use Rattle.std.specs.Prelude.{refl};
     ghost use Rattle.oer_rows.specs.Schema.{empty};
 
@@ -132,7 +132,7 @@ impl Reads for NoMore {
     }
 }
 
-impl<G: Place, B: Spelled, R: Components> Components for Needs<G, B, R> {
+impl<G: Place, B: Spelled, R: Components> Components for Required<G, B, R> {
     ghost use Rattle.oer_rows.specs.Schema.{typed, typed_is, needed_then, needed_then_is};
 
     type Values = Both<B, R::Values>;
@@ -146,7 +146,7 @@ impl<G: Place, B: Spelled, R: Components> Components for Needs<G, B, R> {
     ghost is_schema = { needed_then_is G.tag (typed B.tree B.CONSTRAINTS B.IsValue) R.schema R.EXTENSIBLE (typed_is B.tree B.IsValue B.is_tree B.alike B.CONSTRAINTS B.consistent) R.is_schema };
 }
 
-impl<G: Place, B: Decode, R: Reads> Reads for Needs<G, B, R> {
+impl<G: Place, B: Decode, R: Reads> Reads for Required<G, B, R> {
     ghost use Rattle.oer_read.specs.Law.{Promised};
     ghost use Rattle.oer_rows.specs.Refusals.{RowRefused};
     ghost use Rattle.oer_rows.specs.Slots.{with_needed, needed_once};
@@ -183,7 +183,7 @@ impl<G: Place, B: Decode, R: Reads> Reads for Needs<G, B, R> {
     }
 }
 
-impl<G: Place, B: Spelled, R: Components> Components for MayHave<G, B, R> {
+impl<G: Place, B: Spelled, R: Components> Components for Optional<G, B, R> {
     ghost use Rattle.oer_rows.specs.Schema.{typed, typed_is, optional_then, optional_then_is};
 
     type Values = Both<Option<B>, R::Values>;
@@ -197,7 +197,7 @@ impl<G: Place, B: Spelled, R: Components> Components for MayHave<G, B, R> {
     ghost is_schema = { optional_then_is G.tag (typed B.tree B.CONSTRAINTS B.IsValue) R.schema R.EXTENSIBLE (typed_is B.tree B.IsValue B.is_tree B.alike B.CONSTRAINTS B.consistent) R.is_schema };
 }
 
-impl<G: Place, B: Decode, R: Reads> Reads for MayHave<G, B, R> {
+impl<G: Place, B: Decode, R: Reads> Reads for Optional<G, B, R> {
     ghost use Rattle.oer_read.specs.Components.{Asks};
     ghost use Rattle.oer_rows.specs.Refusals.{RowRefused};
     ghost use Rattle.oer_rows.specs.Slots.{with_optional, optional_once};
@@ -234,8 +234,8 @@ impl<G: Place, B: Decode, R: Reads> Reads for MayHave<G, B, R> {
     }
 }
 
-impl<G: Place, B: EqualAsSpelled, D: Standard<B>, R: Components> Components
-    for Defaults<G, B, D, R> {
+impl<G: Place, B: EqualAsSpelled, D: DefaultValue<B>, R: Components> Components
+    for Defaulted<G, B, D, R> {
     ghost use Rattle.oer_rows.specs.Schema.{typed, default_then, default_then_is};
 
     type Values = Both<B, R::Values>;
@@ -249,9 +249,9 @@ impl<G: Place, B: EqualAsSpelled, D: Standard<B>, R: Components> Components
     ghost is_schema = { default_then_is G.tag (typed B.tree B.CONSTRAINTS B.IsValue) B.eq D.value R.schema R.EXTENSIBLE R.is_schema };
 }
 
-impl<G: Place, B: Decode + EqualAsSpelled, D: Standard<B>, R: Reads> Reads
-    for Defaults<G, B, D, R> {
-    ghost use Rattle.oer_rows.specs.Standards.{AsksStandard};
+impl<G: Place, B: Decode + EqualAsSpelled, D: DefaultValue<B>, R: Reads> Reads
+    for Defaulted<G, B, D, R> {
+    ghost use Rattle.oer_rows.specs.DefaultValues.{AsksDefaultValue};
     ghost use Rattle.oer_rows.specs.Refusals.{RowRefused};
     ghost use Rattle.oer_rows.specs.Slots.{with_needed, needed_once};
 
@@ -261,7 +261,7 @@ impl<G: Place, B: Decode + EqualAsSpelled, D: Standard<B>, R: Reads> Reads
 
     ghost filled_once = { needed_once R.filled R.filled_once };
 
-    ghost Refuses = { λ s e. RowRefused (λ r t. AsksStandard (B.tree B.CONSTRAINTS) B.IsValue (B.Answered B.CONSTRAINTS) B.eq D.wants_memory s G.tag D.value r t) R.Refuses e };
+    ghost Refuses = { λ s e. RowRefused (λ r t. AsksDefaultValue (B.tree B.CONSTRAINTS) B.IsValue (B.Answered B.CONSTRAINTS) B.eq D.wants_memory s G.tag D.value r t) R.Refuses e };
 
     #[inline(always)]
     fn empty() -> Self::Slots {

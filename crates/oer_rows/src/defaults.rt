@@ -1,8 +1,8 @@
 //! Components with a DEFAULT that are read: the default is made only where nothing is spelled.
-ghost use Rattle.oer_rows.specs.Standards.{Settles, AsksStandard, AddsStandard};
+ghost use Rattle.oer_rows.specs.DefaultValues.{Settles, AsksDefaultValue, AddsDefaultValue};
 
 use crate::additions::read_addition;
-use crate::places::Standard;
+use crate::places::DefaultValue;
 use asn1_core::{Codec, DecodeError, DecodeErrorKind, Tag};
 use oer_read::{Decode, Decoder};
 use oer_spec::EqualAsSpelled;
@@ -13,7 +13,7 @@ use std::alloc::Global;
 /// Refused: the default, for want of memory where it takes any; a value that is equal to it in canonical mode, as `NotValidCanonicalEncoding` (X.696, 16.2
 /// and 18).
 #[inline(always)]
-fn settled<D: Standard<B>, B: EqualAsSpelled>(
+fn settled<D: DefaultValue<B>, B: EqualAsSpelled>(
     alloc: Global,
     codec: Codec,
     spelled: Option<B>,
@@ -42,12 +42,12 @@ fn settled<D: Standard<B>, B: EqualAsSpelled>(
 ///
 /// Refused as an optional component is; then as `settled` refuses.
 #[inline(always)]
-pub fn read_default<D: Standard<B>, B: Decode + EqualAsSpelled>(
+pub fn read_default<D: DefaultValue<B>, B: Decode + EqualAsSpelled>(
     alloc: Global,
     decoder: &mut Decoder<'_>,
     tag: Tag,
 ) -> Result<B, DecodeError>
-    ensures { AsksStandard (B.tree B.CONSTRAINTS) B.IsValue (B.Answered B.CONSTRAINTS) B.eq D.wants_memory decoder.old tag D.value result decoder.new }
+    ensures { AsksDefaultValue (B.tree B.CONSTRAINTS) B.IsValue (B.Answered B.CONSTRAINTS) B.eq D.wants_memory decoder.old tag D.value result decoder.new }
 {
     let codec = decoder.codec();
     let spelled = decoder.decode_optional_with_tag::<B>(alloc, tag)?;
@@ -58,12 +58,12 @@ pub fn read_default<D: Standard<B>, B: Decode + EqualAsSpelled>(
 ///
 /// Refused as an optional addition is; then as `settled` refuses.
 #[inline(always)]
-pub(crate) fn read_default_addition<D: Standard<B>, B: Decode + EqualAsSpelled>(
+pub(crate) fn read_default_addition<D: DefaultValue<B>, B: Decode + EqualAsSpelled>(
     alloc: Global,
     decoder: &mut Decoder<'_>,
     tag: Tag,
 ) -> Result<B, DecodeError>
-    ensures { AddsStandard (B.tree B.CONSTRAINTS) B.IsValue (B.Answered B.CONSTRAINTS) B.eq D.wants_memory decoder.old tag D.value result decoder.new }
+    ensures { AddsDefaultValue (B.tree B.CONSTRAINTS) B.IsValue (B.Answered B.CONSTRAINTS) B.eq D.wants_memory decoder.old tag D.value result decoder.new }
 {
     let codec = decoder.codec();
     let spelled = read_addition::<B>(alloc, decoder, tag)?;

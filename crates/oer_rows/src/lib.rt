@@ -22,21 +22,21 @@ mod sets;
 mod views;
 mod writing;
 
-pub use additions::{Additions, Extensible, MayAdd, ReadsAdditions, read_addition};
+pub use additions::{Additions, Extensible, OptionalAddition, ReadsAdditions, read_addition};
 pub use both::Both;
 pub use compared::Compared;
-pub use components::{Components, Defaults, MayHave, Needs, NoMore, Reads};
+pub use components::{Components, Defaulted, End, Optional, Reads, Required};
 pub use defaults::read_default;
 pub use held_octets::{Octets, OpenOctets};
 pub use held_texts::{Ia5Text, NumericText, PrintableText, Utf8Text, VisibleText};
 pub use limited::{Limited, Limits};
 pub use lists::{IsEmptyList, ListOf};
 pub use literals::{are_bits, bits_from, bmp_from, utf8_from};
-pub use more_additions::{AddDefaults, Adds, MayAddGroup};
+pub use more_additions::{AdditionGroup, DefaultedAddition, RequiredAddition};
 pub use more_texts::{BmpText, GeneralText, GraphicText, TeletexText};
 pub use places::{
-    Application, Context, IsFalse, IsNull, IsNumber, IsTrue, Place, Private, Standard, Universal,
-    Within,
+    Application, Context, DefaultValue, IsFalse, IsNull, IsNumber, IsTrue, Place, Private,
+    Universal, Within,
 };
 pub use reading::{decode_row, read_row};
 pub use rowed::{Rowed, Schemed, Takes};

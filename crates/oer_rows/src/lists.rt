@@ -4,7 +4,7 @@
 //! struct as the list of its items, so that a definition can name a value of it, as the empty list.
 ghost use Rattle.std.specs.Prelude.{◌≡◌, ◌==◌, length};
 
-use crate::places::Standard;
+use crate::places::DefaultValue;
 use asn1_core::{AsnType, Constraints, DecodeError, EncodeError, SetOf, Tag};
 use oer_read::{Decode, Decoder};
 use oer_spec::{EqualAsSpelled, Spelled};
@@ -121,7 +121,7 @@ impl<T: Decode> Decode for ListOf<T> {
 /// The default `{}` of a list.
 pub struct IsEmptyList;
 
-impl<T: EqualAsSpelled> Standard<ListOf<T>> for IsEmptyList {
+impl<T: EqualAsSpelled> DefaultValue<ListOf<T>> for IsEmptyList {
     ghost use Rattle.std.specs.Prelude.{[], false};
 
     ghost value = { [] };
@@ -140,7 +140,7 @@ impl<T: EqualAsSpelled> Standard<ListOf<T>> for IsEmptyList {
     ghost admitted = { tt };
 }
 
-impl<T: EqualAsSpelled + Eq> Standard<SetOf<T>> for IsEmptyList {
+impl<T: EqualAsSpelled + Eq> DefaultValue<SetOf<T>> for IsEmptyList {
     ghost use Rattle.std.specs.Prelude.{[], false};
 
     ghost value = { [] };

@@ -2,26 +2,26 @@
 use crate::additions::{Additions, ReadsAdditions, read_addition};
 use crate::both::Both;
 use crate::defaults::read_default_addition;
-use crate::places::{Place, Standard};
+use crate::places::{DefaultValue, Place};
 use asn1_core::{Constructed, DecodeError, DecodeErrorKind};
 use oer_read::{Decode, Decoder};
 use oer_spec::{EqualAsSpelled, Spelled};
 use std::alloc::Global;
 use std::marker::PhantomData;
 
-/// A required addition of type `B` with the tag `G`, and those after it.
+/// An addition of type `B` with the tag `G` that is neither OPTIONAL nor DEFAULT, and those after it.
 ///
 /// It is there in each value; octets of an earlier version of the type, which lack it, are refused.
-pub struct Adds<G, B, R>(PhantomData<(G, B, R)>);
+pub struct RequiredAddition<G, B, R>(PhantomData<(G, B, R)>);
 
 /// An addition of type `B` with the tag `G` and the DEFAULT `D`, and those after it.
-pub struct AddDefaults<G, B, D, R>(PhantomData<(G, B, D, R)>);
+pub struct DefaultedAddition<G, B, D, R>(PhantomData<(G, B, D, R)>);
 
 /// An addition group `[[ .. ]]`, and the additions after it: `B` is the sequence of its components, with `RC` root
 /// components and `EC` additions; the group is there as a whole or not at all.
-pub struct MayAddGroup<const RC: usize, const EC: usize, B, R>(PhantomData<(B, R)>);
+pub struct AdditionGroup<const RC: usize, const EC: usize, B, R>(PhantomData<(B, R)>);
 
-impl<G: Place, B: Spelled, R: Additions> Additions for Adds<G, B, R> {
+impl<G: Place, B: Spelled, R: Additions> Additions for RequiredAddition<G, B, R> {
     ghost use Rattle.oer_rows.specs.Schema.{typed, typed_is, needed, needed_is};
 
     type More = Both<B, R::More>;
@@ -31,7 +31,7 @@ impl<G: Place, B: Spelled, R: Additions> Additions for Adds<G, B, R> {
     ghost is_table = { needed_is G.tag (typed B.tree B.CONSTRAINTS B.IsValue) (λ v. v.0) (λ v. v.1) R.table (typed_is B.tree B.IsValue B.is_tree B.alike B.CONSTRAINTS B.consistent) R.is_table };
 }
 
-impl<G: Place, B: Decode, R: ReadsAdditions> ReadsAdditions for Adds<G, B, R> {
+impl<G: Place, B: Decode, R: ReadsAdditions> ReadsAdditions for RequiredAddition<G, B, R> {
     ghost use Rattle.oer_rows.specs.Refusals.{AddsNeeded, RowRefused};
     ghost use Rattle.oer_rows.specs.Slots.{with_needed, needed_once};
 
@@ -75,8 +75,8 @@ impl<G: Place, B: Decode, R: ReadsAdditions> ReadsAdditions for Adds<G, B, R> {
     }
 }
 
-impl<G: Place, B: EqualAsSpelled, D: Standard<B>, R: Additions> Additions
-    for AddDefaults<G, B, D, R> {
+impl<G: Place, B: EqualAsSpelled, D: DefaultValue<B>, R: Additions> Additions
+    for DefaultedAddition<G, B, D, R> {
     ghost use Rattle.oer_rows.specs.Schema.{typed, defaulted, defaulted_is};
 
     type More = Both<B, R::More>;
@@ -86,9 +86,9 @@ impl<G: Place, B: EqualAsSpelled, D: Standard<B>, R: Additions> Additions
     ghost is_table = { defaulted_is G.tag (typed B.tree B.CONSTRAINTS B.IsValue) B.eq D.value (λ v. v.0) (λ v. v.1) R.table R.is_table };
 }
 
-impl<G: Place, B: Decode + EqualAsSpelled, D: Standard<B>, R: ReadsAdditions> ReadsAdditions
-    for AddDefaults<G, B, D, R> {
-    ghost use Rattle.oer_rows.specs.Standards.{AddsStandard};
+impl<G: Place, B: Decode + EqualAsSpelled, D: DefaultValue<B>, R: ReadsAdditions> ReadsAdditions
+    for DefaultedAddition<G, B, D, R> {
+    ghost use Rattle.oer_rows.specs.DefaultValues.{AddsDefaultValue};
     ghost use Rattle.oer_rows.specs.Refusals.{RowRefused};
     ghost use Rattle.oer_rows.specs.Slots.{with_needed, needed_once};
 
@@ -98,7 +98,7 @@ impl<G: Place, B: Decode + EqualAsSpelled, D: Standard<B>, R: ReadsAdditions> Re
 
     ghost filled_once = { needed_once R.filled R.filled_once };
 
-    ghost Refuses = { λ s e. RowRefused (λ r t. AddsStandard (B.tree B.CONSTRAINTS) B.IsValue (B.Answered B.CONSTRAINTS) B.eq D.wants_memory s G.tag D.value r t) R.Refuses e };
+    ghost Refuses = { λ s e. RowRefused (λ r t. AddsDefaultValue (B.tree B.CONSTRAINTS) B.IsValue (B.Answered B.CONSTRAINTS) B.eq D.wants_memory s G.tag D.value r t) R.Refuses e };
 
     #[inline(always)]
     fn empty() -> Self::Slots {
@@ -125,7 +125,7 @@ impl<G: Place, B: Decode + EqualAsSpelled, D: Standard<B>, R: ReadsAdditions> Re
 }
 
 impl<const RC: usize, const EC: usize, B: Spelled + Constructed<RC, EC>, R: Additions> Additions
-    for MayAddGroup<RC, EC, B, R> {
+    for AdditionGroup<RC, EC, B, R> {
     ghost use Rattle.oer_rows.specs.Schema.{typed, typed_is, optional, optional_is};
 
     type More = Both<Option<B>, R::More>;
@@ -140,7 +140,7 @@ impl<
     const EC: usize,
     B: Decode + Constructed<RC, EC>,
     R: ReadsAdditions,
-> ReadsAdditions for MayAddGroup<RC, EC, B, R> {
+> ReadsAdditions for AdditionGroup<RC, EC, B, R> {
     ghost use Rattle.std.specs.Prelude.{None};
     ghost use Rattle.oer_read.specs.Additions.{Adds};
     ghost use Rattle.oer_rows.specs.Refusals.{RowRefused};

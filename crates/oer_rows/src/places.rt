@@ -71,8 +71,8 @@ impl<const N: u32> Place for Private<N> {
     }
 }
 
-/// A component's default, as a type: a value that the component's type admits.
-pub trait Standard<B: EqualAsSpelled> {
+/// What a component's DEFAULT is, as a type: a value that the component's type admits.
+pub trait DefaultValue<B: EqualAsSpelled> {
     ghost use Rattle.std.specs.Prelude.{◌≡◌, Bool, true, IfOk, IfErr};
 
     ghost value: { B };
@@ -107,7 +107,7 @@ pub struct IsNumber<const N: i64>;
 /// The default `D` of a type, for a component whose type is that one within limits.
 pub struct Within<D>(PhantomData<D>);
 
-impl Standard<bool> for IsFalse {
+impl DefaultValue<bool> for IsFalse {
     ghost use Rattle.std.specs.Prelude.{false};
 
     ghost value = { false };
@@ -125,7 +125,7 @@ impl Standard<bool> for IsFalse {
     ghost admitted = { tt };
 }
 
-impl Standard<bool> for IsTrue {
+impl DefaultValue<bool> for IsTrue {
     ghost use Rattle.std.specs.Prelude.{true, false};
 
     ghost value = { true };
@@ -143,7 +143,7 @@ impl Standard<bool> for IsTrue {
     ghost admitted = { tt };
 }
 
-impl Standard<()> for IsNull {
+impl DefaultValue<()> for IsNull {
     ghost use Rattle.std.specs.Prelude.{false};
 
     ghost value = { tt };
@@ -161,7 +161,7 @@ impl Standard<()> for IsNull {
     ghost admitted = { tt };
 }
 
-impl<const N: i64> Standard<Integer> for IsNumber<N> {
+impl<const N: i64> DefaultValue<Integer> for IsNumber<N> {
     ghost use Rattle.std.specs.Prelude.{false, refl};
 
     ghost value = { N };
@@ -179,7 +179,7 @@ impl<const N: i64> Standard<Integer> for IsNumber<N> {
     ghost admitted = { refl };
 }
 
-impl<T: EqualAsSpelled, L: Limits, D: Standard<T>> Standard<Limited<T, L>> for Within<D> {
+impl<T: EqualAsSpelled, L: Limits, D: DefaultValue<T>> DefaultValue<Limited<T, L>> for Within<D> {
     ghost value = { record { 0 = D.value; 1 = record {} } };
 
     ghost wants_memory = { D.wants_memory };

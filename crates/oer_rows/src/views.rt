@@ -4,11 +4,11 @@ ghost use Rattle.oer_spec.specs.Tree.{NoRows};
 ghost use Rattle.oer_write.specs.Rows.{InSequence};
 ghost use Rattle.oer_rows.specs.Values.{both};
 
-use crate::additions::{Additions, Extensible, MayAdd};
+use crate::additions::{Additions, Extensible, OptionalAddition};
 use crate::both::Both;
-use crate::components::{Components, Defaults, MayHave, Needs, NoMore};
-use crate::more_additions::{AddDefaults, Adds, MayAddGroup};
-use crate::places::{Place, Standard};
+use crate::components::{Components, Defaulted, End, Optional, Required};
+use crate::more_additions::{AdditionGroup, DefaultedAddition, RequiredAddition};
+use crate::places::{DefaultValue, Place};
 use crate::writing::{put_added, put_addition, put_default, put_default_addition, put_group};
 use asn1_core::{Constructed, EncodeError};
 use oer_spec::EqualAsSpelled;
@@ -29,7 +29,7 @@ pub trait Views<'v>: Components {
         ensures value { OnOk result (Self.schema.roots.IsValue (seen view.now) × Self.schema.additions.IsValue (seen view.now)) };
 }
 
-impl<'v> Views<'v> for NoMore {
+impl<'v> Views<'v> for End {
     type View = ();
 
     ghost seen = { λ v. v };
@@ -40,7 +40,7 @@ impl<'v> Views<'v> for NoMore {
     }
 }
 
-impl<'v, G: Place, B: Encode + 'v, R: Views<'v>> Views<'v> for Needs<G, B, R> {
+impl<'v, G: Place, B: Encode + 'v, R: Views<'v>> Views<'v> for Required<G, B, R> {
     type View = Both<&'v B, R::View>;
 
     ghost seen = { λ v. both v.0.now (R.seen v.1) };
@@ -52,7 +52,7 @@ impl<'v, G: Place, B: Encode + 'v, R: Views<'v>> Views<'v> for Needs<G, B, R> {
     }
 }
 
-impl<'v, G: Place, B: Encode + 'v, R: Views<'v>> Views<'v> for MayHave<G, B, R> {
+impl<'v, G: Place, B: Encode + 'v, R: Views<'v>> Views<'v> for Optional<G, B, R> {
     type View = Both<&'v Option<B>, R::View>;
 
     ghost seen = { λ v. both v.0.now (R.seen v.1) };
@@ -67,8 +67,8 @@ impl<'v, G: Place, B: Encode + 'v, R: Views<'v>> Views<'v> for MayHave<G, B, R> 
     }
 }
 
-impl<'v, G: Place, B: Encode + EqualAsSpelled + 'v, D: Standard<B>, R: Views<'v>> Views<'v>
-    for Defaults<G, B, D, R> {
+impl<'v, G: Place, B: Encode + EqualAsSpelled + 'v, D: DefaultValue<B>, R: Views<'v>> Views<'v>
+    for Defaulted<G, B, D, R> {
     type View = Both<&'v B, R::View>;
 
     ghost seen = { λ v. both v.0.now (R.seen v.1) };
@@ -96,7 +96,7 @@ pub trait AdditionViews<'v>: Additions {
         ensures value { OnOk result (Self.table.IsValue (seen view.now)) };
 }
 
-impl<'v> AdditionViews<'v> for NoMore {
+impl<'v> AdditionViews<'v> for End {
     type MoreView = ();
 
     ghost seen = { λ v. v };
@@ -107,7 +107,8 @@ impl<'v> AdditionViews<'v> for NoMore {
     }
 }
 
-impl<'v, G: Place, B: Encode + 'v, R: AdditionViews<'v>> AdditionViews<'v> for MayAdd<G, B, R> {
+impl<'v, G: Place, B: Encode + 'v, R: AdditionViews<'v>> AdditionViews<'v>
+    for OptionalAddition<G, B, R> {
     type MoreView = Both<&'v Option<B>, R::MoreView>;
 
     ghost seen = { λ v. both v.0.now (R.seen v.1) };
@@ -122,7 +123,8 @@ impl<'v, G: Place, B: Encode + 'v, R: AdditionViews<'v>> AdditionViews<'v> for M
     }
 }
 
-impl<'v, G: Place, B: Encode + 'v, R: AdditionViews<'v>> AdditionViews<'v> for Adds<G, B, R> {
+impl<'v, G: Place, B: Encode + 'v, R: AdditionViews<'v>> AdditionViews<'v>
+    for RequiredAddition<G, B, R> {
     type MoreView = Both<&'v B, R::MoreView>;
 
     ghost seen = { λ v. both v.0.now (R.seen v.1) };
@@ -141,9 +143,9 @@ impl<
     'v,
     G: Place,
     B: Encode + EqualAsSpelled + 'v,
-    D: Standard<B>,
+    D: DefaultValue<B>,
     R: AdditionViews<'v>,
-> AdditionViews<'v> for AddDefaults<G, B, D, R> {
+> AdditionViews<'v> for DefaultedAddition<G, B, D, R> {
     type MoreView = Both<&'v B, R::MoreView>;
 
     ghost seen = { λ v. both v.0.now (R.seen v.1) };
@@ -164,7 +166,7 @@ impl<
     const EC: usize,
     B: Encode + Constructed<RC, EC> + 'v,
     R: AdditionViews<'v>,
-> AdditionViews<'v> for MayAddGroup<RC, EC, B, R> {
+> AdditionViews<'v> for AdditionGroup<RC, EC, B, R> {
     type MoreView = Both<&'v Option<B>, R::MoreView>;
 
     ghost seen = { λ v. both v.0.now (R.seen v.1) };

@@ -5,7 +5,7 @@ ghost use Rattle.oer_write.specs.Written.{Encodes, Refused};
 ghost use Rattle.oer_read.specs.Defaults.{IsDefault};
 ghost use Rattle.oer_write.specs.Rows.{InSequence, RowsDone, SetDone, RowsRefused, required, optional, defaulted};
 
-use crate::places::Standard;
+use crate::places::DefaultValue;
 use asn1_core::{Constructed, EncodeError, Tag};
 use oer_spec::{EqualAsSpelled, Spelled};
 use oer_write::{Encode, Encoder};
@@ -53,7 +53,7 @@ pub fn put_optional<E: Encode>(
 /// It doesn't ask what scope is open: as a set closes, what it wrote is dropped. Refused by what the value is refused by,
 /// or for want of memory; the octets of before and the open scopes stay.
 #[inline(always)]
-pub fn put_default<D: Standard<E>, E: Encode + EqualAsSpelled>(
+pub fn put_default<D: DefaultValue<E>, E: Encode + EqualAsSpelled>(
     encoder: &mut Encoder<'_>,
     tag: Tag,
     value: &E,
@@ -104,7 +104,7 @@ pub fn put_added<E: Encode>(
 ///
 /// Refused by what the value is refused by.
 #[inline(always)]
-pub fn put_default_addition<D: Standard<E>, E: Encode + EqualAsSpelled>(
+pub fn put_default_addition<D: DefaultValue<E>, E: Encode + EqualAsSpelled>(
     encoder: &mut Encoder<'_>,
     tag: Tag,
     value: &E,

@@ -24,7 +24,11 @@ pub struct BushComponents<K> {
     pub b: ListOf<Bare<K>>,
 }
 
-type BushRow<K> = Needs<Universal<2>, Integer, NeedsKnot<Universal<16>, ListOf<Bare<K>>, NoMore>>;
+type BushRow<K> = Required<
+    Universal<2>,
+    Integer,
+    RequiredKnot<Universal<16>, ListOf<Bare<K>>, End>,
+>;
 
 const BUSH_FIELDS: &'static [Field<'static>] = fields![
     0 Required Universal 2 "a", 1 Required Universal 16 "b"

@@ -20,7 +20,11 @@ pub struct ChainComponents<K> {
     pub next: Option<Held<K>>,
 }
 
-type ChainRow<K> = Needs<Context<0>, bool, Extensible<MayAddKnot<Context<1>, Held<K>, NoMore>>>;
+type ChainRow<K> = Required<
+    Context<0>,
+    bool,
+    Extensible<OptionalAdditionKnot<Context<1>, Held<K>, End>>,
+>;
 
 const CHAIN_FIELDS: &'static [Field<'static>] = fields![0 Required Context 0 "ok"];
 

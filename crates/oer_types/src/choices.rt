@@ -47,19 +47,27 @@ pub enum BoolAlternatives {
     B(bool),
 }
 
-type PriorityRow = Offers<Context<0>, Integer, Offers<Context<1>, Integer, PriorityAdditions>>;
+type PriorityRow = Alternative<
+    Context<0>,
+    Integer,
+    Alternative<Context<1>, Integer, PriorityAdditions>,
+>;
 
-type PriorityAdditions = Extensible<Offers<Context<2>, Integer, NoMore>>;
+type PriorityAdditions = Extensible<Alternative<Context<2>, Integer, End>>;
 
-type WideRow = Offers<Context<0>, Integer, Offers<Context<1>, Integer, WideMedium>>;
+type WideRow = Alternative<Context<0>, Integer, Alternative<Context<1>, Integer, WideMedium>>;
 
-type WideMedium = Offers<Context<4294967295>, Integer, NoMore>;
+type WideMedium = Alternative<Context<4294967295>, Integer, End>;
 
-type OnlyRow = Offers<Context<130>, bool, NoMore>;
+type OnlyRow = Alternative<Context<130>, bool, End>;
 
-type BoolRow = Offers<Context<0>, bool, Offers<Context<2>, PriorityChoice, BoolAdditions>>;
+type BoolRow = Alternative<
+    Context<0>,
+    bool,
+    Alternative<Context<2>, PriorityChoice, BoolAdditions>,
+>;
 
-type BoolAdditions = Extensible<Offers<Context<1>, bool, NoMore>>;
+type BoolAdditions = Extensible<Alternative<Context<1>, bool, End>>;
 
 const PRIORITY_ROOTS: &'static [Tag] = tags![Context 0, Context 1];
 

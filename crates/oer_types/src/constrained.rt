@@ -10,7 +10,7 @@ use std::alloc::Global;
 /// `SEQUENCE { a HashedId3 OPTIONAL }`
 pub type ConstrainedOptions = Sequence<components::ConstrainedOptions, 1, 0>;
 
-type ConstrainedOptionsRow = MayHave<Context<0>, HashedId3, NoMore>;
+type ConstrainedOptionsRow = Optional<Context<0>, HashedId3, End>;
 
 impl Rowed for components::ConstrainedOptions {
     type Values = <ConstrainedOptionsRow as Components>::Values;

@@ -15,7 +15,7 @@ use std::alloc::{AllocError, Global};
 /// The default is as deep as octets that are read may nest. Spelled out within the sequence it is a level too deep.
 pub type DeepDefault = Sequence<components::DeepDefault, 1, 0>;
 
-type DeepDefaultRow = Defaults<Context<0>, Nest, IsDeep, NoMore>;
+type DeepDefaultRow = Defaulted<Context<0>, Nest, IsDeep, End>;
 
 /// The default of `DeepDefault`: 128 lists, each but the innermost holding the next alone.
 pub struct IsDeep;
@@ -49,7 +49,7 @@ fn item_of(nest: &Nest) -> Option<&Nest>
     }
 }
 
-impl Standard<Nest> for IsDeep {
+impl DefaultValue<Nest> for IsDeep {
     ghost use Rattle.oer_types.specs.Nests.{each_nest};
 
     ghost value = { deep_nest 127 };

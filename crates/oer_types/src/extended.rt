@@ -10,35 +10,35 @@ use std::alloc::Global;
 /// (likewise), ..., integer4 INTEGER OPTIONAL, octet4 OCTET STRING OPTIONAL, integer5, octet5 (likewise) }`
 pub type ExtendedOptional = Sequence<components::ExtendedOptional, 7, 4>;
 
-type ExtendedRow = Needs<
+type ExtendedRow = Required<
     Context<0>,
     Integer,
-    MayHave<
+    Optional<
         Context<1>,
         Integer,
-        MayHave<
+        Optional<
             Context<2>,
             OctetString,
-            MayHave<Context<3>, Integer, MayHave<Context<4>, OctetString, FromInteger3>>,
+            Optional<Context<3>, Integer, Optional<Context<4>, OctetString, FromInteger3>>,
         >,
     >,
 >;
 
 /// The components from `integer3` on.
-type FromInteger3 = MayHave<
+type FromInteger3 = Optional<
     Context<5>,
     Integer,
-    MayHave<Context<6>, OctetString, Extensible<FromInteger4>>,
+    Optional<Context<6>, OctetString, Extensible<FromInteger4>>,
 >;
 
 /// The additions, from `integer4` on.
-type FromInteger4 = MayAdd<
+type FromInteger4 = OptionalAddition<
     Context<7>,
     Integer,
-    MayAdd<
+    OptionalAddition<
         Context<8>,
         OctetString,
-        MayAdd<Context<9>, Integer, MayAdd<Context<10>, OctetString, NoMore>>,
+        OptionalAddition<Context<9>, Integer, OptionalAddition<Context<10>, OctetString, End>>,
     >,
 >;
 

@@ -9,7 +9,7 @@ use std::alloc::Global;
 /// `SEQUENCE { a BOOLEAN, ... }`
 pub type Sequence1 = Sequence<components::Sequence1, 1, 0>;
 
-type Sequence1Row = Needs<Context<0>, bool, Extensible<NoMore>>;
+type Sequence1Row = Required<Context<0>, bool, Extensible<End>>;
 
 impl Rowed for components::Sequence1 {
     type Values = <Sequence1Row as Components>::Values;
@@ -62,10 +62,10 @@ impl Tabled<1, 0> for components::Sequence1 {
 /// `SEQUENCE { a BOOLEAN, ..., b BOOLEAN OPTIONAL, c BOOLEAN OPTIONAL }`
 pub type Sequence2 = Sequence<components::Sequence2, 1, 2>;
 
-type Sequence2Row = Needs<
+type Sequence2Row = Required<
     Context<0>,
     bool,
-    Extensible<MayAdd<Context<1>, bool, MayAdd<Context<2>, bool, NoMore>>>,
+    Extensible<OptionalAddition<Context<1>, bool, OptionalAddition<Context<2>, bool, End>>>,
 >;
 
 impl Rowed for components::Sequence2 {
@@ -122,7 +122,7 @@ impl Tabled<1, 2> for components::Sequence2 {
 /// `SEQUENCE { a BOOLEAN, ..., b BOOLEAN OPTIONAL }`
 pub type Sequence5 = Sequence<components::Sequence5, 1, 1>;
 
-type Sequence5Row = Needs<Context<0>, bool, Extensible<MayAdd<Context<1>, bool, NoMore>>>;
+type Sequence5Row = Required<Context<0>, bool, Extensible<OptionalAddition<Context<1>, bool, End>>>;
 
 impl Rowed for components::Sequence5 {
     type Values = <Sequence5Row as Components>::Values;
@@ -175,10 +175,10 @@ impl Tabled<1, 1> for components::Sequence5 {
 /// `SEQUENCE { a BOOLEAN, ..., b Sequence2 OPTIONAL }`
 pub type Outer = Sequence<components::Outer, 1, 1>;
 
-type OuterRow = Needs<Context<0>, bool, Extensible<OuterAdditions>>;
+type OuterRow = Required<Context<0>, bool, Extensible<OuterAdditions>>;
 
 /// The additions of an `Outer`.
-type OuterAdditions = MayAdd<Context<1>, Sequence2, NoMore>;
+type OuterAdditions = OptionalAddition<Context<1>, Sequence2, End>;
 
 impl Rowed for components::Outer {
     type Values = <OuterRow as Components>::Values;
@@ -231,7 +231,7 @@ impl Tabled<1, 1> for components::Outer {
 /// `SEQUENCE { ... }`
 pub type EmptyExtensible = Sequence<components::EmptyExtensible, 0, 0>;
 
-type EmptyExtensibleRow = Extensible<NoMore>;
+type EmptyExtensibleRow = Extensible<End>;
 
 impl Rowed for components::EmptyExtensible {
     type Values = <EmptyExtensibleRow as Components>::Values;

@@ -13,10 +13,10 @@ use std::alloc::{AllocError, Global};
 /// `SEQUENCE { a BOOLEAN, ..., b INTEGER DEFAULT 7 }`
 pub type AddDef = Sequence<components::AddDef, 1, 1>;
 
-type AddDefRow = Needs<
+type AddDefRow = Required<
     Context<0>,
     bool,
-    Extensible<AddDefaults<Context<1>, Integer, IsNumber<7>, NoMore>>,
+    Extensible<DefaultedAddition<Context<1>, Integer, IsNumber<7>, End>>,
 >;
 
 impl Rowed for components::AddDef {
@@ -70,12 +70,12 @@ impl Tabled<1, 1> for components::AddDef {
 /// `SEQUENCE { a Sequence1 DEFAULT { a TRUE } }`
 pub type Holder1 = Sequence<components::Holder1, 1, 0>;
 
-type Holder1Row = Defaults<Context<0>, Sequence1, IsTrueSequence1, NoMore>;
+type Holder1Row = Defaulted<Context<0>, Sequence1, IsTrueSequence1, End>;
 
 /// The default `{ a TRUE }` of a `Sequence1`.
 pub struct IsTrueSequence1;
 
-impl Standard<Sequence1> for IsTrueSequence1 {
+impl DefaultValue<Sequence1> for IsTrueSequence1 {
     ghost value = { record { 0 = record { a = true } } };
 
     fn value(_alloc: Global) -> Result<Sequence1, AllocError> {
@@ -145,12 +145,12 @@ impl Tabled<1, 0> for components::Holder1 {
 /// `SEQUENCE { a Sequence5 DEFAULT { a TRUE } }`: `Holder1` of a newer version
 pub type Holder2 = Sequence<components::Holder2, 1, 0>;
 
-type Holder2Row = Defaults<Context<0>, Sequence5, IsTrueSequence5, NoMore>;
+type Holder2Row = Defaulted<Context<0>, Sequence5, IsTrueSequence5, End>;
 
 /// The default `{ a TRUE }` of a `Sequence5`.
 pub struct IsTrueSequence5;
 
-impl Standard<Sequence5> for IsTrueSequence5 {
+impl DefaultValue<Sequence5> for IsTrueSequence5 {
     ghost value = { record { 0 = record { a = true; b = None } } };
 
     fn value(_alloc: Global) -> Result<Sequence5, AllocError> {

@@ -9,7 +9,7 @@ use std::alloc::Global;
 /// `SEQUENCE { a BOOLEAN }`, which stands as a group in `Sequence3`
 pub type Sequence4 = Sequence<components::Sequence4, 1, 0>;
 
-type Sequence4Row = Needs<Context<0>, bool, NoMore>;
+type Sequence4Row = Required<Context<0>, bool, End>;
 
 impl Rowed for components::Sequence4 {
     type Values = <Sequence4Row as Components>::Values;
@@ -62,7 +62,7 @@ impl Tabled<1, 0> for components::Sequence4 {
 /// `SEQUENCE { a BOOLEAN, ..., [[ b BOOLEAN ]] }`: the group is there as a whole or not at all
 pub type Sequence3 = Sequence<components::Sequence3, 1, 1>;
 
-type Sequence3Row = Needs<Context<0>, bool, Extensible<MayAddGroup<1, 0, Sequence4, NoMore>>>;
+type Sequence3Row = Required<Context<0>, bool, Extensible<AdditionGroup<1, 0, Sequence4, End>>>;
 
 impl Rowed for components::Sequence3 {
     type Values = <Sequence3Row as Components>::Values;
@@ -115,7 +115,7 @@ impl Tabled<1, 1> for components::Sequence3 {
 /// `[[ a BOOLEAN OPTIONAL ]]`, the group of `Sequence6`
 pub type Group6 = Sequence<components::Group6, 1, 0>;
 
-type Group6Row = MayHave<Context<0>, bool, NoMore>;
+type Group6Row = Optional<Context<0>, bool, End>;
 
 impl Rowed for components::Group6 {
     type Values = <Group6Row as Components>::Values;
@@ -168,7 +168,7 @@ impl Tabled<1, 0> for components::Group6 {
 /// `SEQUENCE { a BOOLEAN, ..., [[ a BOOLEAN OPTIONAL ]] }`
 pub type Sequence6 = Sequence<components::Sequence6, 1, 1>;
 
-type Sequence6Row = Needs<Context<0>, bool, Extensible<MayAddGroup<1, 0, Group6, NoMore>>>;
+type Sequence6Row = Required<Context<0>, bool, Extensible<AdditionGroup<1, 0, Group6, End>>>;
 
 impl Rowed for components::Sequence6 {
     type Values = <Sequence6Row as Components>::Values;

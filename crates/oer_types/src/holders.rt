@@ -14,7 +14,7 @@ pub struct HoldingComponents<T> {
     pub inner: T,
 }
 
-type HoldingRow<T> = Needs<Context<0>, T, NoMore>;
+type HoldingRow<T> = Required<Context<0>, T, End>;
 
 const INNER_FIELDS: &'static [Field<'static>] = fields![0 Required Context 0 "inner"];
 
@@ -78,7 +78,7 @@ pub struct AddingComponents<T> {
     pub inner: Option<T>,
 }
 
-type AddingRow<T> = Needs<Context<0>, bool, Extensible<MayAdd<Context<1>, T, NoMore>>>;
+type AddingRow<T> = Required<Context<0>, bool, Extensible<OptionalAddition<Context<1>, T, End>>>;
 
 const OK_FIELDS: &'static [Field<'static>] = fields![0 Required Context 0 "ok"];
 

@@ -25,7 +25,7 @@ pub struct LinkComponents<K> {
     pub b: LinkChoice<K>,
 }
 
-type LinkRow<K> = MayHave<Context<0>, Integer, NeedsKnot<Context<1>, LinkChoice<K>, NoMore>>;
+type LinkRow<K> = Optional<Context<0>, Integer, RequiredKnot<Context<1>, LinkChoice<K>, End>>;
 
 const LINK_FIELDS: &'static [Field<'static>] = fields![
     0 Optional Context 0 "a", 1 Required Context 1 "b"
@@ -118,7 +118,7 @@ pub enum LinkAlternatives<K> {
     B(Held<K>),
 }
 
-type LinkChoiceRow<K> = Offers<Context<0>, bool, OffersKnot<Context<1>, Held<K>, NoMore>>;
+type LinkChoiceRow<K> = Alternative<Context<0>, bool, AlternativeKnot<Context<1>, Held<K>, End>>;
 
 const LINK_ROOTS: &'static [Tag] = tags![Context 0, Context 1];
 

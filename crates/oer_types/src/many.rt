@@ -9,35 +9,35 @@ use std::alloc::Global;
 /// `SEQUENCE` of an INTEGER and twelve optional components: integers, and three octet strings.
 pub type ManyOptional = Sequence<components::ManyOptional, 13, 0>;
 
-type ManyRow = Needs<
+type ManyRow = Required<
     Context<0>,
     Integer,
-    MayHave<
+    Optional<
         Context<1>,
         Integer,
-        MayHave<Context<2>, OctetString, MayHave<Context<3>, Integer, FromOctet2>>,
+        Optional<Context<2>, OctetString, Optional<Context<3>, Integer, FromOctet2>>,
     >,
 >;
 
 /// The components from `octet2` on.
-type FromOctet2 = MayHave<
+type FromOctet2 = Optional<
     Context<4>,
     OctetString,
-    MayHave<Context<5>, Integer, MayHave<Context<6>, OctetString, FromInteger4>>,
+    Optional<Context<5>, Integer, Optional<Context<6>, OctetString, FromInteger4>>,
 >;
 
 /// The components from `integer4` on.
-type FromInteger4 = MayHave<
+type FromInteger4 = Optional<
     Context<7>,
     Integer,
-    MayHave<Context<8>, Integer, MayHave<Context<9>, Integer, FromInteger7>>,
+    Optional<Context<8>, Integer, Optional<Context<9>, Integer, FromInteger7>>,
 >;
 
 /// The components from `integer7` on.
-type FromInteger7 = MayHave<
+type FromInteger7 = Optional<
     Context<10>,
     Integer,
-    MayHave<Context<11>, Integer, MayHave<Context<12>, Integer, NoMore>>,
+    Optional<Context<11>, Integer, Optional<Context<12>, Integer, End>>,
 >;
 
 impl Rowed for components::ManyOptional {

@@ -16,7 +16,11 @@ pub struct MixedComponents {
     pub names: ListOf<OctetString>,
 }
 
-type MixedRow = Needs<Context<0>, PriorityChoice, Needs<Context<1>, ListOf<OctetString>, NoMore>>;
+type MixedRow = Required<
+    Context<0>,
+    PriorityChoice,
+    Required<Context<1>, ListOf<OctetString>, End>,
+>;
 
 impl Rowed for MixedComponents {
     type Values = <MixedRow as Components>::Values;

@@ -9,14 +9,14 @@ use std::alloc::Global;
 /// `SET { x [2] BOOLEAN, y [1] INTEGER OPTIONAL, z [APPLICATION 1] INTEGER DEFAULT 0, ..., n [0] BOOLEAN OPTIONAL }`
 pub type MixedSet = Set<components::MixedSet, 3, 1>;
 
-type MixedSetRow = Defaults<
+type MixedSetRow = Defaulted<
     Application<1>,
     Integer,
     IsNumber<0>,
-    MayHave<
+    Optional<
         Context<1>,
         Integer,
-        Needs<Context<2>, bool, Extensible<MayAdd<Context<0>, bool, NoMore>>>,
+        Required<Context<2>, bool, Extensible<OptionalAddition<Context<0>, bool, End>>>,
     >,
 >;
 
@@ -105,14 +105,14 @@ impl InTagOrder<3, 1> for components::MixedSet {
 /// m [3] OCTET STRING OPTIONAL }`: a newer version of `MixedSet`
 pub type MixedSet2 = Set<components::MixedSet2, 3, 2>;
 
-type MixedSet2Row = Defaults<
+type MixedSet2Row = Defaulted<
     Application<1>,
     Integer,
     IsNumber<0>,
-    MayHave<Context<1>, Integer, Needs<Context<2>, bool, Extensible<FromN>>>,
+    Optional<Context<1>, Integer, Required<Context<2>, bool, Extensible<FromN>>>,
 >;
 
-type FromN = MayAdd<Context<0>, bool, MayAdd<Context<3>, OctetString, NoMore>>;
+type FromN = OptionalAddition<Context<0>, bool, OptionalAddition<Context<3>, OctetString, End>>;
 
 const MIXED_SET2_ADDITIONS: &'static [Field<'static>] =
     fields![0 Optional Context 0 "n", 1 Optional Context 3 "m"];

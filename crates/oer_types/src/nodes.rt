@@ -21,9 +21,9 @@ pub struct NodeComponents<K> {
     pub last: bool,
 }
 
-type NodeRow<K> = Needs<Context<0>, Integer, MayHaveKnot<Context<1>, Held<K>, NodeLast>>;
+type NodeRow<K> = Required<Context<0>, Integer, OptionalKnot<Context<1>, Held<K>, NodeLast>>;
 
-type NodeLast = Needs<Context<2>, bool, NoMore>;
+type NodeLast = Required<Context<2>, bool, End>;
 
 const NODE_FIELDS: &'static [Field<'static>] = fields![
     0 Required Context 0 "value", 1 Optional Context 1 "next", 2 Required Context 2 "last"

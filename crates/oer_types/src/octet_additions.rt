@@ -9,7 +9,11 @@ use std::alloc::Global;
 /// `SEQUENCE { a OCTET STRING OPTIONAL, ..., omitted NULL OPTIONAL }`
 pub type Omitted = Sequence<components::Omitted, 1, 1>;
 
-type OmittedRow = MayHave<Context<0>, OctetString, Extensible<MayAdd<Context<1>, (), NoMore>>>;
+type OmittedRow = Optional<
+    Context<0>,
+    OctetString,
+    Extensible<OptionalAddition<Context<1>, (), End>>,
+>;
 
 impl Rowed for components::Omitted {
     type Values = <OmittedRow as Components>::Values;
@@ -63,13 +67,17 @@ impl Tabled<1, 1> for components::Omitted {
 /// component has its type's own tag: several have the same
 pub type SequenceDuplicatesExtended = Sequence<components::SequenceDuplicatesExtended, 3, 1>;
 
-type SequenceDuplicatesExtendedRow = Needs<
+type SequenceDuplicatesExtendedRow = Required<
     Universal<2>,
     Integer,
-    MayHave<
+    Optional<
         Universal<4>,
         OctetString,
-        MayHave<Universal<2>, Integer, Extensible<Adds<Universal<4>, OctetString, NoMore>>>,
+        Optional<
+            Universal<2>,
+            Integer,
+            Extensible<RequiredAddition<Universal<4>, OctetString, End>>,
+        >,
     >,
 >;
 

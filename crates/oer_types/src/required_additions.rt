@@ -15,7 +15,7 @@ pub struct SureComponents {
     pub sure: bool,
 }
 
-type SureRow = Needs<Context<0>, bool, Extensible<Adds<Context<1>, bool, NoMore>>>;
+type SureRow = Required<Context<0>, bool, Extensible<RequiredAddition<Context<1>, bool, End>>>;
 
 impl Rowed for SureComponents {
     type Values = <SureRow as Components>::Values;

@@ -10,7 +10,7 @@ use std::alloc::Global;
 /// `SEQUENCE { a BOOLEAN, b Pair }`
 pub type Nested = Sequence<components::Nested, 2, 0>;
 
-type NestedRow = Needs<Context<0>, bool, Needs<Context<1>, Pair, NoMore>>;
+type NestedRow = Required<Context<0>, bool, Required<Context<1>, Pair, End>>;
 
 impl Rowed for components::Nested {
     type Values = <NestedRow as Components>::Values;
@@ -63,7 +63,7 @@ impl Tabled<2, 0> for components::Nested {
 /// `SEQUENCE { }`
 pub type Empty = Sequence<components::Empty, 0, 0>;
 
-type EmptyRow = NoMore;
+type EmptyRow = End;
 
 impl Rowed for components::Empty {
     type Values = <EmptyRow as Components>::Values;
@@ -116,7 +116,7 @@ impl Tabled<0, 0> for components::Empty {
 /// `SEQUENCE { a INTEGER DEFAULT 0 }`
 pub type DefaultInteger = Sequence<components::DefaultInteger, 1, 0>;
 
-type DefaultIntegerRow = Defaults<Context<0>, Integer, IsNumber<0>, NoMore>;
+type DefaultIntegerRow = Defaulted<Context<0>, Integer, IsNumber<0>, End>;
 
 impl Rowed for components::DefaultInteger {
     type Values = <DefaultIntegerRow as Components>::Values;
@@ -169,11 +169,11 @@ impl Tabled<1, 0> for components::DefaultInteger {
 /// `SEQUENCE { a INTEGER DEFAULT 0, b INTEGER OPTIONAL }`
 pub type DefaultAndOptional = Sequence<components::DefaultAndOptional, 2, 0>;
 
-type DefaultAndOptionalRow = Defaults<
+type DefaultAndOptionalRow = Defaulted<
     Context<0>,
     Integer,
     IsNumber<0>,
-    MayHave<Context<1>, Integer, NoMore>,
+    Optional<Context<1>, Integer, End>,
 >;
 
 impl Rowed for components::DefaultAndOptional {
@@ -227,11 +227,11 @@ impl Tabled<2, 0> for components::DefaultAndOptional {
 /// `SEQUENCE { a INTEGER DEFAULT 0, b INTEGER DEFAULT 1 }`
 pub type AllDefault = Sequence<components::AllDefault, 2, 0>;
 
-type AllDefaultRow = Defaults<
+type AllDefaultRow = Defaulted<
     Context<0>,
     Integer,
     IsNumber<0>,
-    Defaults<Context<1>, Integer, IsNumber<1>, NoMore>,
+    Defaulted<Context<1>, Integer, IsNumber<1>, End>,
 >;
 
 impl Rowed for components::AllDefault {
@@ -285,7 +285,7 @@ impl Tabled<2, 0> for components::AllDefault {
 /// `SEQUENCE { a INTEGER OPTIONAL, b INTEGER OPTIONAL }`
 pub type AllOptional = Sequence<components::AllOptional, 2, 0>;
 
-type AllOptionalRow = MayHave<Context<0>, Integer, MayHave<Context<1>, Integer, NoMore>>;
+type AllOptionalRow = Optional<Context<0>, Integer, Optional<Context<1>, Integer, End>>;
 
 impl Rowed for components::AllOptional {
     type Values = <AllOptionalRow as Components>::Values;

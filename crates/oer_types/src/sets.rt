@@ -9,10 +9,10 @@ use std::alloc::Global;
 /// `SET { a [444] INTEGER OPTIONAL, b [5] INTEGER OPTIONAL, c [APPLICATION 9] INTEGER OPTIONAL }`
 pub type Foo = Set<components::Foo, 3, 0>;
 
-type FooRow = MayHave<
+type FooRow = Optional<
     Application<9>,
     Integer,
-    MayHave<Context<5>, Integer, MayHave<Context<444>, Integer, NoMore>>,
+    Optional<Context<5>, Integer, Optional<Context<444>, Integer, End>>,
 >;
 
 const FOO_FIELDS: &'static [Field<'static>] = fields![

@@ -50,7 +50,7 @@ pub struct TopLevelComponents<K> {
     pub choice: TestChoice<K>,
 }
 
-type TopRow<K> = Needs<Context<0>, OneToEight, NeedsKnot<Context<1>, TestChoice<K>, NoMore>>;
+type TopRow<K> = Required<Context<0>, OneToEight, RequiredKnot<Context<1>, TestChoice<K>, End>>;
 
 const TOP_FIELDS: &'static [Field<'static>] = fields![
     0 Required Context 0 "test", 1 Required Context 1 "choice"
@@ -142,9 +142,9 @@ pub enum TestAlternatives<K> {
     Number3(Held<K>),
 }
 
-type TestRow<K> = Offers<Context<0>, (), Offers<Context<1>, bool, TestNumber3<K>>>;
+type TestRow<K> = Alternative<Context<0>, (), Alternative<Context<1>, bool, TestNumber3<K>>>;
 
-type TestNumber3<K> = OffersKnot<Context<2>, Held<K>, NoMore>;
+type TestNumber3<K> = AlternativeKnot<Context<2>, Held<K>, End>;
 
 const TEST_ROOTS: &'static [Tag] = tags![Context 0, Context 1, Context 2];
 

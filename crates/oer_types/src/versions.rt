@@ -15,7 +15,7 @@ pub struct Addition7Components {
     pub f: Integer,
 }
 
-type Addition7Row = MayHave<Context<0>, bool, Defaults<Context<1>, Integer, IsNumber<0>, NoMore>>;
+type Addition7Row = Optional<Context<0>, bool, Defaulted<Context<1>, Integer, IsNumber<0>, End>>;
 
 const ADDITION7_FIELDS: &'static [Field<'static>] =
     fields![0 Optional Context 0 "e", 1 Default Context 1 "f"];
@@ -84,14 +84,14 @@ pub struct Sequence7Components {
     pub group: Option<Addition7>,
 }
 
-type Sequence7Row = Needs<
+type Sequence7Row = Required<
     Context<0>,
     bool,
-    Extensible<MayAdd<Context<1>, bool, MayAdd<Context<2>, bool, FromD>>>,
+    Extensible<OptionalAddition<Context<1>, bool, OptionalAddition<Context<2>, bool, FromD>>>,
 >;
 
 /// The additions from `d` on.
-type FromD = MayAdd<Context<3>, Integer, MayAddGroup<2, 0, Addition7, NoMore>>;
+type FromD = OptionalAddition<Context<3>, Integer, AdditionGroup<2, 0, Addition7, End>>;
 
 const SEQUENCE7_FIELDS: &'static [Field<'static>] = fields![0 Required Context 0 "a"];
 

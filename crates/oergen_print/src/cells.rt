@@ -60,10 +60,10 @@ impl Cell {
             return self;
         }
         let head = match self.head {
-            "Needs" => "NeedsKnot",
-            "MayHave" => "MayHaveKnot",
-            "MayAdd" => "MayAddKnot",
-            "Offers" => "OffersKnot",
+            "Required" => "RequiredKnot",
+            "Optional" => "OptionalKnot",
+            "OptionalAddition" => "OptionalAdditionKnot",
+            "Alternative" => "AlternativeKnot",
             other => other,
         };
         Cell {
@@ -107,12 +107,16 @@ pub enum Place {
 /// an older sender leaves it out whatever its need is.
 fn need_of(need: &Need, place: Place) -> (&'static str, &'static str, bool) {
     match (need, place) {
-        (_, Place::Alternative) => ("Offers", "", false),
-        (Need::Required, Place::Root) => ("Needs", "Required ", false),
-        (Need::Optional, Place::Root) => ("MayHave", "Optional ", true),
-        (Need::Required | Need::Optional, Place::Addition) => ("MayAdd", "Optional ", true),
-        (Need::Default(_), Place::Root) => ("Defaults", "Default ", false),
-        (Need::Default(_), Place::Addition) => ("AddDefaults", "Default ", false),
+        (_, Place::Alternative) => ("Alternative", "", false),
+        (Need::Required, Place::Root) => ("Required", "Required ", false),
+        (Need::Optional, Place::Root) => ("Optional", "Optional ", true),
+        (Need::Required | Need::Optional, Place::Addition) => (
+            "OptionalAddition",
+            "Optional ",
+            true,
+        ),
+        (Need::Default(_), Place::Root) => ("Defaulted", "Default ", false),
+        (Need::Default(_), Place::Addition) => ("DefaultedAddition", "Default ", false),
     }
 }
 
@@ -257,7 +261,7 @@ pub fn group_cell(
     number: usize,
     roots: usize,
 ) -> Result<Cell, AllocError> {
-    let mut cell = Cell::new(alloc, "MayAddGroup");
+    let mut cell = Cell::new(alloc, "AdditionGroup");
     cell.field.push("group_");
     cell.field.push_count(number);
     cell.field_type.push_all(&["Option<", group, ">"]);

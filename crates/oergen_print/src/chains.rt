@@ -190,9 +190,9 @@ fn named(alloc: Global, owner: &str, behind: &str, cells: &[Cell]) -> Text {
 fn end_of_roots(alloc: Global, of: Chain<'_>) -> Text {
     let mut end = Text::new(alloc);
     if !of.is_extensible {
-        end.push("NoMore");
+        end.push("End");
     } else if of.additions().is_empty() {
-        end.push("Extensible<NoMore>");
+        end.push("Extensible<End>");
     } else {
         end.push_all(&["Extensible<", of.owner, "Additions"]);
         push_parameter(&mut end, of.additions());
@@ -212,7 +212,7 @@ pub fn push_row(alloc: Global, out: &mut Text, of: Chain<'_>) {
     push_aliases(out, of, roots, &row, &end);
     if !of.additions().is_empty() {
         let name = named(alloc, of.owner, "Additions", of.additions());
-        let end = named(alloc, "NoMore", "", &[]);
+        let end = named(alloc, "End", "", &[]);
         let additions = Span {
             from: roots.to,
             to: of.cells.len(),

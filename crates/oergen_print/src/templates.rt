@@ -126,7 +126,7 @@ impl Limits for @NAME@Limits {
 pub const DEFAULT: &str = r#"/// The default @TEXT@ of `@NAME@`.
 pub struct @NAME@Default;
 
-impl Standard<@TYPE@> for @NAME@Default {
+impl DefaultValue<@TYPE@> for @NAME@Default {
     @USES@
 
     ghost value = { @GHOST@ };

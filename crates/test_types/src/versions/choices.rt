@@ -24,9 +24,9 @@ pub enum Choice2Alternatives<T> {
     Added(T),
 }
 
-type Choice1Row<T> = Offers<Context<0>, T, Extensible<NoMore>>;
+type Choice1Row<T> = Alternative<Context<0>, T, Extensible<End>>;
 
-type Choice2Row<T> = Offers<Context<0>, T, Extensible<Offers<Context<1>, T, NoMore>>>;
+type Choice2Row<T> = Alternative<Context<0>, T, Extensible<Alternative<Context<1>, T, End>>>;
 
 const INNER: &'static [Tag] = tags![Context 0];
 

@@ -16,7 +16,7 @@ pub enum PairAlternatives {
     B(Pair),
 }
 
-type PairRow = Offers<Context<0>, bool, Offers<Context<1>, Pair, NoMore>>;
+type PairRow = Alternative<Context<0>, bool, Alternative<Context<1>, Pair, End>>;
 
 impl Alternating for PairAlternatives {
     ghost use Rattle.test_vectors.specs.declared.types.choices.PairAlternatives.TheVariants.{A, B};
@@ -76,7 +76,11 @@ pub enum NestedAlternatives {
     B(BoolChoice),
 }
 
-type NestedRow = Offers<Context<0>, bool, Offers<Context<1>, BoolChoice, Extensible<NoMore>>>;
+type NestedRow = Alternative<
+    Context<0>,
+    bool,
+    Alternative<Context<1>, BoolChoice, Extensible<End>>,
+>;
 
 /// The tags of both choices.
 const ROOTS: &'static [Tag] = tags![Context 0, Context 1];

@@ -17,9 +17,13 @@ pub struct UntaggedComponents {
     pub late: Option<Integer>,
 }
 
-type UntaggedRow = Needs<Universal<2>, Integer, MayHave<Universal<4>, OctetString, UntaggedLate>>;
+type UntaggedRow = Required<
+    Universal<2>,
+    Integer,
+    Optional<Universal<4>, OctetString, UntaggedLate>,
+>;
 
-type UntaggedLate = MayHave<Universal<2>, Integer, NoMore>;
+type UntaggedLate = Optional<Universal<2>, Integer, End>;
 
 impl Rowed for UntaggedComponents {
     type Values = <UntaggedRow as Components>::Values;
@@ -88,9 +92,9 @@ pub struct ExplicitComponents {
     pub late: Option<Integer>,
 }
 
-type ExplicitRow = Needs<Context<0>, Integer, MayHave<Context<1>, OctetString, ExplicitLate>>;
+type ExplicitRow = Required<Context<0>, Integer, Optional<Context<1>, OctetString, ExplicitLate>>;
 
-type ExplicitLate = MayHave<Context<2>, Integer, NoMore>;
+type ExplicitLate = Optional<Context<2>, Integer, End>;
 
 impl Rowed for ExplicitComponents {
     type Values = <ExplicitRow as Components>::Values;

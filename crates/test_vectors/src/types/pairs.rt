@@ -16,7 +16,7 @@ pub struct Optional1Components {
     pub b: Option<Integer>,
 }
 
-type Optional1Row = Needs<Context<0>, Integer, MayHave<Context<1>, Integer, NoMore>>;
+type Optional1Row = Required<Context<0>, Integer, Optional<Context<1>, Integer, End>>;
 
 impl Rowed for Optional1Components {
     type Values = <Optional1Row as Components>::Values;
@@ -79,7 +79,7 @@ pub struct Optional2Components {
     pub b: Option<Optional1>,
 }
 
-type Optional2Row = Needs<Context<0>, Integer, MayHave<Context<1>, Optional1, NoMore>>;
+type Optional2Row = Required<Context<0>, Integer, Optional<Context<1>, Optional1, End>>;
 
 impl Rowed for Optional2Components {
     type Values = <Optional2Row as Components>::Values;
@@ -142,7 +142,7 @@ pub struct Optional3Components {
     pub b: Optional2,
 }
 
-type Optional3Row = Needs<Context<0>, Integer, Needs<Context<1>, Optional2, NoMore>>;
+type Optional3Row = Required<Context<0>, Integer, Required<Context<1>, Optional2, End>>;
 
 impl Rowed for Optional3Components {
     type Values = <Optional3Row as Components>::Values;
@@ -205,7 +205,7 @@ pub struct BoxedPairComponents<T> {
     pub b: T,
 }
 
-type BoxedPairRow<T> = Needs<Context<0>, Integer, Needs<Context<1>, T, NoMore>>;
+type BoxedPairRow<T> = Required<Context<0>, Integer, Required<Context<1>, T, End>>;
 
 const BOXED_PAIR_FIELDS: &'static [Field<'static>] = fields![
     0 Required Context 0 "a", 1 Required Context 1 "b"
@@ -271,7 +271,7 @@ pub struct ChoosingComponents {
     pub b: PairChoice,
 }
 
-type ChoosingRow = Needs<Context<0>, Integer, Needs<Context<1>, PairChoice, NoMore>>;
+type ChoosingRow = Required<Context<0>, Integer, Required<Context<1>, PairChoice, End>>;
 
 impl Rowed for ChoosingComponents {
     type Values = <ChoosingRow as Components>::Values;
@@ -334,7 +334,7 @@ pub struct ChosenComponents {
     pub b: Choosing,
 }
 
-type ChosenRow = Needs<Context<0>, bool, Needs<Context<1>, Choosing, NoMore>>;
+type ChosenRow = Required<Context<0>, bool, Required<Context<1>, Choosing, End>>;
 
 impl Rowed for ChosenComponents {
     type Values = <ChosenRow as Components>::Values;
