@@ -3,7 +3,7 @@ use Rattle.std.specs.Prelude.{map}
 use Rattle.std.specs.Option.{option_map}
 use Rattle.asn1_core.specs.Rows.{row}
 use Rattle.oer_read.specs.declared.decoder.Mark.{Mark}
-use Rattle.oer_read.specs.declared.decoder.OpenScope.{OpenScope}
+use Rattle.oer_read.specs.declared.scopes.OpenScope.{OpenScope}
 use Rattle.oer_leaf_read.specs.Views.{bits_left}
 use Rattle.oer_read.specs.State.{Frame, State, asks_of, places_of}
 

@@ -1,6 +1,6 @@
 //! Extension additions: each is asked by its bit of the extension bitmap, in the order of the table.
 
-ghost use Rattle.std.specs.Prelude.{◌≡◌, ◌≢◌, [], OnOk, not, get_or, false, drop, List, Bool, Option, Some, None, map, Ok, Err, IfOk, IfErr};
+ghost use Rattle.std.specs.Prelude.{◌≡◌, ◌≢◌, [], OnOk, not, get_or, false, drop, List, Bool, Option, Some, None, map, Ok, Err, IfOk, IfErr, true};
 ghost use Rattle.std.specs.Fn.{FnOnceTakesAtMut, FnOnceReturnsAtMut};
 ghost use Rattle.std.specs.Option.{option_map};
 ghost use Rattle.asn1_core.specs.Octets.{Octets, AreOctets};
@@ -11,10 +11,11 @@ ghost use Rattle.oer_leaf_read.specs.Views.{bits_left};
 ghost use Rattle.oer_read.specs.Additions.{row_present, all_present, with_bitmap, bitmap_first, mapped_at, next_place, open_content, addition_at, past_place, inside, OpenRead, OpenRefused, Adds};
 ghost use Rattle.oer_read.specs.Law.{Decodes};
 ghost use Rattle.oer_read.specs.State.{State, places_of};
+ghost use Rattle.oer_read.specs.Defaults.{AddsDefault};
 
 use crate::decode::Decode;
-use crate::decoder::{Decoder, OpenScope};
-use crate::scopes::{missing, next_bit};
+use crate::decoder::Decoder;
+use crate::scopes::{OpenScope, missing, next_bit};
 use asn1_core::{
     Codec, Constraints, Constructed, DecodeError, DecodeErrorKind, Field, FieldPresence, Tag,
 };
@@ -198,13 +199,9 @@ impl<'input> Decoder<'input> {
         ensures err { IfErr result (OpenRefused (D.tree _constraints) D.IsValue (λ s r t. FnOnceReturnsAtMut F.FnOnce f s r t) self.now content.entry.now) }
     {
         let mut inner: Decoder<'input> = self.inside(content);
-        match f(&mut inner) {
-            Err(e) => Err(e),
-            Ok(value) => match self.require_whole(inner.remaining()) {
-                Err(e) => Err(e),
-                Ok(()) => Ok(value),
-            },
-        }
+        let value = f(&mut inner)?;
+        self.require_whole(inner.remaining())?;
+        Ok(value)
     }
 
     /// An addition, asked by its tag or, for a group, by its row alone, whose value `f` reads.
@@ -364,5 +361,38 @@ impl<'input> Decoder<'input> {
         ensures { Adds (D.tree D.CONSTRAINTS) D.IsValue (D.Answered D.CONSTRAINTS) self.old None result self.new }
     {
         self.addition(alloc, None, D::TAG, D::CONSTRAINTS)
+    }
+
+    /// Reads an extension addition with a default under the handed-in tag and constraints (X.696, 16.4 and 30): `default`
+    /// where its bit of the extension bitmap is 0.
+    ///
+    /// Refused as `decode_extension_addition_with_tag_and_constraints` refuses; then a value that is equal to `default` in
+    /// canonical mode, as `NotValidCanonicalEncoding`.
+    pub fn decode_extension_addition_default<D: Decode + PartialEq>(
+        &mut self,
+        alloc: Global,
+        tag: Tag,
+        constraints: Constraints,
+        default: D,
+    ) -> Result<D, DecodeError>
+        requires { IsConsistent constraints }
+        ensures { AddsDefault (D.tree constraints) D.IsValue (D.Answered constraints) D.eq self.old tag default result self.new }
+    {
+        let before = self.mark();
+        match self.decode_extension_addition_with_tag_and_constraints::<D>(
+            alloc,
+            tag,
+            constraints,
+        ) {
+            Err(e) => Err(e),
+            Ok(None) => Ok(default),
+            Ok(Some(value)) => match self.refuse_default(&value, &default) {
+                Err(e) => {
+                    self.go_back(before);
+                    Err(e)
+                }
+                Ok(()) => Ok(value),
+            },
+        }
     }
 }

@@ -10,8 +10,8 @@ ghost use Rattle.oer_read.specs.Choices.{Chosen, chosen_of, place_at, lent_alter
 ghost use Rattle.oer_read.specs.Law.{Decodes, IsRear, Promised};
 ghost use Rattle.oer_read.specs.State.{State};
 
-use crate::decoder::{Decoder, OpenScope};
-use crate::scopes::one_level_less;
+use crate::decoder::Decoder;
+use crate::scopes::{OpenScope, one_level_less};
 use asn1_core::{Choice, Constraints, DecodeError, DecodeErrorKind, Tag};
 use oer_leaf_read::{read_content, read_tag, require_canonical};
 use oer_spec::{Spelled, is_among};

@@ -9,52 +9,10 @@ ghost use Rattle.oer_read.specs.Seen.{frame_of, at_mark};
 ghost use Rattle.oer_read.specs.State.{closed};
 
 use crate::de::DecoderOptions;
+use crate::scopes::OpenScope;
 use asn1_core::{Codec, DecodeError, DecodeErrorKind, Field};
 use oer_leaf_read::BitSlice;
 use std::marker::Model;
-
-/// The rows of the open scope that are still to be asked, and its presence bits.
-#[derive(Clone, Copy)]
-pub(crate) struct OpenScope<'input> {
-    pub(crate) is_set: bool,
-    pub(crate) roots: &'input [Field<'input>],
-    pub(crate) presence: BitSlice<'input>,
-    pub(crate) extensible: bool,
-    pub(crate) extended: bool,
-    pub(crate) additions: &'input [Field<'input>],
-    pub(crate) bitmap: Option<BitSlice<'input>>,
-}
-
-impl<'input> OpenScope<'input> {
-    /// No scope is open.
-    #[inline(always)]
-    pub(crate) fn closed() -> OpenScope<'input>
-        ensures { frame_of result ≡ closed }
-    {
-        OpenScope {
-            is_set: false,
-            roots: &[],
-            presence: BitSlice::new(&[], 0),
-            extensible: false,
-            extended: false,
-            additions: &[],
-            bitmap: None,
-        }
-    }
-
-    /// No scope is open any more.
-    #[inline(always)]
-    pub(crate) fn close(&mut self)
-        ensures { frame_of self.new ≡ closed }
-    {
-        self.is_set = false;
-        self.roots = &[];
-        self.extensible = false;
-        self.extended = false;
-        self.additions = &[];
-        self.bitmap = None;
-    }
-}
 
 /// What the calls that ask components move on, to go back to where a value that was read is refused.
 #[derive(Clone, Copy)]

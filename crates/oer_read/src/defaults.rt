@@ -2,7 +2,7 @@
 
 ghost use Rattle.std.specs.Prelude.{◌≡◌, true, false, OnOk, IfErr};
 ghost use Rattle.oer_spec.specs.Spelled.{IsConsistent};
-ghost use Rattle.oer_read.specs.Defaults.{only_lenient, AsksDefault, AddsDefault};
+ghost use Rattle.oer_read.specs.Defaults.{only_lenient, AsksDefault};
 
 use crate::decode::Decode;
 use crate::decoder::Decoder;
@@ -99,38 +99,5 @@ impl<'input> Decoder<'input> {
         ensures { AsksDefault (D.tree constraints) D.IsValue (D.Answered constraints) D.eq self.old D.TAG default result self.new }
     {
         self.decode_default_with_tag_and_constraints(alloc, D::TAG, constraints, default)
-    }
-
-    /// Reads an extension addition with a default under the handed-in tag and constraints (X.696, 16.4 and 30): `default`
-    /// where its bit of the extension bitmap is 0.
-    ///
-    /// Refused as `decode_extension_addition_with_tag_and_constraints` refuses; then a value that is equal to `default` in
-    /// canonical mode, as `NotValidCanonicalEncoding`.
-    pub fn decode_extension_addition_default<D: Decode + PartialEq>(
-        &mut self,
-        alloc: Global,
-        tag: Tag,
-        constraints: Constraints,
-        default: D,
-    ) -> Result<D, DecodeError>
-        requires { IsConsistent constraints }
-        ensures { AddsDefault (D.tree constraints) D.IsValue (D.Answered constraints) D.eq self.old tag default result self.new }
-    {
-        let before = self.mark();
-        match self.decode_extension_addition_with_tag_and_constraints::<D>(
-            alloc,
-            tag,
-            constraints,
-        ) {
-            Err(e) => Err(e),
-            Ok(None) => Ok(default),
-            Ok(Some(value)) => match self.refuse_default(&value, &default) {
-                Err(e) => {
-                    self.go_back(before);
-                    Err(e)
-                }
-                Ok(()) => Ok(value),
-            },
-        }
     }
 }

@@ -2,24 +2,27 @@
 #![tactic(auto)]
 
 mod additions;
+mod bit_strings;
+mod booleans;
 mod boxes;
 mod choices;
 pub mod de;
 mod decode;
 mod decoder;
 mod defaults;
+mod enums;
+mod identifiers;
 mod integers;
-mod leaves;
 mod lists;
 mod octets;
 mod owned;
 mod rows;
 mod scopes;
+mod sequences;
 mod sets;
 mod strings;
 mod times;
 mod unordered;
-mod values;
 
 pub use choices::DecodeChoice;
 pub use de::DecoderOptions;

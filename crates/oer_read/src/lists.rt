@@ -10,8 +10,8 @@ ghost use Rattle.oer_read.specs.Lists.{lent_element, list_opened_at, count_empty
 ghost use Rattle.oer_read.specs.State.{State};
 
 use crate::decode::Decode;
-use crate::decoder::{Decoder, OpenScope};
-use crate::scopes::one_level_less;
+use crate::decoder::Decoder;
+use crate::scopes::{OpenScope, one_level_less};
 use asn1_core::{Constraints, DecodeError, DecodeErrorKind, Tag};
 use oer_leaf_read::{BitSlice, read_quantity};
 use std::alloc::{AllocError, Global};

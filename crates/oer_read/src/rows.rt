@@ -1,4 +1,4 @@
-//! Optional and default components: each is asked by the next presence bit, in the order of the table.
+//! Optional components: each is asked by the next presence bit, in the order of the table. Explicit prefixes.
 
 ghost use Rattle.std.specs.Prelude.{◌≡◌, ◌∷◌, List, IfOk, IfErr, OnErr, Bool, true, map};
 ghost use Rattle.std.specs.Fn.{FnOnceTakesAtMut, FnOnceReturnsAtMut};

@@ -10,8 +10,8 @@ ghost use Rattle.oer_read.specs.Law.{IsRear, WantsMemoryIn};
 ghost use Rattle.oer_read.specs.Sets.{Call, is_there, bits_behind, root_calls, addition_calls, set_calls, set_opened_at, FieldReturns, FieldTakes, FieldsTaken, FieldsMake, RanInTurn, RefusedInTurn, CalledInTurn, AnsweredOne, SetLends, SetHands, SetRead, SetRefused};
 ghost use Rattle.oer_read.specs.State.{State};
 
-use crate::decoder::{Decoder, OpenScope};
-use crate::scopes::{bits_for, next_bit, one_level_less, split_extension};
+use crate::decoder::Decoder;
+use crate::scopes::{OpenScope, bits_for, next_bit, one_level_less, split_extension};
 use asn1_core::{
     Canonised, Codec, Constructed, DecodeError, DecodeErrorKind, Field, FieldPresence, Fields, Tag,
 };

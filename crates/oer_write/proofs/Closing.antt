@@ -8,7 +8,7 @@ use Rattle.oer_write.specs.Layout.{Piece, free_at, spread, filled, Ascends}
 use Rattle.oer_write.specs.Closed.{ClosedOff, FrontLeft}
 use Rattle.oer_write.specs.Scopes.{IsNew, any_true, extension_of}
 use Rattle.oer_write.specs.declared.region.Region.{Region}
-use Rattle.oer_write.specs.declared.scope.Scope.{Scope}
+use Rattle.oer_write.specs.declared.scopes.Scope.{Scope}
 use Rattle.oer_write.specs.Seen.{around, within, opens_in, IsLaid}
 use Rattle.oer_write.specs.Written.{Written, WriteFrame, fresh}
 use Rattle.oer_write.proofs.Layouts.{ascends_le, ascends_join, spread_split, filled_at}

@@ -8,7 +8,7 @@ use Rattle.oer_write.specs.Closed.{ClosedOff, FrontLeft}
 use Rattle.oer_write.specs.Scopes.{extension_of}
 use Rattle.oer_write.specs.Seen.{around, shown, view_of, within, IsLaid, IsSound, frame_of, opens_in}
 use Rattle.oer_write.specs.Written.{Written, WriteFrame, Keeps, append}
-use Rattle.oer_write.specs.declared.scope.Scope.{Scope}
+use Rattle.oer_write.specs.declared.scopes.Scope.{Scope}
 use Rattle.oer_write.specs.declared.region.Region.{Region}
 use Rattle.oer_write.proofs.Layouts.{ascends_le, total_cut, spread_length}
 use Rattle.oer_write.proofs.Regions.{around_long, none_around, none_within, append_split, opened_around, same_region, later_of, places, shown_more, shown_none, merged_length}

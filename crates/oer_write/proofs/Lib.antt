@@ -1,5 +1,5 @@
 pub mod Items
-pub mod Sequences
+pub mod SequenceRows
 pub mod Refusals
 pub mod Elements
 pub mod Lawful

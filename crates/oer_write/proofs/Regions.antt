@@ -4,7 +4,7 @@ use Rattle.std.proofs.lemmas.List.{take-take, take-append-le, drop-append-le, ta
 use Rattle.asn1_core.specs.Octets.{Octets}
 use Rattle.oer_spec.specs.Writing.{BeginsWith}
 use Rattle.oer_write.specs.declared.region.Region.{Region}
-use Rattle.oer_write.specs.declared.scope.Scope.{Scope}
+use Rattle.oer_write.specs.declared.scopes.Scope.{Scope}
 use Rattle.oer_write.specs.Held.{marks, shut_at}
 use Rattle.oer_write.specs.Layout.{Piece, free_at, slots, filled, spread, total, top, merged, Ascends, Adds}
 use Rattle.oer_write.specs.Seen.{around, shown, view_of, within, IsLaid, IsSound, opens_in, region_at}

@@ -8,7 +8,7 @@ use Rattle.oer_write.specs.Rows.{SetDone, IsKnownToWriteSet, items_of, bitmap_of
 use Rattle.oer_write.specs.Scopes.{Runs, SetClosed, Broken, set_octets}
 use Rattle.oer_write.specs.Written.{Written, WriteFrame, fresh, append, Encodes, Refused}
 use Rattle.oer_write.proofs.Items.{items_are, bitmap_is, opens_are}
-use Rattle.oer_write.proofs.Sequences.{extended_is, struct_encodable, struct_fails}
+use Rattle.oer_write.proofs.SequenceRows.{extended_is, struct_encodable, struct_fails}
 
 abbrev set_frame : Bool → ℕ → Rows → Rows → WriteFrame
 set_frame extensible start roots additions = record (fresh true extensible start) { components = items_of roots; bitmap = bitmap_of additions; opens = opens_of additions }

@@ -2,8 +2,8 @@
 use Rattle.std.specs.Prelude.{◌≤◌, ◌<◌, length}
 use Rattle.asn1_core.specs.Numbers.{low_octets}
 use Rattle.asn1_core.specs.Octets.{Octets}
-use Rattle.oer_write.specs.declared.scope.Preamble.{Preamble}
-use Rattle.oer_write.specs.declared.scope.Preamble.TheVariants.{Few, Many}
+use Rattle.oer_write.specs.declared.scopes.Preamble.{Preamble}
+use Rattle.oer_write.specs.declared.scopes.Preamble.TheVariants.{Few, Many}
 
 abbrev pub preamble_octets : Preamble → Octets
 preamble_octets (Few p) = low_octets p.octets p.number

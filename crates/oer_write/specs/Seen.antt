@@ -5,7 +5,7 @@ use Rattle.oer_write.specs.Layout.{Piece, free_at, spread, top, total, merged, A
 use Rattle.oer_write.specs.Held.{marks}
 use Rattle.oer_write.specs.Written.{Written, WriteFrame}
 use Rattle.oer_write.specs.declared.region.Region.{Region}
-use Rattle.oer_write.specs.declared.scope.Scope.{Scope}
+use Rattle.oer_write.specs.declared.scopes.Scope.{Scope}
 use Rattle.oer_write.specs.declared.encoder.Encoder.TheInside.{Inside}
 
 -- no additions yet

@@ -11,7 +11,7 @@ ghost use Rattle.oer_spec.specs.Spelled.{IsConsistent};
 
 use crate::encode::Encode;
 use crate::insertions::Insertions;
-use crate::rows::append_value;
+use crate::values::append_value;
 use asn1_core::{Constraints, EncodeError, EncodeErrorKind, Tag};
 use std::alloc::Global;
 use std::marker::Model;

@@ -5,7 +5,6 @@ ghost use Rattle.oer_write.specs.Written.{Encodes, Refused};
 
 use crate::encoder::Encoder;
 use asn1_core::{Constraints, EncodeError, Tag};
-use asn1_strings::{Any, BitString, OctetString};
 use oer_spec::Spelled;
 
 /// A type whose values are written.
@@ -68,91 +67,5 @@ pub trait Encode: Spelled {
         ensures { result ≡ true }
     {
         true
-    }
-}
-
-impl Encode for bool {
-    #[inline(always)]
-    fn encode_with_tag_and_constraints(
-        &self,
-        encoder: &mut Encoder<'_>,
-        tag: Tag,
-        _constraints: Constraints,
-    ) -> Result<(), EncodeError> {
-        encoder.encode_bool(tag, *self)
-    }
-}
-
-impl Encode for () {
-    #[inline(always)]
-    fn encode_with_tag_and_constraints(
-        &self,
-        encoder: &mut Encoder<'_>,
-        tag: Tag,
-        _constraints: Constraints,
-    ) -> Result<(), EncodeError> {
-        encoder.encode_null(tag)
-    }
-}
-
-/// A box is written as its content.
-impl<T: Encode> Encode for Box<T> {
-    #[inline(always)]
-    fn encode_with_tag_and_constraints(
-        &self,
-        encoder: &mut Encoder<'_>,
-        tag: Tag,
-        constraints: Constraints,
-    ) -> Result<(), EncodeError> {
-        (**self).encode_with_tag_and_constraints(encoder, tag, constraints)
-    }
-}
-
-impl<T: Encode> Encode for Vec<T> {
-    #[inline(always)]
-    fn encode_with_tag_and_constraints(
-        &self,
-        encoder: &mut Encoder<'_>,
-        tag: Tag,
-        constraints: Constraints,
-    ) -> Result<(), EncodeError> {
-        encoder.encode_sequence_of(tag, constraints, self)
-    }
-}
-
-impl Encode for BitString {
-    #[inline(always)]
-    fn encode_with_tag_and_constraints(
-        &self,
-        encoder: &mut Encoder<'_>,
-        tag: Tag,
-        constraints: Constraints,
-    ) -> Result<(), EncodeError> {
-        encoder.encode_bit_string(tag, constraints, self)
-    }
-}
-
-impl Encode for OctetString {
-    #[inline(always)]
-    fn encode_with_tag_and_constraints(
-        &self,
-        encoder: &mut Encoder<'_>,
-        tag: Tag,
-        constraints: Constraints,
-    ) -> Result<(), EncodeError> {
-        encoder.encode_octet_string(tag, constraints, self.as_bytes())
-    }
-}
-
-impl Encode for Any {
-    #[inline(always)]
-    fn encode_with_tag_and_constraints(
-        &self,
-        encoder: &mut Encoder<'_>,
-        tag: Tag,
-        _constraints: Constraints,
-    ) -> Result<(), EncodeError> {
-        let _octets = self.as_bytes();
-        encoder.encode_any(tag, self)
     }
 }

@@ -15,7 +15,7 @@ ghost use Rattle.oer_write.specs.Written.{Written, append, no_scope, fresh};
 use crate::enc::EncoderOptions;
 use crate::insertions::Insertions;
 use crate::region::Region;
-use crate::scope::{Preamble, Scope};
+use crate::scopes::{Preamble, Scope};
 use asn1_core::{Codec, EncodeErrorKind};
 use std::alloc::Global;
 use std::marker::Model;

@@ -2,33 +2,37 @@
 #![tactic(auto)]
 
 mod additions;
+mod bit_strings;
 mod bits;
+mod booleans;
+mod boxes;
 mod choices;
 mod component;
-mod component_with;
+mod defaults;
 pub mod enc;
 pub mod encode;
 mod encoder;
+mod enums;
 mod identifiers;
 mod insertions;
 mod integers;
-mod leaves;
 mod lists;
 mod long;
+mod octets;
 mod opening;
 mod opens;
 mod passes;
 mod region;
 mod rows;
 mod rules;
-mod scope;
 mod scopes;
+mod sequences;
 mod sets;
 mod slots;
 mod strings;
-mod texts;
 mod times;
 mod unordered;
+mod values;
 
 pub use encode::Encode;
 pub use encoder::Encoder;

@@ -275,3 +275,15 @@ impl<'buffer> Encoder<'buffer> {
         put_values(self, value)
     }
 }
+
+impl<T: Encode> Encode for Vec<T> {
+    #[inline(always)]
+    fn encode_with_tag_and_constraints(
+        &self,
+        encoder: &mut Encoder<'_>,
+        tag: Tag,
+        constraints: Constraints,
+    ) -> Result<(), EncodeError> {
+        encoder.encode_sequence_of(tag, constraints, self)
+    }
+}

@@ -16,8 +16,8 @@ use crate::bits::Packed;
 use crate::encode::Encode;
 use crate::insertions::Insertions;
 use crate::opens::{close_open, long_length};
-use crate::rows::{append_value, append_within};
 use crate::scopes::{close_scope, open_scope};
+use crate::values::{append_value, append_within};
 use asn1_core::{Class, Constraints, EncodeError, EncodeErrorKind, Tag};
 use std::alloc::Global;
 

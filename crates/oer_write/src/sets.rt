@@ -17,8 +17,7 @@ use crate::bits::Bits;
 use crate::component::{Component, Components, body_of};
 use crate::encoder::Encoder;
 use crate::insertions::Insertions;
-use crate::scope::Scope;
-use crate::scopes::lend;
+use crate::scopes::{Scope, lend};
 use asn1_core::{Constructed, EncodeError, EncodeErrorKind, Tag};
 use std::alloc::Global;
 

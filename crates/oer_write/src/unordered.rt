@@ -16,7 +16,7 @@ use crate::encode::Encode;
 use crate::encoder::Encoder;
 use crate::insertions::Insertions;
 use crate::lists::MAX_EMPTY_ELEMENTS;
-use crate::rows::append_value;
+use crate::values::append_value;
 use asn1_core::{Constraints, EncodeError, EncodeErrorKind, SetOf, Tag};
 use oer_leaf_write::write_quantity;
 use std::alloc::Global;

@@ -1,5 +1,5 @@
 use Rattle.std.proofs.lemmas.Result.{on_ok_weaker, IfErr-weaker}
-use Rattle.oer_write.proofs.Sequences.{sequence_done, sequence_refused}
+use Rattle.oer_write.proofs.SequenceRows.{sequence_done, sequence_refused}
 use Rattle.oer_write.proofs.encoder.Encoder.encode_sequence.Goals as goal
 
 pub sequence-requires-clause-orderly : goal.sequence-requires-clause-orderly
