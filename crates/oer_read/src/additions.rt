@@ -252,13 +252,9 @@ impl<'input> Decoder<'input> {
         ensures err { IfErr result (OpenRefused (D.tree constraints) D.IsValue (D.Answered constraints) self.now content.entry.now) }
     {
         let mut inner: Decoder<'input> = self.inside(content);
-        match D::decode_with_tag_and_constraints(alloc, &mut inner, tag, constraints) {
-            Err(e) => Err(e),
-            Ok(value) => match self.require_whole(inner.remaining()) {
-                Err(e) => Err(e),
-                Ok(()) => Ok(value),
-            },
-        }
+        let value = D::decode_with_tag_and_constraints(alloc, &mut inner, tag, constraints)?;
+        self.require_whole(inner.remaining())?;
+        Ok(value)
     }
 
     /// An addition of a type that is read, asked by its tag or, for a group, by its row alone. It calls no closure: one that
@@ -379,14 +375,14 @@ impl<'input> Decoder<'input> {
         ensures { AddsDefault (D.tree constraints) D.IsValue (D.Answered constraints) D.eq self.old tag default result self.new }
     {
         let before = self.mark();
-        match self.decode_extension_addition_with_tag_and_constraints::<D>(
+        let found = self.decode_extension_addition_with_tag_and_constraints::<D>(
             alloc,
             tag,
             constraints,
-        ) {
-            Err(e) => Err(e),
-            Ok(None) => Ok(default),
-            Ok(Some(value)) => match self.refuse_default(&value, &default) {
+        )?;
+        match found {
+            None => Ok(default),
+            Some(value) => match self.refuse_default(&value, &default) {
                 Err(e) => {
                     self.go_back(before);
                     Err(e)

@@ -122,15 +122,13 @@ impl<'input> Decoder<'input> {
             Err(kind) => Err(self.refusal(kind)),
             Ok((tag, chosen, behind)) => {
                 let mut inner: Decoder<'input> = chosen;
-                match f(&mut inner, tag) {
-                    Err(e) => Err(e),
-                    Ok(value) => match self.behind(behind, inner.remaining()) {
-                        Err(kind) => Err(self.refusal(kind)),
-                        Ok(rest) => {
-                            self.set_remaining(rest);
-                            Ok(value)
-                        }
-                    },
+                let value = f(&mut inner, tag)?;
+                match self.behind(behind, inner.remaining()) {
+                    Err(kind) => Err(self.refusal(kind)),
+                    Ok(rest) => {
+                        self.set_remaining(rest);
+                        Ok(value)
+                    }
                 }
             }
         }

@@ -48,10 +48,10 @@ impl<'input> Decoder<'input> {
         ensures { AsksDefault (D.tree constraints) D.IsValue (D.Answered constraints) D.eq self.old tag default result self.new }
     {
         let before = self.mark();
-        match self.decode_optional_with_tag_and_constraints::<D>(alloc, tag, constraints) {
-            Err(e) => Err(e),
-            Ok(None) => Ok(default),
-            Ok(Some(value)) => match self.refuse_default(&value, &default) {
+        let found = self.decode_optional_with_tag_and_constraints::<D>(alloc, tag, constraints)?;
+        match found {
+            None => Ok(default),
+            Some(value) => match self.refuse_default(&value, &default) {
                 Err(e) => {
                     self.go_back(before);
                     Err(e)

@@ -122,13 +122,9 @@ impl<'input> Decoder<'input> {
         ensures ok { IfOk result (λ v. (after : _) × FnReturnsAtMut F.Fn f.now (lent_element self.now lent.old.input) (Ok v) after × (lent.new ≡ lent_element self.now after.input)) }
         ensures err { IfErr result (λ e. (after : _) × FnReturnsAtMut F.Fn f.now (lent_element self.now lent.old.input) (Err e) after) }
     {
-        match f(lent) {
-            Err(e) => Err(e),
-            Ok(item) => {
-                lent.lend_again(self);
-                Ok(item)
-            }
-        }
+        let item = f(lent)?;
+        lent.lend_again(self);
+        Ok(item)
     }
 
     /// One more element without octets, where as many octets are left as before; at most 65,536.

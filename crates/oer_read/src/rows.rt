@@ -65,16 +65,17 @@ impl<'input> Decoder<'input> {
     {
         let roots = self.scope.roots;
         let presence = self.scope.presence;
-        match self.next_row(tag) {
-            Err(e) => Err(e),
-            Ok(false) => Ok(None),
-            Ok(true) => match D::decode_with_tag_and_constraints(alloc, self, tag, constraints) {
+        let is_there = self.next_row(tag)?;
+        if is_there {
+            match D::decode_with_tag_and_constraints(alloc, self, tag, constraints) {
                 Err(e) => {
                     self.ask_from(roots, presence);
                     Err(e)
                 }
                 Ok(value) => Ok(Some(value)),
-            },
+            }
+        } else {
+            Ok(None)
         }
     }
 
@@ -93,16 +94,17 @@ impl<'input> Decoder<'input> {
     {
         let roots = self.scope.roots;
         let presence = self.scope.presence;
-        match self.next_row(tag) {
-            Err(e) => Err(e),
-            Ok(false) => Ok(None),
-            Ok(true) => match f(self) {
+        let is_there = self.next_row(tag)?;
+        if is_there {
+            match f(self) {
                 Err(refused) => {
                     self.ask_from(roots, presence);
                     Err(refused)
                 }
                 Ok(value) => Ok(Some(value)),
-            },
+            }
+        } else {
+            Ok(None)
         }
     }
 

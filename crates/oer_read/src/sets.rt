@@ -224,7 +224,7 @@ impl<'input> Decoder<'input> {
         match self.open_set(roots, SET::IS_EXTENSIBLE, additions) {
             Err(kind) => Err(self.refusal(kind)),
             Ok((mut inner, presence)) => {
-                match read_fields::<RC, FIELDS, D>(
+                let fields = read_fields::<RC, FIELDS, D>(
                     alloc,
                     &mut inner,
                     roots,
@@ -232,18 +232,14 @@ impl<'input> Decoder<'input> {
                     additions,
                     &decode_fn,
                     self.codec(),
-                ) {
-                    Err(e) => Err(e),
-                    Ok(fields) => match inner.close() {
-                        Err(kind) => Err(self.refusal(kind)),
-                        Ok(rest) => match field_fn(fields) {
-                            Err(e) => Err(e),
-                            Ok(set) => {
-                                self.set_remaining(rest);
-                                Ok(set)
-                            }
-                        },
-                    },
+                )?;
+                match inner.close() {
+                    Err(kind) => Err(self.refusal(kind)),
+                    Ok(rest) => {
+                        let set = field_fn(fields)?;
+                        self.set_remaining(rest);
+                        Ok(set)
+                    }
                 }
             }
         }

@@ -63,20 +63,12 @@ impl<'input> Decoder<'input> {
         ensures err { IfErr result (λ e. NextRefused (Promised (D.tree D.CONSTRAINTS) D.IsValue (D.Answered D.CONSTRAINTS)) self.now empties last.now lent.old.input e) }
     {
         let rest: &'input [u8] = lent.remaining();
-        match D::decode(alloc, lent) {
-            Err(e) => Err(e),
-            Ok(item) => {
-                let left: &'input [u8] = lent.remaining();
-                let octets: &'input [u8] = front_of(rest, left);
-                match self.count_empty(empties, rest, left) {
-                    Err(e) => Err(e),
-                    Ok(count) => match self.require_order(last, octets) {
-                        Err(e) => Err(e),
-                        Ok(()) => Ok((item, octets, count)),
-                    },
-                }
-            }
-        }
+        let item = D::decode(alloc, lent)?;
+        let left: &'input [u8] = lent.remaining();
+        let octets: &'input [u8] = front_of(rest, left);
+        let count = self.count_empty(empties, rest, left)?;
+        self.require_order(last, octets)?;
+        Ok((item, octets, count))
     }
 
     /// Reads that many elements in turn.
@@ -134,13 +126,11 @@ impl<'input> Decoder<'input> {
     {
         match self.open_list() {
             Err(kind) => Err(self.refusal(kind)),
-            Ok((quantity, start)) => match self.read_unordered::<D>(alloc, quantity, start) {
-                Err(e) => Err(e),
-                Ok((items, rest)) => {
-                    self.set_remaining(rest);
-                    Ok(SetOf::from_vec(items))
-                }
-            },
+            Ok((quantity, start)) => {
+                let (items, rest) = self.read_unordered::<D>(alloc, quantity, start)?;
+                self.set_remaining(rest);
+                Ok(SetOf::from_vec(items))
+            }
         }
     }
 }
