@@ -142,7 +142,7 @@ Rights ::= BIT STRING { read(0), write-all(7) } (SIZE(8))
 Row ::= SEQUENCE {
    -- its state
    state State, bits BIT STRING { a(3) } (SIZE(4)) }
--- a\ttab, a \u202e turn and a\rreturn\x00
+/* a\ttab, a \u202e turn and a\rreturn\x00 */
 Name ::= IA5String (PATTERN "a
 b")
 Named ::= SEQUENCE { name IA5String DEFAULT "a\tb" }"""

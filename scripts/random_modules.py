@@ -140,7 +140,8 @@ class Maker:
         elif roll < 0.16:
             text = f"{name} ::= Pair{{{self.type(1)}, {self.rng.choice((9, 255, 256))}}}"
         elif roll < 0.2:
-            text = f"{name} ::= SEQUENCE {{ id CLASS-OF.&id ({{Objects}}), content CLASS-OF.&Type ({{Objects}}{{@id}}) }}"
+            fields = "id CLASS-OF.&id ({Objects}), content CLASS-OF.&Type ({Objects}{@id}), values ALSO.&Values, value ALSO.&value OPTIONAL"
+            text = f"{name} ::= SEQUENCE {{ {fields}, instance INSTANCE OF TYPE-IDENTIFIER, few Few{{{{1 | 300}}, 9}} }}"
         elif roll < 0.6:
             text = f"{name} ::= {self.structure(2)}"
             if " ::= SEQUENCE {" in text and "COMPONENTS" not in text:
@@ -155,7 +156,10 @@ OWN = """yes BOOLEAN ::= TRUE
 least INTEGER ::= -1
 most INTEGER ::= far
 far INTEGER ::= 65535
-CLASS-OF ::= CLASS { &id INTEGER (0..255) UNIQUE, &Type } WITH SYNTAX { &Type IDENTIFIED BY &id }
+CLASS-OF ::= CLASS { &id INTEGER (0..255) UNIQUE, &Type, &Values INTEGER (0..9) OPTIONAL, &value &Type OPTIONAL }
+    WITH SYNTAX { &Type IDENTIFIED BY &id [AMONG &Values] [AS &value] }
+ALSO ::= CLASS-OF
+Few{INTEGER:Of, INTEGER:most} ::= SEQUENCE { most INTEGER (0..most), of INTEGER (Of), more [2] Of OPTIONAL, e [3] ENUMERATED { most, of(most) } }
 Objects CLASS-OF ::= { { BOOLEAN IDENTIFIED BY 1 } | { NULL IDENTIFIED BY 2 }, ... }
 Pair{Of, INTEGER:most} ::= SEQUENCE { of [0] Of, number [1] INTEGER (0..most), more [2] SEQUENCE OF Of OPTIONAL }"""
 
@@ -169,8 +173,9 @@ def text(rng):
     maker.types, maker.sequences, maker.is_automatic = list(shared), [], False
     found = [maker.assignment() for _ in range(6)]
     tagging = rng.choice(("IMPLICIT TAGS ", "EXPLICIT TAGS ", ""))
-    imports = ", ".join([*shared, "CLASS-OF", "Objects", "Pair{}", "yes", "least", "most"])
+    implied = [rng.choice(("", "EXTENSIBILITY IMPLIED ")) for _ in range(2)]
+    imports = ", ".join([*shared, "CLASS-OF", "ALSO", "Objects", "Pair{}", "Few{}", "yes", "least", "most"])
     return (
-        f"First DEFINITIONS AUTOMATIC TAGS ::= BEGIN\n{first}\nEND\n"
-        f"Second DEFINITIONS {tagging}::= BEGIN\nIMPORTS {imports} FROM First WITH SUCCESSORS;\n" + "\n".join(found) + "\nEND\n"
+        f"First DEFINITIONS AUTOMATIC TAGS {implied[0]}::= BEGIN\n{first}\nEND\n"
+        f"Second DEFINITIONS {tagging}{implied[1]}::= BEGIN\nIMPORTS {imports} FROM First WITH SUCCESSORS;\n" + "\n".join(found) + "\nEND\n"
     )

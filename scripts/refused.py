@@ -4,7 +4,8 @@
 usage: refused.py PROGRAM, for example: refused.py crates/oergen/out/oergen
 
 scripts/refused.d/refused.txt has modules that are neither listed nor printed nor have a table, for one reason, unprinted.txt those that are listed and
-not printed: a row each, what stands between BEGIN and END, which is line 2, and its message. Types in one another and components side
+not printed: a row each, what stands between BEGIN and END, which is line 2, and its message; listed.txt has some whose table is
+typed there. Types in one another and components side
 by side are printed up to a bound, and refused one past it. Of left_out.asn all that can't be printed is left out, with the lines of
 left_out.txt, and of unread.asn all that can't be read or resolved, with those of unread.txt. Files that aren't there or aren't UTF-8
 are refused by name, and crates are written into no folder but their own. What is said was typed from the place of what is met and from
@@ -44,7 +45,7 @@ SIZES = (("OCTET STRING", 4294967295), ("BMPString", 2147483648), ("BIT STRING",
 WORD = "2:7: met '{}'; can read a size of fewer than 4294967295 octets or bits"
 
 # how many rows the files have: one that was cut short would pass
-ROWS = (75, 16)
+ROWS = (91, 16, 16)
 
 # what stands in front of a type and behind it, how often at most, and what is said of once more
 DEPTHS = (
@@ -95,6 +96,12 @@ def unprinted():
     return [refusal(PRINT, *row) for row in found] + [Case(LIST, module_of(body), (None, "", 0, 0)) for body, _ in found]
 
 
+def listed():
+    """Modules that are listed, with their table: its lines with ` / ` between them."""
+    found = [(body, table.replace(" / ", "\n")) for body, table in rows("listed.txt")]
+    return [Case(LIST, module_of(body), (f"{table}\n", "", 0, 0)) for body, table in found]
+
+
 def bound(body_of, most, message, words=PRINT, printed=PRINTED):
     """At a bound all is printed, and one past it refused."""
     return [Case(words, module_of(body_of(most)), printed), refusal(words, body_of(most + 1), message)]
@@ -132,8 +139,21 @@ NULL_LISTED = ("A of M: NULL, no octets\n", "", 0, 0)
 NOT_UTF8 = "m.asn:2:39: met a string with octets that aren't UTF-8; can read UTF-8: other octets only in comments\n"
 
 
+def lines_ended():
+    """Each end of a line ends a comment, and begins a new line: a carriage return with the line feed behind it one."""
+    table = "A of M: NULL, no octets\nB of M: A, NULL, no octets\n"
+    cases = []
+    for end in ("\n", "\r", "\v", "\f", "\r\n"):
+        body = f"A ::= NULL -- x{end}B ::= A -- y"
+        cases.append(Case(LIST, module_of(body).replace("\n", end).encode(), (table, "", 0, 0)))
+        body = f"A ::= NULL /* x{end}{end} */ B ::= C"
+        absent = "m.asn:4:11: met 'C'; can read the name of a type that is assigned or imported\n"
+        cases.append(Case(LIST, module_of(body).encode(), ("", absent, 1, 0)))
+    return cases
+
+
 def odd_files():
-    """A byte order mark, octets that aren't UTF-8 in a comment and in a string, and a file that isn't there."""
+    """Ends of lines, a byte order mark, octets that aren't UTF-8 in a comment and in a string, and a file that isn't there."""
     absent = (None, "absent.asn: can't be read: No such file or directory (os error 2)\n", 1, 0)
     latin = module_of('A ::= SEQUENCE { a UTF8String DEFAULT "caf@" }').encode().replace(b"@", b"\xe9")
     cases = [
@@ -143,7 +163,7 @@ def odd_files():
     for words in (LIST, TABLE, PRINT):
         cases.append(Case(words, latin, ("", NOT_UTF8, 1, 0)))
         cases.append(Case(words, module_of("A ::= NULL"), absent, names=("m.asn", "absent.asn")))
-    return cases
+    return cases + lines_ended()
 
 
 HEAD = "//! Types of ASN.1 modules, as oergen printed them.\n"
@@ -211,6 +231,7 @@ def main(program):
     sorts = {
         "not listed and not printed": unlisted(),
         "listed and not printed": unprinted(),
+        "listed": listed(),
         "at bounds": bounds(),
         "with types left out": left_out(),
         "in odd files": odd_files(),
@@ -220,7 +241,7 @@ def main(program):
     with concurrent.futures.ThreadPoolExecutor(len(os.sched_getaffinity(0))) as pool:
         found = list(pool.map(lambda case: faults_of(program, case), cases))
     faults = [fault for some in found for fault in some] + unhelpful(program)
-    faults += [] if (len(rows("refused.txt")), len(rows("unprinted.txt"))) == ROWS else [f"rows are not {ROWS}"]
+    faults += [] if tuple(len(rows(f"{it}.txt")) for it in ("refused", "unprinted", "listed")) == ROWS else [f"rows are not {ROWS}"]
     for fault in faults:
         print(f"refused: {fault}")
     counts = ", ".join(f"{len(some)} {sort}" for sort, some in sorts.items())

@@ -23,7 +23,7 @@ sys.dont_write_bytecode = True
 sys.path.insert(0, str(pathlib.Path(__file__).resolve().parent))
 
 import random_modules  # noqa: E402
-from second_reading import HELD, PARTS, SIMPLE, Limits, Listing, Parser, World  # noqa: E402
+from second_reading import HELD, PARTS, SIMPLE, Limits, Listing, Parser, World, classes_of  # noqa: E402
 
 RUST = {
     "BOOLEAN": "bool", "NULL": "()", "OCTET STRING": "Octets", "OBJECT IDENTIFIER": "ObjectIdentifier", "UTF8String": "Utf8Text",
@@ -241,7 +241,7 @@ def blocks(table):
 
 def faults_of(program, texts):
     """What oergen lists or prints otherwise of the modules of texts, and how many types were compared with both."""
-    classes = set(re.findall(r"(\S+)\s*::=\s*CLASS", "\n".join(texts)))
+    classes = classes_of(texts)
     listing = Listing(World([module for text in texts for module in Parser(text, classes).modules()]))
     with tempfile.TemporaryDirectory() as folder:
         names = []

@@ -4,7 +4,7 @@ should have of each type.
 import re
 
 TOKEN = re.compile(
-    r"""\s+|--(?:(?!--)[^\n])*(?:--|\n|$)|(?P<t>::=|\.\.\.|\.\.|\[\[|\]\]|"(?:[^"]|"")*"|'[^']*'[BH]|\d+"""
+    r"""\s+|--(?:(?!--)[^\n\v\f\r])*(?:--|[\n\v\f\r]|$)|(?P<t>::=|\.\.\.|\.\.|\[\[|\]\]|"(?:[^"]|"")*"|'[^']*'[BH]|\d+"""
     r"""|&?[A-Za-z](?:-?[A-Za-z0-9])*|[^\s])"""
 )
 BLOCK = re.compile(r"/\*(?:[^*/]|\*(?!/)|/(?!\*))*\*/")
@@ -26,6 +26,13 @@ KEYWORDS = set(
 )
 
 
+# what stands for another type, by a step
+NAMES = ("NAME", "FIELD", "INSTANCE OF")
+# classes that are there without an assignment (X.681, annexes A and B)
+CLASSES = """TYPE-IDENTIFIER ::= CLASS { &id OBJECT IDENTIFIER UNIQUE, &Type }
+ABSTRACT-SYNTAX ::= CLASS { &id OBJECT IDENTIFIER, &Type, &property BIT STRING { handles-invalid-encodings(0) } DEFAULT {} }"""
+
+
 class Type:
     """A type where it is written: its module, tags, sort, what the sort has, and its constraints."""
 
@@ -41,10 +48,28 @@ class Member:
         self.name, self.of, self.need, self.place, self.group = name, of, need, place, group
 
 
+class Fields(dict):
+    """The types of a class's fields, what stands for those that may be left out, and the syntax of its objects; none where it has none."""
+
+    def __init__(self):
+        super().__init__()
+        self.defaults, self.syntax = {}, None
+
+
 class Module:
     def __init__(self, name):
         self.name, self.tagging, self.imports = name, "EXPLICIT", {}
-        self.types, self.values, self.classes = {}, {}, {}
+        self.implies_marks = False
+        self.types, self.values, self.classes, self.objects = {}, {}, {}, {}
+
+
+def classes_of(texts):
+    """The names of all classes: those with fields, and further names of them."""
+    text = "\n".join([CLASSES, *texts])
+    found = set(re.findall(r"(\S+)\s*::=\s*CLASS\b", text))
+    while more := {name for name, of in re.findall(r"(\S+)\s*::=\s*([\w-]+)(?=\s)", text) if of in found} - found:
+        found |= more
+    return found
 
 
 def tokens(text):
@@ -77,13 +102,13 @@ class Parser:
             raise ValueError(f"{' '.join(self.all[max(0, self.at - 12):self.at])}: not {word!r}")
 
     def skip(self):
-        """Passes over brackets."""
-        depth = 0
+        """Passes over brackets; what stands in them."""
+        start, depth = self.at, 0
         while True:
             word = self.next()
             depth += (word in ("{", "(", "[", "[[")) - (word in ("}", ")", "]", "]]"))
             if depth == 0:
-                return
+                return self.all[start + 1 : self.at - 1]
 
     def modules(self):
         while self.peek():
@@ -94,6 +119,7 @@ class Parser:
             if self.peek() in ("AUTOMATIC", "IMPLICIT", "EXPLICIT"):
                 self.module.tagging = self.next()
                 self.expects("TAGS")
+            self.module.implies_marks = self.eats("EXTENSIBILITY", "IMPLIED")
             self.expects("::=")
             self.expects("BEGIN")
             self.front()
@@ -124,18 +150,23 @@ class Parser:
         dummies = []
         if self.eats("{"):
             while not self.eats("}"):
-                dummies.append(self.next())
-                if self.eats(":"):
-                    dummies[-1] = self.next()
+                dummies.append(self.dummy())
                 self.eats(",")
         if name[0].islower():
+            is_object = self.peek() in self.classes
             of = self.type()
             self.expects("::=")
+            if is_object:
+                self.module.objects[name] = (of.inside[:2], self.skip())
+                return
             self.module.values[name] = (of, self.value())
+        elif self.peek() == "::=" and name in self.classes and self.peek(1) != "CLASS":
+            self.next()
+            self.module.classes[name] = self.name()
         elif self.eats("::=", "CLASS"):
             self.module.classes[name] = self.fields()
             if self.eats("WITH", "SYNTAX"):
-                self.skip()
+                self.module.classes[name].syntax = self.skip()
         elif self.eats("::="):
             self.module.types[name] = (dummies, self.type())
         else:
@@ -149,16 +180,57 @@ class Parser:
             of.constraints.append(self.marked("}"))
             self.module.types[name] = (dummies, of)
 
+    def dummy(self):
+        """A dummy's name, and the type that governs it, where one does."""
+        governor = None
+        if self.peek(1) != ":" and self.peek() not in ("{", "}", ","):
+            start = self.at
+            if self.peek(1) in (",", "}"):
+                return self.next(), None
+            governor = self.type()
+            if self.peek() != ":":
+                raise ValueError(f"{' '.join(self.all[start:self.at])}: no governor")
+        elif self.peek() in self.classes:
+            self.next()
+        else:
+            governor = self.type()
+        self.expects(":")
+        return self.next(), governor
+
+    def name(self):
+        """A name, and its module's where that stands in front."""
+        home = self.next() if self.peek(1) == "." and self.peek(2)[0].isalpha() else None
+        if home:
+            self.expects(".")
+        return home, self.next()
+
     def fields(self):
-        fields = {}
+        """The types of a class's fields (X.681, 9 and 14): nothing where it is an open type, since the field is a type, or values of another's."""
+        fields = Fields()
         self.expects("{")
         while not self.eats("}"):
             name = self.next()
-            fields[name] = None if name[1].isupper() else self.type()
+            fields[name] = None
+            if self.peek().startswith("&"):
+                self.next()
+            elif self.peek() not in (",", "}", "OPTIONAL", "DEFAULT"):
+                fields[name] = self.type()
             while self.peek() in ("UNIQUE", "OPTIONAL"):
                 self.next()
+            if self.eats("DEFAULT"):
+                fields.defaults[name] = self.setting({",", "}"})
             self.eats(",")
         return fields
+
+    def setting(self, ends):
+        """What stands in front of the ends."""
+        start = self.at
+        while self.peek() and self.peek() not in ends:
+            if self.peek() in ("(", "{"):
+                self.skip()
+            else:
+                self.next()
+        return self.all[start : self.at]
 
     def type(self):
         tags = []
@@ -183,7 +255,9 @@ class Parser:
         if word in SIMPLE:
             return word, None
         if word == "ENUMERATED":
-            return word, self.numbers()
+            values = self.numbers()
+            is_marked = any(name is None for name, _ in values)
+            return word, values if is_marked or not self.module.implies_marks else [*values, (None, None)]
         if word in ("SEQUENCE", "SET") and self.peek() != "{":
             if self.eats("SIZE") or self.peek() == "(":
                 self.skip()
@@ -191,25 +265,39 @@ class Parser:
             return word + " OF", self.type()
         if word in PARTS:
             return word, self.members()
+        if word == "INSTANCE":
+            self.expects("OF")
+            return "INSTANCE OF", self.instance(*self.name())
+        self.at -= 1
+        home, name = self.name()
         if self.peek() == "." and self.peek(1).startswith("&"):
             names = []
             while self.eats("."):
                 names.append(self.next())
             if self.peek() == "(" and self.peek(1) == "{":
                 self.skip()
-            return "FIELD", (word, names)
-        home = word if self.eats(".") else None
-        name = self.next() if home else word
+            return "FIELD", (home, name, names)
         return "NAME", (home, name, self.actual() if self.peek() == "{" else [])
 
+    def instance(self, home, name):
+        """The associated type of INSTANCE OF a class (X.681, annex C)."""
+        if self.peek() == "(" and self.peek(1) == "{":
+            self.skip()
+        number = [("", ("number", 0, self.module))]
+        one = Type(self.module, [], "FIELD", (home, name, ["&id"]), [])
+        two = Type(self.module, number, "FIELD", (home, name, ["&Type"]), [])
+        members = [Member("type-id", one, "required", 0, None), Member("value", two, "required", 0, None)]
+        return Type(self.module, [("UNIVERSAL", ("number", 8, self.module))], "SEQUENCE", members, [])
+
     def actual(self):
-        """Actual parameters: types and values; nothing of sets of objects and of classes."""
+        """Actual parameters: types and values; what is between braces as it is written, since its governor says what it is."""
         found = []
         self.expects("{")
         while not self.eats("}"):
             if self.peek() == "{":
+                start = self.at
                 self.skip()
-                found.append(None)
+                found.append(("braces", self.all[start : self.at], self.module))
             elif self.peek()[0].isupper() and self.peek() not in ("TRUE", "FALSE"):
                 found.append(("type", self.type()))
             else:
@@ -239,6 +327,7 @@ class Parser:
                 continue
             if self.eats("..."):
                 marks += 1
+                self.exception()
                 found.append(Member(None, None, None, marks, None))
             elif self.eats("[["):
                 groups, in_group = groups + 1, True
@@ -255,6 +344,8 @@ class Parser:
                 elif self.eats("DEFAULT"):
                     need = self.value()
                 found.append(Member(name, of, need, marks, groups if in_group else None))
+        if self.module.implies_marks and marks == 0:  # X.680, 13.4
+            found.append(Member(None, None, None, 1, None))
         return found
 
     def value(self):
@@ -275,7 +366,16 @@ class Parser:
         if word[0].isupper():
             self.expects(".")
             return "name", (word, self.next()), self.module
+        if self.peek() == "." and self.peek(1).startswith("&"):
+            self.next()
+            return "field", (word, self.next()), self.module
         return "name", (None, word), self.module
+
+    def exception(self):
+        """Passes over what is said of exceptions (X.680, 53)."""
+        if self.eats("!"):
+            while self.peek() not in (",", ")", "}"):
+                self.next()
 
     def constraint(self):
         self.expects("(")
@@ -289,6 +389,7 @@ class Parser:
             self.expects("...")
             if self.eats(","):
                 self.union()
+        self.exception()
         self.expects(close)
         return found, has_mark
 
@@ -385,33 +486,67 @@ class World:
 
     def __init__(self, modules):
         self.modules = {it.name: it for it in modules}
+        self.classes = {name for it in modules for name in it.classes} | {"TYPE-IDENTIFIER", "ABSTRACT-SYNTAX"}
+        self.built_in = next(Parser(f"B DEFINITIONS ::= BEGIN {CLASSES} END", self.classes).modules())
 
     def home(self, module, home, name):
-        return self.modules[home or module.imports.get(name) or module.name]
+        """The module in which a name is assigned, past those that import it themselves (X.680, 13.16)."""
+        found = self.modules[home or module.imports.get(name) or module.name]
+        for _ in self.modules:
+            found = self.modules[found.imports.get(name) or found.name]
+        return found
+
+    def class_of(self, module, home, name, around):
+        """The module of a class with its fields, past further names of it."""
+        if home is None and name in around:
+            _, of, around = around[name]
+            return self.class_of(of.module, *of.inside[:2], around)
+        if name in self.built_in.classes:
+            return module, self.built_in.classes[name]
+        found = self.home(module, home, name)
+        of = found.classes[name]
+        return (found, of) if isinstance(of, dict) else self.class_of(found, *of, {})
+
+    def given(self, dummies, actual, around):
+        """What stands for each dummy, and where: of values between braces their type, with a constraint (X.683, 9)."""
+        found = {}
+        for (dummy, governor), it in zip(dummies, actual):
+            if it[0] != "braces":
+                found[dummy] = (it[0], it[1], around)
+            elif governor:
+                parser = Parser("", self.classes)
+                parser.all, parser.module = it[1], it[2]
+                parser.expects("{")
+                constraint = parser.marked("}")
+                of = Type(governor.module, governor.tags, governor.sort, governor.inside, [*governor.constraints, constraint])
+                found[dummy] = ("type", of, {**found, **around})
+        return found
 
     def step(self, of, around):
         """What a name of a type, a parameter or a field of a class stands for; whether that is a name by itself."""
+        if of.sort == "INSTANCE OF":
+            return of.inside, around, False
         if of.sort == "FIELD":
-            name, fields = of.inside
+            home, name, fields = of.inside
+            module, found, within = of.module, None, around
             for field in fields:
-                home = self.home(of.module, None, name)
-                found = home.classes[name][field]
+                module, fields_of = self.class_of(module, home, name, within)
+                found = fields_of[field]
                 if found is None:
-                    return Type(home, [], "ANY", None, []), {}, False
-                name = found.inside[1] if found.sort == "NAME" else None
-                if field is not fields[-1]:
-                    of = found
+                    return Type(module, [], "ANY", None, []), {}, False
+                within = {}
+                if found.sort == "NAME":
+                    home, name, _ = found.inside
             return found, {}, False
         home, name, actual = of.inside
         if home is None and name in around:
             return (*around[name][1:], False)
         dummies, found = self.home(of.module, home, name).types[name]
-        given = {dummy: (it[0], it[1], around) for dummy, it in zip(dummies, actual) if it}
-        return found, given, not dummies
+        return found, self.given(dummies, actual, around), not dummies
 
     def chain(self, of, around):
         found = [(of, around)]
-        while of.sort in ("NAME", "FIELD"):
+        while of.sort in NAMES:
             of, around, _ = self.step(of, around)
             found.append((of, around))
         return found
@@ -421,6 +556,8 @@ class World:
 
     def number(self, value, around, names=()):
         sort, said, module = value
+        if sort == "field":
+            return self.field_number(value, around)
         if sort != "name":
             return said
         home, name = said
@@ -432,6 +569,52 @@ class World:
         of, found = self.home(module, home, name).values[name]
         base = self.base(of, {})[0]
         return self.number(found, {}, base.inside if base.sort in ("INTEGER", "ENUMERATED") else ())
+
+    def settings(self, syntax, tokens):
+        """What each field of an object is set to, by the syntax of its class (X.681, 10 and 11)."""
+        parser, found = Parser("", self.classes), {}
+        parser.all = tokens
+        words = {it for it in syntax if it[0] not in "&["} | {","}
+
+        def take(items):
+            at = 0
+            while at < len(items):
+                if items[at] == "[":
+                    depth, end = 1, at
+                    while depth:
+                        end += 1
+                        depth += (items[end] == "[") - (items[end] == "]")
+                    if parser.peek() == items[at + 1]:
+                        take(items[at + 1 : end])
+                    at = end
+                elif items[at][0] == "&":
+                    found[items[at]] = parser.setting(words)
+                else:
+                    parser.expects(items[at])
+                at += 1
+
+        take(syntax)
+        return found
+
+    def field_number(self, value, around):
+        """The number that an object's field is."""
+        _, (name, field), module = value
+        if name in around:
+            _, value, around = around[name]
+            return self.field_number(("field", (value[1][1], field), value[2]), around)
+        home = self.home(module, None, name)
+        (of_home, of), tokens_of = home.objects[name]
+        class_home, fields = self.class_of(home, of_home, of, {})
+        syntax = fields.syntax
+        if syntax is None:
+            found = dict(zip((it for it in tokens_of if it[0] == "&"), " ".join(tokens_of).split(",")))
+            found = {one: it.split()[1:] for one, it in found.items()}
+        else:
+            found = self.settings(syntax, tokens_of)
+        parser = Parser("", self.classes)
+        parser.module = home if field in found else class_home
+        parser.all = found.get(field) or fields.defaults[field]
+        return self.number(parser.value(), {})
 
     def see(self, element, around, names, of_sizes):
         """The limits of a set; None where it isn't seen."""
@@ -528,17 +711,17 @@ class World:
             return [(it, within, tags[at]) for at, (it, within) in enumerate(found)]
         return [(it, within, self.tag(it.of, within)) for it, within in found]
 
-    def enumerated(self, items):
+    def enumerated(self, items, around):
         """The numbers of an ENUMERATED (X.680, 20)."""
         mark = next((at for at, (name, _) in enumerate(items) if name is None), len(items))
         root, more = items[:mark], items[mark + 1 :]
-        taken = {self.number(number, {}) for _, number in root if number}
+        taken = {self.number(number, around) for _, number in root if number}
         found = []
         for name, number in root:
             if number is None:
                 least = next(it for it in range(len(items) + 1) if it not in taken)
                 taken.add(least)
-            found.append((name, least if number is None else self.number(number, {}), False))
+            found.append((name, least if number is None else self.number(number, around), False))
         last = None
         for name, number in more:
             if number is None:
@@ -546,7 +729,7 @@ class World:
                 while at in taken:
                     at += 1
             else:
-                at = self.number(number, {})
+                at = self.number(number, around)
             last = at
             found.append((name, at, True))
         return found
@@ -593,13 +776,13 @@ class Listing:
         """The lists around a type, and how the type within is named: a place among the types, or none."""
         lists = []
         while True:
-            while of.sort in ("NAME", "FIELD"):
+            while of.sort in NAMES:
                 found, within, is_name = self.world.step(of, around)
                 if is_name:
                     return lists, self.places[id(found)], (of, around)
                 inner = (of, around) if not lists or of.constraints else None
                 of, around = found, within
-                if inner and inner[0].constraints and of.sort not in ("NAME", "FIELD", *PARTS, "SEQUENCE OF", "SET OF"):
+                if inner and inner[0].constraints and of.sort not in (*NAMES, *PARTS, "SEQUENCE OF", "SET OF"):
                     return lists, None, inner
             if of.sort not in ("SEQUENCE OF", "SET OF"):
                 break
@@ -613,7 +796,7 @@ class Listing:
     def define(self, rust, module, of, around):
         world = self.world
         base, within = of, around
-        while base.sort in ("NAME", "FIELD"):
+        while base.sort in NAMES:
             found, next_around, is_name = world.step(base, within)
             if is_name:
                 break
@@ -627,7 +810,7 @@ class Listing:
             return
         if base.sort == "ENUMERATED":
             has_mark = any(name is None for name, _ in base.inside)
-            values = world.enumerated(base.inside)
+            values = world.enumerated(base.inside, within)
             lines += [f"    {name} = {number}{', addition' if more else ''}" for name, number, more in values]
             head = (head, [], None, world.layout(base, within), ", extensible" if has_mark else "")
             self.printed[rust] = ("ENUMERATED", values)

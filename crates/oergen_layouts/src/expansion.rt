@@ -1,6 +1,12 @@
 //! Puts the text that they stand for in the place of types with parameters (X.683), of fields of classes of information objects (X.681)
 //! and of value sets (X.680, 16.6). Classes, sets of objects and assignments with parameters are left out: no octet depends on them.
 
+use crate::classes::{BuiltIn, FieldType, field_type, push_declared};
+use crate::cuts::{
+    bracketed, inside, is_at, is_name, name_length, parts_of, push_copied, push_word, range,
+};
+use crate::objects::value_of;
+use crate::parameters::{Given, Parameter, dummy_at, governor_of, push_elements, push_given};
 use crate::scope::{Scope, all_tokens};
 use oergen_parse::lexer::{Kind, Token};
 use oergen_parse::modules::read_tree;
@@ -29,91 +35,7 @@ struct Assignment {
 struct Source<'m, 'a> {
     scope: Scope<'m, 'a>,
     assignments: &'m [Assignment],
-}
-
-/// The tokens from one number up to another.
-fn range<'t, 'a>(tokens: &'t [Token<'a>], start: usize, end: usize) -> &'t [Token<'a>] {
-    match tokens.get(start..end) {
-        Some(found) => found,
-        None => tokens.split_at(0).0,
-    }
-}
-
-/// Whether the token at a place has that text.
-fn is_at(tokens: &[Token<'_>], at: usize, text: &str) -> bool {
-    match tokens.get(at) {
-        Some(token) => token.text == text,
-        None => false,
-    }
-}
-
-/// Whether the token at a place is a name with a capital letter.
-fn is_name(tokens: &[Token<'_>], at: usize) -> bool {
-    match tokens.get(at) {
-        Some(token) => token.kind == Kind::Name,
-        None => false,
-    }
-}
-
-/// How many tokens there are up to the bracket that closes the first one, with that; all where none does.
-fn bracketed(tokens: &[Token<'_>]) -> usize {
-    let mut depth = 0usize;
-    for (at, token) in tokens.iter().enumerate() {
-        depth = token.depth_behind(depth);
-        if depth == 0 {
-            return at.saturating_add(1);
-        }
-    }
-    tokens.len()
-}
-
-/// What stands inside the brackets of which the first token opens one.
-fn inside<'t, 'a>(tokens: &'t [Token<'a>]) -> &'t [Token<'a>] {
-    range(tokens, 1, bracketed(tokens).saturating_sub(1))
-}
-
-/// What stands between commas, outside of brackets.
-fn parts_of<'t, 'a>(
-    alloc: Global,
-    tokens: &'t [Token<'a>],
-) -> Result<Vec<&'t [Token<'a>]>, AllocError> {
-    let mut parts = Vec::new(alloc);
-    let mut depth = 0usize;
-    let mut start = 0usize;
-    for (at, token) in tokens.iter().enumerate() {
-        if depth == 0 && token.text == "," {
-            parts.push(range(tokens, start, at))?;
-            start = at.saturating_add(1);
-        }
-        depth = token.depth_behind(depth);
-    }
-    if !tokens.is_empty() {
-        parts.push(range(tokens, start, tokens.len()))?;
-    }
-    Ok(parts)
-}
-
-/// Puts tokens behind others, as those of a copying.
-fn push_copied<'a>(
-    out: &mut Vec<Token<'a>>,
-    tokens: &[Token<'a>],
-    copy: usize,
-) -> Result<(), AllocError> {
-    for token in tokens.iter() {
-        out.push(Token { copy, ..*token })?;
-    }
-    Ok(())
-}
-
-/// Puts a sign or word of its own behind others, at the place of a token.
-fn push_word<'a>(
-    out: &mut Vec<Token<'a>>,
-    at: Token<'a>,
-    kind: Kind,
-    text: &'static str,
-) -> Result<(), AllocError> {
-    out.push(Token { kind, text, ..at })?;
-    Ok(())
+    built_in: &'m BuiltIn<'a>,
 }
 
 /// Where what is assigned begins: behind the `::=`.
@@ -176,40 +98,71 @@ impl<'m, 'a> Source<'m, 'a> {
         range(self.scope.tokens, start, self.scope.tokens.len())
     }
 
-    /// The module in which the name that a token is, is assigned: its own, or the one that it imports the name from.
-    fn home_of(&self, name: Token<'a>) -> usize {
-        let own = self.scope.module_at(name.place);
-        match self.scope.import_of(own, name.text) {
-            Some(from) => match self.scope.module_named(from) {
-                Ok(home) => home,
-                Err(_) => own,
-            },
-            None => own,
+    /// The module in which a name is assigned that stands in a module: that one, or the one that it is imported from, past those that
+    /// import it themselves.
+    fn home_of(&self, module: usize, name: &str) -> usize {
+        let mut home = module;
+        for _ in 0..MAX_NESTING {
+            match self.scope.home_behind(home, name) {
+                Some(next) => home = next,
+                None => break,
+            }
         }
+        home
     }
 
-    /// The assignment of the name that a token is.
-    fn find(&self, name: Token<'a>) -> Option<Assignment> {
-        let home = self.home_of(name);
+    /// The assignment of a name that stands in a module.
+    fn find_in(&self, module: usize, name: &str) -> Option<Assignment> {
+        let home = self.home_of(module, name);
         for one in self.assignments.iter() {
-            if one.module == home && is_at(self.scope.tokens, one.start, name.text) {
+            if one.module == home && is_at(self.scope.tokens, one.start, name) {
                 return Some(*one);
             }
         }
         None
     }
 
-    /// Whether an assignment is one of a class.
-    fn is_class(&self, of: Assignment) -> bool {
-        is_at(self.scope.tokens, of.body, "CLASS")
+    /// The assignment of the name in front.
+    fn find(&self, tokens: &[Token<'a>]) -> Option<Assignment> {
+        let last = name_length(tokens).checked_sub(1)?;
+        let (first, name) = (tokens.first()?, tokens.get(last)?);
+        let module = if last == 0 {
+            self.scope.module_at(name.place)
+        } else {
+            self.scope.module_by_name(first.text)?
+        };
+        self.find_in(module, name.text)
     }
 
-    /// Whether the name that a token is, is that of a class.
-    fn names_class(&self, name: Option<&Token<'a>>) -> bool {
-        match name.and_then(|name| self.find(*name)) {
-            Some(of) => self.is_class(of),
-            None => false,
+    /// What is assigned to the name in front, or what it is without that.
+    fn assigned(&self, tokens: &[Token<'a>]) -> Option<&'m [Token<'a>]> {
+        if let Some(class) = self.built_in.class(tokens.first()?.text) {
+            return Some(class);
         }
+        let of = self.find(tokens)?;
+        Some(self.range(of.body, of.end))
+    }
+
+    /// The class whose name stands in front, past other names of it, from its `CLASS` on; nothing where none does.
+    fn class_of(&self, tokens: &[Token<'a>]) -> Option<&'m [Token<'a>]> {
+        let mut body = self.assigned(tokens)?;
+        for _ in 0..MAX_NESTING {
+            if is_at(body, 0, "CLASS") {
+                return Some(body);
+            }
+            if name_length(body) != body.len() {
+                return None;
+            }
+            body = self.assigned(body)?;
+        }
+        None
+    }
+
+    /// Whether an assignment is one of a class: with its fields, or as another's name.
+    fn is_class(&self, of: Assignment) -> bool {
+        let body = self.range(of.body, of.end);
+        is_at(body, 0, "CLASS")
+            || (name_length(body) == body.len() && self.class_of(body).is_some())
     }
 
     /// Whether an assignment has parameters.
@@ -232,18 +185,15 @@ impl<'m, 'a> Source<'m, 'a> {
         out.extend_from_slice(self.range(of.start, second))?;
         out.extend_from_slice(self.range(assigns, of.body))?;
         out.extend_from_slice(self.range(second, assigns))?;
-        if let Some(open) = self.scope.tokens.get(of.body) {
-            push_word(out, *open, Kind::Sign, "(")?;
-            out.extend_from_slice(inside(self.range(of.body, of.end)))?;
-            push_word(out, *open, Kind::Sign, ")")?;
-        }
-        Ok(())
+        push_elements(out, self.range(of.body, of.end))
     }
 
     /// Puts an assignment behind others, where an octet can depend on it.
     fn push_assignment(&self, out: &mut Vec<Token<'a>>, of: Assignment) -> Result<(), AllocError> {
-        let second = self.scope.tokens.get(of.start.saturating_add(1));
-        if self.is_class(of) || self.has_parameters(of) || self.names_class(second) {
+        let second = self.range(of.start.saturating_add(1), of.body);
+        let is_field = second.iter().any(|token| token.text == "&");
+        let is_object = !is_field && self.class_of(second).is_some();
+        if self.is_class(of) || self.has_parameters(of) || is_object {
             return Ok(());
         }
         if self.is_set(of) {
@@ -265,75 +215,148 @@ impl<'m, 'a> Source<'m, 'a> {
         Ok(out)
     }
 
-    /// What stands behind the name of a field of a class; nothing where it has no such field.
-    fn field_of(
-        &self,
-        class: Assignment,
-        name: &str,
-    ) -> Result<Option<&'m [Token<'a>]>, AllocError> {
-        let fields = inside(self.range(class.body.saturating_add(1), class.end));
-        for field in parts_of(self.scope.alloc, fields)? {
-            if is_at(field, 0, "&") && is_at(field, 1, name) {
-                return Ok(Some(range(field, 2, field.len())));
-            }
-        }
-        Ok(None)
-    }
-
-    /// Puts the type of a field of a class behind others, of which the tokens are `CLASS.&field`: an open type, or the type of its values.
-    /// Answers how many tokens that is; 0 where it is none.
+    /// Puts the type of a field of a class behind others, of which the tokens are the class's name and `.&field`, as a copying of that
+    /// number. Answers how many tokens that is, with the set of objects behind it; 0 where there is none.
     fn push_field(
         &self,
         out: &mut Vec<Token<'a>>,
         tokens: &[Token<'a>],
-        class: Assignment,
         copy: usize,
     ) -> Result<usize, AllocError> {
-        let (Some(first), Some(name)) = (tokens.first(), tokens.get(3)) else {
+        let field = name_length(tokens).saturating_add(2);
+        let (Some(first), Some(name)) = (tokens.first(), tokens.get(field)) else {
             return Ok(0);
         };
-        let Some(field) = self.field_of(class, name.text)? else {
+        let Some(class) = self.class_of(tokens) else {
             return Ok(0);
         };
-        if name.kind == Kind::Name {
-            push_word(out, Token { copy, ..*first }, Kind::Name, "ANY")?;
-        } else if field.is_empty() || is_at(field, 0, "&") {
-            return Ok(0);
-        } else {
-            push_copied(out, type_of(field), copy)?;
+        let fields = inside(range(class, 1, class.len()));
+        let at = Token { copy, ..*first };
+        match field_type(self.scope.alloc, fields, *name)? {
+            Some(FieldType::Open) => push_word(out, at, Kind::Name, "ANY")?,
+            Some(FieldType::Declared(of)) => push_declared(out, of, at)?,
+            None => return Ok(0),
         }
-        let rest = range(tokens, 4, tokens.len());
-        let has_table = is_at(rest, 0, "(") && is_at(rest, 1, "{");
-        Ok(if has_table {
-            bracketed(rest).saturating_add(4)
-        } else {
-            4
-        })
+        let end = field.saturating_add(1);
+        Ok(end.saturating_add(table_length(range(tokens, end, tokens.len()))))
     }
 
-    /// Puts what a type with parameters stands for behind others, of which the tokens are its name and the actual ones. Answers how many
-    /// tokens that is; 0 where they aren't as many as its parameters.
+    /// Puts the value of an object's field behind others, of which the tokens are the object's name and `.&field`, as a copying of that
+    /// number. Answers how many tokens that is; 0 where there is none.
+    fn push_value(
+        &self,
+        out: &mut Vec<Token<'a>>,
+        tokens: &[Token<'a>],
+        copy: usize,
+    ) -> Result<usize, AllocError> {
+        let (Some(name), Some(field)) = (tokens.first(), tokens.get(3)) else {
+            return Ok(0);
+        };
+        let module = self.scope.module_at(name.place);
+        let Some(of) = self.find_in(module, name.text) else {
+            return Ok(0);
+        };
+        let Some(class) = self.class_of(self.range(of.start.saturating_add(1), of.body)) else {
+            return Ok(0);
+        };
+        let object = inside(self.range(of.body, of.end));
+        match value_of(self.scope.alloc, object, class, field.text)? {
+            Some(value) if field.kind == Kind::Word => push_copied(out, value, copy)?,
+            _ => return Ok(0),
+        }
+        Ok(4)
+    }
+
+    /// Puts what `INSTANCE OF` a class stands for behind others, of which the tokens are that, as a copying of that number. Answers how many
+    /// tokens that is, with the set of objects behind it; 0 where it is no class.
+    fn push_instance_of(
+        &self,
+        out: &mut Vec<Token<'a>>,
+        tokens: &[Token<'a>],
+        copy: usize,
+    ) -> Result<usize, AllocError> {
+        let class = range(tokens, 2, tokens.len());
+        let (Some(first), Some(_)) = (tokens.first(), self.class_of(class)) else {
+            return Ok(0);
+        };
+        self.built_in
+            .push_instance(out, class, Token { copy, ..*first })?;
+        let end = name_length(class).saturating_add(2);
+        Ok(end.saturating_add(table_length(range(tokens, end, tokens.len()))))
+    }
+
+    /// The parameters of a type, by their declarations and what is given for each.
+    fn parameters_of<'t>(
+        &self,
+        dummies: &[&'t [Token<'a>]],
+        given: &[&'t [Token<'a>]],
+    ) -> Result<Vec<Parameter<'t, 'a>>, AllocError> {
+        let mut all = Vec::new(self.scope.alloc);
+        for (at, declared) in dummies.iter().enumerate() {
+            if let (Some(dummy), Some(own)) = (declared.last(), given.get(at)) {
+                let governor = governor_of(*declared);
+                let governor = given_for(dummies, given, governor).unwrap_or(governor);
+                all.push(Parameter {
+                    governor,
+                    dummy: *dummy,
+                    given: *own,
+                    is: self.sort_of(*dummy, governor, *own),
+                })?;
+            }
+        }
+        Ok(all)
+    }
+
+    /// What is given for a dummy: values between braces, where that is no set of objects.
+    fn sort_of(&self, dummy: Token<'a>, governor: &[Token<'a>], given: &[Token<'a>]) -> Given {
+        let is_set = dummy.kind == Kind::Name && !governor.is_empty() && is_at(given, 0, "{");
+        if is_set && self.class_of(governor).is_none() {
+            Given::Values
+        } else {
+            Given::Text
+        }
+    }
+
+    /// Puts the text of a type with parameters behind others, with what is given for its dummies.
+    fn push_body(
+        &self,
+        out: &mut Vec<Token<'a>>,
+        of: Assignment,
+        parameters: &[Parameter<'_, 'a>],
+        copy: usize,
+    ) -> Result<(), AllocError> {
+        let body = self.range(of.body, of.end);
+        for (at, token) in body.iter().enumerate() {
+            match dummy_at(parameters, body, at) {
+                Some(parameter) => push_given(out, parameter, range(body, 0, at), copy)?,
+                None => out.push(Token { copy, ..*token })?,
+            }
+        }
+        Ok(())
+    }
+
+    /// Puts what a type with parameters stands for behind others, of which the tokens are its name and the actual ones, as a copying of
+    /// that number. Answers how many tokens that is; 0 where they aren't as many as its parameters.
     fn push_instance(
         &self,
         out: &mut Vec<Token<'a>>,
         tokens: &[Token<'a>],
-        of: Assignment,
         copy: usize,
     ) -> Result<usize, AllocError> {
-        let actual = range(tokens, 1, tokens.len());
+        let Some(of) = self.find(tokens) else {
+            return Ok(0);
+        };
+        let named = name_length(tokens);
+        let actual = range(tokens, named, tokens.len());
         let given = parts_of(self.scope.alloc, inside(actual))?;
         let dummies = inside(self.range(of.start.saturating_add(1), of.body));
         let dummies = parts_of(self.scope.alloc, dummies)?;
         if !self.has_parameters(of) || given.len() != dummies.len() {
             return Ok(0);
         }
-        for token in self.range(of.body, of.end).iter() {
-            match given_for(dummies.as_slice(), given.as_slice(), *token) {
-                Some(given) => out.extend_from_slice(given)?,
-                None => out.push(Token { copy, ..*token })?,
-            }
-        }
-        Ok(bracketed(actual).saturating_add(1))
+        let parameters = self.parameters_of(dummies.as_slice(), given.as_slice())?;
+        self.push_body(out, of, parameters.as_slice(), copy)?;
+        Ok(bracketed(actual).saturating_add(named))
     }
 
     /// Puts what the first of the tokens stand for behind others, as a copying of that number. Answers how many they are; 0 where they stand
@@ -344,15 +367,25 @@ impl<'m, 'a> Source<'m, 'a> {
         tokens: &[Token<'a>],
         copy: usize,
     ) -> Result<usize, AllocError> {
-        let is_instance = is_at(tokens, 1, "{");
-        let is_field = is_at(tokens, 1, ".") && is_at(tokens, 2, "&");
-        if !(is_instance || is_field) || !is_name(tokens, 0) || out.len() > MAX_TOKENS {
+        let Some(first) = tokens.first() else {
             return Ok(0);
-        }
-        match tokens.first().and_then(|name| self.find(*name)) {
-            Some(of) if is_instance => self.push_instance(out, tokens, of, copy),
-            Some(of) if self.is_class(of) => self.push_field(out, tokens, of, copy),
-            _ => Ok(0),
+        };
+        let named = name_length(tokens).max(1);
+        let is_field = is_at(tokens, named, ".") && is_at(tokens, named.saturating_add(1), "&");
+        if out.len() > MAX_TOKENS {
+            Ok(0)
+        } else if first.kind == Kind::Word && is_field {
+            self.push_value(out, tokens, copy)
+        } else if first.kind != Kind::Name {
+            Ok(0)
+        } else if is_at(tokens, named, "{") {
+            self.push_instance(out, tokens, copy)
+        } else if is_field {
+            self.push_field(out, tokens, copy)
+        } else if first.text == "INSTANCE" && is_at(tokens, 1, "OF") {
+            self.push_instance_of(out, tokens, copy)
+        } else {
+            Ok(0)
         }
     }
 
@@ -382,28 +415,31 @@ impl<'m, 'a> Source<'m, 'a> {
     }
 }
 
-/// The type that a field of a class is declared with.
-fn type_of<'t, 'a>(field: &'t [Token<'a>]) -> &'t [Token<'a>] {
-    for (at, token) in field.iter().enumerate() {
-        if matches!(token.text, "UNIQUE" | "OPTIONAL" | "DEFAULT") {
-            return range(field, 0, at);
-        }
+/// How many tokens a constraint by a set of objects has, where one stands in front.
+fn table_length(tokens: &[Token<'_>]) -> usize {
+    if is_at(tokens, 0, "(") && is_at(tokens, 1, "{") {
+        bracketed(tokens)
+    } else {
+        0
     }
-    field
 }
 
-/// The actual parameter for the dummy that a token is: each dummy is the last token of its declaration.
+/// Whether a governor is the dummy of a parameter.
+fn is_dummy(governor: &[Token<'_>], declared: &[Token<'_>]) -> bool {
+    match (governor.first(), declared.last()) {
+        (Some(first), Some(last)) => governor.len() == 1 && first.text == last.text,
+        _ => false,
+    }
+}
+
+/// What is given for the dummy that a governor is; nothing where it is none.
 fn given_for<'t, 'a>(
-    dummies: &[&[Token<'a>]],
+    dummies: &[&'t [Token<'a>]],
     given: &[&'t [Token<'a>]],
-    token: Token<'a>,
+    governor: &[Token<'a>],
 ) -> Option<&'t [Token<'a>]> {
-    for (at, dummy) in dummies.iter().enumerate() {
-        let is_it = match dummy.last() {
-            Some(last) => last.kind == token.kind && last.text == token.text,
-            None => false,
-        };
-        if is_it {
+    for (at, declared) in dummies.iter().enumerate() {
+        if is_dummy(governor, *declared) {
             return given.get(at).copied();
         }
     }
@@ -411,11 +447,13 @@ fn given_for<'t, 'a>(
 }
 
 /// The tokens of modules, with what they stand for.
-fn expanded<'a>(scope: Scope<'_, 'a>) -> Result<Vec<Token<'a>>, AllocError> {
+fn expanded<'a>(scope: Scope<'_, 'a>) -> Result<Vec<Token<'a>>, Refusal> {
     let assignments = assignments_of(scope)?;
+    let built_in = BuiltIn::new(scope.alloc)?;
     let source = Source {
         scope,
         assignments: assignments.as_slice(),
+        built_in: &built_in,
     };
     let mut tokens = source.plain_tokens()?;
     let mut copies = 0usize;
@@ -434,11 +472,11 @@ fn expanded<'a>(scope: Scope<'_, 'a>) -> Result<Vec<Token<'a>>, AllocError> {
 pub fn tokens_of<'a>(alloc: Global, texts: &[&'a str]) -> Result<Vec<Token<'a>>, Refusal> {
     let tokens = all_tokens(alloc, texts)?;
     match read_tree(alloc, tokens.as_slice(), true) {
-        Ok(tree) => Ok(expanded(Scope {
+        Ok(tree) => expanded(Scope {
             alloc,
             modules: tree.modules(),
             tokens: tokens.as_slice(),
-        })?),
+        }),
         Err(Refusal::OutOfMemory) => Err(Refusal::OutOfMemory),
         Err(Refusal::At { .. }) => Ok(tokens),
     }

@@ -1,6 +1,8 @@
 //! Resolves ASN.1 modules to what the octet encoding rules need of them: tags, needs, layouts, Rust names, and an order of use.
 #![tactic(auto)]
 
+pub mod classes;
+pub mod cuts;
 pub mod cycles;
 pub mod definitions;
 pub mod expansion;
@@ -8,7 +10,9 @@ pub mod layouts;
 pub mod listing;
 pub mod names;
 pub mod numbers;
+pub mod objects;
 pub mod order;
+pub mod parameters;
 pub mod rows;
 pub mod scope;
 pub mod values;

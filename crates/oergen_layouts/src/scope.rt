@@ -5,10 +5,11 @@ ghost use Rattle.oergen_layouts.specs.Tags.{AreAutomatic};
 
 use oergen_parse::ast::{Body, Module, Reference, Tagging, Type, ValueAssignment};
 use oergen_parse::lexer::{Kind, Token, TokenId, tokens};
+use oergen_parse::marks::with_marks;
 use oergen_parse::refusal::{Place, Refusal};
 use std::alloc::Global;
 
-/// How many types may stand for one another in a row.
+/// How many types may stand for one another in a row, and how many modules may import a name from one another.
 const MAX_CHAIN: usize = 64;
 
 /// What stands for a token that isn't there.
@@ -39,11 +40,12 @@ pub struct Found<'m> {
     pub of: &'m Type,
 }
 
-/// The tokens of the files' texts, in turn.
+/// The tokens of the files' texts, in turn, with the extension marks that are implied.
 pub fn all_tokens<'a>(alloc: Global, texts: &[&'a str]) -> Result<Vec<Token<'a>>, Refusal> {
     let mut all = Vec::new(alloc);
     for (file, text) in texts.iter().enumerate() {
-        all.extend_from_slice(tokens(alloc, file, *text)?.as_slice())?;
+        let own = tokens(alloc, file, *text)?;
+        all.extend_from_slice(with_marks(alloc, own.as_slice())?.as_slice())?;
     }
     Ok(all)
 }
@@ -126,19 +128,26 @@ impl<'m, 'a> Scope<'m, 'a> {
         names.iter().any(|id| self.text(*id) == name)
     }
 
-    /// The place of the module of that name.
-    pub fn module_named(&self, name: TokenId) -> Result<usize, Refusal> {
-        let text = self.text(name);
+    /// The place of the module of that name, where one was handed in.
+    pub fn module_by_name(&self, name: &str) -> Option<usize> {
         for (at, module) in self.modules.iter().enumerate() {
-            if self.text(module.name) == text {
-                return Ok(at);
+            if self.text(module.name) == name {
+                return Some(at);
             }
         }
-        Err(self.refused(name, "the name of a module that was handed in"))
+        None
+    }
+
+    /// The place of the module of that name.
+    fn module_named(&self, name: TokenId) -> Result<usize, Refusal> {
+        match self.module_by_name(self.text(name)) {
+            Some(at) => Ok(at),
+            None => Err(self.refused(name, "the name of a module that was handed in")),
+        }
     }
 
     /// The module that a name is imported from.
-    pub fn import_of(&self, at: usize, name: &str) -> Option<TokenId> {
+    fn import_of(&self, at: usize, name: &str) -> Option<TokenId> {
         let module = self.modules.get(at)?;
         for import in module.imports.iter() {
             if self.has(import.names.as_slice(), name) {
@@ -146,6 +155,11 @@ impl<'m, 'a> Scope<'m, 'a> {
             }
         }
         None
+    }
+
+    /// The module that a name is imported from, where it is one that was handed in.
+    pub fn home_behind(&self, at: usize, name: &str) -> Option<usize> {
+        self.module_by_name(self.text(self.import_of(at, name)?))
     }
 
     /// Whether a module lets others import a name.
@@ -159,20 +173,25 @@ impl<'m, 'a> Scope<'m, 'a> {
         }
     }
 
-    /// The module in which the name is assigned. Refused where that module wasn't handed in, or doesn't export the name.
+    /// The module in which the name is assigned, past those that import it themselves. Refused where a module wasn't handed in, or doesn't
+    /// export the name.
     fn home_of(&self, reference: Reference) -> Result<usize, Refusal> {
-        let name = reference.name;
-        let at = self.module_of(name);
-        let from = match reference.module {
+        let (name, text) = (reference.name, self.text(reference.name));
+        let mut home = self.module_of(name);
+        let mut from = match reference.module {
             Some(module) => Some(module),
-            None => self.import_of(at, self.text(name)),
+            None => self.import_of(home, text),
         };
-        let Some(from) = from else {
-            return Ok(at);
-        };
-        let home = self.module_named(from)?;
-        if home != at && !self.exports(home, self.text(name)) {
-            return Err(self.refused(name, "a name that its module exports"));
+        for _ in 0..MAX_CHAIN {
+            let Some(module) = from else {
+                break;
+            };
+            let next = self.module_named(module)?;
+            if next != home && !self.exports(next, text) {
+                return Err(self.refused(name, "a name that its module exports"));
+            }
+            home = next;
+            from = self.import_of(home, text);
         }
         Ok(home)
     }
@@ -184,6 +203,32 @@ impl<'m, 'a> Scope<'m, 'a> {
             count = count.saturating_add(one.types.len());
         }
         count
+    }
+
+    /// Whether a module's assignment of a name was left out.
+    fn is_left_out(&self, home: usize, name: &str) -> bool {
+        match self.modules.get(home) {
+            Some(module) => module.unread.iter().any(|one| self.text(one.name) == name),
+            None => false,
+        }
+    }
+
+    /// The refusal of a name that no type has in the module where it should be assigned.
+    fn no_type(&self, name: TokenId, home: usize) -> Refusal {
+        if self.is_left_out(home, self.text(name)) {
+            return self.refused(name, "the name of a type that isn't left out");
+        }
+        if home == self.module_of(name) {
+            let reads = "the name of a type that is assigned or imported, without parameters";
+            return self.refused(name, reads);
+        }
+        let module = self.module_name(home);
+        match format!(in self.alloc;
+            "the name of a type that {module} assigns, without parameters"
+        ) {
+            Ok(reads) => self.refused(name, reads.as_str()),
+            Err(_) => Refusal::OutOfMemory,
+        }
     }
 
     /// The type of a name.
@@ -199,10 +244,7 @@ impl<'m, 'a> Scope<'m, 'a> {
                 index = index.saturating_add(1);
             }
         }
-        Err(self.refused(
-            reference.name,
-            "the name of a type that is assigned or imported",
-        ))
+        Err(self.no_type(reference.name, home))
     }
 
     /// The assignment of a value's name.

@@ -183,7 +183,7 @@ pub enum Value {
     Reference(Reference),
     /// `{a, b}`, or `{}`: its brace, and named bits, or no elements.
     Names(TokenId, Vec<TokenId>),
-    /// Another value between braces, by its first token.
+    /// Another value between braces, or one of a CHOICE or an open type, by its first token.
     Braces(TokenId),
 }
 

@@ -1,10 +1,11 @@
 //! Reads constraints (X.680, clauses 49 to 51).
 
 use crate::ast::{Constraint, Element, ElementSet, End, Reference};
+use crate::lengths::choices_length;
 use crate::lexer::Kind;
 use crate::reader::Reader;
 use crate::refusal::Refusal;
-use crate::values::read_value;
+use crate::values::{read_any_value, read_exception, read_value};
 
 /// How deep constraints, and types, may be nested.
 pub const MAX_NESTING: u32 = 64;
@@ -37,6 +38,7 @@ pub fn read_constraint(reader: &mut Reader<'_>, levels: u32) -> Result<Constrain
             let _ = read_set(reader, levels)?;
         }
     }
+    read_exception(reader)?;
     reader.expects(")")?;
     Ok(Constraint {
         first,
@@ -173,7 +175,7 @@ fn read_range(reader: &mut Reader<'_>) -> Result<Element, Refusal> {
 
 /// The low end of a range, with `<` behind it where it isn't in the range.
 fn read_low(reader: &mut Reader<'_>) -> Result<End, Refusal> {
-    let value = read_value(reader)?;
+    let value = read_any_value(reader)?;
     Ok(if reader.eats("<") {
         End::Past(value)
     } else {
@@ -192,7 +194,7 @@ fn read_high(reader: &mut Reader<'_>) -> Result<End, Refusal> {
     }
 }
 
-/// Whether a capital letter begins a value: `TRUE`, `FALSE`, `NULL`, or the name of another module's.
+/// Whether a capital letter begins a value: `TRUE`, `FALSE`, `NULL`, the name of another module's, or the type of an open type's.
 fn is_value(reader: &Reader<'_>) -> bool {
     let mut ahead = *reader;
     let _ = ahead.next();
@@ -200,6 +202,7 @@ fn is_value(reader: &Reader<'_>) -> bool {
         || reader.is("FALSE")
         || reader.is("NULL")
         || (ahead.is(".") && ahead.second().kind == Kind::Word)
+        || choices_length(reader.rest()) != 0
 }
 
 /// The name of a type, in another module where one is named.

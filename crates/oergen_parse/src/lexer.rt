@@ -68,16 +68,24 @@ const MARK: char = '\u{FEFF}';
 /// Signs of more than one character; the longest first.
 static LONG_SIGNS: [&str; 5] = ["::=", "...", "..", "[[", "]]"];
 
-/// The place behind a text that begins at `place`.
+/// Whether a character ends a line (X.680, 12.1.6).
+fn ends_line(c: char) -> bool {
+    matches!(c, '\n' | '\u{0B}' | '\u{0C}' | '\r')
+}
+
+/// The place behind a text that begins at `place`. A carriage return and the line feed behind it end one line.
 fn behind(place: Place, text: &str) -> Place {
     let mut line = place.line;
     let mut column = place.column;
+    let mut before = ' ';
     for c in text.chars() {
-        if c == '\n' {
+        let is_second = before == '\r' && c == '\n';
+        before = c;
+        if !ends_line(c) {
+            column = column.saturating_add(1);
+        } else if !is_second {
             line = line.saturating_add(1);
             column = 1;
-        } else {
-            column = column.saturating_add(1);
         }
     }
     Place {
@@ -107,7 +115,7 @@ fn line_comment(rest: &str) -> usize {
         Some(inner) => inner,
         None => return 0,
     };
-    let line = inner.find('\n').unwrap_or(inner.len());
+    let line = inner.find(|c: char| ends_line(c)).unwrap_or(inner.len());
     match inner.find("--") {
         Some(end) if end < line => end.saturating_add(4),
         _ => line.saturating_add(2),
@@ -224,9 +232,9 @@ fn token_length(rest: &str) -> Option<(Kind, usize)> {
     }
 }
 
-/// Whether a note begins behind what was passed over: behind an empty line, and behind the end of a line where there is none so far.
-fn begins_note(blank: &str, is_first: bool) -> bool {
-    let ends = blank.chars().filter(|c| *c == '\n').count();
+/// Whether a note begins behind what was passed over, in which so many lines end: behind an empty line, and behind the end of a line where
+/// there is none so far.
+fn begins_note(blank: &str, ends: u32, is_first: bool) -> bool {
     blank.trim().is_empty() && (ends > 1 || ends == 1 && is_first)
 }
 
@@ -240,8 +248,10 @@ impl<'a> Cursor<'a> {
             if length == 0 {
                 break;
             }
+            let line = self.place.line;
             let blank = self.take(length);
-            if begins_note(blank, note.is_empty()) {
+            let ends = self.place.line.saturating_sub(line);
+            if begins_note(blank, ends, note.is_empty()) {
                 note = self.rest;
             }
         }

@@ -3,10 +3,14 @@
 
 pub mod ast;
 pub mod constraints;
+pub mod instead;
+pub mod lengths;
 pub mod lexer;
+pub mod marks;
 pub mod modules;
 pub mod reader;
 pub mod refusal;
 pub mod skips;
 pub mod types;
 pub mod values;
+pub mod words;

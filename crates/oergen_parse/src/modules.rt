@@ -4,13 +4,17 @@ use crate::ast::{Import, Module, Tagging, TypeAssignment, Unread, ValueAssignmen
 use crate::lexer::{Kind, Token, TokenId};
 use crate::reader::Reader;
 use crate::refusal::Refusal;
-use crate::skips::skip_assignment;
+use crate::skips::{defines_macro, skip_assignment};
 use crate::types::read_whole_type;
-use crate::values::read_value;
+use crate::values::read_any_value;
+use crate::words::is_reserved;
 use std::alloc::Global;
 
 /// What stands where an assignment begins.
 const NAME: &str = "a type's or a value's name, or END";
+
+/// What stands there in place of a word that is no name.
+const OWN_NAME: &str = "a type's or a value's name that X.680 doesn't keep for itself, or END";
 
 /// Modules that were read. It is let go by a function of its own: else each crate that holds one proves anew how all types of the
 /// tree are let go.
@@ -78,7 +82,7 @@ fn read_module(reader: &mut Reader<'_>, leaves_out: bool) -> Result<Module, Refu
         types,
         values,
         unread,
-    } = read_assignments(reader, leaves_out)?;
+    } = read_assignments(reader, imports.as_slice(), leaves_out)?;
     Ok(Module {
         name,
         tagging,
@@ -91,12 +95,15 @@ fn read_module(reader: &mut Reader<'_>, leaves_out: bool) -> Result<Module, Refu
     })
 }
 
-/// A module's name and how its types are tagged, up to `BEGIN`.
+/// A module's name and how its types are tagged, up to `BEGIN`. The extension marks that are implied stand in its types.
 fn read_header(reader: &mut Reader<'_>) -> Result<(TokenId, Tagging), Refusal> {
     let name = reader.takes(Kind::Name, "a module's name")?;
     skip_identifier(reader)?;
     reader.expects("DEFINITIONS")?;
     let tagging = read_tagging(reader)?;
+    if reader.eats("EXTENSIBILITY") {
+        reader.expects("IMPLIED")?;
+    }
     reader.expects("::=")?;
     reader.expects("BEGIN")?;
     Ok((name, tagging))
@@ -183,12 +190,27 @@ fn read_imports(reader: &mut Reader<'_>) -> Result<Vec<Import>, Refusal> {
     Err(reader.refused("';'"))
 }
 
+/// Passes over the name of a value that stands for a module's object identifier: behind a name that is imported, what follows is another
+/// (X.680, 13.1).
+fn skip_defined(reader: &mut Reader<'_>) -> Result<(), Refusal> {
+    let kind = reader.peek().kind;
+    let behind = reader.second().text;
+    if kind == Kind::Name && behind == "." {
+        reader.skip(2);
+        let _ = reader.takes(Kind::Word, "a value's name")?;
+    } else if kind == Kind::Word && !matches!(behind, "," | "FROM" | "{") {
+        let _ = reader.next();
+    }
+    Ok(())
+}
+
 /// Names, and the module that they are imported from; whether a later version of it will do is passed over (X.680, 13.16).
 fn read_import(reader: &mut Reader<'_>) -> Result<Import, Refusal> {
     let names = read_names(reader)?;
     reader.expects("FROM")?;
     let from = reader.takes(Kind::Name, "a module's name")?;
     skip_identifier(reader)?;
+    skip_defined(reader)?;
     if reader.eats("WITH") && !reader.eats("SUCCESSORS") {
         reader.expects("DESCENDANTS")?;
     }
@@ -196,7 +218,11 @@ fn read_import(reader: &mut Reader<'_>) -> Result<Import, Refusal> {
 }
 
 /// Types and values, up to `END`.
-fn read_assignments(reader: &mut Reader<'_>, leaves_out: bool) -> Result<Assignments, Refusal> {
+fn read_assignments(
+    reader: &mut Reader<'_>,
+    imports: &[Import],
+    leaves_out: bool,
+) -> Result<Assignments, Refusal> {
     let mut all = Assignments {
         types: Vec::new(reader.alloc),
         values: Vec::new(reader.alloc),
@@ -207,7 +233,7 @@ fn read_assignments(reader: &mut Reader<'_>, leaves_out: bool) -> Result<Assignm
             return Ok(all);
         }
         let start = *reader;
-        match push_assignment(reader, &mut all) {
+        match push_assignment(reader, imports, &mut all) {
             Ok(()) => {}
             Err(why) if leaves_out && start.peek().kind != Kind::End => {
                 *reader = start;
@@ -229,18 +255,64 @@ fn unread(reader: &mut Reader<'_>, why: Refusal) -> Result<Unread, Refusal> {
     Ok(Unread { name, why })
 }
 
-/// Reads a type or a value, and puts it to the others.
-fn push_assignment(reader: &mut Reader<'_>, all: &mut Assignments) -> Result<(), Refusal> {
-    if reader.peek().kind == Kind::Word {
-        let value = read_value_assignment(reader)?;
-        require_next(reader)?;
-        all.values.push(value)?;
-    } else {
-        let of = read_type_assignment(reader)?;
-        require_next(reader)?;
-        all.types.push(of)?;
+/// Whether a name stands among others.
+fn has_name(reader: &Reader<'_>, names: &[TokenId], name: &str) -> bool {
+    names.iter().any(|id| reader.text(*id) == name)
+}
+
+/// Whether a module imports a name.
+fn is_imported(reader: &Reader<'_>, imports: &[Import], name: &str) -> bool {
+    for import in imports.iter() {
+        if has_name(reader, import.names.as_slice(), name) {
+            return true;
+        }
+    }
+    false
+}
+
+/// Whether what stands behind a value's name can be a macro's name (X.208), without small letters: it is defined, or imported.
+fn uses_macro(reader: &Reader<'_>, imports: &[Import]) -> bool {
+    let name = reader.second().text;
+    let is_capital = !name.chars().any(|c| c.is_ascii_lowercase());
+    reader.second().kind == Kind::Name
+        && is_capital
+        && !is_reserved(name)
+        && (is_imported(reader, imports, name) || defines_macro(reader.tokens(), name))
+}
+
+/// Reads a value and puts it to the others. One of a macro that can't be read is passed over: no octet depends on it.
+fn push_value(
+    reader: &mut Reader<'_>,
+    imports: &[Import],
+    all: &mut Assignments,
+) -> Result<(), Refusal> {
+    let start = *reader;
+    match read_value_assignment(reader) {
+        Ok(value) => all.values.push(value)?,
+        Err(Refusal::At { .. }) if uses_macro(&start, imports) => {
+            *reader = start;
+            skip_assignment(reader);
+        }
+        Err(why) => return Err(why),
     }
     Ok(())
+}
+
+/// Reads a type or a value, and puts it to the others. Macros are passed over.
+fn push_assignment(
+    reader: &mut Reader<'_>,
+    imports: &[Import],
+    all: &mut Assignments,
+) -> Result<(), Refusal> {
+    if reader.peek().kind == Kind::Word {
+        push_value(reader, imports, all)
+    } else if reader.second().text == "MACRO" {
+        skip_assignment(reader);
+        Ok(())
+    } else {
+        all.types.push(read_type_assignment(reader)?)?;
+        Ok(())
+    }
 }
 
 /// Refuses what can't stand behind an assignment.
@@ -253,9 +325,13 @@ fn require_next(reader: &Reader<'_>) -> Result<(), Refusal> {
 
 /// `Name ::= Type`
 fn read_type_assignment(reader: &mut Reader<'_>) -> Result<TypeAssignment, Refusal> {
+    if is_reserved(reader.peek().text) {
+        return Err(reader.refused(OWN_NAME));
+    }
     let name = reader.takes(Kind::Name, NAME)?;
     reader.expects("::=")?;
     let of = read_whole_type(reader)?;
+    require_next(reader)?;
     Ok(TypeAssignment { name, of })
 }
 
@@ -264,6 +340,7 @@ fn read_value_assignment(reader: &mut Reader<'_>) -> Result<ValueAssignment, Ref
     let name = reader.next();
     let of = read_whole_type(reader)?;
     reader.expects("::=")?;
-    let value = read_value(reader)?;
+    let value = read_any_value(reader)?;
+    require_next(reader)?;
     Ok(ValueAssignment { name, of, value })
 }

@@ -29,6 +29,19 @@ impl<'a> Reader<'a> {
         self.tokens.len().saturating_sub(self.taken)
     }
 
+    /// All tokens.
+    pub fn tokens(&self) -> &'a [Token<'a>] {
+        self.tokens
+    }
+
+    /// The text of a token by its number.
+    pub fn text(&self, id: TokenId) -> &'a str {
+        match self.tokens.get(id.index) {
+            Some(token) => token.text,
+            None => "",
+        }
+    }
+
     /// The tokens that are left.
     pub fn rest(&self) -> &'a [Token<'a>] {
         self.tokens.get(self.taken..).unwrap_or(&[])

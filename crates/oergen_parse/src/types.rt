@@ -2,10 +2,14 @@
 
 use crate::ast::{Body, Component, Member, Need, Simple, Type, WrittenTag};
 use crate::constraints::{MAX_NESTING, read_constraint, read_constraints, read_type_name};
+use crate::instead::instead_of;
 use crate::lexer::Kind;
 use crate::reader::Reader;
 use crate::refusal::Refusal;
-use crate::values::{goes_on, read_enumerated, read_exception, read_numbers, read_value};
+use crate::values::{
+    goes_on, read_default, read_enumerated, read_exception, read_numbers, read_value,
+};
+use crate::words::is_unread;
 use asn1_core::Class;
 
 /// Types without parts, by their first word.
@@ -31,13 +35,6 @@ static SIMPLE: [(&str, Simple); 19] = [
     ("OBJECT", Simple::ObjectIdentifier),
 ];
 
-/// Words of X.680 that begin a type which isn't read, or that are no type's name (X.680, 12.38).
-const RESERVED: &str =
-    "REAL EXTERNAL EMBEDDED CHARACTER UniversalString VideotexString ObjectDescriptor RELATIVE-OID \
-RELATIVE-OID-IRI OID-IRI TIME TIME-OF-DAY DATE-TIME DURATION CLASS INSTANCE TYPE-IDENTIFIER ABSTRACT-SYNTAX ABSENT ALL \
-APPLICATION AUTOMATIC BEGIN BY COMPONENTS DEFAULT DEFINITIONS END EXPLICIT EXPORTS FALSE FROM IMPLICIT IMPORTS MAX MIN \
-OF OPTIONAL PRIVATE SIZE STRING TAGS TRUE UNIVERSAL";
-
 /// The simple type that a word begins.
 fn simple_of(word: &str) -> Option<Simple> {
     for (text, simple) in SIMPLE.iter() {
@@ -46,11 +43,6 @@ fn simple_of(word: &str) -> Option<Simple> {
         }
     }
     None
-}
-
-/// Whether a word is kept for X.680 itself.
-fn is_reserved(word: &str) -> bool {
-    RESERVED.split(' ').any(|kept| kept == word)
 }
 
 /// A type, with at most 64 types inside one another.
@@ -145,8 +137,8 @@ fn read_simple(reader: &mut Reader<'_>) -> Result<Body, Refusal> {
         skip_rest(reader, simple)?;
         return Ok(Body::Simple(simple));
     }
-    if is_reserved(first.text) {
-        return Err(reader.refused("a type that docs/COMPILER.md lists"));
+    if is_unread(first.text) {
+        return Err(reader.refused(instead_of(first.text)));
     }
     let name = read_type_name(reader)?;
     if reader.is("{") {
@@ -263,21 +255,22 @@ fn read_member(reader: &mut Reader<'_>, levels: u32) -> Result<Member, Refusal> 
 /// A component, or an alternative.
 #[cycle(types)]
 fn read_component(reader: &mut Reader<'_>, levels: u32) -> Result<Component, Refusal> {
+    let text = reader.peek().text;
     let name = reader.takes(
         Kind::Word,
         "a component's name, '...', '[[' or COMPONENTS OF",
     )?;
     let of = read_type(reader, levels)?;
-    let need = read_need(reader)?;
+    let need = read_need(reader, text)?;
     Ok(Component { name, of, need })
 }
 
-/// `OPTIONAL`, `DEFAULT` and its value, or nothing.
-fn read_need(reader: &mut Reader<'_>) -> Result<Need, Refusal> {
+/// `OPTIONAL`, `DEFAULT` and its value, or nothing, behind the component of that name.
+fn read_need(reader: &mut Reader<'_>, name: &str) -> Result<Need, Refusal> {
     if reader.eats("OPTIONAL") {
         Ok(Need::Optional)
     } else if reader.eats("DEFAULT") {
-        Ok(Need::Default(read_value(reader)?))
+        Ok(Need::Default(read_default(reader, name)?))
     } else {
         Ok(Need::Required)
     }

@@ -1,6 +1,7 @@
 //! Reads values (X.680, clause 17).
 
 use crate::ast::{Numbered, Reference, Value};
+use crate::lengths::choices_length;
 use crate::lexer::{Kind, TokenId};
 use crate::reader::Reader;
 use crate::refusal::Refusal;
@@ -25,6 +26,32 @@ pub fn read_value(reader: &mut Reader<'_>) -> Result<Value, Refusal> {
         Kind::Sign if first.text == "{" => read_braces(reader),
         _ => Err(reader.refused(VALUE)),
     }
+}
+
+/// A value, also one of a CHOICE or an open type, as `name:value` and `Type:value`: that is passed over.
+pub fn read_any_value(reader: &mut Reader<'_>) -> Result<Value, Refusal> {
+    let first = reader.id();
+    let choices = choices_length(reader.rest());
+    reader.skip(choices);
+    let value = read_value(reader)?;
+    Ok(if choices == 0 {
+        value
+    } else {
+        Value::Braces(first)
+    })
+}
+
+/// The value of a DEFAULT, of the component of that name.
+pub fn read_default(reader: &mut Reader<'_>, name: &str) -> Result<Value, Refusal> {
+    let start = *reader;
+    let value = read_value(reader)?;
+    if !reader.is(":") && !reader.is(".") && !reader.is("{") {
+        return Ok(value);
+    }
+    let reads = format!(in reader.alloc;
+        "a default of '{name}' that is TRUE or FALSE, NULL, a number, a value's name, a string, named bits, or {{}}"
+    )?;
+    Err(start.refused(reads.as_str()))
 }
 
 /// `TRUE`, `FALSE`, `NULL`, or a value of another module.
@@ -112,7 +139,7 @@ fn read_named_number(reader: &mut Reader<'_>) -> Result<Numbered, Refusal> {
 
 /// A name, and its number between parentheses where there is one.
 fn read_numbered(reader: &mut Reader<'_>) -> Result<Numbered, Refusal> {
-    let name = reader.takes(Kind::Word, "a name")?;
+    let name = reader.takes(Kind::Word, "a name that begins with a small letter")?;
     let mut number = None;
     if reader.eats("(") {
         number = Some(read_value(reader)?);
@@ -149,10 +176,10 @@ fn push_enumerated(
     Ok(())
 }
 
-/// Passes over what is said of exceptions behind an extension mark, as `! 3` (X.680, clause 53).
+/// Passes over what is said of exceptions behind an extension mark or a constraint, as `! 3` or `! INTEGER:3` (X.680, clause 53).
 pub fn read_exception(reader: &mut Reader<'_>) -> Result<(), Refusal> {
     if reader.eats("!") {
-        let _ = read_value(reader)?;
+        let _ = read_any_value(reader)?;
     }
     Ok(())
 }

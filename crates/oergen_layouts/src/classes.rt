@@ -1,0 +1,164 @@
+//! Classes of information objects (X.681): the types of their fields.
+
+use crate::cuts::{is_at, name_length, parts_of, range};
+use oergen_parse::lexer::{Kind, Token, tokens};
+use oergen_parse::refusal::Refusal;
+use std::alloc::{AllocError, Global};
+
+/// The file that tokens are of which stand in none: no file that is handed in has that number.
+const NO_FILE: usize = usize::MAX;
+
+/// A class that needs no assignment (X.681, annex A).
+const TYPE_IDENTIFIER: &str = "CLASS { &id OBJECT IDENTIFIER UNIQUE, &Type }";
+
+/// Another (X.681, annex B).
+const ABSTRACT_SYNTAX: &str =
+    "CLASS { &id OBJECT IDENTIFIER UNIQUE, &Type, &property BIT STRING { handles-invalid-encodings(0) } DEFAULT {} }";
+
+/// What `INSTANCE OF` a class stands for, `CLASS` being that (X.681, annex C).
+const INSTANCE: &str =
+    "[UNIVERSAL 8] IMPLICIT SEQUENCE { type-id CLASS.&id, value [0] EXPLICIT CLASS.&Type }";
+
+/// What needs no assignment. Each has the end of its text behind it.
+#[derive(Drop)]
+pub struct BuiltIn<'a> {
+    type_identifier: Vec<Token<'a>>,
+    abstract_syntax: Vec<Token<'a>>,
+    instance: Vec<Token<'a>>,
+}
+
+impl<'a> BuiltIn<'a> {
+    /// What needs no assignment.
+    pub fn new(alloc: Global) -> Result<BuiltIn<'a>, Refusal> {
+        Ok(BuiltIn {
+            type_identifier: tokens(alloc, NO_FILE, TYPE_IDENTIFIER)?,
+            abstract_syntax: tokens(alloc, NO_FILE, ABSTRACT_SYNTAX)?,
+            instance: tokens(alloc, NO_FILE, INSTANCE)?,
+        })
+    }
+
+    /// The class of that name, where it needs no assignment.
+    pub fn class(&self, name: &str) -> Option<&[Token<'a>]> {
+        match name {
+            "TYPE-IDENTIFIER" => Some(self.type_identifier.as_slice()),
+            "ABSTRACT-SYNTAX" => Some(self.abstract_syntax.as_slice()),
+            _ => None,
+        }
+    }
+
+    /// Puts what `INSTANCE OF` a class stands for behind others, at the place of a token. The class's name stands in front of `class`.
+    pub fn push_instance(
+        &self,
+        out: &mut Vec<Token<'a>>,
+        class: &[Token<'a>],
+        at: Token<'a>,
+    ) -> Result<(), AllocError> {
+        let name = range(class, 0, name_length(class));
+        for token in self.instance.iter() {
+            match token.kind {
+                Kind::End => {}
+                Kind::Name if token.text == "CLASS" => out.extend_from_slice(name)?,
+                _ => out.push(Token {
+                    kind: token.kind,
+                    text: token.text,
+                    ..at
+                })?,
+            }
+        }
+        Ok(())
+    }
+}
+
+/// Puts what a field is declared with behind others, as a copying of a token's number; where it stands in no file, at that one's place.
+pub fn push_declared<'a>(
+    out: &mut Vec<Token<'a>>,
+    declared: &[Token<'a>],
+    at: Token<'a>,
+) -> Result<(), AllocError> {
+    for token in declared.iter() {
+        let place = if token.place.file == NO_FILE {
+            at.place
+        } else {
+            token.place
+        };
+        out.push(Token {
+            place,
+            copy: at.copy,
+            ..*token
+        })?;
+    }
+    Ok(())
+}
+
+/// What the type `CLASS.&field` is (X.681, 14).
+#[derive(Clone, Copy)]
+pub enum FieldType<'t, 'a> {
+    /// An open type: the field is a type, or a value or values of the type that another field is.
+    Open,
+    /// The type that the field is declared with, of which it is a value, or values.
+    Declared(&'t [Token<'a>]),
+}
+
+/// What stands behind the name of a field among those of a class; nothing where it has no such field.
+fn field_of<'t, 'a>(
+    alloc: Global,
+    fields: &'t [Token<'a>],
+    name: &str,
+) -> Result<Option<&'t [Token<'a>]>, AllocError> {
+    for field in parts_of(alloc, fields)? {
+        if is_at(field, 0, "&") && is_at(field, 1, name) {
+            return Ok(Some(range(field, 2, field.len())));
+        }
+    }
+    Ok(None)
+}
+
+/// What stands behind the `DEFAULT` of the field of that name; nothing where it has none.
+pub fn default_of<'t, 'a>(
+    alloc: Global,
+    fields: &'t [Token<'a>],
+    name: &str,
+) -> Result<Option<&'t [Token<'a>]>, AllocError> {
+    let Some(field) = field_of(alloc, fields, name)? else {
+        return Ok(None);
+    };
+    let rest = range(field, declared(field).len(), field.len());
+    Ok(if is_at(rest, 0, "DEFAULT") {
+        Some(range(rest, 1, rest.len()))
+    } else {
+        None
+    })
+}
+
+/// What a field is declared with: all in front of whether it is unique or may be left out.
+fn declared<'t, 'a>(field: &'t [Token<'a>]) -> &'t [Token<'a>] {
+    let mut depth = 0usize;
+    for (at, token) in field.iter().enumerate() {
+        if depth == 0 && matches!(token.text, "UNIQUE" | "OPTIONAL" | "DEFAULT") {
+            return range(field, 0, at);
+        }
+        depth = token.depth_behind(depth);
+    }
+    field
+}
+
+/// The type of the field of that name, where the class has one.
+pub fn field_type<'t, 'a>(
+    alloc: Global,
+    fields: &'t [Token<'a>],
+    name: Token<'a>,
+) -> Result<Option<FieldType<'t, 'a>>, AllocError> {
+    let Some(field) = field_of(alloc, fields, name.text)? else {
+        return Ok(None);
+    };
+    let of = declared(field);
+    Ok(if is_at(of, 0, "&") {
+        Some(FieldType::Open)
+    } else if !of.is_empty() {
+        Some(FieldType::Declared(of))
+    } else if name.kind == Kind::Name {
+        Some(FieldType::Open)
+    } else {
+        None
+    })
+}
