@@ -147,7 +147,7 @@ def lines_ended():
         body = f"A ::= NULL -- x{end}B ::= A -- y"
         cases.append(Case(LIST, module_of(body).replace("\n", end).encode(), (table, "", 0, 0)))
         body = f"A ::= NULL /* x{end}{end} */ B ::= C"
-        absent = "m.asn:4:11: met 'C'; can read the name of a type that is assigned or imported\n"
+        absent = "m.asn:4:11: met 'C'; can read the name of a type that is assigned or imported, without parameters\n"
         cases.append(Case(LIST, module_of(body).encode(), ("", absent, 1, 0)))
     return cases
 
