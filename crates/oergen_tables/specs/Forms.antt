@@ -91,7 +91,7 @@ sequence_words is_extensible roots fields =
 -- the defaults of components, of which the next one has this number
 abbrev pub defaults_from : ℕ → List Field → List (ℕ × List ℕ)
 defaults_from at [] = []
-defaults_from at (field ∷ fields) = elim field.standard [ None ↦ defaults_from (at + 1) fields | Some value ↦ (at, string_bytes value) ∷ defaults_from (at + 1) fields ]
+defaults_from at (field ∷ fields) = elim field.default_value [ None ↦ defaults_from (at + 1) fields | Some value ↦ (at, string_bytes value) ∷ defaults_from (at + 1) fields ]
 
 abbrev pub is_root : Field → Bool
 is_root field = elim field.position [ Root ↦ true | Addition ↦ false | Group _ ↦ false ]

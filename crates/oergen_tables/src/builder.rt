@@ -1,6 +1,6 @@
 //! Numbers types and names, and gives each type its form.
 
-use crate::defaults::standard_of;
+use crate::defaults::default_text;
 use crate::forms::{Entry, Form, Table};
 use crate::kinds::Kind;
 use crate::leaves::{enumerated_form, leaf_form, plain_name};
@@ -190,7 +190,7 @@ impl<'m, 'a, 'd> Builder<'m, 'a, 'd> {
             name: self.name_number(part.rust_name.as_str())?,
             type_number: self.type_number(part, row.of)?,
             may_be_absent: !matches!(row.need, Need::Required),
-            standard: standard_of(self.scope, row)?,
+            default_value: default_text(self.scope, row)?,
             position: row.position,
             tag: row.tag,
         })
@@ -217,7 +217,7 @@ impl<'m, 'a, 'd> Builder<'m, 'a, 'd> {
             name: self.name_number(name.as_str())?,
             type_number,
             may_be_absent: true,
-            standard: None,
+            default_value: None,
             position: Position::Addition,
             tag: None,
         })

@@ -205,7 +205,7 @@ fn json_of_octets<'m>(scope: Scope<'m, '_>, value: &'m Value) -> Result<Option<S
 }
 
 /// A component's default in JSON; nothing where it has none, or one that JSON isn't made of here.
-pub fn standard_of<'m>(scope: Scope<'m, '_>, row: Row<'m>) -> Result<Option<String>, Refusal> {
+pub fn default_text<'m>(scope: Scope<'m, '_>, row: Row<'m>) -> Result<Option<String>, Refusal> {
     let Need::Default(value) = row.need else {
         return Ok(None);
     };

@@ -13,7 +13,7 @@ pub struct ValueName {
 
 /// The value of a component that is absent, by its number among all of a SEQUENCE or a SET: in JSON (X.697).
 #[derive(Drop)]
-pub struct Standard {
+pub struct DefaultValue {
     pub component: usize,
     pub value: String,
 }
@@ -26,7 +26,7 @@ pub struct Form {
     /// The range of an INTEGER, and the sizes of a string; without limits where there are none.
     pub range: Limits,
     pub size: Limits,
-    pub standards: Vec<Standard>,
+    pub defaults: Vec<DefaultValue>,
 }
 
 /// A type of a table.
@@ -50,7 +50,7 @@ impl Form {
     pub fn of(alloc: Global, words: Vec<usize>) -> Form
         ensures words { result.words ≡ words }
         ensures values { result.values.items ≡ [] }
-        ensures standards { result.standards.items ≡ [] }
+        ensures defaults { result.defaults.items ≡ [] }
         ensures range { result.range ≡ UNLIMITED }
         ensures size { result.size ≡ UNLIMITED }
     {
@@ -59,7 +59,7 @@ impl Form {
             values: Vec::new(alloc),
             range: UNLIMITED,
             size: UNLIMITED,
-            standards: Vec::new(alloc),
+            defaults: Vec::new(alloc),
         }
     }
 }
@@ -126,13 +126,13 @@ fn push_values(
 }
 
 /// Puts a line for each default of a type's components.
-fn push_standards(
+fn push_defaults(
     alloc: Global,
     out: &mut String,
     number: usize,
-    standards: &[Standard],
+    defaults: &[DefaultValue],
 ) -> Result<(), AllocError> {
-    for it in standards.iter() {
+    for it in defaults.iter() {
         let (component, value) = (it.component, it.value.as_str());
         out.push_str(format!(in alloc; "default {number} {component} {value}\n")?.as_str())?;
     }
@@ -209,7 +209,7 @@ impl Table {
     /// Puts the lines of the defaults.
     fn push_standard_lines(&self, alloc: Global, out: &mut String) -> Result<(), AllocError> {
         for (number, entry) in self.entries.iter().enumerate() {
-            push_standards(alloc, out, number, self.form_of(entry).standards.as_slice())?;
+            push_defaults(alloc, out, number, self.form_of(entry).defaults.as_slice())?;
         }
         Ok(())
     }

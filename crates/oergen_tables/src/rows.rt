@@ -2,7 +2,7 @@
 ghost use Rattle.std.specs.Prelude.{◌≡◌, ◌++◌, IfOk, OnOk, map, string_bytes};
 ghost use Rattle.oergen_tables.specs.Forms.{alternatives, choice_words, defaults_from, sequence_words};
 
-use crate::forms::{Form, Standard};
+use crate::forms::{DefaultValue, Form};
 use crate::kinds::Kind;
 use asn1_core::Tag;
 use oergen_layouts::rows::Position;
@@ -16,7 +16,7 @@ pub struct Field {
     pub name: usize,
     pub type_number: usize,
     pub may_be_absent: bool,
-    pub standard: Option<String>,
+    pub default_value: Option<String>,
     pub position: Position,
     pub tag: Option<Tag>,
 }
@@ -78,7 +78,7 @@ pub fn sequence_form(
     fields: &[Field],
 ) -> Result<Form, AllocError>
     ensures words { IfOk result (λ form. form.words.items ≡ sequence_words is_extensible roots fields.now) }
-    ensures defaults { IfOk result (λ form. map (λ one. (one.component, string_bytes one.value)) form.standards.items ≡ defaults_from 0 fields.now) }
+    ensures defaults { IfOk result (λ form. map (λ one. (one.component, string_bytes one.value)) form.defaults.items ≡ defaults_from 0 fields.now) }
 {
     let additions = fields.len().saturating_sub(roots);
     let words = vec![in alloc;
@@ -92,9 +92,9 @@ pub fn sequence_form(
         form.words.push(field.name)?;
         form.words.push(usize::from(field.may_be_absent))?;
         form.words.push(field.type_number)?;
-        if let Some(value) = &field.standard {
+        if let Some(value) = &field.default_value {
             let value = value.clone()?;
-            form.standards.push(Standard { component, value })?;
+            form.defaults.push(DefaultValue { component, value })?;
         }
     }
     Ok(form)
