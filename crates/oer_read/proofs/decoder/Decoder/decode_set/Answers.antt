@@ -36,8 +36,8 @@ returns-in_err-set-in-Ok-close-clause-refused g c =
     let k = rw (c.root_fields-roots.ensures, c.addition_fields-additions.ensures) at c.in_ok-fields-in-Ok.ensures.ok in
     rw (p.1, p.2) (NotMade _ _ _ _ _ o k c.in-Ok-close.ensures (record { handed = _; holds = refl; met = c.in_err-set-in-Ok-close.ensures }))
 
-pub returns-in_ok-set-in-Ok-close-clause-read : goal.returns-in_ok-set-in-Ok-close-clause-read
-returns-in_ok-set-in-Ok-close-clause-read g c =
+pub returns-clause-read : goal.returns-clause-read
+returns-clause-read g c =
     let o = rw (c.root_fields-roots.ensures, c.addition_fields-additions.ensures, c.IS_EXTENSIBLE.ensures) at c.in-Ok.ensures.state in
     let k = rw (c.root_fields-roots.ensures, c.addition_fields-additions.ensures) at c.in_ok-fields-in-Ok.ensures.ok in
     record {
@@ -54,8 +54,8 @@ returns-in_ok-set-in-Ok-close-clause-read g c =
       octets = c.open_set.ensures.octets;
     }
 
-pub returns-in_ok-set-in-Ok-close-clause-rear : goal.returns-in_ok-set-in-Ok-close-clause-rear
-returns-in_ok-set-in-Ok-close-clause-rear g c =
+pub returns-clause-rear : goal.returns-clause-rear
+returns-clause-rear g c =
     let fits = c.open_set.ensures.octets in
     let first = set_opened_rear _ _ _ _ _ _ fits c.in-Ok.ensures.state in
     let o = rw (c.root_fields-roots.ensures, c.addition_fields-additions.ensures, c.IS_EXTENSIBLE.ensures) at c.in-Ok.ensures.state in
