@@ -280,6 +280,14 @@ fn uses_macro(reader: &Reader<'_>, imports: &[Import]) -> bool {
         && (is_imported(reader, imports, name) || defines_macro(reader.tokens(), name))
 }
 
+/// Whether a refusal is of the text, and not of memory.
+fn is_unread(why: &Refusal) -> bool {
+    match why {
+        Refusal::At { .. } => true,
+        Refusal::OutOfMemory => false,
+    }
+}
+
 /// Reads a value and puts it to the others. One of a macro that can't be read is passed over: no octet depends on it.
 fn push_value(
     reader: &mut Reader<'_>,
@@ -288,14 +296,16 @@ fn push_value(
 ) -> Result<(), Refusal> {
     let start = *reader;
     match read_value_assignment(reader) {
-        Ok(value) => all.values.push(value)?,
-        Err(Refusal::At { .. }) if uses_macro(&start, imports) => {
+        Ok(value) => Ok(all.values.push(value)?),
+        Err(why) => {
+            if !is_unread(&why) || !uses_macro(&start, imports) {
+                return Err(why);
+            }
             *reader = start;
             skip_assignment(reader);
+            Ok(())
         }
-        Err(why) => return Err(why),
     }
-    Ok(())
 }
 
 /// Reads a type or a value, and puts it to the others. Macros are passed over.
