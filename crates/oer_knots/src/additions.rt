@@ -13,8 +13,8 @@ use crate::ties::{DecodeKnot, HoldsKnot};
 use asn1_core::{DecodeError, EncodeError, Tag};
 use oer_read::{Decode, Decoder};
 use oer_rows::{
-    AdditionViews, Additions, Both, End, OptionalAddition, Place, ReadsAdditions, put_addition,
-    read_addition,
+    AdditionViews, Additions, Both, End, OptionalAddition, Place, ReadsAdditions, SlottedAdditions,
+    put_addition, read_addition,
 };
 use oer_spec::Spelled;
 use oer_write::{Encode, Encoder};
@@ -92,8 +92,7 @@ impl<G: Place, B: Spelled, R: Additions> Additions for OptionalAdditionKnot<G, B
     ghost is_table = { optional_is G.tag (typed B.tree B.CONSTRAINTS B.IsValue) (λ v. v.0) (λ v. v.1) R.table (typed_is B.tree B.IsValue B.is_tree B.alike B.CONSTRAINTS B.consistent) R.is_table };
 }
 
-impl<G: Place, B: Decode, R: ReadsAdditions> ReadsAdditions for OptionalAdditionKnot<G, B, R> {
-    ghost use Rattle.oer_rows.specs.Refusals.{RowRefused};
+impl<G: Place, B: Spelled, R: SlottedAdditions> SlottedAdditions for OptionalAdditionKnot<G, B, R> {
     ghost use Rattle.oer_rows.specs.Slots.{with_optional, optional_once};
 
     type Slots = Both<Option<B>, R::Slots>;
@@ -102,11 +101,20 @@ impl<G: Place, B: Decode, R: ReadsAdditions> ReadsAdditions for OptionalAddition
 
     ghost filled_once = { optional_once R.filled R.filled_once };
 
-    ghost Refuses = { λ s e. RowRefused (λ r t. Adds (B.tree B.CONSTRAINTS) B.IsValue (B.Answered B.CONSTRAINTS) s (Some G.tag) r t) R.Refuses e };
-
     fn empty() -> Self::Slots {
         Both(None, R::empty())
     }
+
+    fn taken(slots: Self::Slots) -> Self::More {
+        let Both(value, rest) = slots;
+        Both(value, R::taken(rest))
+    }
+}
+
+impl<G: Place, B: Decode, R: ReadsAdditions> ReadsAdditions for OptionalAdditionKnot<G, B, R> {
+    ghost use Rattle.oer_rows.specs.Refusals.{RowRefused};
+
+    ghost Refuses = { λ s e. RowRefused (λ r t. Adds (B.tree B.CONSTRAINTS) B.IsValue (B.Answered B.CONSTRAINTS) s (Some G.tag) r t) R.Refuses e };
 
     fn read_additions(
         alloc: Global,
@@ -117,11 +125,6 @@ impl<G: Place, B: Decode, R: ReadsAdditions> ReadsAdditions for OptionalAddition
         slots.0 = value;
         R::read_additions(alloc, decoder, &mut slots.1)?;
         Ok(())
-    }
-
-    fn taken(slots: Self::Slots) -> Self::More {
-        let Both(value, rest) = slots;
-        Both(value, R::taken(rest))
     }
 }
 
@@ -142,23 +145,11 @@ impl<'v, G: Place, B: Encode + 'v, R: AdditionViews<'v>> AdditionViews<'v>
 }
 
 /// Additions that are read, each knot in them by what is handed in.
-pub trait ReadsKnotAdditions<K: Spelled>: Additions {
+pub trait ReadsKnotAdditions<K: Spelled>: SlottedAdditions {
     ghost use Rattle.oer_knots.specs.Answering.{Refusing};
-
-    /// Where they are put as they are read, as of `ReadsAdditions`.
-    type Slots;
-
-    /// What the places hold once these values are read.
-    ghost filled: { Self.More → Self.Slots };
-
-    /// They hold no other values.
-    ghost filled_once: { (v w : Self.More) → filled v ≡ filled w → v ≡ w };
 
     /// Why reading them is refused, as `Refuses` of `ReadsAdditions`, by what is said of the knots' answers.
     ghost refusing: { Refusing K };
-
-    /// Places that hold nothing.
-    fn empty() -> Self::Slots;
 
     /// Reads them into their places, in the order of the row, inside the scope of a sequence behind its root components (X.696,
     /// 16.4); each value of `K` in them by `knot`.
@@ -171,14 +162,9 @@ pub trait ReadsKnotAdditions<K: Spelled>: Additions {
         knot: &F,
     ) -> Result<(), DecodeError>
         requires { ReadsKnots F.Fn knot.now (K.tree K.CONSTRAINTS) K.IsValue decoder.old.levels }
-        ensures read { OnOk result ((v : Self.More) × (slots.new ≡ filled v) × Takes decoder.old NoParts Self.table.parts NoRows (Self.table.rows v) decoder.new × Self.table.IsValue v) }
+        ensures read { OnOk result ((v : Self.More) × (slots.new ≡ Self.filled v) × Takes decoder.old NoParts Self.table.parts NoRows (Self.table.rows v) decoder.new × Self.table.IsValue v) }
         ensures stops { Stops decoder.old NoParts Self.table.parts result }
         ensures refused { IfErr result (λ e. Self.refusing.Refuses (FnReturnsAtMut F.Fn knot.now) decoder.old e) };
-
-    /// The values that the places hold.
-    fn taken(slots: Self::Slots) -> Self::More
-        requires { (v : Self.More) × (slots ≡ filled v) }
-        ensures { slots ≡ filled result };
 }
 
 /// Reads an OPTIONAL addition by its bit, each knot in it by `knot`.
@@ -205,20 +191,9 @@ fn read_added<K: Spelled, B: DecodeKnot<K>, F: Fn(&mut Decoder<'_>) -> Result<K,
 }
 
 impl<K: Spelled> ReadsKnotAdditions<K> for End {
-    ghost use Rattle.std.specs.Prelude.{refl};
     ghost use Rattle.oer_knots.specs.Answering.{unknotted};
 
-    type Slots = ();
-
-    ghost filled = { λ v. tt };
-
-    ghost filled_once = { λ v w e. refl };
-
     ghost refusing = { unknotted (λ s e. ⊥) };
-
-    fn empty() -> () {
-        ()
-    }
 
     fn read_knot_additions<F: Fn(&mut Decoder<'_>) -> Result<K, DecodeError>>(
         _alloc: Global,
@@ -228,28 +203,13 @@ impl<K: Spelled> ReadsKnotAdditions<K> for End {
     ) -> Result<(), DecodeError> {
         Ok(())
     }
-
-    fn taken(_slots: ()) -> () {
-        ()
-    }
 }
 
 impl<K: Spelled, G: Place, B: Decode, R: ReadsKnotAdditions<K>> ReadsKnotAdditions<K>
     for OptionalAddition<G, B, R> {
     ghost use Rattle.oer_knots.specs.Answering.{plain, before};
-    ghost use Rattle.oer_rows.specs.Slots.{with_optional, optional_once};
-
-    type Slots = Both<Option<B>, R::Slots>;
-
-    ghost filled = { with_optional R.filled };
-
-    ghost filled_once = { optional_once R.filled R.filled_once };
 
     ghost refusing = { before (plain (λ s r t. Adds (B.tree B.CONSTRAINTS) B.IsValue (B.Answered B.CONSTRAINTS) s (Some G.tag) r t)) R.refusing };
-
-    fn empty() -> Self::Slots {
-        Both(None, R::empty())
-    }
 
     fn read_knot_additions<F: Fn(&mut Decoder<'_>) -> Result<K, DecodeError>>(
         alloc: Global,
@@ -262,29 +222,13 @@ impl<K: Spelled, G: Place, B: Decode, R: ReadsKnotAdditions<K>> ReadsKnotAdditio
         R::read_knot_additions(alloc, decoder, &mut slots.1, knot)?;
         Ok(())
     }
-
-    fn taken(slots: Self::Slots) -> Self::More {
-        let Both(value, rest) = slots;
-        Both(value, R::taken(rest))
-    }
 }
 
 impl<K: Spelled, G: Place, B: DecodeKnot<K>, R: ReadsKnotAdditions<K>> ReadsKnotAdditions<K>
     for OptionalAdditionKnot<G, B, R> {
     ghost use Rattle.oer_knots.specs.Answering.{added, before};
-    ghost use Rattle.oer_rows.specs.Slots.{with_optional, optional_once};
-
-    type Slots = Both<Option<B>, R::Slots>;
-
-    ghost filled = { with_optional R.filled };
-
-    ghost filled_once = { optional_once R.filled R.filled_once };
 
     ghost refusing = { before (added (B.tree B.CONSTRAINTS) B.IsValue G.tag B.answering) R.refusing };
-
-    fn empty() -> Self::Slots {
-        Both(None, R::empty())
-    }
 
     fn read_knot_additions<F: Fn(&mut Decoder<'_>) -> Result<K, DecodeError>>(
         alloc: Global,
@@ -296,10 +240,5 @@ impl<K: Spelled, G: Place, B: DecodeKnot<K>, R: ReadsKnotAdditions<K>> ReadsKnot
         slots.0 = value;
         R::read_knot_additions(alloc, decoder, &mut slots.1, knot)?;
         Ok(())
-    }
-
-    fn taken(slots: Self::Slots) -> Self::More {
-        let Both(value, rest) = slots;
-        Both(value, R::taken(rest))
     }
 }

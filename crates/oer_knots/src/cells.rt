@@ -6,7 +6,7 @@ ghost use Rattle.oer_rows.specs.Values.{both};
 
 use asn1_core::{DecodeError, EncodeError};
 use oer_read::{Decode, Decoder};
-use oer_rows::{Both, Components, Place, Reads, Views};
+use oer_rows::{Both, Components, Place, Reads, Slotted, Views};
 use oer_spec::Spelled;
 use oer_write::{Encode, Encoder};
 use std::alloc::Global;
@@ -32,9 +32,7 @@ impl<G: Place, B: Spelled, R: Components> Components for RequiredKnot<G, B, R> {
     ghost is_schema = { needed_then_is G.tag (typed B.tree B.CONSTRAINTS B.IsValue) R.schema R.EXTENSIBLE (typed_is B.tree B.IsValue B.is_tree B.alike B.CONSTRAINTS B.consistent) R.is_schema };
 }
 
-impl<G: Place, B: Decode, R: Reads> Reads for RequiredKnot<G, B, R> {
-    ghost use Rattle.oer_read.specs.Law.{Promised};
-    ghost use Rattle.oer_rows.specs.Refusals.{RowRefused};
+impl<G: Place, B: Spelled, R: Slotted> Slotted for RequiredKnot<G, B, R> {
     ghost use Rattle.oer_rows.specs.Slots.{with_needed, needed_once};
 
     type Slots = Both<Option<B>, R::Slots>;
@@ -43,11 +41,21 @@ impl<G: Place, B: Decode, R: Reads> Reads for RequiredKnot<G, B, R> {
 
     ghost filled_once = { needed_once R.filled R.filled_once };
 
-    ghost Refuses = { λ s e. RowRefused (λ r t. Promised (B.tree B.CONSTRAINTS) B.IsValue (B.Answered B.CONSTRAINTS) s r t) R.Refuses e };
-
     fn empty() -> Self::Slots {
         Both(None, R::empty())
     }
+
+    fn taken(slots: Self::Slots) -> Self::Values {
+        let Both(value, rest) = slots;
+        Both(value.unwrap(), R::taken(rest))
+    }
+}
+
+impl<G: Place, B: Decode, R: Reads> Reads for RequiredKnot<G, B, R> {
+    ghost use Rattle.oer_read.specs.Law.{Promised};
+    ghost use Rattle.oer_rows.specs.Refusals.{RowRefused};
+
+    ghost Refuses = { λ s e. RowRefused (λ r t. Promised (B.tree B.CONSTRAINTS) B.IsValue (B.Answered B.CONSTRAINTS) s r t) R.Refuses e };
 
     fn read(
         alloc: Global,
@@ -58,11 +66,6 @@ impl<G: Place, B: Decode, R: Reads> Reads for RequiredKnot<G, B, R> {
         slots.0 = Some(value);
         R::read(alloc, decoder, &mut slots.1)?;
         Ok(())
-    }
-
-    fn taken(slots: Self::Slots) -> Self::Values {
-        let Both(value, rest) = slots;
-        Both(value.unwrap(), R::taken(rest))
     }
 }
 
@@ -80,9 +83,7 @@ impl<G: Place, B: Spelled, R: Components> Components for OptionalKnot<G, B, R> {
     ghost is_schema = { optional_then_is G.tag (typed B.tree B.CONSTRAINTS B.IsValue) R.schema R.EXTENSIBLE (typed_is B.tree B.IsValue B.is_tree B.alike B.CONSTRAINTS B.consistent) R.is_schema };
 }
 
-impl<G: Place, B: Decode, R: Reads> Reads for OptionalKnot<G, B, R> {
-    ghost use Rattle.oer_read.specs.Components.{Asks};
-    ghost use Rattle.oer_rows.specs.Refusals.{RowRefused};
+impl<G: Place, B: Spelled, R: Slotted> Slotted for OptionalKnot<G, B, R> {
     ghost use Rattle.oer_rows.specs.Slots.{with_optional, optional_once};
 
     type Slots = Both<Option<B>, R::Slots>;
@@ -91,11 +92,21 @@ impl<G: Place, B: Decode, R: Reads> Reads for OptionalKnot<G, B, R> {
 
     ghost filled_once = { optional_once R.filled R.filled_once };
 
-    ghost Refuses = { λ s e. RowRefused (λ r t. Asks (B.tree B.CONSTRAINTS) B.IsValue (B.Answered B.CONSTRAINTS) s G.tag r t) R.Refuses e };
-
     fn empty() -> Self::Slots {
         Both(None, R::empty())
     }
+
+    fn taken(slots: Self::Slots) -> Self::Values {
+        let Both(value, rest) = slots;
+        Both(value, R::taken(rest))
+    }
+}
+
+impl<G: Place, B: Decode, R: Reads> Reads for OptionalKnot<G, B, R> {
+    ghost use Rattle.oer_read.specs.Components.{Asks};
+    ghost use Rattle.oer_rows.specs.Refusals.{RowRefused};
+
+    ghost Refuses = { λ s e. RowRefused (λ r t. Asks (B.tree B.CONSTRAINTS) B.IsValue (B.Answered B.CONSTRAINTS) s G.tag r t) R.Refuses e };
 
     fn read(
         alloc: Global,
@@ -106,11 +117,6 @@ impl<G: Place, B: Decode, R: Reads> Reads for OptionalKnot<G, B, R> {
         slots.0 = value;
         R::read(alloc, decoder, &mut slots.1)?;
         Ok(())
-    }
-
-    fn taken(slots: Self::Slots) -> Self::Values {
-        let Both(value, rest) = slots;
-        Both(value, R::taken(rest))
     }
 }
 

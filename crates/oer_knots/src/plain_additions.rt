@@ -27,19 +27,8 @@ impl<K, G: Place, B: Spelled, R: Additions> KnotAdditions<K> for RequiredAdditio
 impl<K: Spelled, G: Place, B: Decode, R: ReadsAdditions> ReadsKnotAdditions<K>
     for RequiredAddition<G, B, R> {
     ghost use Rattle.oer_knots.specs.Answering.{unknotted};
-    ghost use Rattle.oer_rows.specs.Slots.{with_needed, needed_once};
-
-    type Slots = Both<Option<B>, R::Slots>;
-
-    ghost filled = { with_needed R.filled };
-
-    ghost filled_once = { needed_once R.filled R.filled_once };
 
     ghost refusing = { unknotted ⟦<RequiredAddition<G, B, R> as ReadsAdditions>⟧.Refuses };
-
-    fn empty() -> Self::Slots {
-        <Self as ReadsAdditions>::empty()
-    }
 
     fn read_knot_additions<F: Fn(&mut Decoder<'_>) -> Result<K, DecodeError>>(
         alloc: Global,
@@ -48,10 +37,6 @@ impl<K: Spelled, G: Place, B: Decode, R: ReadsAdditions> ReadsKnotAdditions<K>
         _knot: &F,
     ) -> Result<(), DecodeError> {
         Self::read_additions(alloc, decoder, slots)
-    }
-
-    fn taken(slots: Self::Slots) -> Self::More {
-        <Self as ReadsAdditions>::taken(slots)
     }
 }
 
@@ -78,19 +63,8 @@ impl<
     R: ReadsAdditions,
 > ReadsKnotAdditions<K> for DefaultedAddition<G, B, D, R> {
     ghost use Rattle.oer_knots.specs.Answering.{unknotted};
-    ghost use Rattle.oer_rows.specs.Slots.{with_needed, needed_once};
-
-    type Slots = Both<Option<B>, R::Slots>;
-
-    ghost filled = { with_needed R.filled };
-
-    ghost filled_once = { needed_once R.filled R.filled_once };
 
     ghost refusing = { unknotted ⟦<DefaultedAddition<G, B, D, R> as ReadsAdditions>⟧.Refuses };
-
-    fn empty() -> Self::Slots {
-        <Self as ReadsAdditions>::empty()
-    }
 
     fn read_knot_additions<F: Fn(&mut Decoder<'_>) -> Result<K, DecodeError>>(
         alloc: Global,
@@ -99,10 +73,6 @@ impl<
         _knot: &F,
     ) -> Result<(), DecodeError> {
         Self::read_additions(alloc, decoder, slots)
-    }
-
-    fn taken(slots: Self::Slots) -> Self::More {
-        <Self as ReadsAdditions>::taken(slots)
     }
 }
 
@@ -134,19 +104,8 @@ impl<
     R: ReadsAdditions,
 > ReadsKnotAdditions<K> for AdditionGroup<RC, EC, B, R> {
     ghost use Rattle.oer_knots.specs.Answering.{unknotted};
-    ghost use Rattle.oer_rows.specs.Slots.{with_optional, optional_once};
-
-    type Slots = Both<Option<B>, R::Slots>;
-
-    ghost filled = { with_optional R.filled };
-
-    ghost filled_once = { optional_once R.filled R.filled_once };
 
     ghost refusing = { unknotted ⟦<AdditionGroup<RC, EC, B, R> as ReadsAdditions>⟧.Refuses };
-
-    fn empty() -> Self::Slots {
-        <Self as ReadsAdditions>::empty()
-    }
 
     fn read_knot_additions<F: Fn(&mut Decoder<'_>) -> Result<K, DecodeError>>(
         alloc: Global,
@@ -155,9 +114,5 @@ impl<
         _knot: &F,
     ) -> Result<(), DecodeError> {
         Self::read_additions(alloc, decoder, slots)
-    }
-
-    fn taken(slots: Self::Slots) -> Self::More {
-        <Self as ReadsAdditions>::taken(slots)
     }
 }

@@ -12,30 +12,17 @@ use crate::ties::DecodeKnot;
 use asn1_core::{DecodeError, Tag};
 use oer_read::{Decode, Decoder};
 use oer_rows::{
-    Both, Components, DefaultValue, Defaulted, End, Extensible, Optional, Place, Required,
-    read_default,
+    DefaultValue, Defaulted, End, Extensible, Optional, Place, Required, Slotted, read_default,
 };
 use oer_spec::{EqualAsSpelled, Spelled};
 use std::alloc::Global;
 
 /// A row whose components are read, each knot in them by what is handed in.
-pub trait ReadsKnot<K: Spelled>: Components {
+pub trait ReadsKnot<K: Spelled>: Slotted {
     ghost use Rattle.oer_knots.specs.Answering.{Refusing};
-
-    /// Where they are put as they are read, as of `Reads`.
-    type Slots;
-
-    /// What the places hold once these values are read.
-    ghost filled: { Self.Values → Self.Slots };
-
-    /// They hold no other values.
-    ghost filled_once: { (v w : Self.Values) → filled v ≡ filled w → v ≡ w };
 
     /// Why reading the row is refused, as `Refuses` of `Reads`, by what is said of the knots' answers.
     ghost refusing: { Refusing K };
-
-    /// Places that hold nothing.
-    fn empty() -> Self::Slots;
 
     /// Reads them into their places, in the order of the row, inside the scope of a sequence (X.696, 16); each value of `K` in
     /// them by `knot`.
@@ -48,14 +35,9 @@ pub trait ReadsKnot<K: Spelled>: Components {
         knot: &F,
     ) -> Result<(), DecodeError>
         requires { ReadsKnots F.Fn knot.now (K.tree K.CONSTRAINTS) K.IsValue decoder.old.levels }
-        ensures read { OnOk result ((v : Self.Values) × (slots.new ≡ filled v) × Takes decoder.old Self.schema.roots.parts Self.schema.additions.parts (Self.schema.roots.rows v) (Self.schema.additions.rows v) decoder.new × Self.schema.roots.IsValue v × Self.schema.additions.IsValue v) }
+        ensures read { OnOk result ((v : Self.Values) × (slots.new ≡ Self.filled v) × Takes decoder.old Self.schema.roots.parts Self.schema.additions.parts (Self.schema.roots.rows v) (Self.schema.additions.rows v) decoder.new × Self.schema.roots.IsValue v × Self.schema.additions.IsValue v) }
         ensures stops { Stops decoder.old Self.schema.roots.parts Self.schema.additions.parts result }
         ensures refused { IfErr result (λ e. Self.refusing.Refuses (FnReturnsAtMut F.Fn knot.now) decoder.old e) };
-
-    /// The values that the places hold.
-    fn taken(slots: Self::Slots) -> Self::Values
-        requires { (v : Self.Values) × (slots ≡ filled v) }
-        ensures { slots ≡ filled result };
 }
 
 /// Reads an OPTIONAL component by its presence bit, each knot in it by `knot`.
@@ -82,20 +64,9 @@ fn read_optional<K: Spelled, B: DecodeKnot<K>, F: Fn(&mut Decoder<'_>) -> Result
 }
 
 impl<K: Spelled> ReadsKnot<K> for End {
-    ghost use Rattle.std.specs.Prelude.{refl};
     ghost use Rattle.oer_knots.specs.Answering.{unknotted};
 
-    type Slots = ();
-
-    ghost filled = { λ v. tt };
-
-    ghost filled_once = { λ v w e. refl };
-
     ghost refusing = { unknotted (λ s e. ⊥) };
-
-    fn empty() -> () {
-        ()
-    }
 
     fn read<F: Fn(&mut Decoder<'_>) -> Result<K, DecodeError>>(
         _alloc: Global,
@@ -105,24 +76,10 @@ impl<K: Spelled> ReadsKnot<K> for End {
     ) -> Result<(), DecodeError> {
         Ok(())
     }
-
-    fn taken(_slots: ()) -> () {
-        ()
-    }
 }
 
 impl<K: Spelled, R: ReadsKnotAdditions<K>> ReadsKnot<K> for Extensible<R> {
-    type Slots = R::Slots;
-
-    ghost filled = { R.filled };
-
-    ghost filled_once = { R.filled_once };
-
     ghost refusing = { R.refusing };
-
-    fn empty() -> R::Slots {
-        R::empty()
-    }
 
     fn read<F: Fn(&mut Decoder<'_>) -> Result<K, DecodeError>>(
         alloc: Global,
@@ -132,27 +89,12 @@ impl<K: Spelled, R: ReadsKnotAdditions<K>> ReadsKnot<K> for Extensible<R> {
     ) -> Result<(), DecodeError> {
         R::read_knot_additions(alloc, decoder, slots, knot)
     }
-
-    fn taken(slots: R::Slots) -> R::More {
-        R::taken(slots)
-    }
 }
 
 impl<K: Spelled, G: Place, B: Decode, R: ReadsKnot<K>> ReadsKnot<K> for Required<G, B, R> {
     ghost use Rattle.oer_knots.specs.Answering.{plain, before};
-    ghost use Rattle.oer_rows.specs.Slots.{with_needed, needed_once};
-
-    type Slots = Both<Option<B>, R::Slots>;
-
-    ghost filled = { with_needed R.filled };
-
-    ghost filled_once = { needed_once R.filled R.filled_once };
 
     ghost refusing = { before (plain (Promised (B.tree B.CONSTRAINTS) B.IsValue (B.Answered B.CONSTRAINTS))) R.refusing };
-
-    fn empty() -> Self::Slots {
-        Both(None, R::empty())
-    }
 
     fn read<F: Fn(&mut Decoder<'_>) -> Result<K, DecodeError>>(
         alloc: Global,
@@ -165,28 +107,12 @@ impl<K: Spelled, G: Place, B: Decode, R: ReadsKnot<K>> ReadsKnot<K> for Required
         R::read(alloc, decoder, &mut slots.1, knot)?;
         Ok(())
     }
-
-    fn taken(slots: Self::Slots) -> Self::Values {
-        let Both(value, rest) = slots;
-        Both(value.unwrap(), R::taken(rest))
-    }
 }
 
 impl<K: Spelled, G: Place, B: Decode, R: ReadsKnot<K>> ReadsKnot<K> for Optional<G, B, R> {
     ghost use Rattle.oer_knots.specs.Answering.{plain, before};
-    ghost use Rattle.oer_rows.specs.Slots.{with_optional, optional_once};
-
-    type Slots = Both<Option<B>, R::Slots>;
-
-    ghost filled = { with_optional R.filled };
-
-    ghost filled_once = { optional_once R.filled R.filled_once };
 
     ghost refusing = { before (plain (λ s r t. Asks (B.tree B.CONSTRAINTS) B.IsValue (B.Answered B.CONSTRAINTS) s G.tag r t)) R.refusing };
-
-    fn empty() -> Self::Slots {
-        Both(None, R::empty())
-    }
 
     fn read<F: Fn(&mut Decoder<'_>) -> Result<K, DecodeError>>(
         alloc: Global,
@@ -199,11 +125,6 @@ impl<K: Spelled, G: Place, B: Decode, R: ReadsKnot<K>> ReadsKnot<K> for Optional
         R::read(alloc, decoder, &mut slots.1, knot)?;
         Ok(())
     }
-
-    fn taken(slots: Self::Slots) -> Self::Values {
-        let Both(value, rest) = slots;
-        Both(value, R::taken(rest))
-    }
 }
 
 impl<
@@ -215,19 +136,8 @@ impl<
 > ReadsKnot<K> for Defaulted<G, B, D, R> {
     ghost use Rattle.oer_knots.specs.Answering.{plain, before};
     ghost use Rattle.oer_rows.specs.DefaultValues.{AsksDefaultValue};
-    ghost use Rattle.oer_rows.specs.Slots.{with_needed, needed_once};
-
-    type Slots = Both<Option<B>, R::Slots>;
-
-    ghost filled = { with_needed R.filled };
-
-    ghost filled_once = { needed_once R.filled R.filled_once };
 
     ghost refusing = { before (plain (λ s r t. AsksDefaultValue (B.tree B.CONSTRAINTS) B.IsValue (B.Answered B.CONSTRAINTS) B.eq D.wants_memory s G.tag D.value r t)) R.refusing };
-
-    fn empty() -> Self::Slots {
-        Both(None, R::empty())
-    }
 
     fn read<F: Fn(&mut Decoder<'_>) -> Result<K, DecodeError>>(
         alloc: Global,
@@ -240,29 +150,13 @@ impl<
         R::read(alloc, decoder, &mut slots.1, knot)?;
         Ok(())
     }
-
-    fn taken(slots: Self::Slots) -> Self::Values {
-        let Both(value, rest) = slots;
-        Both(value.unwrap(), R::taken(rest))
-    }
 }
 
 impl<K: Spelled, G: Place, B: DecodeKnot<K>, R: ReadsKnot<K>> ReadsKnot<K>
     for RequiredKnot<G, B, R> {
     ghost use Rattle.oer_knots.specs.Answering.{promised, before};
-    ghost use Rattle.oer_rows.specs.Slots.{with_needed, needed_once};
-
-    type Slots = Both<Option<B>, R::Slots>;
-
-    ghost filled = { with_needed R.filled };
-
-    ghost filled_once = { needed_once R.filled R.filled_once };
 
     ghost refusing = { before (promised (B.tree B.CONSTRAINTS) B.IsValue B.answering) R.refusing };
-
-    fn empty() -> Self::Slots {
-        Both(None, R::empty())
-    }
 
     fn read<F: Fn(&mut Decoder<'_>) -> Result<K, DecodeError>>(
         alloc: Global,
@@ -275,29 +169,13 @@ impl<K: Spelled, G: Place, B: DecodeKnot<K>, R: ReadsKnot<K>> ReadsKnot<K>
         R::read(alloc, decoder, &mut slots.1, knot)?;
         Ok(())
     }
-
-    fn taken(slots: Self::Slots) -> Self::Values {
-        let Both(value, rest) = slots;
-        Both(value.unwrap(), R::taken(rest))
-    }
 }
 
 impl<K: Spelled, G: Place, B: DecodeKnot<K>, R: ReadsKnot<K>> ReadsKnot<K>
     for OptionalKnot<G, B, R> {
     ghost use Rattle.oer_knots.specs.Answering.{asked, before};
-    ghost use Rattle.oer_rows.specs.Slots.{with_optional, optional_once};
-
-    type Slots = Both<Option<B>, R::Slots>;
-
-    ghost filled = { with_optional R.filled };
-
-    ghost filled_once = { optional_once R.filled R.filled_once };
 
     ghost refusing = { before (asked (B.tree B.CONSTRAINTS) B.IsValue G.tag B.answering) R.refusing };
-
-    fn empty() -> Self::Slots {
-        Both(None, R::empty())
-    }
 
     fn read<F: Fn(&mut Decoder<'_>) -> Result<K, DecodeError>>(
         alloc: Global,
@@ -309,10 +187,5 @@ impl<K: Spelled, G: Place, B: DecodeKnot<K>, R: ReadsKnot<K>> ReadsKnot<K>
         slots.0 = value;
         R::read(alloc, decoder, &mut slots.1, knot)?;
         Ok(())
-    }
-
-    fn taken(slots: Self::Slots) -> Self::Values {
-        let Both(value, rest) = slots;
-        Both(value, R::taken(rest))
     }
 }

@@ -7,6 +7,7 @@ ghost use Rattle.oer_read.specs.Parts.{NoParts, Takes, Stops};
 use crate::both::Both;
 use crate::components::{Components, End, Reads};
 use crate::places::Place;
+use crate::slots::{Slotted, SlottedAdditions};
 use asn1_core::{DecodeError, Tag};
 use oer_read::{Decode, Decoder};
 use oer_spec::Spelled;
@@ -26,24 +27,12 @@ pub trait Additions {
 }
 
 /// Additions that are read.
-pub trait ReadsAdditions: Additions {
+pub trait ReadsAdditions: SlottedAdditions {
     ghost use Rattle.asn1_core.specs.declared.error.DecodeError.{DecodeError};
     ghost use Rattle.oer_read.specs.State.{State};
 
-    /// Where they are put as they are read.
-    type Slots;
-
-    /// What the places hold once these values are read.
-    ghost filled: { Self.More → Self.Slots };
-
-    /// They hold no other values.
-    ghost filled_once: { (v w : Self.More) → filled v ≡ filled w → v ≡ w };
-
     /// Why reading them is refused: which addition is, and by what.
     ghost Refuses: { State → DecodeError → Type 0 };
-
-    /// Places that hold nothing.
-    fn empty() -> Self::Slots;
 
     /// Reads them into their places, in the order of the row, inside the scope of a sequence behind its root components (X.696,
     /// 16.4).
@@ -54,14 +43,9 @@ pub trait ReadsAdditions: Additions {
         decoder: &mut Decoder<'_>,
         slots: &mut Self::Slots,
     ) -> Result<(), DecodeError>
-        ensures read { OnOk result ((v : Self.More) × (slots.new ≡ filled v) × Takes decoder.old NoParts Self.table.parts NoRows (Self.table.rows v) decoder.new × Self.table.IsValue v) }
+        ensures read { OnOk result ((v : Self.More) × (slots.new ≡ Self.filled v) × Takes decoder.old NoParts Self.table.parts NoRows (Self.table.rows v) decoder.new × Self.table.IsValue v) }
         ensures stops { Stops decoder.old NoParts Self.table.parts result }
         ensures refused { IfErr result (λ e. Self.Refuses decoder.old e) };
-
-    /// The values that the places hold.
-    fn taken(slots: Self::Slots) -> Self::More
-        requires { (v : Self.More) × (slots ≡ filled v) }
-        ensures { slots ≡ filled result };
 }
 
 /// The end of the root components of an extensible type, and its additions `R`.
@@ -94,7 +78,7 @@ impl Additions for End {
     ghost is_table = { none_is };
 }
 
-impl ReadsAdditions for End {
+impl SlottedAdditions for End {
     ghost use Rattle.std.specs.Prelude.{refl};
 
     type Slots = ();
@@ -103,12 +87,19 @@ impl ReadsAdditions for End {
 
     ghost filled_once = { λ v w e. refl };
 
-    ghost Refuses = { λ s e. ⊥ };
-
     #[inline(always)]
     fn empty() -> () {
         ()
     }
+
+    #[inline(always)]
+    fn taken(_slots: ()) -> () {
+        ()
+    }
+}
+
+impl ReadsAdditions for End {
+    ghost Refuses = { λ s e. ⊥ };
 
     #[inline(always)]
     fn read_additions(
@@ -117,11 +108,6 @@ impl ReadsAdditions for End {
         _slots: &mut (),
     ) -> Result<(), DecodeError> {
         Ok(())
-    }
-
-    #[inline(always)]
-    fn taken(_slots: ()) -> () {
-        ()
     }
 }
 
@@ -135,10 +121,7 @@ impl<G: Place, B: Spelled, R: Additions> Additions for OptionalAddition<G, B, R>
     ghost is_table = { optional_is G.tag (typed B.tree B.CONSTRAINTS B.IsValue) (λ v. v.0) (λ v. v.1) R.table (typed_is B.tree B.IsValue B.is_tree B.alike B.CONSTRAINTS B.consistent) R.is_table };
 }
 
-impl<G: Place, B: Decode, R: ReadsAdditions> ReadsAdditions for OptionalAddition<G, B, R> {
-    ghost use Rattle.std.specs.Prelude.{Some};
-    ghost use Rattle.oer_read.specs.Additions.{Adds};
-    ghost use Rattle.oer_rows.specs.Refusals.{RowRefused};
+impl<G: Place, B: Spelled, R: SlottedAdditions> SlottedAdditions for OptionalAddition<G, B, R> {
     ghost use Rattle.oer_rows.specs.Slots.{with_optional, optional_once};
 
     type Slots = Both<Option<B>, R::Slots>;
@@ -147,12 +130,24 @@ impl<G: Place, B: Decode, R: ReadsAdditions> ReadsAdditions for OptionalAddition
 
     ghost filled_once = { optional_once R.filled R.filled_once };
 
-    ghost Refuses = { λ s e. RowRefused (λ r t. Adds (B.tree B.CONSTRAINTS) B.IsValue (B.Answered B.CONSTRAINTS) s (Some G.tag) r t) R.Refuses e };
-
     #[inline(always)]
     fn empty() -> Self::Slots {
         Both(None, R::empty())
     }
+
+    #[inline(always)]
+    fn taken(slots: Self::Slots) -> Self::More {
+        let Both(value, rest) = slots;
+        Both(value, R::taken(rest))
+    }
+}
+
+impl<G: Place, B: Decode, R: ReadsAdditions> ReadsAdditions for OptionalAddition<G, B, R> {
+    ghost use Rattle.std.specs.Prelude.{Some};
+    ghost use Rattle.oer_read.specs.Additions.{Adds};
+    ghost use Rattle.oer_rows.specs.Refusals.{RowRefused};
+
+    ghost Refuses = { λ s e. RowRefused (λ r t. Adds (B.tree B.CONSTRAINTS) B.IsValue (B.Answered B.CONSTRAINTS) s (Some G.tag) r t) R.Refuses e };
 
     #[inline(always)]
     fn read_additions(
@@ -164,12 +159,6 @@ impl<G: Place, B: Decode, R: ReadsAdditions> ReadsAdditions for OptionalAddition
         slots.0 = value;
         R::read_additions(alloc, decoder, &mut slots.1)?;
         Ok(())
-    }
-
-    #[inline(always)]
-    fn taken(slots: Self::Slots) -> Self::More {
-        let Both(value, rest) = slots;
-        Both(value, R::taken(rest))
     }
 }
 
@@ -188,19 +177,26 @@ impl<R: Additions> Components for Extensible<R> {
     ghost is_schema = { added_is R.table R.is_table };
 }
 
-impl<R: ReadsAdditions> Reads for Extensible<R> {
+impl<R: SlottedAdditions> Slotted for Extensible<R> {
     type Slots = R::Slots;
 
     ghost filled = { R.filled };
 
     ghost filled_once = { R.filled_once };
 
-    ghost Refuses = { R.Refuses };
-
     #[inline(always)]
     fn empty() -> R::Slots {
         R::empty()
     }
+
+    #[inline(always)]
+    fn taken(slots: R::Slots) -> R::More {
+        R::taken(slots)
+    }
+}
+
+impl<R: ReadsAdditions> Reads for Extensible<R> {
+    ghost Refuses = { R.Refuses };
 
     #[inline(always)]
     fn read(
@@ -210,10 +206,5 @@ impl<R: ReadsAdditions> Reads for Extensible<R> {
     ) -> Result<(), DecodeError> {
         R::read_additions(alloc, decoder, &mut *slots)?;
         Ok(())
-    }
-
-    #[inline(always)]
-    fn taken(slots: R::Slots) -> R::More {
-        R::taken(slots)
     }
 }

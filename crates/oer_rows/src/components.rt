@@ -5,6 +5,7 @@ ghost use Rattle.oer_read.specs.Parts.{Takes, Stops};
 use crate::both::Both;
 use crate::defaults::read_default;
 use crate::places::{DefaultValue, Place};
+use crate::slots::Slotted;
 use asn1_core::DecodeError;
 use oer_read::{Decode, Decoder};
 use oer_spec::{EqualAsSpelled, Spelled};
@@ -34,25 +35,12 @@ pub trait Components {
 }
 
 /// A row whose components are read.
-pub trait Reads: Components {
+pub trait Reads: Slotted {
     ghost use Rattle.asn1_core.specs.declared.error.DecodeError.{DecodeError};
     ghost use Rattle.oer_read.specs.State.{State};
 
-    /// Where they are put as they are read: a place for the first one and those for the others, at the end `()`. So
-    /// none is moved as those behind it are read.
-    type Slots;
-
-    /// What the places hold once these values are read.
-    ghost filled: { Self.Values → Self.Slots };
-
-    /// They hold no other values.
-    ghost filled_once: { (v w : Self.Values) → filled v ≡ filled w → v ≡ w };
-
     /// Why reading them is refused: which component is, and by what.
     ghost Refuses: { State → DecodeError → Type 0 };
-
-    /// Places that hold nothing.
-    fn empty() -> Self::Slots;
 
     /// Reads them into their places, in the order of the row, inside the scope of a sequence (X.696, 16): what is read encodes rows
     /// of the schema's parts, and the values are admitted ones.
@@ -63,14 +51,9 @@ pub trait Reads: Components {
         decoder: &mut Decoder<'_>,
         slots: &mut Self::Slots,
     ) -> Result<(), DecodeError>
-        ensures read { OnOk result ((v : Self.Values) × (slots.new ≡ filled v) × Takes decoder.old Self.schema.roots.parts Self.schema.additions.parts (Self.schema.roots.rows v) (Self.schema.additions.rows v) decoder.new × Self.schema.roots.IsValue v × Self.schema.additions.IsValue v) }
+        ensures read { OnOk result ((v : Self.Values) × (slots.new ≡ Self.filled v) × Takes decoder.old Self.schema.roots.parts Self.schema.additions.parts (Self.schema.roots.rows v) (Self.schema.additions.rows v) decoder.new × Self.schema.roots.IsValue v × Self.schema.additions.IsValue v) }
         ensures stops { Stops decoder.old Self.schema.roots.parts Self.schema.additions.parts result }
         ensures refused { IfErr result (λ e. Self.Refuses decoder.old e) };
-
-    /// The values that the places hold.
-    fn taken(slots: Self::Slots) -> Self::Values
-        requires { (v : Self.Values) × (slots ≡ filled v) }
-        ensures { slots ≡ filled result };
 }
 
 /// The end of a row: no further component.
@@ -100,9 +83,8 @@ impl Components for End {
     ghost is_schema = { empty_is };
 }
 
-impl Reads for End {
+impl Slotted for End {
     ghost use Rattle.std.specs.Prelude.{refl};
-    ghost use Rattle.oer_rows.specs.Schema.{empty};
 
     type Slots = ();
 
@@ -110,12 +92,21 @@ impl Reads for End {
 
     ghost filled_once = { λ v w e. refl };
 
-    ghost Refuses = { λ s e. ⊥ };
-
     #[inline(always)]
     fn empty() -> () {
         ()
     }
+
+    #[inline(always)]
+    fn taken(_slots: ()) -> () {
+        ()
+    }
+}
+
+impl Reads for End {
+    ghost use Rattle.oer_rows.specs.Schema.{empty};
+
+    ghost Refuses = { λ s e. ⊥ };
 
     #[inline(always)]
     fn read(
@@ -124,11 +115,6 @@ impl Reads for End {
         _slots: &mut (),
     ) -> Result<(), DecodeError> {
         Ok(())
-    }
-
-    #[inline(always)]
-    fn taken(_slots: ()) -> () {
-        ()
     }
 }
 
@@ -146,9 +132,7 @@ impl<G: Place, B: Spelled, R: Components> Components for Required<G, B, R> {
     ghost is_schema = { needed_then_is G.tag (typed B.tree B.CONSTRAINTS B.IsValue) R.schema R.EXTENSIBLE (typed_is B.tree B.IsValue B.is_tree B.alike B.CONSTRAINTS B.consistent) R.is_schema };
 }
 
-impl<G: Place, B: Decode, R: Reads> Reads for Required<G, B, R> {
-    ghost use Rattle.oer_read.specs.Law.{Promised};
-    ghost use Rattle.oer_rows.specs.Refusals.{RowRefused};
+impl<G: Place, B: Spelled, R: Slotted> Slotted for Required<G, B, R> {
     ghost use Rattle.oer_rows.specs.Slots.{with_needed, needed_once};
 
     type Slots = Both<Option<B>, R::Slots>;
@@ -157,12 +141,23 @@ impl<G: Place, B: Decode, R: Reads> Reads for Required<G, B, R> {
 
     ghost filled_once = { needed_once R.filled R.filled_once };
 
-    ghost Refuses = { λ s e. RowRefused (λ r t. Promised (B.tree B.CONSTRAINTS) B.IsValue (B.Answered B.CONSTRAINTS) s r t) R.Refuses e };
-
     #[inline(always)]
     fn empty() -> Self::Slots {
         Both(None, R::empty())
     }
+
+    #[inline(always)]
+    fn taken(slots: Self::Slots) -> Self::Values {
+        let Both(value, rest) = slots;
+        Both(value.unwrap(), R::taken(rest))
+    }
+}
+
+impl<G: Place, B: Decode, R: Reads> Reads for Required<G, B, R> {
+    ghost use Rattle.oer_read.specs.Law.{Promised};
+    ghost use Rattle.oer_rows.specs.Refusals.{RowRefused};
+
+    ghost Refuses = { λ s e. RowRefused (λ r t. Promised (B.tree B.CONSTRAINTS) B.IsValue (B.Answered B.CONSTRAINTS) s r t) R.Refuses e };
 
     #[inline(always)]
     fn read(
@@ -174,12 +169,6 @@ impl<G: Place, B: Decode, R: Reads> Reads for Required<G, B, R> {
         slots.0 = Some(value);
         R::read(alloc, decoder, &mut slots.1)?;
         Ok(())
-    }
-
-    #[inline(always)]
-    fn taken(slots: Self::Slots) -> Self::Values {
-        let Both(value, rest) = slots;
-        Both(value.unwrap(), R::taken(rest))
     }
 }
 
@@ -197,9 +186,7 @@ impl<G: Place, B: Spelled, R: Components> Components for Optional<G, B, R> {
     ghost is_schema = { optional_then_is G.tag (typed B.tree B.CONSTRAINTS B.IsValue) R.schema R.EXTENSIBLE (typed_is B.tree B.IsValue B.is_tree B.alike B.CONSTRAINTS B.consistent) R.is_schema };
 }
 
-impl<G: Place, B: Decode, R: Reads> Reads for Optional<G, B, R> {
-    ghost use Rattle.oer_read.specs.Components.{Asks};
-    ghost use Rattle.oer_rows.specs.Refusals.{RowRefused};
+impl<G: Place, B: Spelled, R: Slotted> Slotted for Optional<G, B, R> {
     ghost use Rattle.oer_rows.specs.Slots.{with_optional, optional_once};
 
     type Slots = Both<Option<B>, R::Slots>;
@@ -208,12 +195,23 @@ impl<G: Place, B: Decode, R: Reads> Reads for Optional<G, B, R> {
 
     ghost filled_once = { optional_once R.filled R.filled_once };
 
-    ghost Refuses = { λ s e. RowRefused (λ r t. Asks (B.tree B.CONSTRAINTS) B.IsValue (B.Answered B.CONSTRAINTS) s G.tag r t) R.Refuses e };
-
     #[inline(always)]
     fn empty() -> Self::Slots {
         Both(None, R::empty())
     }
+
+    #[inline(always)]
+    fn taken(slots: Self::Slots) -> Self::Values {
+        let Both(value, rest) = slots;
+        Both(value, R::taken(rest))
+    }
+}
+
+impl<G: Place, B: Decode, R: Reads> Reads for Optional<G, B, R> {
+    ghost use Rattle.oer_read.specs.Components.{Asks};
+    ghost use Rattle.oer_rows.specs.Refusals.{RowRefused};
+
+    ghost Refuses = { λ s e. RowRefused (λ r t. Asks (B.tree B.CONSTRAINTS) B.IsValue (B.Answered B.CONSTRAINTS) s G.tag r t) R.Refuses e };
 
     #[inline(always)]
     fn read(
@@ -225,12 +223,6 @@ impl<G: Place, B: Decode, R: Reads> Reads for Optional<G, B, R> {
         slots.0 = value;
         R::read(alloc, decoder, &mut slots.1)?;
         Ok(())
-    }
-
-    #[inline(always)]
-    fn taken(slots: Self::Slots) -> Self::Values {
-        let Both(value, rest) = slots;
-        Both(value, R::taken(rest))
     }
 }
 
@@ -249,10 +241,8 @@ impl<G: Place, B: EqualAsSpelled, D: DefaultValue<B>, R: Components> Components
     ghost is_schema = { default_then_is G.tag (typed B.tree B.CONSTRAINTS B.IsValue) B.eq D.value R.schema R.EXTENSIBLE R.is_schema };
 }
 
-impl<G: Place, B: Decode + EqualAsSpelled, D: DefaultValue<B>, R: Reads> Reads
+impl<G: Place, B: EqualAsSpelled, D: DefaultValue<B>, R: Slotted> Slotted
     for Defaulted<G, B, D, R> {
-    ghost use Rattle.oer_rows.specs.DefaultValues.{AsksDefaultValue};
-    ghost use Rattle.oer_rows.specs.Refusals.{RowRefused};
     ghost use Rattle.oer_rows.specs.Slots.{with_needed, needed_once};
 
     type Slots = Both<Option<B>, R::Slots>;
@@ -261,12 +251,24 @@ impl<G: Place, B: Decode + EqualAsSpelled, D: DefaultValue<B>, R: Reads> Reads
 
     ghost filled_once = { needed_once R.filled R.filled_once };
 
-    ghost Refuses = { λ s e. RowRefused (λ r t. AsksDefaultValue (B.tree B.CONSTRAINTS) B.IsValue (B.Answered B.CONSTRAINTS) B.eq D.wants_memory s G.tag D.value r t) R.Refuses e };
-
     #[inline(always)]
     fn empty() -> Self::Slots {
         Both(None, R::empty())
     }
+
+    #[inline(always)]
+    fn taken(slots: Self::Slots) -> Self::Values {
+        let Both(value, rest) = slots;
+        Both(value.unwrap(), R::taken(rest))
+    }
+}
+
+impl<G: Place, B: Decode + EqualAsSpelled, D: DefaultValue<B>, R: Reads> Reads
+    for Defaulted<G, B, D, R> {
+    ghost use Rattle.oer_rows.specs.DefaultValues.{AsksDefaultValue};
+    ghost use Rattle.oer_rows.specs.Refusals.{RowRefused};
+
+    ghost Refuses = { λ s e. RowRefused (λ r t. AsksDefaultValue (B.tree B.CONSTRAINTS) B.IsValue (B.Answered B.CONSTRAINTS) B.eq D.wants_memory s G.tag D.value r t) R.Refuses e };
 
     #[inline(always)]
     fn read(
@@ -278,11 +280,5 @@ impl<G: Place, B: Decode + EqualAsSpelled, D: DefaultValue<B>, R: Reads> Reads
         slots.0 = Some(value);
         R::read(alloc, decoder, &mut slots.1)?;
         Ok(())
-    }
-
-    #[inline(always)]
-    fn taken(slots: Self::Slots) -> Self::Values {
-        let Both(value, rest) = slots;
-        Both(value.unwrap(), R::taken(rest))
     }
 }

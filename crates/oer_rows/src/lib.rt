@@ -19,6 +19,7 @@ mod reading;
 mod rowed;
 mod sequences;
 mod sets;
+mod slots;
 mod views;
 mod writing;
 
@@ -42,6 +43,7 @@ pub use reading::{decode_row, read_row};
 pub use rowed::{Rowed, Schemed, Takes};
 pub use sequences::{Sequence, Tabled};
 pub use sets::{InTagOrder, Set, TextOrder};
+pub use slots::{Slotted, SlottedAdditions};
 pub use views::{AdditionViews, Views};
 pub use writing::{
     Writes, encode_rows, put_added, put_addition, put_default, put_default_addition, put_group,

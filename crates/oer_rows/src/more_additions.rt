@@ -3,6 +3,7 @@ use crate::additions::{Additions, ReadsAdditions, read_addition};
 use crate::both::Both;
 use crate::defaults::read_default_addition;
 use crate::places::{DefaultValue, Place};
+use crate::slots::SlottedAdditions;
 use asn1_core::{Constructed, DecodeError, DecodeErrorKind};
 use oer_read::{Decode, Decoder};
 use oer_spec::{EqualAsSpelled, Spelled};
@@ -31,8 +32,7 @@ impl<G: Place, B: Spelled, R: Additions> Additions for RequiredAddition<G, B, R>
     ghost is_table = { needed_is G.tag (typed B.tree B.CONSTRAINTS B.IsValue) (λ v. v.0) (λ v. v.1) R.table (typed_is B.tree B.IsValue B.is_tree B.alike B.CONSTRAINTS B.consistent) R.is_table };
 }
 
-impl<G: Place, B: Decode, R: ReadsAdditions> ReadsAdditions for RequiredAddition<G, B, R> {
-    ghost use Rattle.oer_rows.specs.Refusals.{AddsNeeded, RowRefused};
+impl<G: Place, B: Spelled, R: SlottedAdditions> SlottedAdditions for RequiredAddition<G, B, R> {
     ghost use Rattle.oer_rows.specs.Slots.{with_needed, needed_once};
 
     type Slots = Both<Option<B>, R::Slots>;
@@ -41,12 +41,22 @@ impl<G: Place, B: Decode, R: ReadsAdditions> ReadsAdditions for RequiredAddition
 
     ghost filled_once = { needed_once R.filled R.filled_once };
 
-    ghost Refuses = { λ s e. RowRefused (λ r t. AddsNeeded (B.tree B.CONSTRAINTS) B.IsValue (B.Answered B.CONSTRAINTS) s G.tag r t) R.Refuses e };
-
     #[inline(always)]
     fn empty() -> Self::Slots {
         Both(None, R::empty())
     }
+
+    #[inline(always)]
+    fn taken(slots: Self::Slots) -> Self::More {
+        let Both(value, rest) = slots;
+        Both(value.unwrap(), R::taken(rest))
+    }
+}
+
+impl<G: Place, B: Decode, R: ReadsAdditions> ReadsAdditions for RequiredAddition<G, B, R> {
+    ghost use Rattle.oer_rows.specs.Refusals.{AddsNeeded, RowRefused};
+
+    ghost Refuses = { λ s e. RowRefused (λ r t. AddsNeeded (B.tree B.CONSTRAINTS) B.IsValue (B.Answered B.CONSTRAINTS) s G.tag r t) R.Refuses e };
 
     #[inline(always)]
     fn read_additions(
@@ -67,12 +77,6 @@ impl<G: Place, B: Decode, R: ReadsAdditions> ReadsAdditions for RequiredAddition
             }),
         }
     }
-
-    #[inline(always)]
-    fn taken(slots: Self::Slots) -> Self::More {
-        let Both(value, rest) = slots;
-        Both(value.unwrap(), R::taken(rest))
-    }
 }
 
 impl<G: Place, B: EqualAsSpelled, D: DefaultValue<B>, R: Additions> Additions
@@ -86,10 +90,8 @@ impl<G: Place, B: EqualAsSpelled, D: DefaultValue<B>, R: Additions> Additions
     ghost is_table = { defaulted_is G.tag (typed B.tree B.CONSTRAINTS B.IsValue) B.eq D.value (λ v. v.0) (λ v. v.1) R.table R.is_table };
 }
 
-impl<G: Place, B: Decode + EqualAsSpelled, D: DefaultValue<B>, R: ReadsAdditions> ReadsAdditions
+impl<G: Place, B: EqualAsSpelled, D: DefaultValue<B>, R: SlottedAdditions> SlottedAdditions
     for DefaultedAddition<G, B, D, R> {
-    ghost use Rattle.oer_rows.specs.DefaultValues.{AddsDefaultValue};
-    ghost use Rattle.oer_rows.specs.Refusals.{RowRefused};
     ghost use Rattle.oer_rows.specs.Slots.{with_needed, needed_once};
 
     type Slots = Both<Option<B>, R::Slots>;
@@ -98,12 +100,24 @@ impl<G: Place, B: Decode + EqualAsSpelled, D: DefaultValue<B>, R: ReadsAdditions
 
     ghost filled_once = { needed_once R.filled R.filled_once };
 
-    ghost Refuses = { λ s e. RowRefused (λ r t. AddsDefaultValue (B.tree B.CONSTRAINTS) B.IsValue (B.Answered B.CONSTRAINTS) B.eq D.wants_memory s G.tag D.value r t) R.Refuses e };
-
     #[inline(always)]
     fn empty() -> Self::Slots {
         Both(None, R::empty())
     }
+
+    #[inline(always)]
+    fn taken(slots: Self::Slots) -> Self::More {
+        let Both(value, rest) = slots;
+        Both(value.unwrap(), R::taken(rest))
+    }
+}
+
+impl<G: Place, B: Decode + EqualAsSpelled, D: DefaultValue<B>, R: ReadsAdditions> ReadsAdditions
+    for DefaultedAddition<G, B, D, R> {
+    ghost use Rattle.oer_rows.specs.DefaultValues.{AddsDefaultValue};
+    ghost use Rattle.oer_rows.specs.Refusals.{RowRefused};
+
+    ghost Refuses = { λ s e. RowRefused (λ r t. AddsDefaultValue (B.tree B.CONSTRAINTS) B.IsValue (B.Answered B.CONSTRAINTS) B.eq D.wants_memory s G.tag D.value r t) R.Refuses e };
 
     #[inline(always)]
     fn read_additions(
@@ -115,12 +129,6 @@ impl<G: Place, B: Decode + EqualAsSpelled, D: DefaultValue<B>, R: ReadsAdditions
         slots.0 = Some(value);
         R::read_additions(alloc, decoder, &mut slots.1)?;
         Ok(())
-    }
-
-    #[inline(always)]
-    fn taken(slots: Self::Slots) -> Self::More {
-        let Both(value, rest) = slots;
-        Both(value.unwrap(), R::taken(rest))
     }
 }
 
@@ -138,12 +146,9 @@ impl<const RC: usize, const EC: usize, B: Spelled + Constructed<RC, EC>, R: Addi
 impl<
     const RC: usize,
     const EC: usize,
-    B: Decode + Constructed<RC, EC>,
-    R: ReadsAdditions,
-> ReadsAdditions for AdditionGroup<RC, EC, B, R> {
-    ghost use Rattle.std.specs.Prelude.{None};
-    ghost use Rattle.oer_read.specs.Additions.{Adds};
-    ghost use Rattle.oer_rows.specs.Refusals.{RowRefused};
+    B: Spelled + Constructed<RC, EC>,
+    R: SlottedAdditions,
+> SlottedAdditions for AdditionGroup<RC, EC, B, R> {
     ghost use Rattle.oer_rows.specs.Slots.{with_optional, optional_once};
 
     type Slots = Both<Option<B>, R::Slots>;
@@ -152,12 +157,29 @@ impl<
 
     ghost filled_once = { optional_once R.filled R.filled_once };
 
-    ghost Refuses = { λ s e. RowRefused (λ r t. Adds (B.tree B.CONSTRAINTS) B.IsValue (B.Answered B.CONSTRAINTS) s None r t) R.Refuses e };
-
     #[inline(always)]
     fn empty() -> Self::Slots {
         Both(None, R::empty())
     }
+
+    #[inline(always)]
+    fn taken(slots: Self::Slots) -> Self::More {
+        let Both(value, rest) = slots;
+        Both(value, R::taken(rest))
+    }
+}
+
+impl<
+    const RC: usize,
+    const EC: usize,
+    B: Decode + Constructed<RC, EC>,
+    R: ReadsAdditions,
+> ReadsAdditions for AdditionGroup<RC, EC, B, R> {
+    ghost use Rattle.std.specs.Prelude.{None};
+    ghost use Rattle.oer_read.specs.Additions.{Adds};
+    ghost use Rattle.oer_rows.specs.Refusals.{RowRefused};
+
+    ghost Refuses = { λ s e. RowRefused (λ r t. Adds (B.tree B.CONSTRAINTS) B.IsValue (B.Answered B.CONSTRAINTS) s None r t) R.Refuses e };
 
     #[inline(always)]
     fn read_additions(
@@ -169,11 +191,5 @@ impl<
         slots.0 = value;
         R::read_additions(alloc, decoder, &mut slots.1)?;
         Ok(())
-    }
-
-    #[inline(always)]
-    fn taken(slots: Self::Slots) -> Self::More {
-        let Both(value, rest) = slots;
-        Both(value, R::taken(rest))
     }
 }
