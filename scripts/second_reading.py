@@ -32,6 +32,14 @@ NAMES = ("NAME", "FIELD", "INSTANCE OF")
 CLASSES = """TYPE-IDENTIFIER ::= CLASS { &id OBJECT IDENTIFIER UNIQUE, &Type }
 ABSTRACT-SYNTAX ::= CLASS { &id OBJECT IDENTIFIER, &Type, &property BIT STRING { handles-invalid-encodings(0) } DEFAULT {} }"""
 
+# types that stand for others, where tags are explicit (X.680, 48; X.691, 28)
+ASSOCIATED = {
+    "ObjectDescriptor": "[UNIVERSAL 7] IMPLICIT GraphicString",
+    "EXTERNAL": """[UNIVERSAL 8] IMPLICIT SEQUENCE { direct-reference OBJECT IDENTIFIER OPTIONAL, indirect-reference INTEGER OPTIONAL,
+        data-value-descriptor [UNIVERSAL 7] IMPLICIT GraphicString OPTIONAL, encoding CHOICE { single-ASN1-type [0] ANY,
+        octet-aligned [1] IMPLICIT OCTET STRING, arbitrary [2] IMPLICIT BIT STRING } }""",
+}
+
 
 class Type:
     """A type where it is written: its module, tags, sort, what the sort has, and its constraints."""
@@ -265,6 +273,10 @@ class Parser:
             return word + " OF", self.type()
         if word in PARTS:
             return word, self.members()
+        if word in ASSOCIATED:
+            parser = Parser(ASSOCIATED[word], self.classes)
+            parser.module = Module(self.module.name)
+            return "INSTANCE OF", parser.type()
         if word == "INSTANCE":
             self.expects("OF")
             return "INSTANCE OF", self.instance(*self.name())

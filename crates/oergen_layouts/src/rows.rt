@@ -491,8 +491,8 @@ pub fn untagged_rows<'m>(
         Some(members) if is_choice || matches!(of.body, Body::Set(_)) => members,
         Some(_) | None => return Ok(None),
     };
-    let written = written_rows(scope, members, MAX_NESTING)?;
-    let rows = with_tags(scope, of, members, written.as_slice())?;
+    let found = written_rows(scope, members, MAX_NESTING)?;
+    let rows = with_tags(scope, of, members, found.as_slice())?;
     if !have_untagged_choice(scope, rows.as_slice(), is_choice)? {
         return Ok(None);
     }
