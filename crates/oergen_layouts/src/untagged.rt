@@ -84,7 +84,10 @@ fn choice_of<'m, 'd>(
     part: &Part<'m>,
     row: Row<'m>,
 ) -> Result<&'d Definition<'m>, Refusal> {
-    match part.target.and_then(|target| all.get(behind_names(all, target))) {
+    match part
+        .target
+        .and_then(|target| all.get(behind_names(all, target)))
+    {
         Some(choice) if choice.fault.is_some() => {
             Err(scope.refused(part.inner.first, "a type that is printed"))
         }
@@ -241,7 +244,10 @@ fn flat_of<'m>(
 
 /// Whether a component or an alternative has no tag.
 fn has_untagged(definition: &Definition<'_>) -> bool {
-    definition.parts.iter().any(|part| part.row.is_some() && tag_of(part).is_none())
+    definition
+        .parts
+        .iter()
+        .any(|part| part.row.is_some() && tag_of(part).is_none())
 }
 
 /// What each definition has in the place of its parts; nothing where these stay.

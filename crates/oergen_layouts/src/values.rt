@@ -82,7 +82,10 @@ fn is_structured(scope: Scope<'_, '_>, base: &Type, value: &Value) -> bool {
             Value::Names(_, names),
         ) => !names.is_empty(),
         (
-            Body::Sequence(_) | Body::Set(_) | Body::SequenceOf(_) | Body::SetOf(_)
+            Body::Sequence(_)
+            | Body::Set(_)
+            | Body::SequenceOf(_)
+            | Body::SetOf(_)
             | Body::Simple(Simple::ObjectIdentifier),
             Value::Braces(first),
         ) => scope.text(*first) == "{",
