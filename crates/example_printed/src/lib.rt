@@ -26,4 +26,4 @@ pub use types_04::{
     ThenComponents,
 };
 pub use types_05::{Leaves, LeavesComponents, Taken, TakenComponents};
-pub use types_06::{Both, BothB, BothBAlternatives, BothComponents, Either_, Either_Alternatives};
+pub use types_06::{Both, BothB, BothBAlternatives, BothComponents, Reply, ReplyAlternatives};

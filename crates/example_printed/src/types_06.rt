@@ -3,52 +3,52 @@
 use rasn_oer::prelude::*;
 use std::alloc::Global;
 
-/// `Either ::= CHOICE { first [0] BOOLEAN, other CHOICE { one [1] INTEGER (0..255), two [2] NULL,
+/// `Reply ::= CHOICE { plain [0] BOOLEAN, other CHOICE { one [1] INTEGER (0..255), two [2] NULL,
 /// ..., more [4] BOOLEAN }, last [3] NULL }`
-pub type Either_ = OneOf<Either_Alternatives>;
+pub type Reply = OneOf<ReplyAlternatives>;
 
-/// The alternatives of `Either_`.
+/// The alternatives of `Reply`.
 #[derive(Debug, PartialEq, Eq, Drop)]
-pub enum Either_Alternatives {
-    RFirst(bool),
+pub enum ReplyAlternatives {
+    Plain(bool),
     OtherOne(u8),
     OtherTwo(()),
     Last(()),
     OtherMore(bool),
 }
 
-type Either_Row = Alternative<
+type ReplyRow = Alternative<
     Context<0>,
     bool,
     Alternative<
         Context<1>,
         u8,
-        Alternative<Context<2>, (), Alternative<Context<3>, (), Extensible<Either_Additions>>>,
+        Alternative<Context<2>, (), Alternative<Context<3>, (), Extensible<ReplyAdditions>>>,
     >,
 >;
 
-type Either_Additions = Alternative<Context<4>, bool, End>;
+type ReplyAdditions = Alternative<Context<4>, bool, End>;
 
-const EITHER__ROOTS: &'static [Tag] = tags![Context 0, Context 1, Context 2, Context 3];
+const REPLY_ROOTS: &'static [Tag] = tags![Context 0, Context 1, Context 2, Context 3];
 
-const EITHER__ADDITIONS: &'static [Tag] = tags![Context 4];
+const REPLY_ADDITIONS: &'static [Tag] = tags![Context 4];
 
-impl Alternating for Either_Alternatives {
+impl Alternating for ReplyAlternatives {
     ghost use Rattle.std.specs.Prelude.{refl};
     ghost use Rattle.rasn_oer.specs.Alternative.{First, Rest};
-    ghost use Rattle.example_printed.specs.declared.types_06.Either_Alternatives.TheVariants.{RFirst, OtherOne, OtherTwo, Last, OtherMore};
+    ghost use Rattle.example_printed.specs.declared.types_06.ReplyAlternatives.TheVariants.{Plain, OtherOne, OtherTwo, Last, OtherMore};
 
-    type Values = <Either_Row as Alternatives>::Values;
+    type Values = <ReplyRow as Alternatives>::Values;
 
-    ghost row_choices = { ⟦<Either_Row as Alternatives>⟧.choices };
+    ghost row_choices = { ⟦<ReplyRow as Alternatives>⟧.choices };
 
-    ghost row_are_choices = { ⟦<Either_Row as Alternatives>⟧.are_choices };
+    ghost row_are_choices = { ⟦<ReplyRow as Alternatives>⟧.are_choices };
 
-    ghost alternative = { elim [ RFirst held ↦ First held | OtherOne held ↦ Rest (First held) | OtherTwo held ↦ Rest (Rest (First held)) | Last held ↦ Rest (Rest (Rest (First held))) | OtherMore held ↦ Rest (Rest (Rest (Rest (First held)))) ] };
+    ghost alternative = { elim [ Plain held ↦ First held | OtherOne held ↦ Rest (First held) | OtherTwo held ↦ Rest (Rest (First held)) | Last held ↦ Rest (Rest (Rest (First held))) | OtherMore held ↦ Rest (Rest (Rest (Rest (First held)))) ] };
 
-    const VARIANTS: &'static [Tag] = EITHER__ROOTS;
+    const VARIANTS: &'static [Tag] = REPLY_ROOTS;
 
-    const EXTENDED_VARIANTS: Option<&'static [Tag]> = Some(EITHER__ADDITIONS);
+    const EXTENDED_VARIANTS: Option<&'static [Tag]> = Some(REPLY_ADDITIONS);
 
     fn root_tags() -> &'static [Tag] {
         Self::VARIANTS
@@ -59,28 +59,27 @@ impl Alternating for Either_Alternatives {
     }
 
     fn from_alternative(value: Self::Values) -> Self {
-        from_row!(value => Either_Alternatives: RFirst, OtherOne, OtherTwo, Last, OtherMore)
+        from_row!(value => ReplyAlternatives: Plain, OtherOne, OtherTwo, Last, OtherMore)
     }
 
     #[inline(always)]
     fn put<E: Choice>(&self, encoder: &mut Encoder<'_>) -> Result<(), EncodeError> {
-        let view =
-            to_row!(self => Either_Alternatives: RFirst, OtherOne, OtherTwo, Last, OtherMore);
-        Either_Row::write_alternative::<E>(&view, encoder)
+        let view = to_row!(self => ReplyAlternatives: Plain, OtherOne, OtherTwo, Last, OtherMore);
+        ReplyRow::write_alternative::<E>(&view, encoder)
     }
 
     ghost apart = { refl };
 }
 
-impl TakesAlternative for Either_Alternatives {
-    ghost Refuses = { ⟦<Either_Row as ReadsAlternatives>⟧.Refuses };
+impl TakesAlternative for ReplyAlternatives {
+    ghost Refuses = { ⟦<ReplyRow as ReadsAlternatives>⟧.Refuses };
 
     fn take<D: Choice>(
         alloc: Global,
         decoder: &mut Decoder<'_>,
         tag: Tag,
     ) -> Result<Self, DecodeError> {
-        read_alternative::<Self, Either_Row, D>(alloc, decoder, tag)
+        read_alternative::<Self, ReplyRow, D>(alloc, decoder, tag)
     }
 }
 
