@@ -1,7 +1,7 @@
 """Modules of random types that oergen reads and prints, for scripts/second_reader.py: the same random numbers give the same text."""
 
 STRINGS = ("IA5String", "PrintableString", "VisibleString", "NumericString", "BMPString", "UTF8String", "OCTET STRING", "BIT STRING")
-PLAIN = ("BOOLEAN", "NULL", "OBJECT IDENTIFIER", "UTCTime", "GeneralizedTime", "DATE", "GeneralString", "ANY")
+PLAIN = ("BOOLEAN", "NULL", "OBJECT IDENTIFIER", "UTCTime", "GeneralizedTime", "DATE", "GeneralString", "ANY", "EXTERNAL", "ObjectDescriptor")
 BOUNDS = (0, 1, 2, 5, 127, 128, 255, 256, 32767, 32768, 65535, 65536, 2**31 - 1, 2**31, 2**32 - 1, 2**32, 2**63 - 1, 2**63, 2**64 - 1, 2**64)
 
 
@@ -9,7 +9,7 @@ class Maker:
     """What a text has so far: types by name, each with what it is, and numbers in use."""
 
     def __init__(self, rng):
-        self.rng, self.types, self.sequences, self.count, self.is_automatic = rng, [], [], 0, True
+        self.rng, self.types, self.sequences, self.named, self.count, self.is_automatic = rng, [], [], [], 0, True
 
     def name(self, front):
         self.count += 1
@@ -96,7 +96,23 @@ class Maker:
             return f" DEFAULT {defaults[of]}"
         return " OPTIONAL"
 
+    def untagged(self, levels, number):
+        """A choice without a tag whose alternatives have tags, written or by a name."""
+        count, marked = self.rng.randint(1, 3), self.rng.random() < 0.3
+        parts = [f"i{at} {self.tagged(self.type(levels), number + at, True)}" for at in range(count)]
+        if self.rng.random() < 0.2:
+            parts.append(f"more {self.untagged(levels, number + 10)}")
+        if marked:
+            parts += ["...", f"i{count} {self.tagged(self.type(levels), number + count, True)}"]
+        of = f"CHOICE {{ {', '.join(parts)} }}"
+        if self.rng.random() < 0.5:
+            return of
+        self.named.append(f"{self.name('U')} ::= {of}")
+        return self.named[-1].partition(" ")[0]
+
     def component(self, at, levels, is_tagged):
+        if is_tagged and self.rng.random() < 0.1:
+            return f"{self.name('c')} {self.untagged(levels, 100 * (at + 1))}{self.rng.choice(('', ' OPTIONAL'))}"
         of = self.type(levels)
         return f"{self.name('c')} {self.tagged(of, at, is_tagged)}{self.need(of)}"
 
@@ -126,6 +142,8 @@ class Maker:
         is_tagged = not self.is_automatic or self.rng.random() < 0.1
         count = self.rng.randint(1, 5)
         parts = [f"a{at} {self.tagged(self.type(levels), at, is_tagged)}" for at in range(count)]
+        if is_tagged and self.rng.random() < 0.3:
+            parts.append(f"u {self.untagged(levels, 100)}")
         if self.rng.random() < 0.4:
             parts.append("...")
             parts += [f"a{count + at} {self.tagged(self.type(levels), count + at, is_tagged)}" for at in range(self.rng.randint(0, 2))]
@@ -149,6 +167,8 @@ class Maker:
         else:
             text = f"{name} ::= {self.type(2)}"
         self.types.append(name)
+        text = "\n".join([text, *self.named])
+        self.named = []
         return text
 
 

@@ -5,7 +5,7 @@ usage: refused.py PROGRAM, for example: refused.py crates/oergen/out/oergen
 
 scripts/refused.d/refused.txt has modules that are neither listed nor printed nor have a table, for one reason, unprinted.txt those that are listed and
 not printed: a row each, what stands between BEGIN and END, which is line 2, and its message; listed.txt has some whose table is
-typed there. Types in one another and components side
+typed there; untabled.txt those that are listed and have no table. Types in one another and components side
 by side are printed up to a bound, and refused one past it. Of left_out.asn all that can't be printed is left out, with the lines of
 left_out.txt, and of unread.asn all that can't be read or resolved, with those of unread.txt. Files that aren't there or aren't UTF-8
 are refused by name, and crates are written into no folder but their own. What is said was typed from the place of what is met and from
@@ -45,7 +45,7 @@ SIZES = (("OCTET STRING", 4294967295), ("BMPString", 2147483648), ("BIT STRING",
 WORD = "2:7: met '{}'; can read a size of fewer than 4294967295 octets or bits"
 
 # how many rows the files have: one that was cut short would pass
-ROWS = (91, 16, 16)
+ROWS = (99, 23, 19, 5)
 
 # what stands in front of a type and behind it, how often at most, and what is said of once more
 DEPTHS = (
@@ -94,6 +94,11 @@ def unprinted():
     """Modules that are listed, and refused where they are to be printed."""
     found = rows("unprinted.txt")
     return [refusal(PRINT, *row) for row in found] + [Case(LIST, module_of(body), (None, "", 0, 0)) for body, _ in found]
+
+
+def untabled():
+    """Modules that are listed, and of which no table is made."""
+    return [refusal(TABLE, *row) for row in rows("untabled.txt")]
 
 
 def listed():
@@ -231,6 +236,7 @@ def main(program):
     sorts = {
         "not listed and not printed": unlisted(),
         "listed and not printed": unprinted(),
+        "listed and without a table": untabled(),
         "listed": listed(),
         "at bounds": bounds(),
         "with types left out": left_out(),
@@ -241,7 +247,7 @@ def main(program):
     with concurrent.futures.ThreadPoolExecutor(len(os.sched_getaffinity(0))) as pool:
         found = list(pool.map(lambda case: faults_of(program, case), cases))
     faults = [fault for some in found for fault in some] + unhelpful(program)
-    faults += [] if tuple(len(rows(f"{it}.txt")) for it in ("refused", "unprinted", "listed")) == ROWS else [f"rows are not {ROWS}"]
+    faults += [] if tuple(len(rows(f"{it}.txt")) for it in ("refused", "unprinted", "listed", "untabled")) == ROWS else [f"rows are not {ROWS}"]
     for fault in faults:
         print(f"refused: {fault}")
     counts = ", ".join(f"{len(some)} {sort}" for sort, some in sorts.items())

@@ -32,6 +32,14 @@ NAMES = ("NAME", "FIELD", "INSTANCE OF")
 CLASSES = """TYPE-IDENTIFIER ::= CLASS { &id OBJECT IDENTIFIER UNIQUE, &Type }
 ABSTRACT-SYNTAX ::= CLASS { &id OBJECT IDENTIFIER, &Type, &property BIT STRING { handles-invalid-encodings(0) } DEFAULT {} }"""
 
+# types that stand for others, where tags are explicit (X.680, 48; X.691, 28)
+ASSOCIATED = {
+    "ObjectDescriptor": "[UNIVERSAL 7] IMPLICIT GraphicString",
+    "EXTERNAL": """[UNIVERSAL 8] IMPLICIT SEQUENCE { direct-reference OBJECT IDENTIFIER OPTIONAL, indirect-reference INTEGER OPTIONAL,
+        data-value-descriptor [UNIVERSAL 7] IMPLICIT GraphicString OPTIONAL, encoding CHOICE { single-ASN1-type [0] ANY,
+        octet-aligned [1] IMPLICIT OCTET STRING, arbitrary [2] IMPLICIT BIT STRING } }""",
+}
+
 
 class Type:
     """A type where it is written: its module, tags, sort, what the sort has, and its constraints."""
@@ -265,6 +273,10 @@ class Parser:
             return word + " OF", self.type()
         if word in PARTS:
             return word, self.members()
+        if word in ASSOCIATED:
+            parser = Parser(ASSOCIATED[word], self.classes)
+            parser.module = Module(self.module.name)
+            return "INSTANCE OF", parser.type()
         if word == "INSTANCE":
             self.expects("OF")
             return "INSTANCE OF", self.instance(*self.name())
@@ -748,7 +760,7 @@ class Listing:
     """The types with their Rust names and the lines of each in the table."""
 
     def __init__(self, world):
-        self.world, self.pending, self.places = world, [], {}
+        self.world, self.pending, self.places, self.written = world, [], {}, {}
         for module in world.modules.values():
             for name, (dummies, of) in module.types.items():
                 if not dummies:
@@ -789,9 +801,38 @@ class Listing:
             lists.append(of.sort)
             of = of.inside
         if of.sort in PARTS and (lists or name):
-            self.pending.append([owner + camel(name or "item"), module, of, around])
-            return lists, len(self.pending) - 1, (of, around)
+            rust = owner + camel(name or "item")
+            if (rust, id(of)) not in self.written:
+                self.written[rust, id(of)] = len(self.pending)
+                self.pending.append([rust, module, of, around])
+            return lists, self.written[rust, id(of)], (of, around)
         return lists, None, (of, around)
+
+    def flat(self, of, around, rust, module, front=""):
+        """The alternatives of a CHOICE, and whether it has a mark: those of a choice without a tag in its place, with its name and a hyphen
+        in front (X.680, 31; X.696, 20). Each with the type that it is written in."""
+        found, has_mark = [], any(it.name is None for it in of.inside)
+        for it, within, tag in self.world.rows(of, around):
+            if tag:
+                found.append((Member(front + it.name, it.of, it.need, it.place, it.group), within, tag, (rust, module, it.name)))
+                continue
+            inner, within_inner, home = it.of, within, (rust + camel(it.name), module)
+            while inner.sort in NAMES:
+                inner, within_inner, is_name = self.world.step(inner, within_inner)
+                if is_name:
+                    home = self.pending[self.places[id(inner)]][:2]
+            more, mark = self.flat(inner, within_inner, *home, f"{front}{it.name}-")
+            found, has_mark = found + more, has_mark or mark
+        return found, has_mark
+
+    def placed(self, base, within, rust, module):
+        """The components of a SEQUENCE or a SET: in a SET a choice without a tag has the least one of its root alternatives (X.696, 18)."""
+        for it, around, tag in self.world.rows(base, within):
+            if tag is None and base.sort == "SET" and it.place != 1:
+                classes = ("UNIVERSAL", "APPLICATION", "", "PRIVATE")
+                alternatives, _ = self.flat(*self.world.base(it.of, around), "", module)
+                tag = min((one[2] for one in alternatives if one[0].place != 1), key=lambda own: (classes.index(own[0]), own[1]))
+            yield it, around, tag, (rust, module, it.name)
 
     def define(self, rust, module, of, around):
         world = self.world
@@ -815,15 +856,17 @@ class Listing:
             head = (head, [], None, world.layout(base, within), ", extensible" if has_mark else "")
             self.printed[rust] = ("ENUMERATED", values)
         else:
-            rows = world.rows(base, within)
             has_mark = any(it.name is None and it.need is None for it in base.inside)
-            if base.sort != "CHOICE":
-                bits = has_mark + sum(it.place != 1 and it.need != "required" for it, _, _ in rows)
+            rows = list(self.placed(base, within, rust, module)) if base.sort != "CHOICE" else []
+            if base.sort == "CHOICE":
+                rows, has_mark = self.flat(base, within, rust, module)
+            else:
+                bits = has_mark + sum(it.place != 1 and it.need != "required" for it, *_ in rows)
                 lines.append(f"    preamble: {octets((bits + 7) // 8)}, {'with' if has_mark else 'without'} an extension bit")
             head = (head, [], None, base.sort, ", extensible" if has_mark and base.sort == "CHOICE" else "")
             cells = []
-            for it, around_it, tag in rows:
-                part = self.part(rust, module, it.of, around_it, it.name)
+            for it, around_it, tag, (owner, home, name) in rows:
+                part = self.part(owner, home, it.of, around_it, name)
                 text = "no tag" if tag is None else f"[{tag[0]}{' ' if tag[0] else ''}{tag[1]}]"
                 place = "" if it.place != 1 else f" group {it.group}" if it.group else " addition"
                 need = "" if base.sort == "CHOICE" else f" {self.need(it, around_it)}"

@@ -6,6 +6,7 @@ mod types_02;
 mod types_03;
 mod types_04;
 mod types_05;
+mod types_06;
 pub mod values;
 
 pub use types_01::{
@@ -25,3 +26,4 @@ pub use types_04::{
     ThenComponents,
 };
 pub use types_05::{Leaves, LeavesComponents, Taken, TakenComponents};
+pub use types_06::{Both, BothB, BothBAlternatives, BothComponents, Reply, ReplyAlternatives};

@@ -1,4 +1,4 @@
-//! Classes of information objects (X.681): the types of their fields.
+//! Classes of information objects (X.681): the types of their fields. And types that stand for others.
 
 use crate::cuts::{is_at, name_length, parts_of, range};
 use oergen_parse::lexer::{Kind, Token, tokens};
@@ -19,12 +19,24 @@ const ABSTRACT_SYNTAX: &str =
 const INSTANCE: &str =
     "[UNIVERSAL 8] IMPLICIT SEQUENCE { type-id CLASS.&id, value [0] EXPLICIT CLASS.&Type }";
 
+/// What `EXTERNAL` stands for, wherever tags are explicit (X.696 and X.691, 28): here one component is written with a tag, so no others are
+/// given.
+const EXTERNAL: &str =
+    "[UNIVERSAL 8] IMPLICIT SEQUENCE { direct-reference OBJECT IDENTIFIER OPTIONAL, indirect-reference INTEGER OPTIONAL, \
+data-value-descriptor [UNIVERSAL 7] IMPLICIT GraphicString OPTIONAL, encoding CHOICE { single-ASN1-type [0] EXPLICIT ANY, \
+octet-aligned [1] IMPLICIT OCTET STRING, arbitrary [2] IMPLICIT BIT STRING } }";
+
+/// What `ObjectDescriptor` stands for (X.680, 48).
+const DESCRIPTOR: &str = "[UNIVERSAL 7] IMPLICIT GraphicString";
+
 /// What needs no assignment. Each has the end of its text behind it.
 #[derive(Drop)]
 pub struct BuiltIn<'a> {
     type_identifier: Vec<Token<'a>>,
     abstract_syntax: Vec<Token<'a>>,
     instance: Vec<Token<'a>>,
+    external: Vec<Token<'a>>,
+    descriptor: Vec<Token<'a>>,
 }
 
 impl<'a> BuiltIn<'a> {
@@ -34,6 +46,8 @@ impl<'a> BuiltIn<'a> {
             type_identifier: tokens(alloc, NO_FILE, TYPE_IDENTIFIER)?,
             abstract_syntax: tokens(alloc, NO_FILE, ABSTRACT_SYNTAX)?,
             instance: tokens(alloc, NO_FILE, INSTANCE)?,
+            external: tokens(alloc, NO_FILE, EXTERNAL)?,
+            descriptor: tokens(alloc, NO_FILE, DESCRIPTOR)?,
         })
     }
 
@@ -44,6 +58,17 @@ impl<'a> BuiltIn<'a> {
             "ABSTRACT-SYNTAX" => Some(self.abstract_syntax.as_slice()),
             _ => None,
         }
+    }
+
+    /// Puts what a type that X.680 has stands for behind others, at the place of its name. False where that stands for itself.
+    pub fn push_type(&self, out: &mut Vec<Token<'a>>, at: Token<'a>) -> Result<bool, AllocError> {
+        let meant = match at.text {
+            "EXTERNAL" => self.external.as_slice(),
+            "ObjectDescriptor" => self.descriptor.as_slice(),
+            _ => return Ok(false),
+        };
+        push_at(out, meant, at)?;
+        Ok(true)
     }
 
     /// Puts what `INSTANCE OF` a class stands for behind others, at the place of a token. The class's name stands in front of `class`.
@@ -67,6 +92,25 @@ impl<'a> BuiltIn<'a> {
         }
         Ok(())
     }
+}
+
+/// Puts tokens without the end of their text behind others, at the place of one.
+fn push_at<'a>(
+    out: &mut Vec<Token<'a>>,
+    tokens: &[Token<'a>],
+    at: Token<'a>,
+) -> Result<(), AllocError> {
+    for token in tokens.iter() {
+        if token.kind != Kind::End {
+            out.push(Token {
+                kind: token.kind,
+                text: token.text,
+                note: "",
+                ..at
+            })?;
+        }
+    }
+    Ok(())
 }
 
 /// Puts what a field is declared with behind others, as a copying of a token's number; where it stands in no file, at that one's place.

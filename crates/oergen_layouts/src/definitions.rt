@@ -1,7 +1,7 @@
 //! The Rust types that modules give: one for each assignment, and one for each type with parts that is written inside another.
 
 use crate::names::{component_name, push_type_name, type_name};
-use crate::rows::{Row, rows_of};
+use crate::rows::{Row, rows_of, untagged_rows};
 use crate::scope::Scope;
 use oergen_parse::ast::{Body, Reference, Type, TypeAssignment};
 use oergen_parse::lexer::TokenId;
@@ -40,6 +40,8 @@ pub enum Tie {
 pub struct Part<'m> {
     /// Its row, where it is a component or an alternative.
     pub row: Option<Row<'m>>,
+    /// Its name in ASN.1: behind those of the choices without a tag that it stands in.
+    pub name: String,
     pub rust_name: String,
     /// How many lists are around the type below.
     pub lists: usize,
@@ -61,6 +63,8 @@ pub struct Definition<'m> {
     pub module: usize,
     pub of: &'m Type,
     pub parts: Vec<Part<'m>>,
+    /// Whether it has an extension mark: false until `untagged` says it.
+    pub is_extensible: bool,
     /// The cycle that it is of: nothing where it isn't, and until cycles are found.
     pub cycle: Option<Cycle>,
     /// Whether its Rust type keeps what newer versions of it have.
@@ -133,6 +137,7 @@ fn make_part<'m>(
     }
     Ok(Part {
         row,
+        name: String::from_str(scope.alloc, name)?,
         rust_name,
         lists,
         inner,
@@ -149,7 +154,10 @@ fn parts_of<'m>(
     parent: (&str, usize),
     of: &'m Type,
 ) -> Result<Vec<Part<'m>>, Refusal> {
-    let rows = rows_of(scope, of)?;
+    let rows = match untagged_rows(scope, of)? {
+        Some(rows) => rows,
+        None => rows_of(scope, of)?,
+    };
     let mut parts = Vec::new(scope.alloc);
     for row in rows.iter() {
         parts.push(make_part(scope, pending, parent, Some(*row), row.of)?)?;
@@ -259,7 +267,7 @@ fn resolved<'m>(
     parts_of(scope, pending, parent, of)
 }
 
-/// All definitions: first the assignments, then the types inside them. Refused at the first that can't be resolved; with `keeps_faults`
+/// All definitions as they are written: first the assignments, then the types inside them. Refused at the first that can't be resolved; with `keeps_faults`
 /// that one says why.
 pub fn definitions<'m>(
     scope: Scope<'m, '_>,
@@ -292,6 +300,7 @@ pub fn definitions<'m>(
             module,
             of,
             parts,
+            is_extensible: false,
             cycle: None,
             keeps_unknown: false,
             fault,

@@ -384,8 +384,11 @@ impl<'m, 'a> Source<'m, 'a> {
             self.push_field(out, tokens, copy)
         } else if first.text == "INSTANCE" && is_at(tokens, 1, "OF") {
             self.push_instance_of(out, tokens, copy)
-        } else {
+        } else if is_at(tokens, 1, "::=") {
             Ok(0)
+        } else {
+            let is_meant = self.built_in.push_type(out, Token { copy, ..*first })?;
+            Ok(usize::from(is_meant))
         }
     }
 

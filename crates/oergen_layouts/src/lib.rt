@@ -15,5 +15,6 @@ pub mod order;
 pub mod parameters;
 pub mod rows;
 pub mod scope;
+pub mod untagged;
 pub mod values;
 pub mod visible;

@@ -1,12 +1,13 @@
 //! The table of types: each in order of use, with its components, their tags, needs and layouts (X.696, clauses 9 to 29).
 
-use crate::definitions::{Definition, Part, definitions};
+use crate::definitions::{Definition, Part};
 use crate::expansion::tokens_of;
-use crate::layouts::{is_extensible, layout_of, lists_of, octets_text, preamble_octets};
+use crate::layouts::{layout_of, lists_of, octets_text, preamble_octets};
 use crate::numbers::enumerated_numbers;
 use crate::order::{boxes, order_of_use};
 use crate::rows::{Position, Row, tag_text};
 use crate::scope::Scope;
+use crate::untagged::all_definitions;
 use crate::values::default_of;
 use oergen_parse::ast::{Body, Need, Numbered, Type};
 use oergen_parse::lexer::Token;
@@ -32,7 +33,7 @@ fn list_tokens(alloc: Global, tokens: &[Token<'_>]) -> Result<String, Refusal> {
 
 /// The table of modules.
 fn list_scope(scope: Scope<'_, '_>) -> Result<String, Refusal> {
-    let all = definitions(scope, false)?;
+    let all = all_definitions(scope, false)?;
     let order = order_of_use(scope.alloc, all.as_slice())?;
     let boxed = boxes(scope.alloc, all.as_slice())?;
     let mut out = String::new(scope.alloc);
@@ -76,7 +77,7 @@ fn push_definition<'m>(
         Some(part) if part.row.is_none() => push_type(scope, all, part, definition.of, &mut what)?,
         _ => what = layout_of(scope, definition.of)?,
     }
-    let mark = mark_text(definition.of);
+    let mark = mark_text(definition);
     out.push_str(format!(in scope.alloc; "{name} of {module}: {what}{mark}\n")?.as_str())?;
     push_preamble(scope, definition, out)?;
     if let Body::Enumerated(items, mark) = &definition.of.body {
@@ -87,9 +88,9 @@ fn push_definition<'m>(
 }
 
 /// Whether a CHOICE or an ENUMERATED has an extension mark; of a SEQUENCE and a SET the preamble's line says it.
-fn mark_text<'m>(of: &'m Type) -> &'static str {
-    match &of.body {
-        Body::Choice(_) if is_extensible(of) => ", extensible",
+fn mark_text(definition: &Definition<'_>) -> &'static str {
+    match &definition.of.body {
+        Body::Choice(_) if definition.is_extensible => ", extensible",
         Body::Enumerated(_, Some(_)) => ", extensible",
         Body::Choice(_) | Body::Enumerated(_, None) | Body::Sequence(_) | Body::Set(_) => "",
         Body::Simple(_) | Body::Integer(_) | Body::BitString(_) | Body::Reference(_) => "",
@@ -122,7 +123,7 @@ fn push_preamble<'m>(
     if !matches!(definition.of.body, Body::Sequence(_) | Body::Set(_)) {
         return Ok(());
     }
-    let extension = is_extensible(definition.of);
+    let extension = definition.is_extensible;
     let octets = preamble_octets(definition.parts.as_slice(), extension);
     let octets = octets_text(scope.alloc, i128::try_from(octets).unwrap_or(0))?;
     let first = if extension { "with" } else { "without" };

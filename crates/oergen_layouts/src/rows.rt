@@ -430,7 +430,7 @@ fn require_tags<'m>(scope: Scope<'m, '_>, rows: &[Row<'m>]) -> Result<(), Refusa
         if row.tag.is_none() {
             return Err(scope.refused(
                 row.name,
-                "a component with a tag: an untagged choice or open type isn't read here",
+                "a component with a tag: an untagged open type isn't read here",
             ));
         }
         if let Some(other) = same_tag(&rows[..at], row.tag) {
@@ -459,6 +459,47 @@ fn require_alternatives<'m>(
         }
     }
     Ok(())
+}
+
+/// Whether a component or an alternative is a CHOICE without a tag.
+fn is_untagged_choice<'m>(scope: Scope<'m, '_>, row: Row<'m>) -> Result<bool, Refusal> {
+    Ok(row.tag.is_none() && matches!(scope.base_of(row.of)?.body, Body::Choice(_)))
+}
+
+/// Whether an alternative of a CHOICE, or a root component of a SET, is a CHOICE without a tag.
+fn have_untagged_choice<'m>(
+    scope: Scope<'m, '_>,
+    rows: &[Row<'m>],
+    is_choice: bool,
+) -> Result<bool, Refusal> {
+    for row in rows.iter() {
+        if (is_choice || row.is_root()) && is_untagged_choice(scope, *row)? {
+            return Ok(true);
+        }
+    }
+    Ok(false)
+}
+
+/// The alternatives of a CHOICE, or the components of a SET, of which one is a CHOICE without a tag: that one has none. Nothing where none is,
+/// and of another type.
+pub fn untagged_rows<'m>(
+    scope: Scope<'m, '_>,
+    of: &'m Type,
+) -> Result<Option<Vec<Row<'m>>>, Refusal> {
+    let is_choice = matches!(of.body, Body::Choice(_));
+    let members = match members_of(of) {
+        Some(members) if is_choice || matches!(of.body, Body::Set(_)) => members,
+        Some(_) | None => return Ok(None),
+    };
+    let found = written_rows(scope, members, MAX_NESTING)?;
+    let rows = with_tags(scope, of, members, found.as_slice())?;
+    if !have_untagged_choice(scope, rows.as_slice(), is_choice)? {
+        return Ok(None);
+    }
+    if is_choice {
+        require_alternatives(scope, rows.as_slice(), members)?;
+    }
+    Ok(Some(rows))
 }
 
 /// The components or alternatives of a type with members; none of another.

@@ -11,9 +11,8 @@ pub fn instead_of(word: &str) -> &'static str {
         | "RELATIVE-OID-IRI" => "OCTET STRING for its octets, as docs/COMPILER.md says",
         "TIME" | "TIME-OF-DAY" | "DATE-TIME" | "DURATION" =>
             "OCTET STRING for its octets, as docs/COMPILER.md says",
-        "EXTERNAL" | "EMBEDDED" | "CHARACTER" =>
+        "EMBEDDED" | "CHARACTER" =>
             "the SEQUENCE that X.680 associates with it, as docs/COMPILER.md says",
-        "ObjectDescriptor" => "[UNIVERSAL 7] IMPLICIT GraphicString",
         "CLASS" | "TYPE-IDENTIFIER" | "ABSTRACT-SYNTAX" => "a type, as a field of that class",
         "INSTANCE" => "INSTANCE OF a class that is assigned or imported",
         _ => "a type that docs/COMPILER.md lists",

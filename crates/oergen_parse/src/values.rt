@@ -28,7 +28,7 @@ pub fn read_value(reader: &mut Reader<'_>) -> Result<Value, Refusal> {
     }
 }
 
-/// A value, also one of a CHOICE or an open type, as `name:value` and `Type:value`: that is passed over.
+/// A value, also one of a CHOICE or an open type, as `name:value` and `Type:value`: by its first token.
 pub fn read_any_value(reader: &mut Reader<'_>) -> Result<Value, Refusal> {
     let first = reader.id();
     let choices = choices_length(reader.rest());
@@ -44,12 +44,12 @@ pub fn read_any_value(reader: &mut Reader<'_>) -> Result<Value, Refusal> {
 /// The value of a DEFAULT, of the component of that name.
 pub fn read_default(reader: &mut Reader<'_>, name: &str) -> Result<Value, Refusal> {
     let start = *reader;
-    let value = read_value(reader)?;
+    let value = read_any_value(reader)?;
     if !reader.is(":") && !reader.is(".") && !reader.is("{") {
         return Ok(value);
     }
     let reads = format!(in reader.alloc;
-        "a default of '{name}' that is TRUE or FALSE, NULL, a number, a value's name, a string, named bits, or {{}}"
+        "a default of '{name}' that is a value without fields of objects or parameters"
     )?;
     Err(start.refused(reads.as_str()))
 }

@@ -141,16 +141,15 @@ pub fn variant_name(alloc: Global, name: &str, kept: &str) -> Text {
 /// The Rust names of what stands in a type so far, each with what the module calls it.
 pub type Names<'a> = BTreeMap<String, &'a str>;
 
-/// Puts the Rust name of what a token names to those so far. Refused at a token where another has it.
+/// Puts a Rust name to those so far, with what the module calls it. Refused at a token where another has it.
 pub fn see_name<'a>(
-    scope: Scope<'_, 'a>,
+    scope: Scope<'_, '_>,
     seen: &mut Names<'a>,
-    named: (String, TokenId),
+    named: (String, &'a str),
     at: TokenId,
     reads: &str,
 ) -> Result<(), Refusal> {
-    let (name, id) = named;
-    let text = scope.text(id);
+    let (name, text) = named;
     if let Some(other) = seen.get(name.as_str()) {
         return Err(scope.refused_beside(at, reads, (text, *other), name.as_str()));
     }
@@ -244,7 +243,7 @@ pub fn cell_of<'m>(
     row: Row<'m>,
     place: Place,
 ) -> Result<Cell, Refusal> {
-    let name = scope.text(row.name);
+    let name = part.name.as_str();
     let own = camel_of(scope.alloc, owner, name).end()?;
     let rust = push_shape(scope, all, out, own.as_str(), part, row)?;
     let default = push_own_default(scope, all, out, own.as_str(), row, rust.as_str())?;

@@ -8,7 +8,6 @@ use crate::knots::{knot_name, owner_words};
 use crate::templates::{CHOICE, CHOICE_IMPLS};
 use crate::text::{Text, Words};
 use oergen_layouts::definitions::Definition;
-use oergen_layouts::layouts::is_extensible;
 use oergen_layouts::rows::Position;
 use oergen_layouts::scope::Scope;
 use oergen_parse::refusal::Refusal;
@@ -153,16 +152,9 @@ fn require_names<'m>(scope: Scope<'m, '_>, definition: &Definition<'m>) -> Resul
     const READS: &str = "alternatives whose Rust names differ";
     let mut seen = BTreeMap::new(scope.alloc);
     for part in definition.parts.iter() {
-        if let Some(row) = part.row {
-            let name = alternative_name(scope.alloc, scope.text(row.name)).end()?;
-            see_name(
-                scope,
-                &mut seen,
-                (name, row.name),
-                definition.of.first,
-                READS,
-            )?;
-        }
+        let name = alternative_name(scope.alloc, part.name.as_str()).end()?;
+        let named = (name, part.name.as_str());
+        see_name(scope, &mut seen, named, definition.of.first, READS)?;
     }
     Ok(())
 }
@@ -189,7 +181,7 @@ pub fn push_choice<'m>(
     require_names(scope, definition)?;
     let of = Chain {
         root_count,
-        is_extensible: is_extensible(definition.of),
+        is_extensible: definition.is_extensible,
         is_choice: true,
         knot: knot_name(all, definition),
         keeps_unknown: definition.keeps_unknown,

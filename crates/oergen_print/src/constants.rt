@@ -145,8 +145,8 @@ fn push_named<'m>(
     part: &Part<'m>,
 ) -> Result<(), AllocError> {
     let mut own = Text::of(scope.alloc, &[owner]);
-    if let Some(row) = part.row {
-        own.push_type_name(scope.text(row.name));
+    if part.row.is_some() {
+        own.push_type_name(part.name.as_str());
     }
     let own = own.end()?;
     let (items, is_bit) = match &part.inner.body {

@@ -35,7 +35,8 @@ fn variants_of(scope: Scope<'_, '_>, numbers: &[(TokenId, i128)]) -> Result<Vec<
         if i64::try_from(*number).is_err() {
             return Err(scope.refused(*id, READS));
         }
-        see_name(scope, &mut seen, (name.clone()?, *id), *id, READS)?;
+        let named = (name.clone()?, scope.text(*id));
+        see_name(scope, &mut seen, named, *id, READS)?;
         let mut note = Text::new(scope.alloc);
         push_note(&mut note, scope.token(*id).note, "    ");
         variants.push(Variant {

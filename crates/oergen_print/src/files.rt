@@ -10,9 +10,9 @@ use crate::sizes::hold_large;
 use crate::text::Text;
 use crate::uses::{Homes, Paths, path_lines, push_path, use_lines};
 use oergen_layouts::cycles::find_cycles;
-use oergen_layouts::definitions::definitions;
 use oergen_layouts::expansion::tokens_of;
 use oergen_layouts::scope::Scope;
+use oergen_layouts::untagged::all_definitions;
 use oergen_parse::ast::Module;
 use oergen_parse::lexer::Token;
 use oergen_parse::modules::read_tree;
@@ -544,7 +544,7 @@ fn output_of(
 
 /// The crates of modules that were resolved.
 fn crates_of_scope(scope: Scope<'_, '_>, wish: Wish<'_>) -> Result<Output, Refusal> {
-    let mut all = definitions(scope, wish.leaves_out)?;
+    let mut all = all_definitions(scope, wish.leaves_out)?;
     let order = find_cycles(scope.alloc, &mut all)?;
     hold_large(scope.alloc, &mut all, order.as_slice())?;
     if wish.keeps_unknown {

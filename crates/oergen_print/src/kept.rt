@@ -2,7 +2,6 @@
 
 use crate::printer::Printed;
 use oergen_layouts::definitions::Definition;
-use oergen_layouts::layouts::is_extensible;
 use oergen_parse::ast::Body;
 
 /// The library that has them.
@@ -31,7 +30,7 @@ pub fn enumeration_holder(keeps_unknown: bool) -> &'static str {
 /// Whether a newer version of a type may have alternatives or values that this one hasn't.
 fn may_grow(definition: &Definition<'_>) -> bool {
     match &definition.of.body {
-        Body::Choice(_) => is_extensible(definition.of),
+        Body::Choice(_) => definition.is_extensible,
         Body::Enumerated(_, mark) => mark.is_some(),
         Body::Simple(_) | Body::Integer(_) | Body::BitString(_) | Body::Reference(_) => false,
         Body::Sequence(_) | Body::Set(_) | Body::SequenceOf(_) | Body::SetOf(_) => false,

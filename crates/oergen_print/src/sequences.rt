@@ -11,7 +11,6 @@ use crate::set_order::{put_set_order, text_order};
 use crate::templates::{IN_TAG_ORDER, MEMBERS, TABLES, TYPE, USES_BOTH};
 use crate::text::{Text, Words};
 use oergen_layouts::definitions::{Definition, Part};
-use oergen_layouts::layouts::is_extensible;
 use oergen_layouts::rows::Position;
 use oergen_layouts::scope::Scope;
 use oergen_parse::ast::Body;
@@ -284,7 +283,8 @@ fn require_names<'m>(scope: Scope<'m, '_>, parts: &[Part<'m>]) -> Result<(), Ref
     for part in parts.iter() {
         if let Some(row) = part.row {
             let name = part.rust_name.clone()?;
-            see_name(scope, &mut seen, (name, row.name), row.name, READS)?;
+            let named = (name, scope.text(row.name));
+            see_name(scope, &mut seen, named, row.name, READS)?;
         }
     }
     Ok(())
@@ -326,7 +326,7 @@ pub fn push_sequence<'m>(
     push_addition_cells(scope, all, out, definition, &mut cells)?;
     let of = Chain {
         root_count,
-        is_extensible: is_extensible(definition.of),
+        is_extensible: definition.is_extensible,
         knot: knot_name(all, definition),
         in_text: in_text.as_slice(),
         places: text_places.as_slice(),

@@ -157,7 +157,7 @@ fn push_head(out: &mut Text, owner: &str, of: &str) {
 fn held_variant(scope: Scope<'_, '_>, part: &Part<'_>) -> Option<Text> {
     match (part.row, part.tie) {
         (None, _) | (_, Tie::Plain) => None,
-        (Some(row), _) => Some(variant_name(scope.alloc, scope.text(row.name), "Self First Rest")),
+        (Some(_), _) => Some(variant_name(scope.alloc, part.name.as_str(), "Self First Rest")),
     }
 }
 

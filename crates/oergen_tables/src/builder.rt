@@ -6,7 +6,6 @@ use crate::kinds::Kind;
 use crate::leaves::{enumerated_form, leaf_form, plain_name};
 use crate::rows::{Addition, Field, choice_form, ordered, sequence_form};
 use oergen_layouts::definitions::{Definition, Part};
-use oergen_layouts::layouts::is_extensible;
 use oergen_layouts::order::behind_names;
 use oergen_layouts::rows::{Position, Row};
 use oergen_layouts::scope::Scope;
@@ -247,14 +246,14 @@ impl<'m, 'a, 'd> Builder<'m, 'a, 'd> {
         let mut fields: Vec<Field> = components.roots.into_values().collect(self.alloc())?;
         let roots = fields.len();
         self.push_additions(&mut fields, components.additions)?;
-        let is_extensible = is_extensible(definition.of);
+        let is_extensible = definition.is_extensible;
         Ok(sequence_form(self.alloc(), is_extensible, roots, fields.as_slice())?)
     }
 
     /// The form of a CHOICE.
     fn choice_of(&mut self, definition: &Definition<'m>) -> Result<Form, Refusal> {
         let fields = self.fields_of(definition.parts.as_slice())?;
-        let is_extensible = is_extensible(definition.of);
+        let is_extensible = definition.is_extensible;
         Ok(choice_form(self.alloc(), is_extensible, fields.as_slice())?)
     }
 

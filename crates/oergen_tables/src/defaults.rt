@@ -4,7 +4,7 @@ use crate::leaves::named_number;
 use oergen_layouts::numbers::{Spot, named, names_of, settled};
 use oergen_layouts::rows::Row;
 use oergen_layouts::scope::Scope;
-use oergen_layouts::values::default_of;
+use oergen_layouts::values::{default_of, has_parts};
 use oergen_layouts::visible::{Limits, Purpose, limits_of};
 use oergen_parse::ast::{Body, Need, Numbered, Simple, Type, Value};
 use oergen_parse::lexer::{Kind, Token, TokenId};
@@ -204,13 +204,19 @@ fn json_of_octets<'m>(scope: Scope<'m, '_>, value: &'m Value) -> Result<Option<S
     }
 }
 
-/// A component's default in JSON; nothing where it has none, or one that JSON isn't made of here.
+/// A component's default in JSON; nothing where it has none, or a text of several lines. Refused where it has parts.
 pub fn default_text<'m>(scope: Scope<'m, '_>, row: Row<'m>) -> Result<Option<String>, Refusal> {
     let Need::Default(value) = row.need else {
         return Ok(None);
     };
     let alloc = scope.alloc;
     let text = default_of(scope, row, value)?;
+    if has_parts(scope, row, value)? {
+        return Err(scope.refused(
+            row.name,
+            "a default without parts: of others there is no table yet",
+        ));
+    }
     let base = scope.base_of(row.of)?;
     match &base.body {
         Body::Integer(_) => Ok(Some(text)),

@@ -1,11 +1,12 @@
 //! The table of modules' types, by their layouts.
 
 use crate::builder::Builder;
-use oergen_layouts::definitions::{Definition, definitions};
+use oergen_layouts::definitions::Definition;
 use oergen_layouts::expansion::tokens_of;
 use oergen_layouts::listing::require_listed;
 use oergen_layouts::order::order_of_use;
 use oergen_layouts::scope::Scope;
+use oergen_layouts::untagged::all_definitions;
 use oergen_parse::lexer::Token;
 use oergen_parse::modules::read_tree;
 use oergen_parse::refusal::Refusal;
@@ -30,7 +31,7 @@ fn table_of_tokens(alloc: Global, tokens: &[Token<'_>]) -> Result<String, Refusa
 
 /// The table of modules.
 fn table_of_scope(scope: Scope<'_, '_>) -> Result<String, Refusal> {
-    let all = definitions(scope, false)?;
+    let all = all_definitions(scope, false)?;
     let order = order_of_use(scope.alloc, all.as_slice())?;
     require_all_listed(scope, all.as_slice(), order.as_slice())?;
     let mut builder = Builder::new(scope, all.as_slice(), order.as_slice())?;

@@ -3,8 +3,9 @@
 use crate::printed::reading::answer_of;
 use anyhow::{Error, Result};
 use example_printed::{
-    Again, Area, Bag, Below, Bits, Colour, Colours, Folder, Key, Labels, Leaves, Letter, Level,
-    Name, Named, Names, Narrow, Percent, Permit, Plain, Rights, Row, Signal, Spot, Taken, Then,
+    Again, Area, Bag, Below, Bits, Both, Colour, Colours, Folder, Key, Labels, Leaves, Letter,
+    Level, Name, Named, Names, Narrow, Percent, Permit, Plain, Reply, Rights, Row, Signal, Spot,
+    Taken, Then,
 };
 use std::alloc::Global;
 
@@ -33,6 +34,7 @@ fn of_scope(alloc: Global, name: &str, verb: &str, octets: &[u8]) -> Result<Stri
         "Signal" => answer_of::<Signal>(alloc, verb, octets),
         "Colours" => answer_of::<Colours>(alloc, verb, octets),
         "Area" => answer_of::<Area>(alloc, verb, octets),
+        "Reply" => answer_of::<Reply>(alloc, verb, octets),
         "Spot" => answer_of::<Spot>(alloc, verb, octets),
         "Then" => answer_of::<Then>(alloc, verb, octets),
         "Plain" => answer_of::<Plain>(alloc, verb, octets),
@@ -45,6 +47,7 @@ fn of_components(alloc: Global, name: &str, verb: &str, octets: &[u8]) -> Result
     match name {
         "Row" => answer_of::<Row>(alloc, verb, octets),
         "Bag" => answer_of::<Bag>(alloc, verb, octets),
+        "Both" => answer_of::<Both>(alloc, verb, octets),
         "Letter" => answer_of::<Letter>(alloc, verb, octets),
         "Permit" => answer_of::<Permit>(alloc, verb, octets),
         "Folder" => answer_of::<Folder>(alloc, verb, octets),

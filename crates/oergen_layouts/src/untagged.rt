@@ -1,0 +1,358 @@
+//! CHOICEs without a tag in a CHOICE (X.680, 31, and X.696, 20): no octet of the outer one is written, so their alternatives stand in its
+//! place. In a SET (X.696, 18) they count by the least tag of their root alternatives.
+
+use crate::definitions::{Definition, Part, definitions};
+use crate::layouts::is_extensible;
+use crate::names::component_name;
+use crate::order::behind_names;
+use crate::rows::{Position, Row, tag_text};
+use crate::scope::Scope;
+use asn1_core::Tag;
+use oergen_parse::ast::Body;
+use oergen_parse::lexer::TokenId;
+use oergen_parse::refusal::Refusal;
+use std::alloc::{AllocError, Global};
+
+/// How many of them may stand inside one another.
+const MAX_NESTING: u32 = 64;
+
+/// What a CHOICE or a SET has, and whether it has an extension mark.
+#[derive(Drop)]
+struct Flat<'m> {
+    parts: Vec<Part<'m>>,
+    is_extensible: bool,
+}
+
+/// A part with another name, and with that tag.
+fn named<'m>(
+    alloc: Global,
+    part: &Part<'m>,
+    name: String,
+    tag: Option<Tag>,
+) -> Result<Part<'m>, AllocError> {
+    Ok(Part {
+        row: part.row.map(|row| Row { tag, ..row }),
+        rust_name: component_name(alloc, name.as_str())?,
+        name,
+        lists: part.lists,
+        inner: part.inner,
+        target: part.target,
+        tie: part.tie,
+        is_held: part.is_held,
+    })
+}
+
+/// The tag of a part; nothing where it has none.
+fn tag_of(part: &Part<'_>) -> Option<Tag> {
+    part.row.and_then(|row| row.tag)
+}
+
+/// The part that has a tag.
+fn same_tag<'p, 'm>(parts: &'p [Part<'m>], tag: Option<Tag>) -> Option<&'p Part<'m>> {
+    for part in parts.iter() {
+        if tag_of(part) == tag {
+            return Some(part);
+        }
+    }
+    None
+}
+
+/// Puts a part behind others. Refused at a token where one has its tag.
+fn push_own<'m>(
+    scope: Scope<'m, '_>,
+    parts: &mut Vec<Part<'m>>,
+    part: Part<'m>,
+    at: TokenId,
+) -> Result<(), Refusal> {
+    let tag = tag_of(&part);
+    if let Some(other) = same_tag(parts.as_slice(), tag) {
+        return Err(scope.refused_beside(
+            at,
+            "a component with a tag of its own",
+            (part.name.as_str(), other.name.as_str()),
+            tag_text(scope.alloc, tag)?.as_str(),
+        ));
+    }
+    parts.push(part)?;
+    Ok(())
+}
+
+/// The CHOICE without a tag that a part is of, past names.
+fn choice_of<'m, 'd>(
+    scope: Scope<'m, '_>,
+    all: &'d [Definition<'m>],
+    part: &Part<'m>,
+    row: Row<'m>,
+) -> Result<&'d Definition<'m>, Refusal> {
+    match part
+        .target
+        .and_then(|target| all.get(behind_names(all, target)))
+    {
+        Some(choice) if choice.fault.is_some() => {
+            Err(scope.refused(part.inner.first, "a type that is printed"))
+        }
+        Some(choice) if matches!(choice.of.body, Body::Choice(_)) => {
+            if row.position == Position::Root {
+                return Ok(choice);
+            }
+            Err(scope.refused(
+                row.name,
+                "an alternative with a tag: an untagged choice behind an extension mark isn't read",
+            ))
+        }
+        Some(_) | None => Err(scope.refused(
+            row.name,
+            "a component with a tag: an untagged open type isn't read here",
+        )),
+    }
+}
+
+/// Puts a part behind others; in the place of a CHOICE without a tag its alternatives, each with that name and a hyphen in front.
+#[cycle(untagged)]
+fn push_part<'m>(
+    scope: Scope<'m, '_>,
+    all: &[Definition<'m>],
+    flat: &mut Flat<'m>,
+    part: &Part<'m>,
+    row: Row<'m>,
+    levels: u32,
+) -> Result<(), Refusal> {
+    if row.tag.is_some() {
+        let name = part.name.clone()?;
+        let part = named(scope.alloc, part, name, row.tag)?;
+        return push_own(scope, &mut flat.parts, part, row.name);
+    }
+    let choice = choice_of(scope, all, part, row)?;
+    let inner = flat_choice(scope, all, choice, levels, row.name)?;
+    flat.is_extensible = flat.is_extensible || inner.is_extensible;
+    let front = part.name.as_str();
+    for one in inner.parts.iter() {
+        let behind = one.name.as_str();
+        let name = format!(in scope.alloc; "{front}-{behind}")?;
+        let one = named(scope.alloc, one, name, tag_of(one))?;
+        push_own(scope, &mut flat.parts, one, row.name)?;
+    }
+    Ok(())
+}
+
+/// The alternatives of a CHOICE, with those of choices without a tag in their place. Refused at a token where these are too deep.
+#[cycle(untagged)]
+fn flat_choice<'m>(
+    scope: Scope<'m, '_>,
+    all: &[Definition<'m>],
+    choice: &Definition<'m>,
+    levels: u32,
+    at: TokenId,
+) -> Result<Flat<'m>, Refusal> {
+    let Some(levels) = levels.checked_sub(1) else {
+        return Err(scope.refused(
+            at,
+            "at most 64 untagged choices inside one another, and none inside itself",
+        ));
+    };
+    let mut flat = Flat {
+        parts: Vec::new(scope.alloc),
+        is_extensible: is_extensible(choice.of),
+    };
+    for part in choice.parts.iter() {
+        if let Some(row) = part.row {
+            push_part(scope, all, &mut flat, part, row, levels)?;
+        }
+    }
+    if flat.parts.is_empty() {
+        return Err(scope.refused(at, "a choice with an alternative"));
+    }
+    Ok(flat)
+}
+
+/// The least tag of root alternatives; nothing where there are none.
+fn least_tag(parts: &[Part<'_>]) -> Option<Tag> {
+    let mut least: Option<Tag> = None;
+    for part in parts.iter() {
+        if let Some(row) = part.row {
+            least = match (row.position, least, row.tag) {
+                (Position::Root, Some(before), Some(own)) => Some(before.min(own)),
+                (Position::Root, None, own) => own,
+                (_, before, _) => before,
+            };
+        }
+    }
+    least
+}
+
+/// A root component of a SET with its tag, behind what stands for others in `taken`.
+fn set_part<'m>(
+    scope: Scope<'m, '_>,
+    all: &[Definition<'m>],
+    taken: &mut Flat<'m>,
+    part: &Part<'m>,
+    row: Row<'m>,
+) -> Result<Part<'m>, Refusal> {
+    let before = taken.parts.len();
+    push_part(scope, all, taken, part, row, MAX_NESTING)?;
+    let tag = match row.tag {
+        Some(tag) => Some(tag),
+        None => least_tag(taken.parts.get(before..).unwrap_or(&[])),
+    };
+    if tag.is_none() {
+        return Err(scope.refused(row.name, "a choice with an alternative of its root"));
+    }
+    Ok(named(scope.alloc, part, part.name.clone()?, tag)?)
+}
+
+/// The components of a SET, those of its root with tags.
+fn flat_set<'m>(
+    scope: Scope<'m, '_>,
+    all: &[Definition<'m>],
+    set: &Definition<'m>,
+) -> Result<Flat<'m>, Refusal> {
+    let mut parts = Vec::new(scope.alloc);
+    let mut taken = Flat {
+        parts: Vec::new(scope.alloc),
+        is_extensible: false,
+    };
+    for part in set.parts.iter() {
+        parts.push(match part.row {
+            Some(row) if row.position == Position::Root => {
+                set_part(scope, all, &mut taken, part, row)?
+            }
+            Some(_) | None => named(scope.alloc, part, part.name.clone()?, tag_of(part))?,
+        })?;
+    }
+    Ok(Flat {
+        parts,
+        is_extensible: is_extensible(set.of),
+    })
+}
+
+/// What a definition has in the place of its parts; nothing where these stay.
+fn flat_of<'m>(
+    scope: Scope<'m, '_>,
+    all: &[Definition<'m>],
+    definition: &Definition<'m>,
+) -> Result<Option<Flat<'m>>, Refusal> {
+    match &definition.of.body {
+        Body::Choice(_) if has_untagged(definition) => {
+            Ok(Some(flat_choice(scope, all, definition, MAX_NESTING, definition.of.first)?))
+        }
+        Body::Set(_) if has_untagged(definition) => Ok(Some(flat_set(scope, all, definition)?)),
+        Body::Choice(_) | Body::Set(_) | Body::Sequence(_) | Body::Enumerated(_, _) => Ok(None),
+        Body::Simple(_) | Body::Integer(_) | Body::BitString(_) | Body::Reference(_) => Ok(None),
+        Body::SequenceOf(_) | Body::SetOf(_) => Ok(None),
+    }
+}
+
+/// Whether a component or an alternative has no tag.
+fn has_untagged(definition: &Definition<'_>) -> bool {
+    definition
+        .parts
+        .iter()
+        .any(|part| part.row.is_some() && tag_of(part).is_none())
+}
+
+/// What each definition has in the place of its parts; nothing where these stay.
+fn all_flat<'m>(
+    scope: Scope<'m, '_>,
+    all: &[Definition<'m>],
+) -> Result<Vec<Result<Option<Flat<'m>>, Refusal>>, AllocError> {
+    let mut made = Vec::new(scope.alloc);
+    for definition in all.iter() {
+        made.push(flat_of(scope, all, definition))?;
+    }
+    Ok(made)
+}
+
+/// Says of the choices that are written in a CHOICE, and have no tag, that nothing uses them any more.
+fn put_unused(definition: &Definition<'_>, unused: &mut Vec<bool>) {
+    for part in definition.parts.iter() {
+        let is_written = matches!(part.inner.body, Body::Choice(_)) && tag_of(part).is_none();
+        if let (true, Some(target)) = (is_written, part.target) {
+            if let Some(place) = unused.get_mut(target) {
+                *place = true;
+            }
+        }
+    }
+}
+
+/// Puts what a definition has in the place of its parts. With `keeps_faults` it says why it can't be resolved.
+fn put_flat<'m>(
+    alloc: Global,
+    definition: &mut Definition<'m>,
+    made: Result<Option<Flat<'m>>, Refusal>,
+    keeps_faults: bool,
+    unused: &mut Vec<bool>,
+) -> Result<(), Refusal> {
+    definition.is_extensible = is_extensible(definition.of);
+    match made {
+        Ok(None) => {}
+        Ok(Some(flat)) => {
+            if matches!(definition.of.body, Body::Choice(_)) {
+                put_unused(definition, unused);
+            }
+            definition.parts = flat.parts;
+            definition.is_extensible = flat.is_extensible;
+        }
+        Err(why) if keeps_faults && !matches!(why, Refusal::OutOfMemory) => {
+            definition.parts = Vec::new(alloc);
+            definition.fault = Some(why);
+        }
+        Err(why) => return Err(why),
+    }
+    Ok(())
+}
+
+/// The places that definitions have without the unused ones; nothing for these.
+fn places_of(alloc: Global, unused: &[bool]) -> Result<Vec<Option<usize>>, AllocError> {
+    let mut places = Vec::new(alloc);
+    let mut count = 0usize;
+    for is_unused in unused.iter() {
+        places.push(if *is_unused { None } else { Some(count) })?;
+        count = count.saturating_add(usize::from(!*is_unused));
+    }
+    Ok(places)
+}
+
+/// Gives the parts of a definition their targets' new places.
+fn place_targets(definition: &mut Definition<'_>, places: &[Option<usize>]) {
+    for part in definition.parts.iter_mut() {
+        part.target = match part.target {
+            Some(target) => places.get(target).copied().unwrap_or(None),
+            None => None,
+        };
+    }
+}
+
+/// The definitions without the unused ones.
+fn used<'m>(
+    alloc: Global,
+    all: Vec<Definition<'m>>,
+    unused: &[bool],
+) -> Result<Vec<Definition<'m>>, AllocError> {
+    let places = places_of(alloc, unused)?;
+    let mut kept = Vec::new(alloc);
+    for (at, mut definition) in all.into_iter().enumerate() {
+        if unused.get(at).copied() != Some(true) {
+            place_targets(&mut definition, places.as_slice());
+            kept.push(definition)?;
+        }
+    }
+    Ok(kept)
+}
+
+/// All definitions, with the alternatives of choices without a tag in their place; the types that stand only there aren't among them.
+/// Refused at the first that can't be resolved; with `keeps_faults` that one says why.
+pub fn all_definitions<'m>(
+    scope: Scope<'m, '_>,
+    keeps_faults: bool,
+) -> Result<Vec<Definition<'m>>, Refusal> {
+    let alloc = scope.alloc;
+    let mut all = definitions(scope, keeps_faults)?;
+    let made = all_flat(scope, all.as_slice())?;
+    let mut unused = vec![in alloc; false; all.len()]?;
+    for (at, one) in made.into_iter().enumerate() {
+        if let Some(definition) = all.get_mut(at) {
+            put_flat(alloc, definition, one, keeps_faults, &mut unused)?;
+        }
+    }
+    Ok(used(alloc, all, unused.as_slice())?)
+}
