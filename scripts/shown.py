@@ -24,14 +24,21 @@ LETTERS = CRATE / "data/letters.asn"
 PUBLISHED = sorted(str(it) for it in (top / "scripts/v2x.d").glob("*.asn"))
 ABSENT = "oershow: NoModule: absent.asn: No such file or directory (os error 2)\n"
 
-# modules, and their tables: an addition in a group of a CHOICE; a SET, whose root is in the order of tags, with a group; lists; names of
-# numbers that a type has from the one that it is a name of; defaults, with words in them that stand in lists of layouts too
+# modules, and their tables: an addition in a group of a CHOICE; a choice without a tag in another; a SET, whose root is in the order of
+# tags, with a group; lists; names of numbers that a type has from the one that it is a name of; defaults, with words in them that stand in lists of layouts too
 TABLES = (
     (
         "A ::= CHOICE { a NULL, ..., [[ b BOOLEAN ]] }",
         "words 3 4 16 17 12 1 1 1 0 2 0 1 1 2 1 2 1 0",
         "ab",
         ("A", "NULL", "BOOLEAN"),
+        (),
+    ),
+    (
+        "A ::= CHOICE { a [0] NULL, b CHOICE { c [1] BOOLEAN, ..., d [2] NULL } }",
+        "words 4 5 21 22 23 12 1 2 1 0 2 0 1 1 2 1 2 2 2 2 3 1 0 1",
+        ("a", "b_c", "b_d"),
+        ("A", "NULL", "BOOLEAN", "NULL"),
         (),
     ),
     (
