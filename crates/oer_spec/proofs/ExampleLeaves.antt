@@ -214,14 +214,14 @@ string_misses = record {
     leniently = (none_fails (leaf_fails (Bits (Some (4, 4)) (false ∷ false ∷ false ∷ true ∷ []))) refl, (are_octets (0x13 ∷ []) refl, false ∷ false ∷ true ∷ true ∷ [], omega arith, refl, tt));
     canonically = λ d w i f. fixed_fill_bits d w f;
   };
-  named = spelled (named (true ∷ [])) refl refl refl;
+  one_named_bit = spelled (named (true ∷ [])) refl refl refl;
   named_with_zeros_behind = record {
     is_tree = refl;
     leniently = (
       none_fails (leaf_fails (Named None (true ∷ []))) refl,
       (
         false ∷ false ∷ false ∷ false ∷ false ∷ false ∷ false ∷ [],
-        (refl, refl, refl, refl, refl, refl, refl, tt),
+        (refl, (refl, (refl, (refl, (refl, (refl, (refl, tt))))))),
         none_fails (leaf_fails (Bits None (true ∷ false ∷ false ∷ false ∷ false ∷ false ∷ false ∷ false ∷ []))) refl,
         inl ([], (0x80 ∷ [], behind Lenient (0x00 ∷ 0x80 ∷ []) (omega arith) (are_octets (0x00 ∷ 0x80 ∷ []) refl), omega arith, refl), tt),
         tt,

@@ -34,7 +34,7 @@ pub record StringMisses : Type 0 where
   pub eight_unused_bits : SpellNone bit_string (0x02 ∷ 0x08 ∷ 0x00 ∷ [])
   pub four_bits : IsSpelled (0x10 ∷ []) (bit_string_of 4 (false ∷ false ∷ false ∷ true ∷ []))
   pub four_bits_with_fill_bits_set : IsSpelledLeniently (bit_string_of 4) (0x13 ∷ []) (false ∷ false ∷ false ∷ true ∷ [])
-  pub named : IsSpelled (0x02 ∷ 0x07 ∷ 0x80 ∷ []) (named (true ∷ []))
+  pub one_named_bit : IsSpelled (0x02 ∷ 0x07 ∷ 0x80 ∷ []) (named (true ∷ []))
   pub named_with_zeros_behind : IsSpelledLeniently named (0x02 ∷ 0x00 ∷ 0x80 ∷ []) (true ∷ [])
   pub named_below_the_least_size : SpellNone (named_within 4 8) (0x02 ∷ 0x07 ∷ 0x80 ∷ [])
   pub octets : IsSpelled (0x02 ∷ 0xAA ∷ 0xBB ∷ []) (text AnyOctets (0xAA ∷ 0xBB ∷ []))
