@@ -7,6 +7,7 @@ That a function isn't proved since what it calls isn't, doesn't count. Each edit
 something else than a body, is tried in a check of its own, and counts as refused where the crate isn't proved with it. Each
 check runs over a copy of what the check of the crate as it stands kept, so that only what an edit bears on is checked.
 """
+import collections
 import concurrent.futures
 import hashlib
 import os
@@ -41,11 +42,15 @@ class Function(NamedTuple):
     first: int
     last: int
 
+    def is_named(self, path):
+        """Whether a path below the crate ends in this name."""
+        return path.split("::")[-1].lstrip("+") == self.name
+
     def is_at(self, path):
         """Whether a path below the crate, of a function or a type's method, is of this name and of this file's module."""
         module = [it for it in self.path.removesuffix(".rt").split("/")[1:] if it not in ("lib", "main", "mod")]
         words = path.split("::")
-        return words[: len(module)] == module and len(words) - len(module) in (1, 2) and words[-1].lstrip("+") == self.name
+        return words[: len(module)] == module and len(words) - len(module) in (1, 2) and self.is_named(path)
 
 
 class Edit:
@@ -89,6 +94,12 @@ def function_at(path, lines, at):
             ends = (j for j in range(at, len(lines)) if lines[j].startswith(" " * indent(lines[i]) + "}"))
             return Function(path, head[1], i + 1, next(ends, len(lines)) + 1)
     return None
+
+
+def names_in(folder):
+    """How many functions of a crate have each name."""
+    texts = (it.read_text(encoding="utf-8") for it in sorted((folder / "src").rglob("*.rt")))
+    return collections.Counter(head[1] for text in texts for head in map(HEAD.match, text.split("\n")) if head)
 
 
 def indent(line):
@@ -210,18 +221,21 @@ def together(runs, top, text, edits):
     """Of each edit of a group why it is refused, if a function that it changes fails by itself; nothing where there is no verdict."""
     _, said, _ = check(runs, top, text, edits)
     if re.search(r"^logic=not-proved", said, re.M):
-        return {edit: next(filter(None, (own_fault(said, it) for it in edit.functions)), None) for edit in edits}
+        names = names_in(top / "crates" / edits[0].crate)
+        return {edit: next(filter(None, (own_fault(said, it, names[it.name] == 1) for it in edit.functions)), None) for edit in edits}
     return dict.fromkeys(edits) if re.search(r"^logic=proved", said, re.M) else None
 
 
-def own_fault(said, function):
-    """What the check names that fails in the function itself, where it isn't proved."""
-    unproved = [(path, how + why) for path, how, why in UNPROVED.findall(said) if function.is_at(path)]
-    if not unproved:
+def own_fault(said, function, is_only):
+    """What the check names that fails in the function itself, where it isn't proved. A method's path is that of its type, which may
+    stand in another file: so it is known by the lines of a goal, or by its name if it is the only one of the crate."""
+    named = [(path, how + why) for path, how, why in UNPROVED.findall(said) if function.is_named(path)]
+    if not named:
         return None
     for path, line, why in GOAL.findall(said):
         if path == function.path and function.first <= int(line) <= function.last:
             return f"{path}:{line}: {why}"
+    unproved = [it for it in named if is_only or function.is_at(it[0])]
     files = {path.replace("::", "/") for path, _ in unproved}
     for found in ANSWER.finditer(said):
         if found[1] in files and not TAKEN_AWAY.match(found[0].removeprefix("./")):

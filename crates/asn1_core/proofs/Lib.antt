@@ -1,3 +1,4 @@
+-- The lemmas that proofs use.
 pub mod Orders
 pub mod Narrowed
 pub mod Digits

@@ -1,3 +1,4 @@
+-- The lemmas that proofs use.
 pub mod Limits
 pub mod Shortening
 pub mod Appending

@@ -1,3 +1,4 @@
+-- The lemmas that proofs use.
 pub mod BitLists
 pub mod OctetLists
 pub mod CharacterLists

@@ -1,3 +1,4 @@
+-- The lemmas that proofs use.
 pub mod Decimals
 pub mod Fractions
 pub mod TimeTexts

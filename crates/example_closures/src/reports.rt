@@ -4,7 +4,7 @@
 //! `ReadsParts parts additions rows ..`. The rows of a value, and the parts (the trees that each component may have), are in
 //! specs. `search (reading, default_is_known)` proves each exit of the closure that reads, up to six or seven components.
 //!
-//! - Required: a row `Required tag tree ..`, a `NeededPart`, written by `put_needed` or the value's own `encode_with_tag`.
+//! - Required: a row `Required tag tree ..`, a `RequiredPart`, written by `put_required` or the value's own `encode_with_tag`.
 //! - OPTIONAL: `Optional tag slot ..`, an `OptionalPart`, written by `put_optional`. The slot is `slot_of` the tree
 //!   (`oer_rows::specs::Slots`; of integers `Integers` beside it).
 //! - DEFAULT: `Default tag tree slot ..`, a `DefaultPart`, written by `encode_default_with_tag_and_constraints`. The slot is
@@ -12,7 +12,7 @@
 //!   (`oer_rows::specs::DefaultSlots`): the type admits the default value, and `==` is equality of trees.
 //! - Extension additions have rows and parts of their own, a group's row a SEQUENCE's tag. The closure asks for them behind
 //!   the root, in the table's order. If a required one is absent it answers an error of its own, which loses no value
-//!   (`needed_addition_absent`).
+//!   (`required_addition_absent`).
 //! - If a tree depends on constraints that the closure passes on, the exit's answer first rewrites the call's clause by that
 //!   constant's.
 ghost use Rattle.oer_spec.specs.Tree.{NoRows};

@@ -18,7 +18,7 @@ ghost use Rattle.oer_read.specs.Law.{Decodes};
 ghost use Rattle.oer_write.specs.Rows.{InSet};
 ghost use Rattle.example_closures.specs.Statuses.{status_rows, part_tree, IsPartAt, StatusMade};
 
-use oer_rows::{put_needed, put_optional};
+use oer_rows::{put_optional, put_required};
 use rasn_oer::prelude::*;
 use std::alloc::Global;
 
@@ -109,7 +109,7 @@ impl Encode for Status {
             |encoder: &mut Encoder<'_>| -> Result<(), EncodeError>
                 ensures { InSet (status_rows self.entry.now) NoRows encoder.old result encoder.new }
             {
-                put_needed(encoder, Tag::new(Class::Context, 1), &self.ready)?;
+                put_required(encoder, Tag::new(Class::Context, 1), &self.ready)?;
                 put_optional(encoder, Tag::new(Class::Context, 0), &self.code)?;
                 Ok(())
             },

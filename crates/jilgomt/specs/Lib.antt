@@ -1,1 +1,2 @@
+-- The definitions that contracts cite.
 pub mod Walks

@@ -1,3 +1,4 @@
+-- The definitions that contracts cite.
 pub mod Calls
 pub mod Answers
 pub mod Names

@@ -15,4 +15,4 @@ mod values;
 pub use json::Json;
 pub use octets::{octets_of, octets_of_json};
 pub use refusals::{Misfit, Refusal};
-pub use tables::{Bounds, Standard, TableError, Tables, ValueName};
+pub use tables::{Bounds, DefaultValue, TableError, Tables, ValueName};

@@ -72,7 +72,7 @@ impl Bounds {
 /// The value of a component that is absent: the number of the sequence or set, that of the component among all of them, and
 /// the value.
 #[derive(Debug, Drop)]
-pub struct Standard {
+pub struct DefaultValue {
     pub type_number: u32,
     pub component: usize,
     pub value: Json,
@@ -105,7 +105,7 @@ pub struct Tables {
     /// The ranges of integers, and the sizes of strings.
     pub ranges: Vec<Bounds>,
     pub sizes: Vec<Bounds>,
-    pub standards: Vec<Standard>,
+    pub defaults: Vec<DefaultValue>,
 }
 
 /// The name of the types of groups of extension additions.
@@ -174,13 +174,13 @@ fn bounds_of(text: &str) -> Result<Bounds, TableError> {
 }
 
 /// A type's number, a component's, and its value in JSON.
-fn standard_of(alloc: Global, text: &str) -> Result<Standard, TableError> {
+fn default_value(alloc: Global, text: &str) -> Result<DefaultValue, TableError> {
     let (type_number, component, value) = parts_of(text)?;
     match (
         component.parse::<usize>(),
         Json::read(alloc, value.as_bytes()),
     ) {
-        (Ok(component), Ok(value)) => Ok(Standard {
+        (Ok(component), Ok(value)) => Ok(DefaultValue {
             type_number: type_number_of(type_number)?,
             component,
             value,
@@ -198,7 +198,7 @@ impl Tables {
             Some(("value", text)) => Ok(self.values.push(value_name(alloc, text)?)?),
             Some(("range", text)) => Ok(self.ranges.push(bounds_of(text)?)?),
             Some(("size", text)) => Ok(self.sizes.push(bounds_of(text)?)?),
-            Some(("default", text)) => Ok(self.standards.push(standard_of(alloc, text)?)?),
+            Some(("default", text)) => Ok(self.defaults.push(default_value(alloc, text)?)?),
             _ => Err(TableError::NoLine),
         }
     }
@@ -213,7 +213,7 @@ impl Tables {
             values: Vec::new(alloc),
             ranges: Vec::new(alloc),
             sizes: Vec::new(alloc),
-            standards: Vec::new(alloc),
+            defaults: Vec::new(alloc),
         };
         for line in text.lines() {
             tables.push_line(alloc, line)?;
@@ -345,8 +345,8 @@ impl Tables {
     }
 
     /// The value of a component that is absent, where it has one.
-    pub fn standard_of(&self, type_number: u32, component: usize) -> Option<&Json> {
-        for it in self.standards.iter() {
+    pub fn default_of(&self, type_number: u32, component: usize) -> Option<&Json> {
+        for it in self.defaults.iter() {
             if it.type_number == type_number && it.component == component {
                 return Some(&it.value);
             }

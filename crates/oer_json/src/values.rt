@@ -189,7 +189,7 @@ fn put_choice(
 
 /// Whether octets are those of the value that a component has where it is absent.
 #[cycle(values)]
-fn is_standard(
+fn is_default(
     source: Source<'_>,
     type_number: u32,
     index: usize,
@@ -198,12 +198,12 @@ fn is_standard(
     octets: &[u8],
     path: &mut Vec<Step>,
 ) -> Result<bool, Fault> {
-    let Some(value) = source.tables.standard_of(type_number, index) else {
+    let Some(value) = source.tables.default_of(type_number, index) else {
         return Ok(false);
     };
     let step = Step::Name(part.name);
-    let standard = octets_at(source, step, part.type_number, levels, value, path)?;
-    Ok(standard.as_slice() == octets)
+    let default = octets_at(source, step, part.type_number, levels, value, path)?;
+    Ok(default.as_slice() == octets)
 }
 
 /// The octets of a component; nothing where it is left out. Refused where it has to be there.
@@ -227,7 +227,7 @@ fn component_of(
         return Err(Fault::Misfit(Misfit::MissingComponent));
     };
     let octets = octets_at(source, step, part.type_number, levels, value, path)?;
-    if is_standard(
+    if is_default(
         source,
         type_number,
         index,

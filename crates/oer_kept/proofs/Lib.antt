@@ -1,3 +1,4 @@
+-- The lemmas that proofs use.
 pub mod KeptNumbers
 pub mod Refusals
 pub mod KeptWriting

@@ -5,7 +5,7 @@ use Rattle.asn1_core.specs.Rows.{Row, tags}
 use Rattle.asn1_core.specs.declared.fields.FieldPresence.TheVariants as presence
 use Rattle.asn1_core.specs.declared.tag.Tag.{Tag}
 use Rattle.oer_spec.specs.Tree.{Tree, Rows, Slot, Required, Optional, Default, Present, Struct, present_unless, slot_of}
-use Rattle.oer_rows.specs.Schema.{Typed, IsTyped, Schema, IsSchema, IsOf, tree_of, schema_is, schema_like, needed_then, needed_then_is, optional_then, optional_then_is, default_then, default_then_is}
+use Rattle.oer_rows.specs.Schema.{Typed, IsTyped, Schema, IsSchema, IsOf, tree_of, schema_is, schema_like, required_then, required_then_is, optional_then, optional_then_is, default_then, default_then_is}
 use Rattle.oer_rows.specs.Sets.{are_in_order, IsInSet, set_of, set_is, set_like}
 use Rattle.oer_rows.specs.Slots.{IfThere}
 use Rattle.oer_rows.specs.TextOrder.{rows_by_place}
@@ -35,9 +35,9 @@ module _ {K : Type 0} where
 
 -- ---- a component without knots before a row
 module _ {K B R : Type 0} (tag : Tag) (b : Typed B) (schema : Typed K → Schema R) (extensible : Bool) (weight : (K → ℕ) → R → ℕ) (t : TiesRow schema extensible weight) where
-  pub needed_ties : IsTyped b → TiesRow (λ of. needed_then tag b (schema of)) extensible (λ size v. weight size v.1)
-  needed_ties i = record {
-    is = λ of o. needed_then_is tag b (schema of) extensible i (t.is of o);
+  pub required_ties : IsTyped b → TiesRow (λ of. required_then tag b (schema of)) extensible (λ size v. weight size v.1)
+  required_ties i = record {
+    is = λ of o. required_then_is tag b (schema of) extensible i (t.is of o);
     table = λ of to n. ap (λ (rs : List Row). record { index = n; tag = tag; presence = presence.Required } ∷ rs) (t.table of to (suc n));
     local = λ size of to v a. let h = t.local size of to v.1 a in record { roots = ap (Required tag (b.tree v.0)) h.roots; additions = h.additions; root_part = λ p. (p.0, h.root_part p.1); addition_part = h.addition_part };
   }
@@ -69,12 +69,12 @@ module _ {K B : Type 0} (tied : Typed K → Typed B) (part : (K → ℕ) → B �
 
 -- ---- a component with knots before a row
 module _ {K B R : Type 0} (tag : Tag) (tied : Typed K → Typed B) (part : (K → ℕ) → B → ℕ) (schema : Typed K → Schema R) (extensible : Bool) (weight : (K → ℕ) → R → ℕ) (b : Ties tied part) (t : TiesRow schema extensible weight) where
-  abbrev pub needed_weight : (K → ℕ) → Both B R → ℕ
-  needed_weight size v = max (part size v.0) (weight size v.1)
+  abbrev pub required_weight : (K → ℕ) → Both B R → ℕ
+  required_weight size v = max (part size v.0) (weight size v.1)
 
-  pub needed_knot_ties : TiesRow (λ of. needed_then tag (tied of) (schema of)) extensible needed_weight
-  needed_knot_ties = record {
-    is = λ of o. needed_then_is tag (tied of) (schema of) extensible (b.is of o) (t.is of o);
+  pub required_knot_ties : TiesRow (λ of. required_then tag (tied of) (schema of)) extensible required_weight
+  required_knot_ties = record {
+    is = λ of o. required_then_is tag (tied of) (schema of) extensible (b.is of o) (t.is of o);
     table = λ of to n. ap (λ (rs : List Row). record { index = n; tag = tag; presence = presence.Required } ∷ rs) (t.table of to (suc n));
     local = λ size of to v a.
         let h = b.local size of to v.0 (agree_less size _ _ of to (le_left (part size v.0) (weight size v.1)) a) in

@@ -14,7 +14,7 @@ use asn1_core::{DecodeError, EncodeError, Tag};
 use oer_read::{Decode, Decoder};
 use oer_rows::{
     AdditionViews, Additions, Both, End, OptionalAddition, Place, ReadsAdditions, SlottedAdditions,
-    put_addition, read_addition,
+    put_optional_addition, read_addition,
 };
 use oer_spec::Spelled;
 use oer_write::{Encode, Encoder};
@@ -139,7 +139,7 @@ impl<'v, G: Place, B: Encode + 'v, R: AdditionViews<'v>> AdditionViews<'v>
         view: &Both<&'v Option<B>, R::MoreView>,
         encoder: &mut Encoder<'_>,
     ) -> Result<(), EncodeError> {
-        put_addition(encoder, G::tag(), view.0)?;
+        put_optional_addition(encoder, G::tag(), view.0)?;
         R::write_additions(&view.1, encoder)
     }
 }

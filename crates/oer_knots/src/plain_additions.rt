@@ -11,7 +11,7 @@ use oer_spec::{EqualAsSpelled, Spelled};
 use std::alloc::Global;
 
 impl<K, G: Place, B: Spelled, R: Additions> KnotAdditions<K> for RequiredAddition<G, B, R> {
-    ghost use Rattle.oer_rows.specs.Schema.{typed, typed_is, needed, needed_is};
+    ghost use Rattle.oer_rows.specs.Schema.{typed, typed_is, needed, required_is};
     ghost use Rattle.oer_knots.specs.Rows.{no_weight};
     ghost use Rattle.oer_knots.specs.Additions.{plain_table_ties};
 
@@ -21,7 +21,7 @@ impl<K, G: Place, B: Spelled, R: Additions> KnotAdditions<K> for RequiredAdditio
 
     ghost weight = { no_weight };
 
-    ghost ties = { plain_table_ties (needed G.tag (typed B.tree B.CONSTRAINTS B.IsValue) (λ v. v.0) (λ v. v.1) R.table) (needed_is G.tag (typed B.tree B.CONSTRAINTS B.IsValue) (λ v. v.0) (λ v. v.1) R.table (typed_is B.tree B.IsValue B.is_tree B.alike B.CONSTRAINTS B.consistent) R.is_table) };
+    ghost ties = { plain_table_ties (needed G.tag (typed B.tree B.CONSTRAINTS B.IsValue) (λ v. v.0) (λ v. v.1) R.table) (required_is G.tag (typed B.tree B.CONSTRAINTS B.IsValue) (λ v. v.0) (λ v. v.1) R.table (typed_is B.tree B.IsValue B.is_tree B.alike B.CONSTRAINTS B.consistent) R.is_table) };
 }
 
 impl<K: Spelled, G: Place, B: Decode, R: ReadsAdditions> ReadsKnotAdditions<K>

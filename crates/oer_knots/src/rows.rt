@@ -67,8 +67,8 @@ impl<K, R: KnotAdditions<K>> KnotRow<K> for Extensible<R> {
 }
 
 impl<K, G: Place, B: Spelled, R: KnotRow<K>> KnotRow<K> for Required<G, B, R> {
-    ghost use Rattle.oer_rows.specs.Schema.{typed, typed_is, needed_then};
-    ghost use Rattle.oer_knots.specs.Rows.{needed_ties};
+    ghost use Rattle.oer_rows.specs.Schema.{typed, typed_is, required_then};
+    ghost use Rattle.oer_knots.specs.Rows.{required_ties};
 
     type Values = Both<B, R::Values>;
 
@@ -76,11 +76,11 @@ impl<K, G: Place, B: Spelled, R: KnotRow<K>> KnotRow<K> for Required<G, B, R> {
 
     const EXTENSIBLE: bool = R::EXTENSIBLE;
 
-    ghost schema = { λ of. needed_then G.tag (typed B.tree B.CONSTRAINTS B.IsValue) (R.schema of) };
+    ghost schema = { λ of. required_then G.tag (typed B.tree B.CONSTRAINTS B.IsValue) (R.schema of) };
 
     ghost weight = { λ size v. R.weight size v.1 };
 
-    ghost ties = { needed_ties G.tag (typed B.tree B.CONSTRAINTS B.IsValue) R.schema R.EXTENSIBLE R.weight R.ties (typed_is B.tree B.IsValue B.is_tree B.alike B.CONSTRAINTS B.consistent) };
+    ghost ties = { required_ties G.tag (typed B.tree B.CONSTRAINTS B.IsValue) R.schema R.EXTENSIBLE R.weight R.ties (typed_is B.tree B.IsValue B.is_tree B.alike B.CONSTRAINTS B.consistent) };
 }
 
 impl<K, G: Place, B: Spelled, R: KnotRow<K>> KnotRow<K> for Optional<G, B, R> {
@@ -119,8 +119,8 @@ impl<K, G: Place, B: EqualAsSpelled, D: DefaultValue<B>, R: KnotRow<K>> KnotRow<
 }
 
 impl<K, G: Place, B: HoldsKnot<K>, R: KnotRow<K>> KnotRow<K> for RequiredKnot<G, B, R> {
-    ghost use Rattle.oer_rows.specs.Schema.{needed_then};
-    ghost use Rattle.oer_knots.specs.Rows.{needed_weight, needed_knot_ties};
+    ghost use Rattle.oer_rows.specs.Schema.{required_then};
+    ghost use Rattle.oer_knots.specs.Rows.{required_weight, required_knot_ties};
 
     type Values = Both<B, R::Values>;
 
@@ -128,11 +128,11 @@ impl<K, G: Place, B: HoldsKnot<K>, R: KnotRow<K>> KnotRow<K> for RequiredKnot<G,
 
     const EXTENSIBLE: bool = R::EXTENSIBLE;
 
-    ghost schema = { λ of. needed_then G.tag (B.tied of) (R.schema of) };
+    ghost schema = { λ of. required_then G.tag (B.tied of) (R.schema of) };
 
-    ghost weight = { needed_weight G.tag B.tied B.weight R.schema R.EXTENSIBLE R.weight B.ties R.ties };
+    ghost weight = { required_weight G.tag B.tied B.weight R.schema R.EXTENSIBLE R.weight B.ties R.ties };
 
-    ghost ties = { needed_knot_ties G.tag B.tied B.weight R.schema R.EXTENSIBLE R.weight B.ties R.ties };
+    ghost ties = { required_knot_ties G.tag B.tied B.weight R.schema R.EXTENSIBLE R.weight B.ties R.ties };
 }
 
 impl<K, G: Place, B: HoldsKnot<K>, R: KnotRow<K>> KnotRow<K> for OptionalKnot<G, B, R> {

@@ -1,3 +1,4 @@
+-- The lemmas that proofs use.
 pub mod BitSlices
 pub mod Fill
 pub mod Short

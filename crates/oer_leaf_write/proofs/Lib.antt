@@ -1,3 +1,4 @@
+-- The lemmas that proofs use.
 pub mod Packing
 pub mod WriteTags
 pub mod WriteNumbers

@@ -16,7 +16,7 @@ use Rattle.oer_spec.specs.Tree.{Tree, Rows, NoRows, Required, Optional, Default,
 use Rattle.oer_read.specs.Additions.{addition_at, OpenRead, OpenRefused, Within, LeftOver, Added, AddRefused, NotThere, Inside, Adds}
 use Rattle.oer_read.specs.Defaults.{Defaulted, Unset, Set, DefaultRefused, NotRead, SpelledOut, AddsDefault, IsDefault}
 use Rattle.oer_read.specs.Law.{IsForMemory}
-use Rattle.oer_read.specs.Parts.{Comes, Admits, AreOf, Parts, NoParts, NeededPart, OptionalPart, DefaultPart, part_places, OnPresent, Takes, NoneCome, Stops, ReadsParts}
+use Rattle.oer_read.specs.Parts.{Comes, Admits, AreOf, Parts, NoParts, RequiredPart, OptionalPart, DefaultPart, part_places, OnPresent, Takes, NoneCome, Stops, ReadsParts}
 use Rattle.oer_read.specs.State.{State}
 use Rattle.oer_read.proofs.AdditionRows.{IsRow, IsHeld, IsAskedBy, NextAddition, next_addition, Passes, passes, addition_comes}
 use Rattle.oer_read.proofs.Marked.{OptionalItem, DefaultItem, optional_items, cons_optional, item_marks, default_items, cons_default, default_marks, absent_item, present_item}
@@ -34,12 +34,12 @@ optional_row s g sl = record {
 }
 
 -- what a required row's item is
-NeededItem : State → Tag → Tree → Item → Type 0
-NeededItem s g t i = (i ≡ needed g i.octets) × IsEncoding (mode_of s.codec) s.levels i.octets t
+RequiredItem : State → Tag → Tree → Item → Type 0
+RequiredItem s g t i = (i ≡ needed g i.octets) × IsEncoding (mode_of s.codec) s.levels i.octets t
 
-needed_row : (s : State) (g : Tag) (t : Tree) → IsRow (mode_of s.codec) s.levels g true (λ a. Required g t a) (NeededItem s g t)
-unfolding NeededItem IsEncoding
-needed_row s g t = record {
+required_row : (s : State) (g : Tag) (t : Tree) → IsRow (mode_of s.codec) s.levels g true (λ a. Required g t a) (RequiredItem s g t)
+unfolding RequiredItem IsEncoding
+required_row s g t = record {
   first = λ a is h. first a is h;
   again = λ a i is p h. again a i is p h;
   tag = λ i p. ap (λ (z : Item). z.tag) p.0;
@@ -170,32 +170,32 @@ module _ {B : Type 0} (tree : B → Tree) (IsPart : B → Type 0) (Says : State 
   optional_split s q g qs asked (Required _ _ _) rest f c = absurd f
   optional_split s q g qs asked (Default _ _ _ _) rest f c = absurd f
 
-  needed_spells : (s : State) (g : Tag) (t : Tree) (i : Item) → Admits tree IsPart t → NeededItem s g t i → SpellsPart s i
-  unfolding SpellsPart NeededItem
-  needed_spells s g t i p f b = (p.value, p.is_value, subst (λ (z : Tree). IsEncoding (mode_of s.codec) s.levels i.octets z) p.is f.1)
+  required_spells : (s : State) (g : Tag) (t : Tree) (i : Item) → Admits tree IsPart t → RequiredItem s g t i → SpellsPart s i
+  unfolding SpellsPart RequiredItem
+  required_spells s g t i p f b = (p.value, p.is_value, subst (λ (z : Tree). IsEncoding (mode_of s.codec) s.levels i.octets z) p.is f.1)
 
-  needed_split : (s : State) (q : Option Tag) (g : Tag) (qs : Parts) → IsAskedBy q g → AreSplit s q (NeededPart g (Admits tree IsPart) qs) qs
+  required_split : (s : State) (q : Option Tag) (g : Tag) (qs : Parts) → IsAskedBy q g → AreSplit s q (RequiredPart g (Admits tree IsPart) qs) qs
   unfolding AreSplit
-  needed_split s q g qs asked (Required h t a) rest (e, p, f) c =
-      split_by s q qs a rest (NeededItem s h t) f (λ i x. needed_spells s h t i p x) (next_addition s h true (λ a. Required h t a) (NeededItem s h t) q a rest (needed_row s h t) (asked_as q g h e asked) c)
-  needed_split s q g qs asked NoRows rest f c = absurd f
-  needed_split s q g qs asked (Optional _ _ _) rest f c = absurd f
-  needed_split s q g qs asked (Default _ _ _ _) rest f c = absurd f
+  required_split s q g qs asked (Required h t a) rest (e, p, f) c =
+      split_by s q qs a rest (RequiredItem s h t) f (λ i x. required_spells s h t i p x) (next_addition s h true (λ a. Required h t a) (RequiredItem s h t) q a rest (required_row s h t) (asked_as q g h e asked) c)
+  required_split s q g qs asked NoRows rest f c = absurd f
+  required_split s q g qs asked (Optional _ _ _) rest f c = absurd f
+  required_split s q g qs asked (Default _ _ _ _) rest f c = absurd f
 
   -- rows of a required part have its bit set
-  needed_present : (s u : State) (q : Option Tag) (g : Tag) (qs : Parts) → IsAskedBy q g → addition_at s q ≡ Ok (None, u) → NoneCome s NoParts (NeededPart g (Admits tree IsPart) qs)
-  unfolding NeededItem
-  needed_present s u q g qs asked next NoRows (Required h t a) rest f (e, p, f') c =
-      let n = next_addition s h true (λ a. Required h t a) (NeededItem s h t) q a rest (needed_row s h t) (asked_as q g h e asked) c in
+  required_present : (s u : State) (q : Option Tag) (g : Tag) (qs : Parts) → IsAskedBy q g → addition_at s q ≡ Ok (None, u) → NoneCome s NoParts (RequiredPart g (Admits tree IsPart) qs)
+  unfolding RequiredItem
+  required_present s u q g qs asked next NoRows (Required h t a) rest f (e, p, f') c =
+      let n = next_addition s h true (λ a. Required h t a) (RequiredItem s h t) q a rest (required_row s h t) (asked_as q g h e asked) c in
       let none : n.content ≡ None = (next_same s n.behind u q n.content None n.next next).0 in
       let unset : n.item.bit ≡ false = subst (IsHeld (mode_of s.codec) n.item) none n.held in
       absurd (cc (ap (λ (z : Item). z.bit) n.holds.0, unset))
-  needed_present s u q g qs asked next NoRows NoRows rest f f' c = absurd f'
-  needed_present s u q g qs asked next NoRows (Optional _ _ _) rest f f' c = absurd f'
-  needed_present s u q g qs asked next NoRows (Default _ _ _ _) rest f f' c = absurd f'
-  needed_present s u q g qs asked next (Required _ _ _) a rest f f' c = absurd f
-  needed_present s u q g qs asked next (Optional _ _ _) a rest f f' c = absurd f
-  needed_present s u q g qs asked next (Default _ _ _ _) a rest f f' c = absurd f
+  required_present s u q g qs asked next NoRows NoRows rest f f' c = absurd f'
+  required_present s u q g qs asked next NoRows (Optional _ _ _) rest f f' c = absurd f'
+  required_present s u q g qs asked next NoRows (Default _ _ _ _) rest f f' c = absurd f'
+  required_present s u q g qs asked next (Required _ _ _) a rest f f' c = absurd f
+  required_present s u q g qs asked next (Optional _ _ _) a rest f f' c = absurd f
+  required_present s u q g qs asked next (Default _ _ _ _) a rest f f' c = absurd f
 
   -- ---- an addition that was read
 
@@ -220,9 +220,9 @@ module _ {B : Type 0} (tree : B → Tree) (IsPart : B → Type 0) (Says : State 
     held = open_held s d.content v (present g d.open_type.reads.taken) d.open_type refl refl;
   }
 
-  needed_gave : (s u : State) (q : Option Tag) (g : Tag) (v : B) → Added tree IsPart Says s q (Some v) u → Gave s u q (NeededItem s g (tree v))
-  unfolding NeededItem
-  needed_gave s u q g v d = record {
+  required_gave : (s u : State) (q : Option Tag) (g : Tag) (v : B) → Added tree IsPart Says s q (Some v) u → Gave s u q (RequiredItem s g (tree v))
+  unfolding RequiredItem
+  required_gave s u q g v d = record {
     content = Some d.content;
     next = d.next;
     item = needed g d.open_type.reads.taken;
@@ -282,39 +282,39 @@ module _ {B : Type 0} (tree : B → Tree) (IsPart : B → Type 0) (Says : State 
 
   -- ---- a required addition
 
-  pub needed_addition_read : (s u t : State) (answer : Result (Option B) DecodeError) (flow : _) (o : Option B) (v : B) (q : Option Tag) (g : Tag) (w : Tree) (qs : Parts) (a : Rows)
+  pub required_addition_read : (s u t : State) (answer : Result (Option B) DecodeError) (flow : _) (o : Option B) (v : B) (q : Option Tag) (g : Tag) (w : Tree) (qs : Parts) (a : Rows)
       → Adds tree IsPart Says s q answer u → answer ≡ result_from_control_flow flow → flow ≡ Continue o → o ≡ Some v → IsAskedBy q g → w ≡ tree v → Takes u NoParts qs NoRows a t
-      → Takes s NoParts (NeededPart g (Admits tree IsPart) qs) NoRows (Required g w a) t
-  needed_addition_read s u t answer flow o v q g w qs a d e f some asked i k =
+      → Takes s NoParts (RequiredPart g (Admits tree IsPart) qs) NoRows (Required g w a) t
+  required_addition_read s u t answer flow o v q g w qs a d e f some asked i k =
       let added : Added tree IsPart Says s q (Some v) u = subst (λ (z : Option B). Added tree IsPart Says s q z u) some (at_ok (λ o. Added tree IsPart Says s q o u) answer flow o e f d.read) in
-      subst (λ (z : Tree). Takes s NoParts (NeededPart g (Admits tree IsPart) qs) NoRows (Required g z a) t) (sym i)
-      (row_takes s u t q g true (NeededPart g (Admits tree IsPart) qs) qs (λ a. Required g (tree v) a) (NeededItem s g (tree v)) a d.octets (needed_row s g (tree v)) refl
-      (needed_gave s u q g v added) (needed_split s q g qs asked) (λ x. (refl, record { value = v; is_value = added.open_type.reads.value; is = refl }, x)) k)
+      subst (λ (z : Tree). Takes s NoParts (RequiredPart g (Admits tree IsPart) qs) NoRows (Required g z a) t) (sym i)
+      (row_takes s u t q g true (RequiredPart g (Admits tree IsPart) qs) qs (λ a. Required g (tree v) a) (RequiredItem s g (tree v)) a d.octets (required_row s g (tree v)) refl
+      (required_gave s u q g v added) (required_split s q g qs asked) (λ x. (refl, record { value = v; is_value = added.open_type.reads.value; is = refl }, x)) k)
 
-  pub needed_addition_passed : {A : Type 0} (s u : State) (answer : Result (Option B) DecodeError) (flow : _) (o : Option B) (q : Option Tag) (g : Tag) (qs : Parts) (result : Result A DecodeError)
+  pub required_addition_passed : {A : Type 0} (s u : State) (answer : Result (Option B) DecodeError) (flow : _) (o : Option B) (q : Option Tag) (g : Tag) (qs : Parts) (result : Result A DecodeError)
       → Adds tree IsPart Says s q answer u → answer ≡ result_from_control_flow flow → flow ≡ Continue o → IsAskedBy q g → Stops u NoParts qs result
-      → Stops s NoParts (NeededPart g (Admits tree IsPart) qs) result
-  needed_addition_passed s u answer flow o q g qs (Ok w) d e f asked k = record { mode = tt; none = tt }
-  needed_addition_passed s u answer flow o q g qs (Err x) d e f asked k =
+      → Stops s NoParts (RequiredPart g (Admits tree IsPart) qs) result
+  required_addition_passed s u answer flow o q g qs (Ok w) d e f asked k = record { mode = tt; none = tt }
+  required_addition_passed s u answer flow o q g qs (Err x) d e f asked k =
       let n = added_next s u q o (at_ok (λ o. Added tree IsPart Says s q o u) answer flow o e f d.read) in
-      record { mode = k.mode ∙ next_mode s u q n.0 d.octets n.1; none = λ m. passed_refuses s u q n.0 (NeededPart g (Admits tree IsPart) qs) qs (needed_split s q g qs asked) n.1 (k.none m) }
+      record { mode = k.mode ∙ next_mode s u q n.0 d.octets n.1; none = λ m. passed_refuses s u q n.0 (RequiredPart g (Admits tree IsPart) qs) qs (required_split s q g qs asked) n.1 (k.none m) }
 
   -- a closure that finds none may answer any error in the mode read in: the bit of a required addition is set in what comes
-  pub needed_addition_absent : {A : Type 0} (s u : State) (answer : Result (Option B) DecodeError) (flow : _) (o : Option B) (q : Option Tag) (g : Tag) (qs : Parts) (result : Result A DecodeError)
+  pub required_addition_absent : {A : Type 0} (s u : State) (answer : Result (Option B) DecodeError) (flow : _) (o : Option B) (q : Option Tag) (g : Tag) (qs : Parts) (result : Result A DecodeError)
       → Adds tree IsPart Says s q answer u → answer ≡ result_from_control_flow flow → flow ≡ Continue o → o ≡ None → IsAskedBy q g → IfErr result (λ e. e.codec ≡ u.codec)
-      → Stops s NoParts (NeededPart g (Admits tree IsPart) qs) result
-  needed_addition_absent s u answer flow o q g qs (Ok w) d e f none asked mode = record { mode = tt; none = tt }
-  needed_addition_absent s u answer flow o q g qs (Err x) d e f none asked mode =
+      → Stops s NoParts (RequiredPart g (Admits tree IsPart) qs) result
+  required_addition_absent s u answer flow o q g qs (Ok w) d e f none asked mode = record { mode = tt; none = tt }
+  required_addition_absent s u answer flow o q g qs (Err x) d e f none asked mode =
       let added : Added tree IsPart Says s q None u = subst (λ (z : Option B). Added tree IsPart Says s q z u) none (at_ok (λ o. Added tree IsPart Says s q o u) answer flow o e f d.read) in
-      record { mode = mode ∙ next_mode s u q None d.octets added.next; none = λ m. needed_present s u q g qs asked added.next }
+      record { mode = mode ∙ next_mode s u q None d.octets added.next; none = λ m. required_present s u q g qs asked added.next }
 
-  pub needed_addition_stops : {A : Type 0} (Q : DecodeError → Type 0) (s u : State) (answer : Result (Option B) DecodeError) (flow : _) (x : _) (q : Option Tag) (g : Tag) (qs : Parts) (result : Result A DecodeError)
+  pub required_addition_stops : {A : Type 0} (Q : DecodeError → Type 0) (s u : State) (answer : Result (Option B) DecodeError) (flow : _) (x : _) (q : Option Tag) (g : Tag) (qs : Parts) (result : Result A DecodeError)
       → Adds tree IsPart Says s q answer u → answer ≡ result_from_control_flow flow → flow ≡ Break x → IsAskedBy q g → IsErrAnd result Q → ((y : DecodeError) → Q y → y ≡ x.0)
-      → Stops s NoParts (NeededPart g (Admits tree IsPart) qs) result
-  needed_addition_stops Q s u answer flow x q g qs (Ok w) d e f asked h k = absurd h
-  needed_addition_stops Q s u answer flow x q g qs (Err y) d e f asked h k =
+      → Stops s NoParts (RequiredPart g (Admits tree IsPart) qs) result
+  required_addition_stops Q s u answer flow x q g qs (Ok w) d e f asked h k = absurd h
+  required_addition_stops Q s u answer flow x q g qs (Err y) d e f asked h k =
       let n : AddRefused tree IsPart Says s q x.0 = at_err (λ y. AddRefused tree IsPart Says s q y) answer flow x e f d.refused in
-      record { mode = ap (λ (w : DecodeError). w.codec) (k y h) ∙ addition_mode s q x.0 n; none = λ m. refused_refuses s q x.0 (NeededPart g (Admits tree IsPart) qs) qs (needed_split s q g qs asked) n (λ z. m (ap (λ (w : DecodeError). w.kind) (k y h) ∙ z)) }
+      record { mode = ap (λ (w : DecodeError). w.codec) (k y h) ∙ addition_mode s q x.0 n; none = λ m. refused_refuses s q x.0 (RequiredPart g (Admits tree IsPart) qs) qs (required_split s q g qs asked) n (λ z. m (ap (λ (w : DecodeError). w.kind) (k y h) ∙ z)) }
 
 -- ---- an addition with a default
 module _ {B : Type 0} (tree : B → Tree) (IsPart : B → Type 0) (Says : State → Result B DecodeError → State → Type 0) (eq : B → B → Bool) (def : B) (known : IsDefault tree IsPart eq def) where

@@ -14,22 +14,22 @@ abbrev pub past : State → Octets → State
 past s rest = record s { input = rest }
 
 -- the octets of the next required component, and what comes after it
-pub record ComesNeeded (s : State) (t : Tree) (r a : Rows) (rest : Octets) : Type 0 where
+pub record ComesRequired (s : State) (t : Tree) (r a : Rows) (rest : Octets) : Type 0 where
   pub octets : Octets
   pub more : Octets
   pub split : s.input ≡ octets ++ more
   pub encoding : IsEncoding (mode_of s.codec) s.levels octets t
   pub comes : Comes (past s more) r a rest
 
-needed_items : (m : Mode) (d : ℕ) (g : Tag) (t : Tree) (r : Rows) (is : List Item) → AreItems m d is (Required g t r)
+required_items : (m : Mode) (d : ℕ) (g : Tag) (t : Tree) (r : Rows) (is : List Item) → AreItems m d is (Required g t r)
     → (o : Octets) × (js : List Item) × (is ≡ needed g o ∷ js) × IsEncoding m d o t × AreItems m d js r
 unfolding IsEncoding
-needed_items m d g t r [] h = absurd h
-needed_items m d g t r (i ∷ is) (e, f, h) = (i.octets, is, ap (λ (j : Item). j ∷ is) e, f, h)
+required_items m d g t r [] h = absurd h
+required_items m d g t r (i ∷ is) (e, f, h) = (i.octets, is, ap (λ (j : Item). j ∷ is) e, f, h)
 
-pub comes_needed : (s : State) (g : Tag) (t : Tree) (r a : Rows) (rest : Octets) → Comes s (Required g t r) a rest → ComesNeeded s t r a rest
-comes_needed s g t r a rest c =
-    let (o, js, e, f, h) = needed_items (mode_of s.codec) s.levels g t r c.roots c.are_roots in
+pub comes_required : (s : State) (g : Tag) (t : Tree) (r a : Rows) (rest : Octets) → Comes s (Required g t r) a rest → ComesRequired s t r a rest
+comes_required s g t r a rest c =
+    let (o, js, e, f, h) = required_items (mode_of s.codec) s.levels g t r c.roots c.are_roots in
     record {
       octets = o;
       more = bodies js ++ (c.extension ++ rest);
@@ -49,17 +49,17 @@ comes_needed s g t r a rest c =
       };
     }
 
-cons_needed : (m : Mode) (d : ℕ) (g : Tag) (t : Tree) (r : Rows) (o : Octets) (is : List Item) → IsEncoding m d o t → AreItems m d is r → AreItems m d (needed g o ∷ is) (Required g t r)
+cons_required : (m : Mode) (d : ℕ) (g : Tag) (t : Tree) (r : Rows) (o : Octets) (is : List Item) → IsEncoding m d o t → AreItems m d is r → AreItems m d (needed g o ∷ is) (Required g t r)
 unfolding IsEncoding
-cons_needed m d g t r o is f h = (refl, f, h)
+cons_required m d g t r o is f h = (refl, f, h)
 
-pub needed_comes : (s : State) (g : Tag) (t : Tree) (r a : Rows) (rest o more : Octets) → s.input ≡ o ++ more → IsEncoding (mode_of s.codec) s.levels o t → Comes (past s more) r a rest → Comes s (Required g t r) a rest
-needed_comes s g t r a rest o more e f c = record {
+pub required_comes : (s : State) (g : Tag) (t : Tree) (r a : Rows) (rest o more : Octets) → s.input ≡ o ++ more → IsEncoding (mode_of s.codec) s.levels o t → Comes (past s more) r a rest → Comes s (Required g t r) a rest
+required_comes s g t r a rest o more e f c = record {
   roots = needed g o ∷ c.roots;
   additions = c.additions;
   extension = c.extension;
   split = e ∙ ap (λ (l : Octets). o ++ l) c.split ∙ sym (append_assoc o (bodies c.roots) (c.extension ++ rest));
-  are_roots = cons_needed (mode_of s.codec) s.levels g t r o c.roots f c.are_roots;
+  are_roots = cons_required (mode_of s.codec) s.levels g t r o c.roots f c.are_roots;
   are_additions = c.are_additions;
   asked = c.asked;
   placed = c.placed;

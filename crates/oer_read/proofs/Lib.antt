@@ -1,3 +1,4 @@
+-- The lemmas that proofs use.
 pub mod Skips
 pub mod Comes
 pub mod Openings

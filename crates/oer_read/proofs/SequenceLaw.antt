@@ -15,7 +15,7 @@ use Rattle.oer_spec.specs.Mode.{Mode, mode_of}
 use Rattle.oer_spec.specs.Places.{Item, presence, bodies, extension_bit, IsPreamble, IsExtension}
 use Rattle.oer_spec.specs.Tree.{Tree, Struct, Rows, NoRows, Required, Optional, Default, Slot, Absent, Present}
 use Rattle.oer_read.specs.Law.{Reads, Decodes, Fronts, IsForMemory}
-use Rattle.oer_read.specs.Parts.{Comes, asks_in, places_in, Parts, NoParts, NeededPart, OptionalPart, DefaultPart, AreOf, IsTableOf, ReadsParts, part_places}
+use Rattle.oer_read.specs.Parts.{Comes, asks_in, places_in, Parts, NoParts, RequiredPart, OptionalPart, DefaultPart, AreOf, IsTableOf, ReadsParts, part_places}
 use Rattle.oer_read.specs.Scopes.{bits_for, extension_in, presence_in, frame_behind, opened_at, closed_at, SequenceRead, SequenceRefused, NotOpened, Stopped, NotClosed}
 use Rattle.oer_read.specs.State.{Ask, Place, State, asks_of, marked_count, places_of}
 use Rattle.oer_read.proofs.Openings.{Opens, opened_opens, opened_mode, opens_opened, closed_comes, comes_closed, rear_trans, rear_are_octets, opens_rear}
@@ -38,10 +38,10 @@ item_marks m d g i (Present t) f = (ap (λ (z : Item). z.marked) f.0, ap (λ (z 
 pub items_of_rows : (m : Mode) (d : ℕ) (is : List Item) (r : Rows) (table : List Row) (ps : Parts) → IsTableOf table ps → AreOf ps r → AreItems m d is r → Pairwise IsOfRow is table
 unfolding IsEncoding
 items_of_rows m d is NoRows [] NoParts t f h = subst (λ (l : List Item). Pairwise IsOfRow l []) (sym h) tt
-items_of_rows m d [] (Required g u r) (q ∷ table) (NeededPart k P ps) t f h = absurd h
+items_of_rows m d [] (Required g u r) (q ∷ table) (RequiredPart k P ps) t f h = absurd h
 items_of_rows m d [] (Optional g u r) (q ∷ table) (OptionalPart k P ps) t f h = absurd h
 items_of_rows m d [] (Default g v u r) (q ∷ table) (DefaultPart k w P ps) t f h = absurd h
-items_of_rows m d (i ∷ is) (Required g u r) (q ∷ table) (NeededPart k P ps) (a, b, t) (e, p, f) (x, y, h) =
+items_of_rows m d (i ∷ is) (Required g u r) (q ∷ table) (RequiredPart k P ps) (a, b, t) (e, p, f) (x, y, h) =
     (of_row i q k _ a b (ap (λ (z : Item). z.marked) x) (ap (λ (z : Item). z.tag) x ∙ e), items_of_rows m d is r table ps t f h)
 items_of_rows m d (i ∷ is) (Optional g u r) (q ∷ table) (OptionalPart k P ps) (a, b, t) (e, p, f) (x, h) =
     let n = item_marks m d g i u x in
@@ -52,20 +52,20 @@ items_of_rows m d (i ∷ is) (Default g v u r) (q ∷ table) (DefaultPart k w P 
 items_of_rows m d (i ∷ is) (Default g v u r) (q ∷ table) (DefaultPart k w P ps) (a, b, t) (e, p, o, n, f) (inr (_, _, x, _), h) =
     (of_row i q k _ a b (ap (λ (z : Item). z.marked) x) (ap (λ (z : Item). z.tag) x ∙ e), items_of_rows m d is r table ps t f h)
 items_of_rows m d is NoRows (q ∷ table) NoParts t f h = absurd t
-items_of_rows m d is r [] (NeededPart k P ps) t f h = absurd t
+items_of_rows m d is r [] (RequiredPart k P ps) t f h = absurd t
 items_of_rows m d is r [] (OptionalPart k P ps) t f h = absurd t
 items_of_rows m d is r [] (DefaultPart k w P ps) t f h = absurd t
-items_of_rows m d is NoRows (q ∷ table) (NeededPart k P ps) t f h = absurd f
+items_of_rows m d is NoRows (q ∷ table) (RequiredPart k P ps) t f h = absurd f
 items_of_rows m d is NoRows (q ∷ table) (OptionalPart k P ps) t f h = absurd f
 items_of_rows m d is NoRows (q ∷ table) (DefaultPart k w P ps) t f h = absurd f
 items_of_rows m d is (Required g u r) table NoParts t f h = absurd f
 items_of_rows m d is (Required g u r) (q ∷ table) (OptionalPart k P ps) t f h = absurd f
 items_of_rows m d is (Required g u r) (q ∷ table) (DefaultPart k w P ps) t f h = absurd f
 items_of_rows m d is (Optional g u r) table NoParts t f h = absurd f
-items_of_rows m d is (Optional g u r) (q ∷ table) (NeededPart k P ps) t f h = absurd f
+items_of_rows m d is (Optional g u r) (q ∷ table) (RequiredPart k P ps) t f h = absurd f
 items_of_rows m d is (Optional g u r) (q ∷ table) (DefaultPart k w P ps) t f h = absurd f
 items_of_rows m d is (Default g v u r) table NoParts t f h = absurd f
-items_of_rows m d is (Default g v u r) (q ∷ table) (NeededPart k P ps) t f h = absurd f
+items_of_rows m d is (Default g v u r) (q ∷ table) (RequiredPart k P ps) t f h = absurd f
 items_of_rows m d is (Default g v u r) (q ∷ table) (OptionalPart k P ps) t f h = absurd f
 
 -- as they are asked
@@ -113,10 +113,10 @@ place_of r g n e f h = λ z. record { tag = e z; needed = f z } ∷ h z
 
 table_places : (table : List Row) (ps : Parts) → IsTableOf table ps → places_of table ≡ part_places ps
 table_places [] NoParts t = refl
-table_places (q ∷ table) (NeededPart k P ps) (a, b, t) = place_of q k true a (ap (λ (p : FieldPresence). not (may_be_absent p)) b) (table_places table ps t)
+table_places (q ∷ table) (RequiredPart k P ps) (a, b, t) = place_of q k true a (ap (λ (p : FieldPresence). not (may_be_absent p)) b) (table_places table ps t)
 table_places (q ∷ table) (OptionalPart k P ps) (a, b, t) = place_of q k false a (ap (λ (p : FieldPresence). not (may_be_absent p)) b) (table_places table ps t)
 table_places (q ∷ table) (DefaultPart k w P ps) (a, b, t) = place_of q k false a (ap (λ (p : FieldPresence). not (may_be_absent p)) b) (table_places table ps t)
-table_places [] (NeededPart k P ps) t = absurd t
+table_places [] (RequiredPart k P ps) t = absurd t
 table_places [] (OptionalPart k P ps) t = absurd t
 table_places [] (DefaultPart k w P ps) t = absurd t
 table_places (q ∷ table) NoParts t = absurd t

@@ -21,7 +21,7 @@ use Rattle.asn1_core.specs.declared.codec.Codec.TheVariants.{Coer}
 use Rattle.oer_read.specs.Components.{AskedAbsent, AskedPresent, Asked, AskRefused, Inside}
 use Rattle.oer_read.specs.Defaults.{only_lenient, DefaultRefused, Unset, Set, NotRead, SpelledOut, IsDefault}
 use Rattle.oer_read.specs.Law.{Reads, Decodes, NoEncoding, Fronts, IsForMemory}
-use Rattle.oer_read.specs.Parts.{Parts, NoParts, NeededPart, OptionalPart, DefaultPart, Admits, AreOf, IsTableOf, Takes, NoneCome, ReadsParts}
+use Rattle.oer_read.specs.Parts.{Parts, NoParts, RequiredPart, OptionalPart, DefaultPart, Admits, AreOf, IsTableOf, Takes, NoneCome, ReadsParts}
 use Rattle.oer_read.specs.Scopes.{level_at, bits_for, all_asked, unknown_at, presence_in, frame_behind, opened_at, closed_at, SequenceRead, SequenceRefused, NotOpened as SequenceNotOpened, Stopped as SequenceStopped}
 use Rattle.oer_read.specs.SetRows.{tree_in, row_at, rows_from, ReadsDefault, part_at, parts_of, Fits}
 use Rattle.oer_read.specs.Sets.{Call, is_there, bits_behind, root_calls, addition_calls, set_calls, set_frame, set_opened_at, RanInTurn, RefusedInTurn, SetRead, SetRefused, NotOpened, Stopped, NotClosed, NotMade, NoMemory}
@@ -109,7 +109,7 @@ module _ {V : Type 0} (tree : V → Tree) (Is : ℕ → V → Type 0) (eq : V �
   takes_at presence.Required n g x b rs s t w [] qs a f e law h ih = absurd e
   takes_at presence.Required n g x b rs s t w (v ∷ vs) qs a f e law h ih =
       let ks : List Ask = asks_of rs b in
-      subst (λ (z : Slot). Takes (asking_on s ks) (NeededPart g (Admits tree (Is n)) (parts rs)) qs (Required g (tree_in z) (rows f rs)) a w) (sym h.1)
+      subst (λ (z : Slot). Takes (asking_on s ks) (RequiredPart g (Admits tree (Is n)) (parts rs)) qs (Required g (tree_in z) (rows f rs)) a w) (sym h.1)
       (read_takes tree (Is n) (asking_on s ks) (asking_on e.0 ks) w v g (parts rs) qs (rows f rs) a (reads_on tree (Is n) s e.0 v ks (law s (Ok v) e.0 e.1).read) (ih e.0 vs e.2 h.2))
   takes_at presence.Optional n g true b rs s t w [] qs a f e law h ih = absurd e
   takes_at presence.Optional n g true b rs s t w (v ∷ vs) qs a f e law h ih =

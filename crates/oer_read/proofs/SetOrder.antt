@@ -39,14 +39,14 @@ record Begins (m : Mode) (d : ℕ) (g : Tag) (cons : Rows → Rows) (P : Item �
   pub again : (r : Rows) (i : Item) (is : List Item) → P i → AreItems m d is r → AreItems m d (i ∷ is) (cons r)
   pub tag : (i : Item) → P i → i.tag ≡ g
 
-abbrev IsNeeded : Mode → ℕ → Tag → Tree → Item → Type 0
-IsNeeded m d g t i = (i ≡ needed g i.octets) × IsEncoding m d i.octets t
+abbrev IsRequired : Mode → ℕ → Tag → Tree → Item → Type 0
+IsRequired m d g t i = (i ≡ needed g i.octets) × IsEncoding m d i.octets t
 
-required_begins : (m : Mode) (d : ℕ) (g : Tag) (t : Tree) → Begins m d g (λ q. Required g t q) (IsNeeded m d g t)
+required_begins : (m : Mode) (d : ℕ) (g : Tag) (t : Tree) → Begins m d g (λ q. Required g t q) (IsRequired m d g t)
 unfolding IsEncoding
 required_begins m d g t = record { first = first; again = λ r i is p h. (p.0, p.1, h); tag = λ i p. ap (λ (z : Item). z.tag) p.0 }
   where
-    first : (r : Rows) (is : List Item) → AreItems m d is (Required g t r) → (i : Item) × (js : List Item) × (is ≡ i ∷ js) × IsNeeded m d g t i × AreItems m d js r
+    first : (r : Rows) (is : List Item) → AreItems m d is (Required g t r) → (i : Item) × (js : List Item) × (is ≡ i ∷ js) × IsRequired m d g t i × AreItems m d js r
     first r [] h = absurd h
     first r (i ∷ is) (e, f, h) = (i, is, refl, (e, f), h)
 
@@ -114,7 +114,7 @@ module _ (m : Mode) (d : ℕ) (g : Tag) (cons : Rows → Rows) (P : Item → Typ
 
   sorted_put : (i : Item) → P i → (is : List Item) (r : Rows) → AreItems m d is r → AreItems m d (put_item i is) (put_row g cons r)
   sorted_put i p is NoRows h = subst (λ (l : List Item). AreItems m d (put_item i l) (cons NoRows)) (sym (no_items m d is h)) (b.again NoRows i [] p (none_items m d))
-  sorted_put i p is (Required k t r) h = put_past k (λ q. Required k t q) (IsNeeded m d k t) (required_begins m d k t) i is r p h (λ js f. sorted_put i p js r f)
+  sorted_put i p is (Required k t r) h = put_past k (λ q. Required k t q) (IsRequired m d k t) (required_begins m d k t) i is r p h (λ js f. sorted_put i p js r f)
   sorted_put i p is (Optional k s r) h = put_past k (λ q. Optional k s q) (λ j. IsItem m d k j s) (optional_begins m d k s) i is r p h (λ js f. sorted_put i p js r f)
   sorted_put i p is (Default k u s r) h = put_past k (λ q. Default k u s q) (λ j. IsDefaultItem m d k u j s) (default_begins m d k u s) i is r p h (λ js f. sorted_put i p js r f)
 
@@ -136,7 +136,7 @@ module _ (m : Mode) (d : ℕ) (g : Tag) (cons : Rows → Rows) (P : Item → Typ
       let (i, js, e, p, rest) = b.first NoRows ks k in
       let none : js ≡ [] = no_items m d js rest in
       record { item = i; items = js; holds = p; are = rest; same = ap (put_item i) none ∙ ap (λ (l : List Item). i ∷ l) (sym none) ∙ sym e }
-  unput ks (Required h t r) k = unput_past h (λ q. Required h t q) (IsNeeded m d h t) (required_begins m d h t) ks r (tag_le g h) refl k (λ js f. unput js r f)
+  unput ks (Required h t r) k = unput_past h (λ q. Required h t q) (IsRequired m d h t) (required_begins m d h t) ks r (tag_le g h) refl k (λ js f. unput js r f)
   unput ks (Optional h s r) k = unput_past h (λ q. Optional h s q) (λ j. IsItem m d h j s) (optional_begins m d h s) ks r (tag_le g h) refl k (λ js f. unput js r f)
   unput ks (Default h u s r) k = unput_past h (λ q. Default h u s q) (λ j. IsDefaultItem m d h u j s) (default_begins m d h u s) ks r (tag_le g h) refl k (λ js f. unput js r f)
 
@@ -148,7 +148,7 @@ module _ (m : Mode) (d : ℕ) where
 
   pub items_sorted : (is : List Item) (r : Rows) → AreItems m d is r → AreItems m d (items_by_tag is) (rows_by_tag r)
   items_sorted is NoRows h = subst (λ (l : List Item). AreItems m d (items_by_tag l) NoRows) (sym (no_items m d is h)) (none_items m d)
-  items_sorted is (Required g t r) h = sorted_more g (λ q. Required g t q) (IsNeeded m d g t) (required_begins m d g t) is r (rows_by_tag r) h (λ js f. items_sorted js r f)
+  items_sorted is (Required g t r) h = sorted_more g (λ q. Required g t q) (IsRequired m d g t) (required_begins m d g t) is r (rows_by_tag r) h (λ js f. items_sorted js r f)
   items_sorted is (Optional g s r) h = sorted_more g (λ q. Optional g s q) (λ j. IsItem m d g j s) (optional_begins m d g s) is r (rows_by_tag r) h (λ js f. items_sorted js r f)
   items_sorted is (Default g u s r) h = sorted_more g (λ q. Default g u s q) (λ j. IsDefaultItem m d g u j s) (default_begins m d g u s) is r (rows_by_tag r) h (λ js f. items_sorted js r f)
 
@@ -163,7 +163,7 @@ module _ (m : Mode) (d : ℕ) where
 
   pub items_unsorted : (ks : List Item) (r : Rows) → AreItems m d ks (rows_by_tag r) → Unsorted ks r
   items_unsorted ks NoRows h = ([], none_items m d, sym (no_items m d ks h))
-  items_unsorted ks (Required g t r) h = unsorted_more g (λ q. Required g t q) (IsNeeded m d g t) (required_begins m d g t) ks r (rows_by_tag r) h (λ js f. items_unsorted js r f)
+  items_unsorted ks (Required g t r) h = unsorted_more g (λ q. Required g t q) (IsRequired m d g t) (required_begins m d g t) ks r (rows_by_tag r) h (λ js f. items_unsorted js r f)
   items_unsorted ks (Optional g s r) h = unsorted_more g (λ q. Optional g s q) (λ j. IsItem m d g j s) (optional_begins m d g s) ks r (rows_by_tag r) h (λ js f. items_unsorted js r f)
   items_unsorted ks (Default g u s r) h = unsorted_more g (λ q. Default g u s q) (λ j. IsDefaultItem m d g u j s) (default_begins m d g u s) ks r (rows_by_tag r) h (λ js f. items_unsorted js r f)
 

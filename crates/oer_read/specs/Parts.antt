@@ -47,7 +47,7 @@ pub record Comes (s : State) (r a : Rows) (rest : Octets) : Type 0 where
 -- A type's rows, each with the trees that its component may have.
 pub data Parts : Type 1 where
   NoParts : Parts
-  NeededPart : Tag → (Tree → Type 0) → Parts → Parts
+  RequiredPart : Tag → (Tree → Type 0) → Parts → Parts
   OptionalPart : Tag → (Tree → Type 0) → Parts → Parts
   DefaultPart : Tag → Tree → (Tree → Type 0) → Parts → Parts
 
@@ -64,7 +64,7 @@ OnPresent P (Present t) = P t
 -- the rows are of these parts
 abbrev pub AreOf : Parts → Rows → Type 0
 AreOf NoParts NoRows = ⊤
-AreOf (NeededPart g P ps) (Required h t r) = (h ≡ g) × P t × AreOf ps r
+AreOf (RequiredPart g P ps) (Required h t r) = (h ≡ g) × P t × AreOf ps r
 AreOf (OptionalPart g P ps) (Optional h s r) = (h ≡ g) × OnPresent P s × AreOf ps r
 AreOf (DefaultPart g u P ps) (Default h v s r) = (h ≡ g) × (v ≡ u) × OnPresent P s × (SameSlot s (Present u) → ⊥) × AreOf ps r
 AreOf _ _ = ⊥
@@ -72,7 +72,7 @@ AreOf _ _ = ⊥
 -- the table has the rows of these parts
 abbrev pub IsTableOf : List Row → Parts → Type 0
 IsTableOf [] NoParts = ⊤
-IsTableOf (r ∷ rs) (NeededPart g P ps) = (r.tag ≡ g) × (r.presence ≡ presence.Required) × IsTableOf rs ps
+IsTableOf (r ∷ rs) (RequiredPart g P ps) = (r.tag ≡ g) × (r.presence ≡ presence.Required) × IsTableOf rs ps
 IsTableOf (r ∷ rs) (OptionalPart g P ps) = (r.tag ≡ g) × (r.presence ≡ presence.Optional) × IsTableOf rs ps
 IsTableOf (r ∷ rs) (DefaultPart g u P ps) = (r.tag ≡ g) × (r.presence ≡ presence.Default) × IsTableOf rs ps
 IsTableOf _ _ = ⊥
@@ -80,7 +80,7 @@ IsTableOf _ _ = ⊥
 -- the addition rows of these parts, as they are asked
 abbrev pub part_places : Parts → List Place
 part_places NoParts = []
-part_places (NeededPart g P ps) = record { tag = g; needed = true } ∷ part_places ps
+part_places (RequiredPart g P ps) = record { tag = g; needed = true } ∷ part_places ps
 part_places (OptionalPart g P ps) = record { tag = g; needed = false } ∷ part_places ps
 part_places (DefaultPart g u P ps) = record { tag = g; needed = false } ∷ part_places ps
 

@@ -10,7 +10,7 @@ use Rattle.oer_spec.specs.Same.{SameSlot}
 use Rattle.oer_spec.specs.Tree.{Tree, Primitive, Null, Rows, NoRows, Required, Optional, Default, Slot, Absent, Present}
 use Rattle.oer_read.specs.Defaults.{only_lenient}
 use Rattle.oer_read.specs.Law.{Reads, NoEncoding, IsForMemory}
-use Rattle.oer_read.specs.Parts.{Parts, NoParts, NeededPart, OptionalPart, DefaultPart, Admits, OnPresent}
+use Rattle.oer_read.specs.Parts.{Parts, NoParts, RequiredPart, OptionalPart, DefaultPart, Admits, OnPresent}
 use Rattle.oer_read.specs.State.{State}
 
 -- ---- rows by a table, the tree of each default, and each component's slot
@@ -38,7 +38,7 @@ pub record ReadsDefault {V : Type 0} (tree : V → Tree) (IsPart : V → Type 0)
 module _ {V : Type 0} (tree : V → Tree) (Is : ℕ → V → Type 0) (default : ℕ → V) where
   -- the parts of a row, and of a table's rows
   abbrev pub part_at : FieldPresence → ℕ → Tag → Parts → Parts
-  part_at presence.Required n g ps = NeededPart g (Admits tree (Is n)) ps
+  part_at presence.Required n g ps = RequiredPart g (Admits tree (Is n)) ps
   part_at presence.Optional n g ps = OptionalPart g (Admits tree (Is n)) ps
   part_at presence.Default n g ps = DefaultPart g (tree (default n)) (Admits tree (Is n)) ps
 

@@ -15,7 +15,7 @@ use Rattle.oer_spec.specs.Same.{Same, Alike}
 use Rattle.oer_spec.specs.Spelled.{IsConsistent}
 use Rattle.oer_spec.specs.Tree.{Tree, Rows, NoRows, Required, Optional, Default, Slot, present_unless, slot_of}
 use Rattle.oer_read.specs.Law.{Decodes, WantsMemory}
-use Rattle.oer_read.specs.Parts.{Parts, NoParts, NeededPart, OptionalPart, DefaultPart, Admits, AreOf, IsTableOf, Takes, Stops, ReadsParts}
+use Rattle.oer_read.specs.Parts.{Parts, NoParts, RequiredPart, OptionalPart, DefaultPart, Admits, AreOf, IsTableOf, Takes, Stops, ReadsParts}
 use Rattle.oer_read.specs.State.{State}
 use Rattle.oer_rows.specs.Schema.{Schema, IsSchema, IsOf, HasTables, tree_of}
 use Rattle.oer_read.specs.Additions.{Adds, Added, AddRefused}
@@ -25,7 +25,7 @@ use Rattle.oer_read.specs.Components.{Asked, AskRefused, Asks}
 use Rattle.oer_read.specs.Defaults.{AsksDefault, AddsDefault, IsDefault, Defaulted, Unset, Set, DefaultRefused, NotRead, SpelledOut}
 use Rattle.oer_read.specs.Scopes.{SequenceRead, SequenceRefused}
 use Rattle.oer_read.proofs.DefaultSteps.{default_read, default_passed, default_stops}
-use Rattle.oer_read.proofs.AdditionSteps.{default_addition_read, default_addition_passed, default_addition_stops, addition_read, addition_passed, addition_stops, needed_addition_read, needed_addition_passed, needed_addition_absent, needed_addition_stops}
+use Rattle.oer_read.proofs.AdditionSteps.{default_addition_read, default_addition_passed, default_addition_stops, addition_read, addition_passed, addition_stops, required_addition_read, required_addition_passed, required_addition_absent, required_addition_stops}
 use Rattle.oer_read.proofs.SequenceLaw.{sequence_law}
 use Rattle.oer_read.proofs.Reading.{reading}
 use Rattle.oer_read.proofs.Steps.{at_ok, at_err}
@@ -60,25 +60,25 @@ module _ {B : Type 0} (tree : B → Tree) (IsPart : B → Type 0) (Says : State 
   added_stops Q s u answer flow x k g qs result d e f asked h q = addition_stops tree IsPart Says Q s u answer flow x (Some k) g qs result d e f asked h q
 
   -- a required addition
-  pub needed_added_read : (s u t : State) (answer : Result (Option B) DecodeError) (flow : _) (o : Option B) (v : B) (k g : Tag) (w : Tree) (qs : Parts) (a : Rows)
+  pub required_added_read : (s u t : State) (answer : Result (Option B) DecodeError) (flow : _) (o : Option B) (v : B) (k g : Tag) (w : Tree) (qs : Parts) (a : Rows)
       → Adds tree IsPart Says s (Some k) answer u → answer ≡ result_from_control_flow flow → flow ≡ Continue o → o ≡ Some v → k ≡ g → w ≡ tree v → Takes u NoParts qs NoRows a t
-      → Takes s NoParts (NeededPart g (Admits tree IsPart) qs) NoRows (Required g w a) t
-  needed_added_read s u t answer flow o v k g w qs a d e f some asked i took = needed_addition_read tree IsPart Says s u t answer flow o v (Some k) g w qs a d e f some asked i took
+      → Takes s NoParts (RequiredPart g (Admits tree IsPart) qs) NoRows (Required g w a) t
+  required_added_read s u t answer flow o v k g w qs a d e f some asked i took = required_addition_read tree IsPart Says s u t answer flow o v (Some k) g w qs a d e f some asked i took
 
-  pub needed_added_passed : {A : Type 0} (s u : State) (answer : Result (Option B) DecodeError) (flow : _) (o : Option B) (k g : Tag) (qs : Parts) (result : Result A DecodeError)
+  pub required_added_passed : {A : Type 0} (s u : State) (answer : Result (Option B) DecodeError) (flow : _) (o : Option B) (k g : Tag) (qs : Parts) (result : Result A DecodeError)
       → Adds tree IsPart Says s (Some k) answer u → answer ≡ result_from_control_flow flow → flow ≡ Continue o → k ≡ g → Stops u NoParts qs result
-      → Stops s NoParts (NeededPart g (Admits tree IsPart) qs) result
-  needed_added_passed s u answer flow o k g qs result d e f asked stops = needed_addition_passed tree IsPart Says s u answer flow o (Some k) g qs result d e f asked stops
+      → Stops s NoParts (RequiredPart g (Admits tree IsPart) qs) result
+  required_added_passed s u answer flow o k g qs result d e f asked stops = required_addition_passed tree IsPart Says s u answer flow o (Some k) g qs result d e f asked stops
 
-  pub needed_added_absent : {A : Type 0} (s u : State) (answer : Result (Option B) DecodeError) (flow : _) (o : Option B) (k g : Tag) (qs : Parts) (result : Result A DecodeError)
+  pub required_added_absent : {A : Type 0} (s u : State) (answer : Result (Option B) DecodeError) (flow : _) (o : Option B) (k g : Tag) (qs : Parts) (result : Result A DecodeError)
       → Adds tree IsPart Says s (Some k) answer u → answer ≡ result_from_control_flow flow → flow ≡ Continue o → o ≡ None → k ≡ g → IfErr result (λ e. e.codec ≡ u.codec)
-      → Stops s NoParts (NeededPart g (Admits tree IsPart) qs) result
-  needed_added_absent s u answer flow o k g qs result d e f none asked mode = needed_addition_absent tree IsPart Says s u answer flow o (Some k) g qs result d e f none asked mode
+      → Stops s NoParts (RequiredPart g (Admits tree IsPart) qs) result
+  required_added_absent s u answer flow o k g qs result d e f none asked mode = required_addition_absent tree IsPart Says s u answer flow o (Some k) g qs result d e f none asked mode
 
-  pub needed_added_stops : {A : Type 0} (Q : DecodeError → Type 0) (s u : State) (answer : Result (Option B) DecodeError) (flow : _) (x : _) (k g : Tag) (qs : Parts) (result : Result A DecodeError)
+  pub required_added_stops : {A : Type 0} (Q : DecodeError → Type 0) (s u : State) (answer : Result (Option B) DecodeError) (flow : _) (x : _) (k g : Tag) (qs : Parts) (result : Result A DecodeError)
       → Adds tree IsPart Says s (Some k) answer u → answer ≡ result_from_control_flow flow → flow ≡ Break x → k ≡ g → IsErrAnd result Q → ((y : DecodeError) → Q y → y ≡ x.0)
-      → Stops s NoParts (NeededPart g (Admits tree IsPart) qs) result
-  needed_added_stops Q s u answer flow x k g qs result d e f asked h q = needed_addition_stops tree IsPart Says Q s u answer flow x (Some k) g qs result d e f asked h q
+      → Stops s NoParts (RequiredPart g (Admits tree IsPart) qs) result
+  required_added_stops Q s u answer flow x k g qs result d e f asked h q = required_addition_stops tree IsPart Says Q s u answer flow x (Some k) g qs result d e f asked h q
 
 -- ---- a component with a default
 
@@ -273,4 +273,4 @@ schema_law {A} k of_row is_schema of extensible table more tables tree IsValue i
     ran (Err e) d = tt
 
 -- the components before, and the rest
-pub ruleset chained = (asked_there, added_there, reading, default_value_read, default_value_passed, default_value_stops, added_default_value_read, added_default_value_passed, added_default_value_stops, added_read, added_passed, added_stops, needed_added_read, needed_added_passed, needed_added_absent, needed_added_stops, rest_stops)
+pub ruleset chained = (asked_there, added_there, reading, default_value_read, default_value_passed, default_value_stops, added_default_value_read, added_default_value_passed, added_default_value_stops, added_read, added_passed, added_stops, required_added_read, required_added_passed, required_added_absent, required_added_stops, rest_stops)

@@ -22,7 +22,7 @@ use Rattle.oer_read.specs.State.{State}
 use Rattle.oer_read.proofs.SetOrder.{put_row, rows_by_tag, set_sorted, set_unsorted}
 use Rattle.oer_rows.specs.Schema.{Schema, IsSchema, IsOf, tree_of}
 use Rattle.oer_rows.specs.Sets.{is_below, are_in_order, both, is_not, IsInTagOrder, IsInSet, set_of, rows_in_order}
-use Rattle.oer_rows.specs.TextOrder.{count_less, put_behind, by_place, Cell, NeededCell, OptionalCell, DefaultCell, cell_tag, cells, rows_of, rows_by_place, rows_back, cell_tags, or_swap}
+use Rattle.oer_rows.specs.TextOrder.{count_less, put_behind, by_place, Cell, RequiredCell, OptionalCell, DefaultCell, cell_tag, cells, rows_of, rows_by_place, rows_back, cell_tags, or_swap}
 
 and_swap : (a b c : Bool) → (a && (b && c)) ≡ (b && (a && c))
 and_swap true b c = refl
@@ -105,13 +105,13 @@ module _ (c : Cell) (cons : Rows → Rows) (e : (cs : List Cell) → cons (rows_
 
   put_cells : (ds : List Cell) → put_row (cell_tag c) cons (rows_of ds) ≡ rows_of (put_by_tag cell_tag c ds)
   put_cells [] = e []
-  put_cells (NeededCell h t ∷ ds) = past_cell (NeededCell h t) (λ q. Required h t q) ds (put_row (cell_tag c) cons (rows_of ds)) refl (ap (Required h t) (put_cells ds))
+  put_cells (RequiredCell h t ∷ ds) = past_cell (RequiredCell h t) (λ q. Required h t q) ds (put_row (cell_tag c) cons (rows_of ds)) refl (ap (Required h t) (put_cells ds))
   put_cells (OptionalCell h s ∷ ds) = past_cell (OptionalCell h s) (λ q. Optional h s q) ds (put_row (cell_tag c) cons (rows_of ds)) refl (ap (Optional h s) (put_cells ds))
   put_cells (DefaultCell h u s ∷ ds) = past_cell (DefaultCell h u s) (λ q. Default h u s q) ds (put_row (cell_tag c) cons (rows_of ds)) refl (ap (Default h u s) (put_cells ds))
 
 rows_sorted : (cs : List Cell) → rows_by_tag (rows_of cs) ≡ rows_of (by_tag cell_tag cs)
 rows_sorted [] = refl
-rows_sorted (NeededCell g t ∷ cs) = ap (put_row g (λ q. Required g t q)) (rows_sorted cs) ∙ put_cells (NeededCell g t) (λ q. Required g t q) (λ ds. refl) (by_tag cell_tag cs)
+rows_sorted (RequiredCell g t ∷ cs) = ap (put_row g (λ q. Required g t q)) (rows_sorted cs) ∙ put_cells (RequiredCell g t) (λ q. Required g t q) (λ ds. refl) (by_tag cell_tag cs)
 rows_sorted (OptionalCell g s ∷ cs) = ap (put_row g (λ q. Optional g s q)) (rows_sorted cs) ∙ put_cells (OptionalCell g s) (λ q. Optional g s q) (λ ds. refl) (by_tag cell_tag cs)
 rows_sorted (DefaultCell g u s ∷ cs) = ap (put_row g (λ q. Default g u s q)) (rows_sorted cs) ∙ put_cells (DefaultCell g u s) (λ q. Default g u s q) (λ ds. refl) (by_tag cell_tag cs)
 
@@ -122,7 +122,7 @@ rows_return ns r e = rows_sorted (by_place ns (cells r)) ∙ ap rows_of (cells_s
 -- ---- items in the order of tags
 
 abbrev cell_item : Cell → Item
-cell_item (NeededCell g t) = needed g (canonical_octets t)
+cell_item (RequiredCell g t) = needed g (canonical_octets t)
 cell_item (OptionalCell g s) = canonical_item g s
 cell_item (DefaultCell g u s) = canonical_item g s
 
@@ -132,14 +132,14 @@ item_tag g Absent = refl
 item_tag g (Present t) = refl
 
 cell_item_tag : (c : Cell) → (cell_item c).tag ≡ cell_tag c
-cell_item_tag (NeededCell g t) = refl
+cell_item_tag (RequiredCell g t) = refl
 cell_item_tag (OptionalCell g s) = item_tag g s
 cell_item_tag (DefaultCell g u s) = item_tag g s
 
 items_of : (cs : List Cell) → canonical_items (rows_of cs) ≡ map cell_item cs
 unfolding canonical_octets
 items_of [] = refl
-items_of (NeededCell g t ∷ cs) = ap (λ (is : List Item). needed g (canonical_octets t) ∷ is) (items_of cs)
+items_of (RequiredCell g t ∷ cs) = ap (λ (is : List Item). needed g (canonical_octets t) ∷ is) (items_of cs)
 items_of (OptionalCell g s ∷ cs) = ap (λ (is : List Item). canonical_item g s ∷ is) (items_of cs)
 items_of (DefaultCell g u s ∷ cs) = ap (λ (is : List Item). canonical_item g s ∷ is) (items_of cs)
 
@@ -181,14 +181,14 @@ module _ {X : Type 0} (test : X → Bool) where
   any_by_place (n ∷ ns) (x ∷ xs) = any_behind (count_less n ns) x (by_place ns xs) ∙ ap (λ (b : Bool). test x || b) (any_by_place ns xs)
 
 abbrev cell_fails : Failure → Cell → Bool
-cell_fails k (NeededCell g t) = fails t k
+cell_fails k (RequiredCell g t) = fails t k
 cell_fails k (OptionalCell g s) = slot_fails s k
 cell_fails k (DefaultCell g u s) = slot_fails s k
 
 fail_of : (cs : List Cell) (k : Failure) → rows_fail (rows_of cs) k ≡ any_of (cell_fails k) cs
 unfolding fails
 fail_of [] k = refl
-fail_of (NeededCell g t ∷ cs) k = ap (λ (b : Bool). fails t k || b) (fail_of cs k)
+fail_of (RequiredCell g t ∷ cs) k = ap (λ (b : Bool). fails t k || b) (fail_of cs k)
 fail_of (OptionalCell g s ∷ cs) k = ap (λ (b : Bool). slot_fails s k || b) (fail_of cs k)
 fail_of (DefaultCell g u s ∷ cs) k = ap (λ (b : Bool). slot_fails s k || b) (fail_of cs k)
 
@@ -219,7 +219,7 @@ module _ {X : Type 0} (P : X → Type 0) where
   one_by_place (n ∷ ns) (x ∷ xs) (inr h) = one_behind (count_less n ns) x (by_place ns xs) (inr (one_by_place ns xs h))
 
 abbrev CellSizeFails : ℕ → Cell → Type 0
-CellSizeFails n (NeededCell g t) = SizeFails t n
+CellSizeFails n (RequiredCell g t) = SizeFails t n
 CellSizeFails n (OptionalCell g s) = SlotSizeFails s n
 CellSizeFails n (DefaultCell g u s) = SlotSizeFails s n
 
@@ -236,8 +236,8 @@ cells_size n (Default g u s r) (inr h) = inr (cells_size n r h)
 rows_size : (n : ℕ) (cs : List Cell) → OneOf (CellSizeFails n) cs → RowsSizeFails (rows_of cs) n
 unfolding SizeFails
 rows_size n [] h = h
-rows_size n (NeededCell g t ∷ cs) (inl f) = inl f
-rows_size n (NeededCell g t ∷ cs) (inr h) = inr (rows_size n cs h)
+rows_size n (RequiredCell g t ∷ cs) (inl f) = inl f
+rows_size n (RequiredCell g t ∷ cs) (inr h) = inr (rows_size n cs h)
 rows_size n (OptionalCell g s ∷ cs) (inl f) = inl f
 rows_size n (OptionalCell g s ∷ cs) (inr h) = inr (rows_size n cs h)
 rows_size n (DefaultCell g u s ∷ cs) (inl f) = inl f

@@ -9,9 +9,9 @@ use Rattle.oer_spec.specs.Tree.{Tree, Rows, NoRows, Required, Optional, Struct, 
 use Rattle.oer_rows.specs.Slots.{IfThere}
 
 -- a required component alone
-pub needed_same : (g : Tag) (t u : Tree) (b : Bool) → Decides b (Same t u) → Decides b (SameRows (Required g t NoRows) (Required g u NoRows))
+pub required_same : (g : Tag) (t u : Tree) (b : Bool) → Decides b (Same t u) → Decides b (SameRows (Required g t NoRows) (Required g u NoRows))
 unfolding Rattle.oer_spec.specs.Same.Same
-needed_same g t u b d = (λ e. (refl, d.0 e, tt), λ s. d.1 s.1)
+required_same g t u b d = (λ e. (refl, d.0 e, tt), λ s. d.1 s.1)
 
 -- an optional component alone
 module _ {A : Type 0} (tree : A → Tree) (IsValue : A → Type 0) (eq : A → A → Bool) (decides : (v w : A) → IsValue v → IsValue w → Decides (eq v w) (Same (tree v) (tree w))) where

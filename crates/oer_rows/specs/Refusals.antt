@@ -17,9 +17,9 @@ pub data RowRefused {X : Type 0} (Did : Result X DecodeError → State → Type 
   Behind : (x : X) (t : State) → Did (Ok x) t → Rest t e → RowRefused Did Rest e
 
 -- A required addition: it was read as an optional one is, and was there.
-abbrev pub AddsNeeded : {A : Type 0} → (A → Tree) → (A → Type 0) → (State → Result A DecodeError → State → Type 0) → State → Tag → Result A DecodeError → State → Type 0
-AddsNeeded tree IsValue Answered s g (Ok v) t = Adds tree IsValue Answered s (Some g) (Ok (Some v)) t
-AddsNeeded tree IsValue Answered s g (Err e) t = Adds tree IsValue Answered s (Some g) (Err e) t ⊎ (Adds tree IsValue Answered s (Some g) (Ok None) t × (e ≡ record { kind = RequiredExtensionNotPresent g; codec = t.codec }))
+abbrev pub AddsRequired : {A : Type 0} → (A → Tree) → (A → Type 0) → (State → Result A DecodeError → State → Type 0) → State → Tag → Result A DecodeError → State → Type 0
+AddsRequired tree IsValue Answered s g (Ok v) t = Adds tree IsValue Answered s (Some g) (Ok (Some v)) t
+AddsRequired tree IsValue Answered s g (Err e) t = Adds tree IsValue Answered s (Some g) (Err e) t ⊎ (Adds tree IsValue Answered s (Some g) (Ok None) t × (e ≡ record { kind = RequiredExtensionNotPresent g; codec = t.codec }))
 
 -- What reading the components of a value did inside a scope: their rows were read, or the row's reading was refused.
 abbrev pub RowRan : {V : Type 0} → Schema V → (State → DecodeError → Type 0) → State → Result V DecodeError → State → Type 0

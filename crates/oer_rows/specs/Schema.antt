@@ -10,7 +10,7 @@ use Rattle.oer_spec.specs.Same.{Same, SameSlot, Alike, AlikeRows, AlikeSlot}
 use Rattle.oer_spec.specs.Spelled.{IsConsistent}
 use Rattle.oer_spec.specs.Tree.{Tree, Rows, NoRows, Required, Optional, Default, Struct, present_unless, slot_of}
 use Rattle.oer_read.specs.Defaults.{IsDefault}
-use Rattle.oer_read.specs.Parts.{Parts, NoParts, NeededPart, OptionalPart, DefaultPart, Admits, AreOf, IsTableOf}
+use Rattle.oer_read.specs.Parts.{Parts, NoParts, RequiredPart, OptionalPart, DefaultPart, Admits, AreOf, IsTableOf}
 use Rattle.oer_rows.specs.declared.both.Both.{Both}
 use Rattle.oer_rows.specs.Slots.{IfThere, slot_is, slots_alike, slot_made}
 use Rattle.oer_rows.specs.DefaultSlots.{default_slot_is, default_slot_differs, default_slot_admitted, default_slots_alike}
@@ -90,24 +90,24 @@ under_is rest others k = record { are = λ v i. k.are (rest v) i; like = λ v w 
 module _ {A B R : Type 0} (tag : Tag) (of : Typed B) (value : A → B) (rest : A → R) (others : Table R) where
   abbrev pub needed : Table A
   needed = record {
-    parts = NeededPart tag (Admits of.tree of.IsPart) others.parts;
+    parts = RequiredPart tag (Admits of.tree of.IsPart) others.parts;
     rows = λ v. Required tag (of.tree (value v)) (others.rows (rest v));
     IsValue = λ v. of.IsPart (value v) × others.IsValue (rest v);
     fields = λ n. record { index = n; tag = tag; presence = presence.Required } ∷ others.fields (suc n);
   }
 
-  needed_are : IsTyped of → IsTable others → (v : A) → needed.IsValue v → AreRows (needed.rows v)
+  required_are : IsTyped of → IsTable others → (v : A) → needed.IsValue v → AreRows (needed.rows v)
   unfolding Rattle.oer_spec.specs.Encoding.IsTree
-  needed_are t o v (i, k) = (t.is (value v) i, o.are (rest v) k)
+  required_are t o v (i, k) = (t.is (value v) i, o.are (rest v) k)
 
-  needed_like : IsTyped of → IsTable others → (v w : A) → needed.IsValue v → needed.IsValue w → AlikeRows (needed.rows v) (needed.rows w)
+  required_like : IsTyped of → IsTable others → (v w : A) → needed.IsValue v → needed.IsValue w → AlikeRows (needed.rows v) (needed.rows w)
   unfolding Rattle.oer_spec.specs.Same.Alike
-  needed_like t o v w (i, k) (j, l) = (refl, t.like (value v) (value w) i j, o.like (rest v) (rest w) k l)
+  required_like t o v w (i, k) (j, l) = (refl, t.like (value v) (value w) i j, o.like (rest v) (rest w) k l)
 
-  pub needed_is : IsTyped of → IsTable others → IsTable needed
-  needed_is t o = record {
-    are = needed_are t o;
-    like = needed_like t o;
+  pub required_is : IsTyped of → IsTable others → IsTable needed
+  required_is t o = record {
+    are = required_are t o;
+    like = required_like t o;
     made = λ v i. (refl, record { value = value v; is_value = i.0; is = refl }, o.made (rest v) i.1);
     is_table = λ n. (refl, refl, o.is_table (suc n));
     counted = λ n. (refl, o.counted (suc n));
@@ -198,8 +198,8 @@ pub added_is : {A : Type 0} (t : Table A) → IsTable t → IsSchema (added t) t
 added_is t k = record { roots = none_is; additions = k; no_additions = λ e v. absurd (cc e); no_fields = λ e. absurd (cc e) }
 
 -- a root component before others
-abbrev pub needed_then : {B R : Type 0} → Tag → Typed B → Schema R → Schema (Both B R)
-needed_then tag of s = record { roots = needed tag of (λ v. v.0) (λ v. v.1) s.roots; additions = under (λ v. v.1) s.additions }
+abbrev pub required_then : {B R : Type 0} → Tag → Typed B → Schema R → Schema (Both B R)
+required_then tag of s = record { roots = needed tag of (λ v. v.0) (λ v. v.1) s.roots; additions = under (λ v. v.1) s.additions }
 
 abbrev pub optional_then : {B R : Type 0} → Tag → Typed B → Schema R → Schema (Both (Option B) R)
 optional_then tag of s = record { roots = optional tag of (λ v. v.0) (λ v. v.1) s.roots; additions = under (λ v. v.1) s.additions }
@@ -207,9 +207,9 @@ optional_then tag of s = record { roots = optional tag of (λ v. v.0) (λ v. v.1
 abbrev pub default_then : {B R : Type 0} → Tag → Typed B → (B → B → Bool) → B → Schema R → Schema (Both B R)
 default_then tag of eq default s = record { roots = defaulted tag of eq default (λ v. v.0) (λ v. v.1) s.roots; additions = under (λ v. v.1) s.additions }
 
-pub needed_then_is : {B R : Type 0} (tag : Tag) (of : Typed B) (s : Schema R) (extensible : Bool) → IsTyped of → IsSchema s extensible → IsSchema (needed_then tag of s) extensible
-needed_then_is tag of s extensible t k = record {
-  roots = needed_is tag of (λ v. v.0) (λ v. v.1) s.roots t k.roots;
+pub required_then_is : {B R : Type 0} (tag : Tag) (of : Typed B) (s : Schema R) (extensible : Bool) → IsTyped of → IsSchema s extensible → IsSchema (required_then tag of s) extensible
+required_then_is tag of s extensible t k = record {
+  roots = required_is tag of (λ v. v.0) (λ v. v.1) s.roots t k.roots;
   additions = under_is (λ v. v.1) s.additions k.additions;
   no_additions = λ e v. k.no_additions e v.1;
   no_fields = k.no_fields;

@@ -8,7 +8,7 @@ use Rattle.asn1_core.specs.declared.tag.Tag.{Tag}
 use Rattle.oer_spec.specs.Encoding.{IsTree, row_tags}
 use Rattle.oer_spec.specs.Same.{Alike}
 use Rattle.oer_spec.specs.Tree.{Tree, Rows, NoRows, Required, Optional, Default, Struct}
-use Rattle.oer_read.specs.Parts.{Parts, NoParts, NeededPart, OptionalPart, DefaultPart, AreOf, IsTableOf}
+use Rattle.oer_read.specs.Parts.{Parts, NoParts, RequiredPart, OptionalPart, DefaultPart, AreOf, IsTableOf}
 use Rattle.oer_rows.specs.Schema.{Schema, IsSchema, IsOf}
 use Rattle.oer_rows.specs.TextOrder.{by_place, table_by_place, rows_by_place, neither, distinct_by_place, counted_counts, table_length, table_tags, tags_by_place, are_by_place, alike_by_place}
 
@@ -51,14 +51,14 @@ tags_are [] NoParts NoRows k l = refl
 tags_are [] NoParts (Required h t r) k l = absurd l
 tags_are [] NoParts (Optional h s r) k l = absurd l
 tags_are [] NoParts (Default h u s r) k l = absurd l
-tags_are [] (NeededPart g P ps) r k l = absurd k
+tags_are [] (RequiredPart g P ps) r k l = absurd k
 tags_are [] (OptionalPart g P ps) r k l = absurd k
 tags_are [] (DefaultPart g u P ps) r k l = absurd k
 tags_are (q ∷ rs) NoParts r k l = absurd k
-tags_are (q ∷ rs) (NeededPart g P ps) NoRows k l = absurd l
-tags_are (q ∷ rs) (NeededPart g P ps) (Required h t r) k l = ap₂ ◌∷◌ (l.0 ∙ sym k.0) (tags_are rs ps r k.2 l.2)
-tags_are (q ∷ rs) (NeededPart g P ps) (Optional h s r) k l = absurd l
-tags_are (q ∷ rs) (NeededPart g P ps) (Default h u s r) k l = absurd l
+tags_are (q ∷ rs) (RequiredPart g P ps) NoRows k l = absurd l
+tags_are (q ∷ rs) (RequiredPart g P ps) (Required h t r) k l = ap₂ ◌∷◌ (l.0 ∙ sym k.0) (tags_are rs ps r k.2 l.2)
+tags_are (q ∷ rs) (RequiredPart g P ps) (Optional h s r) k l = absurd l
+tags_are (q ∷ rs) (RequiredPart g P ps) (Default h u s r) k l = absurd l
 tags_are (q ∷ rs) (OptionalPart g P ps) NoRows k l = absurd l
 tags_are (q ∷ rs) (OptionalPart g P ps) (Required h t r) k l = absurd l
 tags_are (q ∷ rs) (OptionalPart g P ps) (Optional h s r) k l = ap₂ ◌∷◌ (l.0 ∙ sym k.0) (tags_are rs ps r k.2 l.2)

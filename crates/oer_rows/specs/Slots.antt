@@ -37,15 +37,15 @@ there d None = d
 there d (Some v) = v
 
 module _ {A R S : Type 0} (filled : R → S) where
-  abbrev pub with_needed : Both A R → Both (Option A) S
-  with_needed v = both (Some v.0) (filled v.1)
+  abbrev pub with_required : Both A R → Both (Option A) S
+  with_required v = both (Some v.0) (filled v.1)
 
   abbrev pub with_optional : Both (Option A) R → Both (Option A) S
   with_optional v = both v.0 (filled v.1)
 
   -- places hold the values of one row alone, where those of the rest do
-  pub needed_once : ((v w : R) → filled v ≡ filled w → v ≡ w) → (v w : Both A R) → with_needed v ≡ with_needed w → v ≡ w
-  needed_once once v w e = ap (λ z. both z v.1) (ap (λ (z : Both (Option A) S). there v.0 z.0) e) ∙ ap (λ z. both w.0 z) (once v.1 w.1 (ap (λ (z : Both (Option A) S). z.1) e))
+  pub required_once : ((v w : R) → filled v ≡ filled w → v ≡ w) → (v w : Both A R) → with_required v ≡ with_required w → v ≡ w
+  required_once once v w e = ap (λ z. both z v.1) (ap (λ (z : Both (Option A) S). there v.0 z.0) e) ∙ ap (λ z. both w.0 z) (once v.1 w.1 (ap (λ (z : Both (Option A) S). z.1) e))
 
   pub optional_once : ((v w : R) → filled v ≡ filled w → v ≡ w) → (v w : Both (Option A) R) → with_optional v ≡ with_optional w → v ≡ w
   optional_once once v w e = ap (λ z. both z v.1) (ap (λ (z : Both (Option A) S). z.0) e) ∙ ap (λ z. both w.0 z) (once v.1 w.1 (ap (λ (z : Both (Option A) S). z.1) e))

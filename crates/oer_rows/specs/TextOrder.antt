@@ -42,24 +42,24 @@ table_by_place ns rs = counted_from 0 (by_place ns rs)
 
 -- one row of a tree
 pub data Cell : Type 0 where
-  NeededCell : Tag → Tree → Cell
+  RequiredCell : Tag → Tree → Cell
   OptionalCell : Tag → Slot → Cell
   DefaultCell : Tag → Tree → Slot → Cell
 
 abbrev pub cell_tag : Cell → Tag
-cell_tag (NeededCell g t) = g
+cell_tag (RequiredCell g t) = g
 cell_tag (OptionalCell g s) = g
 cell_tag (DefaultCell g u s) = g
 
 abbrev pub cells : Rows → List Cell
 cells NoRows = []
-cells (Required g t r) = NeededCell g t ∷ cells r
+cells (Required g t r) = RequiredCell g t ∷ cells r
 cells (Optional g s r) = OptionalCell g s ∷ cells r
 cells (Default g u s r) = DefaultCell g u s ∷ cells r
 
 abbrev pub rows_of : List Cell → Rows
 rows_of [] = NoRows
-rows_of (NeededCell g t ∷ cs) = Required g t (rows_of cs)
+rows_of (RequiredCell g t ∷ cs) = Required g t (rows_of cs)
 rows_of (OptionalCell g s ∷ cs) = Optional g s (rows_of cs)
 rows_of (DefaultCell g u s ∷ cs) = Default g u s (rows_of cs)
 
@@ -191,7 +191,7 @@ rows_back (Default g u s r) = ap (Default g u s) (rows_back r)
 
 tags_of : (cs : List Cell) → row_tags (rows_of cs) ≡ map cell_tag cs
 tags_of [] = refl
-tags_of (NeededCell g t ∷ cs) = ap (λ (gs : List Tag). g ∷ gs) (tags_of cs)
+tags_of (RequiredCell g t ∷ cs) = ap (λ (gs : List Tag). g ∷ gs) (tags_of cs)
 tags_of (OptionalCell g s ∷ cs) = ap (λ (gs : List Tag). g ∷ gs) (tags_of cs)
 tags_of (DefaultCell g u s ∷ cs) = ap (λ (gs : List Tag). g ∷ gs) (tags_of cs)
 
@@ -203,7 +203,7 @@ tags_by_place ns r = tags_of (by_place ns (cells r)) ∙ map_by_place cell_tag n
 
 -- what a row of a tree keeps
 abbrev IsCell : Cell → Type 0
-IsCell (NeededCell g t) = IsTree t
+IsCell (RequiredCell g t) = IsTree t
 IsCell (OptionalCell g s) = AreSlot s
 IsCell (DefaultCell g u s) = IsTree u × AreSlot s × (SameSlot s (Present u) → ⊥)
 
@@ -217,7 +217,7 @@ cells_are (Default g u s r) h = ((h.0, h.1, h.2), cells_are r h.3)
 rows_are : (cs : List Cell) → AllByRecursion IsCell cs → AreRows (rows_of cs)
 unfolding IsTree
 rows_are [] h = tt
-rows_are (NeededCell g t ∷ cs) h = (h.0, rows_are cs h.1)
+rows_are (RequiredCell g t ∷ cs) h = (h.0, rows_are cs h.1)
 rows_are (OptionalCell g s ∷ cs) h = (h.0, rows_are cs h.1)
 rows_are (DefaultCell g u s ∷ cs) h = (h.0.0, h.0.1, h.0.2, rows_are cs h.1)
 
@@ -226,7 +226,7 @@ are_by_place ns r h = rows_are (by_place ns (cells r)) (all_by_place IsCell ns (
 
 -- two rows that could be of one type
 abbrev AlikeCell : Cell → Cell → Type 0
-AlikeCell (NeededCell g t) (NeededCell g' t') = (g ≡ g') × Alike t t'
+AlikeCell (RequiredCell g t) (RequiredCell g' t') = (g ≡ g') × Alike t t'
 AlikeCell (OptionalCell g s) (OptionalCell g' s') = (g ≡ g') × AlikeSlot s s'
 AlikeCell (DefaultCell g u s) (DefaultCell g' u' s') = (g ≡ g') × (u ≡ u') × Alike u u × OnSlot (λ t'. Alike u t') s' × AlikeSlot s (Present u) × AlikeSlot s s'
 AlikeCell _ _ = ⊥
@@ -244,7 +244,7 @@ unfolding Alike
 rows_alike [] [] h = tt
 rows_alike [] (d ∷ ds) h = absurd h
 rows_alike (c ∷ cs) [] h = absurd h
-rows_alike (NeededCell g t ∷ cs) (NeededCell g' t' ∷ ds) h = (h.0.0, h.0.1, rows_alike cs ds h.1)
+rows_alike (RequiredCell g t ∷ cs) (RequiredCell g' t' ∷ ds) h = (h.0.0, h.0.1, rows_alike cs ds h.1)
 rows_alike (OptionalCell g s ∷ cs) (OptionalCell g' s' ∷ ds) h = (h.0.0, h.0.1, rows_alike cs ds h.1)
 rows_alike (DefaultCell g u s ∷ cs) (DefaultCell g' u' s' ∷ ds) h = (h.0.0, h.0.1, h.0.2, h.0.3, h.0.4, h.0.5, rows_alike cs ds h.1)
 rows_alike (c ∷ cs) (d ∷ ds) h = absurd h.0

@@ -119,7 +119,7 @@ impl Reads for End {
 }
 
 impl<G: Place, B: Spelled, R: Components> Components for Required<G, B, R> {
-    ghost use Rattle.oer_rows.specs.Schema.{typed, typed_is, needed_then, needed_then_is};
+    ghost use Rattle.oer_rows.specs.Schema.{typed, typed_is, required_then, required_then_is};
 
     type Values = Both<B, R::Values>;
 
@@ -127,19 +127,19 @@ impl<G: Place, B: Spelled, R: Components> Components for Required<G, B, R> {
 
     const EXTENSIBLE: bool = R::EXTENSIBLE;
 
-    ghost schema = { needed_then G.tag (typed B.tree B.CONSTRAINTS B.IsValue) R.schema };
+    ghost schema = { required_then G.tag (typed B.tree B.CONSTRAINTS B.IsValue) R.schema };
 
-    ghost is_schema = { needed_then_is G.tag (typed B.tree B.CONSTRAINTS B.IsValue) R.schema R.EXTENSIBLE (typed_is B.tree B.IsValue B.is_tree B.alike B.CONSTRAINTS B.consistent) R.is_schema };
+    ghost is_schema = { required_then_is G.tag (typed B.tree B.CONSTRAINTS B.IsValue) R.schema R.EXTENSIBLE (typed_is B.tree B.IsValue B.is_tree B.alike B.CONSTRAINTS B.consistent) R.is_schema };
 }
 
 impl<G: Place, B: Spelled, R: Slotted> Slotted for Required<G, B, R> {
-    ghost use Rattle.oer_rows.specs.Slots.{with_needed, needed_once};
+    ghost use Rattle.oer_rows.specs.Slots.{with_required, required_once};
 
     type Slots = Both<Option<B>, R::Slots>;
 
-    ghost filled = { with_needed R.filled };
+    ghost filled = { with_required R.filled };
 
-    ghost filled_once = { needed_once R.filled R.filled_once };
+    ghost filled_once = { required_once R.filled R.filled_once };
 
     #[inline(always)]
     fn empty() -> Self::Slots {
@@ -243,13 +243,13 @@ impl<G: Place, B: EqualAsSpelled, D: DefaultValue<B>, R: Components> Components
 
 impl<G: Place, B: EqualAsSpelled, D: DefaultValue<B>, R: Slotted> Slotted
     for Defaulted<G, B, D, R> {
-    ghost use Rattle.oer_rows.specs.Slots.{with_needed, needed_once};
+    ghost use Rattle.oer_rows.specs.Slots.{with_required, required_once};
 
     type Slots = Both<Option<B>, R::Slots>;
 
-    ghost filled = { with_needed R.filled };
+    ghost filled = { with_required R.filled };
 
-    ghost filled_once = { needed_once R.filled R.filled_once };
+    ghost filled_once = { required_once R.filled R.filled_once };
 
     #[inline(always)]
     fn empty() -> Self::Slots {

@@ -46,6 +46,6 @@ pub use sets::{InTagOrder, Set, TextOrder};
 pub use slots::{Slotted, SlottedAdditions};
 pub use views::{AdditionViews, Views};
 pub use writing::{
-    Writes, encode_rows, put_added, put_addition, put_default, put_default_addition, put_group,
-    put_needed, put_optional,
+    Writes, encode_rows, put_default, put_default_addition, put_group, put_optional,
+    put_optional_addition, put_required, put_required_addition,
 };

@@ -23,23 +23,23 @@ pub struct DefaultedAddition<G, B, D, R>(PhantomData<(G, B, D, R)>);
 pub struct AdditionGroup<const RC: usize, const EC: usize, B, R>(PhantomData<(B, R)>);
 
 impl<G: Place, B: Spelled, R: Additions> Additions for RequiredAddition<G, B, R> {
-    ghost use Rattle.oer_rows.specs.Schema.{typed, typed_is, needed, needed_is};
+    ghost use Rattle.oer_rows.specs.Schema.{typed, typed_is, needed, required_is};
 
     type More = Both<B, R::More>;
 
     ghost table = { needed G.tag (typed B.tree B.CONSTRAINTS B.IsValue) (λ v. v.0) (λ v. v.1) R.table };
 
-    ghost is_table = { needed_is G.tag (typed B.tree B.CONSTRAINTS B.IsValue) (λ v. v.0) (λ v. v.1) R.table (typed_is B.tree B.IsValue B.is_tree B.alike B.CONSTRAINTS B.consistent) R.is_table };
+    ghost is_table = { required_is G.tag (typed B.tree B.CONSTRAINTS B.IsValue) (λ v. v.0) (λ v. v.1) R.table (typed_is B.tree B.IsValue B.is_tree B.alike B.CONSTRAINTS B.consistent) R.is_table };
 }
 
 impl<G: Place, B: Spelled, R: SlottedAdditions> SlottedAdditions for RequiredAddition<G, B, R> {
-    ghost use Rattle.oer_rows.specs.Slots.{with_needed, needed_once};
+    ghost use Rattle.oer_rows.specs.Slots.{with_required, required_once};
 
     type Slots = Both<Option<B>, R::Slots>;
 
-    ghost filled = { with_needed R.filled };
+    ghost filled = { with_required R.filled };
 
-    ghost filled_once = { needed_once R.filled R.filled_once };
+    ghost filled_once = { required_once R.filled R.filled_once };
 
     #[inline(always)]
     fn empty() -> Self::Slots {
@@ -54,9 +54,9 @@ impl<G: Place, B: Spelled, R: SlottedAdditions> SlottedAdditions for RequiredAdd
 }
 
 impl<G: Place, B: Decode, R: ReadsAdditions> ReadsAdditions for RequiredAddition<G, B, R> {
-    ghost use Rattle.oer_rows.specs.Refusals.{AddsNeeded, RowRefused};
+    ghost use Rattle.oer_rows.specs.Refusals.{AddsRequired, RowRefused};
 
-    ghost Refuses = { λ s e. RowRefused (λ r t. AddsNeeded (B.tree B.CONSTRAINTS) B.IsValue (B.Answered B.CONSTRAINTS) s G.tag r t) R.Refuses e };
+    ghost Refuses = { λ s e. RowRefused (λ r t. AddsRequired (B.tree B.CONSTRAINTS) B.IsValue (B.Answered B.CONSTRAINTS) s G.tag r t) R.Refuses e };
 
     #[inline(always)]
     fn read_additions(
@@ -92,13 +92,13 @@ impl<G: Place, B: EqualAsSpelled, D: DefaultValue<B>, R: Additions> Additions
 
 impl<G: Place, B: EqualAsSpelled, D: DefaultValue<B>, R: SlottedAdditions> SlottedAdditions
     for DefaultedAddition<G, B, D, R> {
-    ghost use Rattle.oer_rows.specs.Slots.{with_needed, needed_once};
+    ghost use Rattle.oer_rows.specs.Slots.{with_required, required_once};
 
     type Slots = Both<Option<B>, R::Slots>;
 
-    ghost filled = { with_needed R.filled };
+    ghost filled = { with_required R.filled };
 
-    ghost filled_once = { needed_once R.filled R.filled_once };
+    ghost filled_once = { required_once R.filled R.filled_once };
 
     #[inline(always)]
     fn empty() -> Self::Slots {

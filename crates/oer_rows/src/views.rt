@@ -9,7 +9,9 @@ use crate::both::Both;
 use crate::components::{Components, Defaulted, End, Optional, Required};
 use crate::more_additions::{AdditionGroup, DefaultedAddition, RequiredAddition};
 use crate::places::{DefaultValue, Place};
-use crate::writing::{put_added, put_addition, put_default, put_default_addition, put_group};
+use crate::writing::{
+    put_default, put_default_addition, put_group, put_optional_addition, put_required_addition,
+};
 use asn1_core::{Constructed, EncodeError};
 use oer_spec::EqualAsSpelled;
 use oer_write::{Encode, Encoder};
@@ -118,7 +120,7 @@ impl<'v, G: Place, B: Encode + 'v, R: AdditionViews<'v>> AdditionViews<'v>
         view: &Both<&'v Option<B>, R::MoreView>,
         encoder: &mut Encoder<'_>,
     ) -> Result<(), EncodeError> {
-        put_addition(encoder, G::tag(), view.0)?;
+        put_optional_addition(encoder, G::tag(), view.0)?;
         R::write_additions(&view.1, encoder)
     }
 }
@@ -134,7 +136,7 @@ impl<'v, G: Place, B: Encode + 'v, R: AdditionViews<'v>> AdditionViews<'v>
         view: &Both<&'v B, R::MoreView>,
         encoder: &mut Encoder<'_>,
     ) -> Result<(), EncodeError> {
-        put_added(encoder, G::tag(), view.0)?;
+        put_required_addition(encoder, G::tag(), view.0)?;
         R::write_additions(&view.1, encoder)
     }
 }

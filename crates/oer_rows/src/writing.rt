@@ -3,7 +3,7 @@ ghost use Rattle.std.specs.Prelude.{◌≡◌, true, false, OnOk, IfErr, IfSome}
 ghost use Rattle.oer_spec.specs.Tree.{NoRows, Struct, slot_of, present_unless};
 ghost use Rattle.oer_write.specs.Written.{Encodes, Refused};
 ghost use Rattle.oer_read.specs.Defaults.{IsDefault};
-ghost use Rattle.oer_write.specs.Rows.{InSequence, RowsDone, SetDone, RowsRefused, required, optional, defaulted};
+ghost use Rattle.oer_write.specs.Rows.{WritesRows, InSequence, InSet, required, optional, defaulted};
 
 use crate::places::DefaultValue;
 use asn1_core::{Constructed, EncodeError, Tag};
@@ -14,15 +14,14 @@ use oer_write::{Encode, Encoder};
 ///
 /// Refused by what the value is refused by.
 #[inline(always)]
-pub fn put_needed<E: Encode>(
+pub fn put_required<E: Encode>(
     encoder: &mut Encoder<'_>,
     tag: Tag,
     value: &E,
 ) -> Result<(), EncodeError>
-    ensures in_sequence { encoder.old.frame.is_set ≡ false → OnOk result (RowsDone (required tag (E.tree E.CONSTRAINTS value.now)) NoRows encoder.old encoder.new) }
-    ensures in_set { encoder.old.frame.is_set ≡ true → OnOk result (SetDone (required tag (E.tree E.CONSTRAINTS value.now)) NoRows encoder.old encoder.new) }
+    ensures in_sequence { InSequence (required tag (E.tree E.CONSTRAINTS value.now)) NoRows encoder.old result encoder.new }
+    ensures in_set { InSet (required tag (E.tree E.CONSTRAINTS value.now)) NoRows encoder.old result encoder.new }
     ensures value { OnOk result (E.IsValue value.now) }
-    ensures refused { IfErr result (λ x. RowsRefused (required tag (E.tree E.CONSTRAINTS value.now)) NoRows x encoder.old encoder.new) }
 {
     encoder.encode_component(tag, E::CONSTRAINTS, value)
 }
@@ -36,10 +35,9 @@ pub fn put_optional<E: Encode>(
     tag: Tag,
     value: &Option<E>,
 ) -> Result<(), EncodeError>
-    ensures in_sequence { encoder.old.frame.is_set ≡ false → OnOk result (RowsDone (optional tag (slot_of (E.tree E.CONSTRAINTS) value.now)) NoRows encoder.old encoder.new) }
-    ensures in_set { encoder.old.frame.is_set ≡ true → OnOk result (SetDone (optional tag (slot_of (E.tree E.CONSTRAINTS) value.now)) NoRows encoder.old encoder.new) }
+    ensures in_sequence { InSequence (optional tag (slot_of (E.tree E.CONSTRAINTS) value.now)) NoRows encoder.old result encoder.new }
+    ensures in_set { InSet (optional tag (slot_of (E.tree E.CONSTRAINTS) value.now)) NoRows encoder.old result encoder.new }
     ensures value { OnOk result (IfSome value.now E.IsValue) }
-    ensures refused { IfErr result (λ x. RowsRefused (optional tag (slot_of (E.tree E.CONSTRAINTS) value.now)) NoRows x encoder.old encoder.new) }
 {
     match value {
         Some(value) => encoder.encode_some_with_tag_and_constraints(tag, E::CONSTRAINTS, value),
@@ -58,10 +56,9 @@ pub fn put_default<D: DefaultValue<E>, E: Encode + EqualAsSpelled>(
     tag: Tag,
     value: &E,
 ) -> Result<(), EncodeError>
-    ensures done { OnOk result (RowsDone (defaulted tag (E.tree E.CONSTRAINTS D.value) (present_unless (E.eq value.now D.value) (E.tree E.CONSTRAINTS value.now))) NoRows encoder.old encoder.new) }
+    ensures written { WritesRows (defaulted tag (E.tree E.CONSTRAINTS D.value) (present_unless (E.eq value.now D.value) (E.tree E.CONSTRAINTS value.now))) NoRows encoder.old result encoder.new }
     ensures value { E.eq value.now D.value ≡ false → OnOk result (E.IsValue value.now) }
     ensures known { IsDefault (E.tree E.CONSTRAINTS) E.IsValue E.eq D.value }
-    ensures refused { IfErr result (λ x. RowsRefused (defaulted tag (E.tree E.CONSTRAINTS D.value) (present_unless (E.eq value.now D.value) (E.tree E.CONSTRAINTS value.now))) NoRows x encoder.old encoder.new) }
 {
     let is_spelled = !D::is_value(value);
     encoder.encode_optional_in_sequence(tag, is_spelled.then_some(value))
@@ -71,15 +68,14 @@ pub fn put_default<D: DefaultValue<E>, E: Encode + EqualAsSpelled>(
 ///
 /// Refused by what the value is refused by.
 #[inline(always)]
-pub fn put_addition<E: Encode>(
+pub fn put_optional_addition<E: Encode>(
     encoder: &mut Encoder<'_>,
     tag: Tag,
     value: &Option<E>,
 ) -> Result<(), EncodeError>
-    ensures done { OnOk result (RowsDone NoRows (optional tag (slot_of (E.tree E.CONSTRAINTS) value.now)) encoder.old encoder.new) }
-    ensures in_set { encoder.old.frame.is_set ≡ true → OnOk result (SetDone NoRows (optional tag (slot_of (E.tree E.CONSTRAINTS) value.now)) encoder.old encoder.new) }
+    ensures written { WritesRows NoRows (optional tag (slot_of (E.tree E.CONSTRAINTS) value.now)) encoder.old result encoder.new }
+    ensures in_set { InSet NoRows (optional tag (slot_of (E.tree E.CONSTRAINTS) value.now)) encoder.old result encoder.new }
     ensures value { OnOk result (IfSome value.now E.IsValue) }
-    ensures refused { IfErr result (λ x. RowsRefused NoRows (optional tag (slot_of (E.tree E.CONSTRAINTS) value.now)) x encoder.old encoder.new) }
 {
     encoder.encode_optional_addition(tag, value.as_ref())
 }
@@ -88,14 +84,13 @@ pub fn put_addition<E: Encode>(
 ///
 /// Refused by what the value is refused by.
 #[inline(always)]
-pub fn put_added<E: Encode>(
+pub fn put_required_addition<E: Encode>(
     encoder: &mut Encoder<'_>,
     tag: Tag,
     value: &E,
 ) -> Result<(), EncodeError>
-    ensures done { OnOk result (RowsDone NoRows (required tag (E.tree E.CONSTRAINTS value.now)) encoder.old encoder.new) }
+    ensures written { WritesRows NoRows (required tag (E.tree E.CONSTRAINTS value.now)) encoder.old result encoder.new }
     ensures value { OnOk result (E.IsValue value.now) }
-    ensures refused { IfErr result (λ x. RowsRefused NoRows (required tag (E.tree E.CONSTRAINTS value.now)) x encoder.old encoder.new) }
 {
     encoder.encode_optional_addition(tag, Some(value))
 }
@@ -109,10 +104,9 @@ pub fn put_default_addition<D: DefaultValue<E>, E: Encode + EqualAsSpelled>(
     tag: Tag,
     value: &E,
 ) -> Result<(), EncodeError>
-    ensures done { OnOk result (RowsDone NoRows (defaulted tag (E.tree E.CONSTRAINTS D.value) (present_unless (E.eq value.now D.value) (E.tree E.CONSTRAINTS value.now))) encoder.old encoder.new) }
+    ensures written { WritesRows NoRows (defaulted tag (E.tree E.CONSTRAINTS D.value) (present_unless (E.eq value.now D.value) (E.tree E.CONSTRAINTS value.now))) encoder.old result encoder.new }
     ensures value { E.eq value.now D.value ≡ false → OnOk result (E.IsValue value.now) }
     ensures known { IsDefault (E.tree E.CONSTRAINTS) E.IsValue E.eq D.value }
-    ensures refused { IfErr result (λ x. RowsRefused NoRows (defaulted tag (E.tree E.CONSTRAINTS D.value) (present_unless (E.eq value.now D.value) (E.tree E.CONSTRAINTS value.now))) x encoder.old encoder.new) }
 {
     let spelled = if D::is_value(value) {
         None
@@ -127,9 +121,8 @@ pub fn put_default_addition<D: DefaultValue<E>, E: Encode + EqualAsSpelled>(
 /// Refused by what a component of the group is refused by.
 #[inline(always)]
 pub fn put_group<E: Encode>(encoder: &mut Encoder<'_>, value: &Option<E>) -> Result<(), EncodeError>
-    ensures done { OnOk result (RowsDone NoRows (optional E.TAG (slot_of (E.tree E.CONSTRAINTS) value.now)) encoder.old encoder.new) }
+    ensures written { WritesRows NoRows (optional E.TAG (slot_of (E.tree E.CONSTRAINTS) value.now)) encoder.old result encoder.new }
     ensures value { OnOk result (IfSome value.now E.IsValue) }
-    ensures refused { IfErr result (λ x. RowsRefused NoRows (optional E.TAG (slot_of (E.tree E.CONSTRAINTS) value.now)) x encoder.old encoder.new) }
 {
     encoder.encode_extension_addition_group(value.as_ref())
 }

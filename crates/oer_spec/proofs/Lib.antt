@@ -1,3 +1,4 @@
+-- The lemmas that proofs use.
 pub mod Digits
 pub mod Steps
 pub mod Lists

@@ -5,7 +5,7 @@ use Rattle.oer_spec.specs.Encoding.{IsTree}
 use Rattle.oer_spec.specs.Same.{Alike}
 use Rattle.oer_spec.specs.Spelled.{IsAny, integer, integer_is, integers_alike}
 use Rattle.oer_spec.specs.Tree.{Tree, Rows, NoRows, Required, Struct}
-use Rattle.oer_read.specs.Parts.{Parts, NoParts, NeededPart, Admits, AreOf}
+use Rattle.oer_read.specs.Parts.{Parts, NoParts, RequiredPart, Admits, AreOf}
 use Rattle.oer_rows.specs.Integers.{IsWhole, plain_integer}
 use Rattle.oer_rows.specs.Schema.{context}
 use Rattle.oer_types.specs.declared.pairs.Pair.{Pair}
@@ -25,7 +25,7 @@ unfolding pair_tree Rattle.oer_spec.specs.Same.Alike
 pairs_alike p q = (refl, refl, (refl, integers_alike NONE p.a q.a, (refl, integers_alike NONE p.b q.b, tt)), tt)
 
 abbrev pub pair_parts : Parts
-pair_parts = NeededPart (context 0) (Admits plain_integer IsWhole) (NeededPart (context 1) (Admits plain_integer IsWhole) NoParts)
+pair_parts = RequiredPart (context 0) (Admits plain_integer IsWhole) (RequiredPart (context 1) (Admits plain_integer IsWhole) NoParts)
 
 pub pair_made : (p : Pair) → IsAny p → AreOf pair_parts (pair_rows p) × AreOf NoParts NoRows
 pair_made p i = ((refl, (record { value = p.a; is_value = refl; is = refl }), (refl, (record { value = p.b; is_value = refl; is = refl }), tt)), tt)

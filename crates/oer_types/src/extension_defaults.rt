@@ -2,7 +2,7 @@
 ghost use Rattle.rasn_oer.specs.Values.{both};
 ghost use Rattle.std.specs.Prelude.{refl, true, None};
 ghost use Rattle.oer_spec.specs.Spelled.{booleans_same, IsAny, boolean};
-ghost use Rattle.oer_rows.specs.Compared.{needed_same, roots_same, optional_same, tables_same};
+ghost use Rattle.oer_rows.specs.Compared.{required_same, roots_same, optional_same, tables_same};
 ghost use Rattle.std.specs.Bool.{beq};
 
 use crate::components;
@@ -91,7 +91,7 @@ impl DefaultValue<Sequence1> for IsTrueSequence1 {
 
 /// Equal where `a` is.
 impl Compared<1, 0> for components::Sequence1 {
-    ghost decides = { λ v w i j. roots_same _ _ _ _ (needed_same _ _ _ _ (booleans_same v.a w.a)) };
+    ghost decides = { λ v w i j. roots_same _ _ _ _ (required_same _ _ _ _ (booleans_same v.a w.a)) };
 }
 
 impl Rowed for components::Holder1 {
@@ -166,7 +166,7 @@ impl DefaultValue<Sequence5> for IsTrueSequence5 {
 
 /// Equal where `a` and `b` are.
 impl Compared<1, 1> for components::Sequence5 {
-    ghost decides = { λ v w i j. tables_same _ _ _ _ _ _ _ (needed_same _ _ _ _ (booleans_same v.a w.a)) (optional_same boolean IsAny beq (λ a b k l. booleans_same a b) _ _ _ i.1.0 j.1.0) };
+    ghost decides = { λ v w i j. tables_same _ _ _ _ _ _ _ (required_same _ _ _ _ (booleans_same v.a w.a)) (optional_same boolean IsAny beq (λ a b k l. booleans_same a b) _ _ _ i.1.0 j.1.0) };
 }
 
 impl Rowed for components::Holder2 {

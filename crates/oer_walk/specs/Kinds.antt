@@ -18,6 +18,20 @@ kind_numbered n =
     (cond (n == 11) (Some Sequence)
     (cond (n == 12) (Some Choice) None)))))))))))
 
+abbrev pub kind_number : Kind → ℕ
+kind_number Boolean = 0
+kind_number Null = 1
+kind_number FixedInteger = 2
+kind_number Integer = 3
+kind_number Enumerated = 4
+kind_number FixedBitString = 5
+kind_number BitString = 6
+kind_number FixedString = 7
+kind_number String = 8
+kind_number List = 10
+kind_number Sequence = 11
+kind_number Choice = 12
+
 abbrev pub has_parts : Kind → Bool
 has_parts List = true
 has_parts Sequence = true

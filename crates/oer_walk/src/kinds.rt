@@ -1,6 +1,6 @@
 //! The kinds of types, and their numbers in a table.
-ghost use Rattle.std.specs.Prelude.{◌≡◌};
-ghost use Rattle.oer_walk.specs.Kinds.{kind_numbered, has_parts};
+ghost use Rattle.std.specs.Prelude.{◌≡◌, Some};
+ghost use Rattle.oer_walk.specs.Kinds.{kind_number, kind_numbered, has_parts};
 
 /// The kind of a type: how it lies in octets, and what its octets are.
 #[derive(Debug, Clone, Copy, PartialEq, Eq)]
@@ -47,6 +47,27 @@ impl Kind {
             11 => Some(Kind::Sequence),
             12 => Some(Kind::Choice),
             _ => None,
+        }
+    }
+
+    /// The number that stands for this kind in a table, by which `of` finds it.
+    pub fn number(self) -> usize
+        ensures number { result ≡ kind_number self }
+        ensures found { kind_numbered result ≡ Some self }
+    {
+        match self {
+            Kind::Boolean => 0,
+            Kind::Null => 1,
+            Kind::FixedInteger => 2,
+            Kind::Integer => 3,
+            Kind::Enumerated => 4,
+            Kind::FixedBitString => 5,
+            Kind::BitString => 6,
+            Kind::FixedString => 7,
+            Kind::String => 8,
+            Kind::List => 10,
+            Kind::Sequence => 11,
+            Kind::Choice => 12,
         }
     }
 

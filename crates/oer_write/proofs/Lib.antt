@@ -1,3 +1,4 @@
+-- The lemmas that proofs use.
 pub mod Items
 pub mod SequenceRows
 pub mod Refusals

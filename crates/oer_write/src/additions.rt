@@ -9,7 +9,7 @@ ghost use Rattle.oer_spec.specs.Writing.{BeginsWith};
 ghost use Rattle.oer_spec.specs.Tree.{NoRows, Present, Absent, slot_of, present_unless};
 ghost use Rattle.oer_write.specs.Held.{Kept};
 ghost use Rattle.oer_write.specs.Layout.{Ascends};
-ghost use Rattle.oer_write.specs.Rows.{RowsDone, SetDone, RowsRefused, IsOpenEncodable, optional, defaulted, open_type};
+ghost use Rattle.oer_write.specs.Rows.{WritesRows, InSet, RowsRefused, IsOpenEncodable, optional, defaulted, open_type};
 ghost use Rattle.oer_write.specs.Seen.{around, within, IsLaid};
 ghost use Rattle.oer_write.specs.Written.{Keeps, WantsMemory};
 
@@ -167,10 +167,9 @@ impl<'buffer> Encoder<'buffer> {
         tag: Tag,
         value: Option<&E>,
     ) -> Result<(), EncodeError>
-        ensures done { OnOk result (RowsDone NoRows (optional tag (slot_of (λ x. E.tree E.CONSTRAINTS x.now) value.entry)) self.old self.new) }
-        ensures in_set { self.old.frame.is_set ≡ true → OnOk result (SetDone NoRows (optional tag (slot_of (λ x. E.tree E.CONSTRAINTS x.now) value.entry)) self.old self.new) }
+        ensures written { WritesRows NoRows (optional tag (slot_of (λ x. E.tree E.CONSTRAINTS x.now) value.entry)) self.old result self.new }
+        ensures in_set { InSet NoRows (optional tag (slot_of (λ x. E.tree E.CONSTRAINTS x.now) value.entry)) self.old result self.new }
         ensures value { OnOk result (IfSome value.entry (λ x. E.IsValue x.now)) }
-        ensures refused { IfErr result (λ x. RowsRefused NoRows (optional tag (slot_of (λ x. E.tree E.CONSTRAINTS x.now) value.entry)) x self.old self.new) }
     {
         self.add(tag, Own::<E>(PhantomData), value)
     }
@@ -187,10 +186,9 @@ impl<'buffer> Encoder<'buffer> {
         value: Option<&E>,
     ) -> Result<(), EncodeError>
         requires { IsConsistent constraints }
-        ensures done { OnOk result (RowsDone NoRows (optional tag (slot_of (λ x. E.tree constraints x.now) value.entry)) self.old self.new) }
-        ensures in_set { self.old.frame.is_set ≡ true → OnOk result (SetDone NoRows (optional tag (slot_of (λ x. E.tree constraints x.now) value.entry)) self.old self.new) }
+        ensures written { WritesRows NoRows (optional tag (slot_of (λ x. E.tree constraints x.now) value.entry)) self.old result self.new }
+        ensures in_set { InSet NoRows (optional tag (slot_of (λ x. E.tree constraints x.now) value.entry)) self.old result self.new }
         ensures value { OnOk result (IfSome value.entry (λ x. E.IsValue x.now)) }
-        ensures refused { IfErr result (λ x. RowsRefused NoRows (optional tag (slot_of (λ x. E.tree constraints x.now) value.entry)) x self.old self.new) }
     {
         self.add(tag, constraints, value)
     }
@@ -203,10 +201,9 @@ impl<'buffer> Encoder<'buffer> {
         &mut self,
         value: Option<&E>,
     ) -> Result<(), EncodeError>
-        ensures done { OnOk result (RowsDone NoRows (optional E.TAG (slot_of (λ x. E.tree E.CONSTRAINTS x.now) value.entry)) self.old self.new) }
-        ensures in_set { self.old.frame.is_set ≡ true → OnOk result (SetDone NoRows (optional E.TAG (slot_of (λ x. E.tree E.CONSTRAINTS x.now) value.entry)) self.old self.new) }
+        ensures written { WritesRows NoRows (optional E.TAG (slot_of (λ x. E.tree E.CONSTRAINTS x.now) value.entry)) self.old result self.new }
+        ensures in_set { InSet NoRows (optional E.TAG (slot_of (λ x. E.tree E.CONSTRAINTS x.now) value.entry)) self.old result self.new }
         ensures value { OnOk result (IfSome value.entry (λ x. E.IsValue x.now)) }
-        ensures refused { IfErr result (λ x. RowsRefused NoRows (optional E.TAG (slot_of (λ x. E.tree E.CONSTRAINTS x.now) value.entry)) x self.old self.new) }
     {
         self.encode_optional_addition(E::TAG, value)
     }
@@ -223,10 +220,9 @@ impl<'buffer> Encoder<'buffer> {
         default: &E,
     ) -> Result<(), EncodeError>
         requires { IsConsistent constraints }
-        ensures done { OnOk result (RowsDone NoRows (defaulted tag (E.tree constraints default.now) (present_unless (E.eq value.now default.now) (E.tree constraints value.now))) self.old self.new) }
-        ensures in_set { self.old.frame.is_set ≡ true → OnOk result (SetDone NoRows (defaulted tag (E.tree constraints default.now) (present_unless (E.eq value.now default.now) (E.tree constraints value.now))) self.old self.new) }
+        ensures written { WritesRows NoRows (defaulted tag (E.tree constraints default.now) (present_unless (E.eq value.now default.now) (E.tree constraints value.now))) self.old result self.new }
+        ensures in_set { InSet NoRows (defaulted tag (E.tree constraints default.now) (present_unless (E.eq value.now default.now) (E.tree constraints value.now))) self.old result self.new }
         ensures value { E.eq value.now default.now ≡ false → OnOk result (E.IsValue value.now) }
-        ensures refused { IfErr result (λ x. RowsRefused NoRows (defaulted tag (E.tree constraints default.now) (present_unless (E.eq value.now default.now) (E.tree constraints value.now))) x self.old self.new) }
     {
         let spelled = if *value == *default {
             None
@@ -245,10 +241,9 @@ impl<'buffer> Encoder<'buffer> {
         value: Option<&E>,
     ) -> Result<(), EncodeError>
         requires { IsConsistent (C.bounds rule) }
-        ensures done { OnOk result (RowsDone NoRows (optional tag (slot_of (λ x. E.tree (C.bounds rule) x.now) value.entry)) self.old self.new) }
-        ensures in_set { self.old.frame.is_set ≡ true → OnOk result (SetDone NoRows (optional tag (slot_of (λ x. E.tree (C.bounds rule) x.now) value.entry)) self.old self.new) }
+        ensures written { WritesRows NoRows (optional tag (slot_of (λ x. E.tree (C.bounds rule) x.now) value.entry)) self.old result self.new }
+        ensures in_set { InSet NoRows (optional tag (slot_of (λ x. E.tree (C.bounds rule) x.now) value.entry)) self.old result self.new }
         ensures value { OnOk result (IfSome value.entry (λ x. E.IsValue x.now)) }
-        ensures refused { IfErr result (λ x. RowsRefused NoRows (optional tag (slot_of (λ x. E.tree (C.bounds rule) x.now) value.entry)) x self.old self.new) }
     {
         self.scope.bitmap.push(self.alloc, value.is_some())?;
         match value {

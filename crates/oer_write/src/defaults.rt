@@ -2,7 +2,7 @@
 ghost use Rattle.std.specs.Prelude.{◌≡◌, true, false, OnOk, IfErr};
 ghost use Rattle.oer_spec.specs.Spelled.{IsConsistent};
 ghost use Rattle.oer_spec.specs.Tree.{NoRows, present_unless};
-ghost use Rattle.oer_write.specs.Rows.{RowsDone, SetDone, RowsRefused, defaulted};
+ghost use Rattle.oer_write.specs.Rows.{InSequence, InSet, defaulted};
 
 use crate::encode::Encode;
 use crate::encoder::Encoder;
@@ -21,10 +21,9 @@ impl<'buffer> Encoder<'buffer> {
         default: &E,
     ) -> Result<(), EncodeError>
         requires { IsConsistent constraints }
-        ensures in_sequence { self.old.frame.is_set ≡ false → OnOk result (RowsDone (defaulted tag (E.tree constraints default.now) (present_unless (E.eq value.now default.now) (E.tree constraints value.now))) NoRows self.old self.new) }
-        ensures in_set { self.old.frame.is_set ≡ true → OnOk result (SetDone (defaulted tag (E.tree constraints default.now) (present_unless (E.eq value.now default.now) (E.tree constraints value.now))) NoRows self.old self.new) }
+        ensures in_sequence { InSequence (defaulted tag (E.tree constraints default.now) (present_unless (E.eq value.now default.now) (E.tree constraints value.now))) NoRows self.old result self.new }
+        ensures in_set { InSet (defaulted tag (E.tree constraints default.now) (present_unless (E.eq value.now default.now) (E.tree constraints value.now))) NoRows self.old result self.new }
         ensures value { E.eq value.now default.now ≡ false → OnOk result (E.IsValue value.now) }
-        ensures refused { IfErr result (λ x. RowsRefused (defaulted tag (E.tree constraints default.now) (present_unless (E.eq value.now default.now) (E.tree constraints value.now))) NoRows x self.old self.new) }
     {
         if *value == *default {
             self.encode_none_with_tag(tag)
@@ -42,10 +41,9 @@ impl<'buffer> Encoder<'buffer> {
         value: &E,
         default: &E,
     ) -> Result<(), EncodeError>
-        ensures in_sequence { self.old.frame.is_set ≡ false → OnOk result (RowsDone (defaulted E.TAG (E.tree E.CONSTRAINTS default.now) (present_unless (E.eq value.now default.now) (E.tree E.CONSTRAINTS value.now))) NoRows self.old self.new) }
-        ensures in_set { self.old.frame.is_set ≡ true → OnOk result (SetDone (defaulted E.TAG (E.tree E.CONSTRAINTS default.now) (present_unless (E.eq value.now default.now) (E.tree E.CONSTRAINTS value.now))) NoRows self.old self.new) }
+        ensures in_sequence { InSequence (defaulted E.TAG (E.tree E.CONSTRAINTS default.now) (present_unless (E.eq value.now default.now) (E.tree E.CONSTRAINTS value.now))) NoRows self.old result self.new }
+        ensures in_set { InSet (defaulted E.TAG (E.tree E.CONSTRAINTS default.now) (present_unless (E.eq value.now default.now) (E.tree E.CONSTRAINTS value.now))) NoRows self.old result self.new }
         ensures value { E.eq value.now default.now ≡ false → OnOk result (E.IsValue value.now) }
-        ensures refused { IfErr result (λ x. RowsRefused (defaulted E.TAG (E.tree E.CONSTRAINTS default.now) (present_unless (E.eq value.now default.now) (E.tree E.CONSTRAINTS value.now))) NoRows x self.old self.new) }
     {
         self.encode_default_with_tag_and_constraints(E::TAG, E::CONSTRAINTS, value, default)
     }

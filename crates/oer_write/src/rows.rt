@@ -8,7 +8,7 @@ ghost use Rattle.oer_spec.specs.Spelled.{IsConsistent};
 ghost use Rattle.oer_spec.specs.Tree.{NoRows, Present, Absent, slot_of, Tree};
 ghost use Rattle.oer_spec.specs.Failures.{Fails};
 ghost use Rattle.oer_write.specs.Layout.{Adds, Ascends};
-ghost use Rattle.oer_write.specs.Rows.{RowsDone, SetDone, RowsRefused, required, optional};
+ghost use Rattle.oer_write.specs.Rows.{WritesRows, InSequence, InSet, required, optional};
 ghost use Rattle.oer_write.specs.Written.{Keeps, Encodes, Refused, WantsMemory, Written};
 ghost use Rattle.std.specs.Fn.{FnOnceTakesAtMut};
 ghost use Rattle.asn1_core.specs.Octets.{Octets};
@@ -43,9 +43,8 @@ impl<'buffer> Encoder<'buffer> {
         value: &E,
     ) -> Result<(), EncodeError>
         requires { IsConsistent constraints }
-        ensures done { OnOk result (RowsDone (optional tag (Present (E.tree constraints value.now))) NoRows self.old self.new) }
+        ensures written { WritesRows (optional tag (Present (E.tree constraints value.now))) NoRows self.old result self.new }
         ensures value { OnOk result (E.IsValue value.now) }
-        ensures refused { IfErr result (λ x. RowsRefused (optional tag (Present (E.tree constraints value.now))) NoRows x self.old self.new) }
     {
         self.mark(true)?;
         value.encode_with_tag_and_constraints(self, tag, constraints)
@@ -108,10 +107,9 @@ impl<'buffer> Encoder<'buffer> {
         value: &E,
     ) -> Result<(), EncodeError>
         requires { IsConsistent constraints }
-        ensures in_sequence { self.old.frame.is_set ≡ false → OnOk result (RowsDone (required tag (E.tree constraints value.now)) NoRows self.old self.new) }
-        ensures in_set { self.old.frame.is_set ≡ true → OnOk result (SetDone (required tag (E.tree constraints value.now)) NoRows self.old self.new) }
+        ensures in_sequence { InSequence (required tag (E.tree constraints value.now)) NoRows self.old result self.new }
+        ensures in_set { InSet (required tag (E.tree constraints value.now)) NoRows self.old result self.new }
         ensures value { OnOk result (E.IsValue value.now) }
-        ensures refused { IfErr result (λ x. RowsRefused (required tag (E.tree constraints value.now)) NoRows x self.old self.new) }
     {
         if self.scope.is_set {
             return self.keep_component(tag, constraints, false, value);
@@ -131,9 +129,8 @@ impl<'buffer> Encoder<'buffer> {
         tag: Tag,
         value: Option<&E>,
     ) -> Result<(), EncodeError>
-        ensures done { OnOk result (RowsDone (optional tag (slot_of (λ x. E.tree E.CONSTRAINTS x.now) value.entry)) NoRows self.old self.new) }
+        ensures written { WritesRows (optional tag (slot_of (λ x. E.tree E.CONSTRAINTS x.now) value.entry)) NoRows self.old result self.new }
         ensures value { OnOk result (IfSome value.entry (λ x. E.IsValue x.now)) }
-        ensures refused { IfErr result (λ x. RowsRefused (optional tag (slot_of (λ x. E.tree E.CONSTRAINTS x.now) value.entry)) NoRows x self.old self.new) }
     {
         self.mark(value.is_some())?;
         match value {
@@ -153,10 +150,9 @@ impl<'buffer> Encoder<'buffer> {
         value: &E,
     ) -> Result<(), EncodeError>
         requires { IsConsistent constraints }
-        ensures in_sequence { self.old.frame.is_set ≡ false → OnOk result (RowsDone (optional tag (Present (E.tree constraints value.now))) NoRows self.old self.new) }
-        ensures in_set { self.old.frame.is_set ≡ true → OnOk result (SetDone (optional tag (Present (E.tree constraints value.now))) NoRows self.old self.new) }
+        ensures in_sequence { InSequence (optional tag (Present (E.tree constraints value.now))) NoRows self.old result self.new }
+        ensures in_set { InSet (optional tag (Present (E.tree constraints value.now))) NoRows self.old result self.new }
         ensures value { OnOk result (E.IsValue value.now) }
-        ensures refused { IfErr result (λ x. RowsRefused (optional tag (Present (E.tree constraints value.now))) NoRows x self.old self.new) }
     {
         if self.scope.is_set {
             return self.keep_component(tag, constraints, true, value);
@@ -169,10 +165,9 @@ impl<'buffer> Encoder<'buffer> {
     /// Refused by what the value is refused by.
     #[inline(always)]
     pub fn encode_some<E: Encode>(&mut self, value: &E) -> Result<(), EncodeError>
-        ensures in_sequence { self.old.frame.is_set ≡ false → OnOk result (RowsDone (optional E.TAG (Present (E.tree E.CONSTRAINTS value.now))) NoRows self.old self.new) }
-        ensures in_set { self.old.frame.is_set ≡ true → OnOk result (SetDone (optional E.TAG (Present (E.tree E.CONSTRAINTS value.now))) NoRows self.old self.new) }
+        ensures in_sequence { InSequence (optional E.TAG (Present (E.tree E.CONSTRAINTS value.now))) NoRows self.old result self.new }
+        ensures in_set { InSet (optional E.TAG (Present (E.tree E.CONSTRAINTS value.now))) NoRows self.old result self.new }
         ensures value { OnOk result (E.IsValue value.now) }
-        ensures refused { IfErr result (λ x. RowsRefused (optional E.TAG (Present (E.tree E.CONSTRAINTS value.now))) NoRows x self.old self.new) }
     {
         self.encode_some_with_tag_and_constraints(E::TAG, E::CONSTRAINTS, value)
     }
@@ -182,9 +177,8 @@ impl<'buffer> Encoder<'buffer> {
     /// Refused for want of memory alone.
     #[inline(always)]
     pub fn encode_none_with_tag(&mut self, tag: Tag) -> Result<(), EncodeError>
-        ensures in_sequence { self.old.frame.is_set ≡ false → OnOk result (RowsDone (optional tag Absent) NoRows self.old self.new) }
-        ensures in_set { self.old.frame.is_set ≡ true → OnOk result (SetDone (optional tag Absent) NoRows self.old self.new) }
-        ensures refused { IfErr result (λ x. WantsMemory x × Keeps self.old self.new) }
+        ensures in_sequence { InSequence (optional tag Absent) NoRows self.old result self.new }
+        ensures in_set { InSet (optional tag Absent) NoRows self.old result self.new }
     {
         if self.scope.is_set {
             return self.keep_absent(tag);
@@ -198,9 +192,8 @@ impl<'buffer> Encoder<'buffer> {
     /// Refused for want of memory alone.
     #[inline(always)]
     pub fn encode_none<E: Encode>(&mut self) -> Result<(), EncodeError>
-        ensures in_sequence { self.old.frame.is_set ≡ false → OnOk result (RowsDone (optional E.TAG Absent) NoRows self.old self.new) }
-        ensures in_set { self.old.frame.is_set ≡ true → OnOk result (SetDone (optional E.TAG Absent) NoRows self.old self.new) }
-        ensures refused { IfErr result (λ x. WantsMemory x × Keeps self.old self.new) }
+        ensures in_sequence { InSequence (optional E.TAG Absent) NoRows self.old result self.new }
+        ensures in_set { InSet (optional E.TAG Absent) NoRows self.old result self.new }
     {
         self.encode_none_with_tag(E::TAG)
     }
@@ -319,9 +312,8 @@ impl<'buffer> Encoder<'buffer> {
         ensures in_sequence { self.old.frame.is_set ≡ false → OnOk result (PutBy (Promise F.FnOnce f) self.old self.new) }
         ensures in_set { self.old.frame.is_set ≡ true → OnOk result (KeptBy (Promise F.FnOnce f) tag self.old self.new) }
         ensures refused { IfErr result (λ x. ComponentBroken (Promise F.FnOnce f) x self.old self.new) }
-        ensures tree { (t : Tree) → IsKnownToWriteTree (Promise F.FnOnce f) t → self.old.frame.is_set ≡ false → OnOk result (RowsDone (required tag t) NoRows self.old self.new) }
-        ensures tree_in_set { (t : Tree) → IsKnownToWriteTree (Promise F.FnOnce f) t → self.old.frame.is_set ≡ true → OnOk result (SetDone (required tag t) NoRows self.old self.new) }
-        ensures tree_refused { (t : Tree) → IsKnownToWriteTree (Promise F.FnOnce f) t → IfErr result (λ x. RowsRefused (required tag t) NoRows x self.old self.new) }
+        ensures tree { (t : Tree) → IsKnownToWriteTree (Promise F.FnOnce f) t → InSequence (required tag t) NoRows self.old result self.new }
+        ensures tree_in_set { (t : Tree) → IsKnownToWriteTree (Promise F.FnOnce f) t → InSet (required tag t) NoRows self.old result self.new }
     {
         self.component_by(tag, f)
     }

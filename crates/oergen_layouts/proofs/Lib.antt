@@ -1,3 +1,4 @@
+-- The lemmas that proofs use.
 mod Allowed
 mod Digits
 mod Distinct

@@ -1,3 +1,4 @@
+-- The definitions that contracts cite.
 pub mod Enumerations
 pub mod Numbers
 pub mod Preambles

@@ -12,8 +12,8 @@ use Rattle.oergen_parse.specs.declared.ast.Body.{Body}
 use Rattle.oergen_parse.specs.declared.ast.Body.TheVariants.{Integer as IntegerBody, BitString as BitsBody, Simple as SimpleBody}
 use Rattle.oergen_parse.specs.declared.ast.Simple.{Simple}
 use Rattle.oergen_parse.specs.declared.ast.Simple.TheVariants.{Boolean, Null, OctetString, ObjectIdentifier, Utf8String, NumericString, PrintableString, VisibleString, Ia5String, GeneralString, GraphicString, TeletexString, BmpString, UtcTime, GeneralizedTime, Date, Any}
-use Rattle.oergen_tables.specs.Kinds.{kind_number}
-use Rattle.oergen_tables.specs.declared.kinds.Kind.TheVariants.{Boolean as BooleanKind, Null as NullKind, FixedInteger, Integer, FixedBitString, BitString, FixedString, String, Sequence, Choice}
+use Rattle.oer_walk.specs.Kinds.{kind_number}
+use Rattle.oer_walk.specs.declared.kinds.Kind.TheVariants.{Boolean as BooleanKind, Null as NullKind, FixedInteger, Integer, FixedBitString, BitString, FixedString, String, Sequence, Choice}
 use Rattle.oergen_tables.specs.declared.rows.Field.{Field}
 
 -- a number that is a word of a table: below the one that stands for nothing

@@ -1,3 +1,3 @@
+-- The definitions that contracts cite.
 pub mod Forms
-pub mod Kinds
 pub mod Names

@@ -2,9 +2,9 @@
 
 use crate::defaults::default_text;
 use crate::forms::{Entry, Form, Table};
-use crate::kinds::Kind;
 use crate::leaves::{enumerated_form, leaf_form, plain_name};
 use crate::rows::{Addition, Field, choice_form, ordered, sequence_form};
+use oer_walk::Kind;
 use oergen_layouts::definitions::{Definition, Part};
 use oergen_layouts::order::behind_names;
 use oergen_layouts::rows::{Position, Row};

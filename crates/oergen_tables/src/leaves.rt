@@ -5,12 +5,12 @@ ghost use Rattle.oergen_layouts.specs.Enumerations.{AreAllowed, AreNumbersOf, Is
 ghost use Rattle.oergen_parse.specs.declared.ast.Body.{Body};
 ghost use Rattle.oergen_parse.specs.declared.refusal.Refusal.TheVariants.{OutOfMemory};
 ghost use Rattle.oergen_tables.specs.Forms.{AreLeafWords, IsWord, bits_words, fixed_size, integer_words, sizeless_words, string_words, text_number};
-ghost use Rattle.oergen_tables.specs.Kinds.{kind_number};
+ghost use Rattle.oer_walk.specs.Kinds.{kind_number};
 ghost use Rattle.oergen_tables.specs.Names.{IsNamed, IsReadable, shown, value_of};
-ghost use Rattle.oergen_tables.specs.declared.kinds.Kind.TheVariants.{Enumerated};
+ghost use Rattle.oer_walk.specs.declared.kinds.Kind.TheVariants.{Enumerated};
 
 use crate::forms::{Form, ValueName};
-use crate::kinds::Kind;
+use oer_walk::Kind;
 use oergen_layouts::layouts::unit_of;
 use oergen_layouts::numbers::{Spot, enumerated_numbers, names_of, number_of};
 use oergen_layouts::scope::Scope;

@@ -4,7 +4,6 @@
 pub mod builder;
 pub mod defaults;
 pub mod forms;
-pub mod kinds;
 pub mod leaves;
 pub mod rows;
 pub mod tables;

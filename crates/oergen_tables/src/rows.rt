@@ -3,8 +3,8 @@ ghost use Rattle.std.specs.Prelude.{◌≡◌, ◌++◌, IfOk, OnOk, map, string
 ghost use Rattle.oergen_tables.specs.Forms.{alternatives, choice_words, defaults_from, sequence_words};
 
 use crate::forms::{DefaultValue, Form};
-use crate::kinds::Kind;
 use asn1_core::Tag;
+use oer_walk::Kind;
 use oergen_layouts::rows::Position;
 use std::alloc::{AllocError, Global};
 use std::collections::BTreeMap;

@@ -1,2 +1,3 @@
+-- The lemmas that proofs use.
 pub mod Entries
 pub mod Conversions

@@ -16,8 +16,8 @@ decreases-put_list l = 16 * l.levels + 3
 abbrev pub decreases-put_choice : goal.decreases-put_choice
 decreases-put_choice l = 16 * l.levels + 3
 
-abbrev pub decreases-is_standard : goal.decreases-is_standard
-decreases-is_standard l = 16 * l.levels + 2
+abbrev pub decreases-is_default : goal.decreases-is_default
+decreases-is_default l = 16 * l.levels + 2
 
 abbrev pub decreases-component_of : goal.decreases-component_of
 decreases-component_of l = 16 * l.levels + 3

@@ -1,8 +1,8 @@
 use Rattle.std.proofs.Common.{◌≡◌, [], ◌∷◌, map, take}
 use Rattle.std.specs.List.{AllZip}
-use Rattle.oergen_tables.specs.Kinds.{kind_number}
+use Rattle.oer_walk.specs.Kinds.{kind_number}
 use Rattle.oergen_tables.specs.Names.{IsNamed}
-use Rattle.oergen_tables.specs.declared.kinds.Kind.TheVariants.{Enumerated}
+use Rattle.oer_walk.specs.declared.kinds.Kind.TheVariants.{Enumerated}
 use Rattle.oergen_tables.proofs.leaves.enumerated_form.Given as goal
 
 abbrev pub invariant-loop-name : goal.invariant-loop-name
