@@ -58,7 +58,7 @@ TYPES = {
     "MixedSet": Seq([("i", b"\x01\x00"), ("i", OPT), A], ["b"]), "mixset2": Seq([("i", b"\x01\x00"), ("i", OPT), A], ["b", "o"]),
     "seq7": Seq([A], ["b", "b", "i", "group7"]), "group7": Seq([("b", OPT), ("i", b"\x01\x00")]), "bag3": List("seq7"),
     "posbig": "u", "0..i128max": "u", "Positive": "u", "ext1..8": "i", "i16inext1..8": "i", "u128": "i", "Negative<Integer>": "i",
-    "enum4": "e", "Enum3": "e", "bits14": "t", "bits3..6": "s", "octets3..6": "o", "Boxed": "b", "null": "n", "nulls": List("n"),
+    "enum4": "e", "Enum3": "e", "bits14": "t", "bits3..6": "s", "named": "s", "named4..8": "s", "octets3..6": "o", "Boxed": "b", "null": "n", "nulls": List("n"),
     "bmp": "o", "ia5": "o", "numeric": "o", "printable": "o", "visible": "o", "general": "o", "graphic": "o", "teletex": "o",
     "ConstrainedOptions": Seq([(3, OPT)]),
     # integers of fixed width, octets and characters of fixed size

@@ -254,6 +254,7 @@ def methods():
         ("decode_date", "08" + hexed("20240229"), "Date { value: 2024-02-29 }", True),
         ("decode_any", "03616263", octets("abc"), False),
         ("decode_bit_string", "0302ff40", "BitString { octets: [255, 64], bits: 14 }", False),
+        ("decode_named_bits", "020780", "NamedBits { bits: BitString { octets: [128], bits: 1 } }", False),
         ("decode_integer::<Integer>", "0107", number(7), False),
         ("decode_integer::<Integer>", great, number(GREAT), False),
         ("decode_integer::<GreatPositive>", "0107", "ConstrainedInteger { number: %s, range: PhantomData<_> }" % number(7), False),
@@ -304,7 +305,8 @@ def encoder():
     yield Case(("encoder", "codec", "-", ""), "Coer", takes_none=True)
     yield Case(("encoder", "output", "-", ""), "[255]", takes_none=True)
     same = {
-        "bool": "ff", "null": "", "enumerated": "82fc18", "bit_string": "0302ff40", "octet_string": "03616263", "any": "03616263",
+        "bool": "ff", "null": "", "enumerated": "82fc18", "bit_string": "0302ff40", "named_bits": "020780", "octet_string": "03616263",
+        "any": "03616263",
         "object_identifier": "032a9979", "utc_time": "0d" + hexed("191009130005Z"), "generalized_time": "0f" + hexed("20000101000000Z"),
         "date": "08" + hexed("20240229"), "utf8_string": "024142", "bmp_string": "0400410042", "numeric_string": "023132",
         "sequence_of": "010201010102",

@@ -146,7 +146,7 @@ bit_of x (suc (suc (suc (suc (suc (suc zero)))))) l h = refl
 bit_of x (suc (suc (suc (suc (suc (suc (suc zero))))))) l h = let one : x / 1 ≡ x = omega arith in ap (λ z. Some (is_odd z)) (sym one)
 bit_of x (suc (suc (suc (suc (suc (suc (suc (suc i)))))))) l h = absurd (omega arith)
 
-get_in_bits : (o : Octets) (i : ℕ) → i < 8 * length o → slice_get (bits_of o) i ≡ Some (is_odd (get_or o (i / 8) 0 / 2 ^ (7 - i % 8)))
+pub get_in_bits : (o : Octets) (i : ℕ) → i < 8 * length o → slice_get (bits_of o) i ≡ Some (is_odd (get_or o (i / 8) 0 / 2 ^ (7 - i % 8)))
 get_in_bits [] i lt = absurd (omega arith)
 get_in_bits (x ∷ o) (suc (suc (suc (suc (suc (suc (suc (suc i)))))))) lt =
     let place : suc (suc (suc (suc (suc (suc (suc (suc i))))))) / 8 ≡ suc (i / 8) = omega arith in

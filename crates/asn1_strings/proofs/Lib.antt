@@ -4,3 +4,5 @@ pub mod OctetLists
 pub mod CharacterLists
 pub mod IdentifierLists
 pub mod IdentifierSpelling
+pub mod ZeroBits
+pub mod NamedLists

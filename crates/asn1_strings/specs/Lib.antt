@@ -2,3 +2,4 @@
 pub mod BitStrings
 pub mod Characters
 pub mod Identifiers
+pub mod NamedBits

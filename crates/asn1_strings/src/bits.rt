@@ -1,6 +1,7 @@
 //! BIT STRING: bits in whole octets, the first bit highest (X.680, clause 22).
-ghost use Rattle.std.specs.Prelude.{◌≡◌, ◌≢◌, ◌==◌, ◌<◌, ◌≤◌, length, take, if◌then◌else◌, Option, Ok, IfOk, slice_get};
+ghost use Rattle.std.specs.Prelude.{◌≡◌, ◌≢◌, ◌==◌, ◌<◌, ◌≤◌, ◌*◌, length, take, if◌then◌else◌, Option, Ok, IfOk, slice_get};
 ghost use Rattle.asn1_core.specs.Octets.{bits_of, octets_for, octet_of, bits8, pack};
+ghost use Rattle.asn1_strings.specs.NamedBits.{significant, without_zeros};
 
 use asn1_core::{AsnType, Constraints, Tag};
 use std::alloc::{AllocError, Global};
@@ -120,6 +121,32 @@ impl BitString {
     {
         self.octets.as_slice()
     }
+
+    /// The bits without the 0 bits at their end.
+    pub(crate) fn without_zeros(self) -> BitString
+        ensures { result ≡ without_zeros self }
+    {
+        let bits = significant_bits(self.octets.as_slice(), self.bits);
+        let mut octets = self.octets;
+        octets.truncate(bits.div_ceil(8));
+        BitString { octets, bits }
+    }
+}
+
+/// How many of the first `bits` bits of the octets there are up to the last that is set.
+pub fn significant_bits(octets: &[u8], bits: usize) -> usize
+    requires enough { bits ≤ 8 * length octets.now }
+    ensures { result ≡ significant (take bits (bits_of octets.now)) }
+{
+    let mut count = bits;
+    while count > 0 {
+        let last = count - 1;
+        if (octets[last / 8] >> (7 - last % 8)) % 2 == 1 {
+            return count;
+        }
+        count = last;
+    }
+    0
 }
 
 /// The octet with zero bits after the first `bits`.

@@ -6,10 +6,11 @@ mod bmp;
 mod characters;
 mod identifiers;
 pub mod laws;
+mod named_bits;
 mod octets;
 mod strings;
 
-pub use bits::BitString;
+pub use bits::{BitString, significant_bits};
 pub use characters::{
     BmpCharacters, BmpString, GeneralCharacters, GeneralString, GraphicCharacters, GraphicString,
     Ia5Characters, Ia5String, NumericCharacters, NumericString, PrintableCharacters,
@@ -18,5 +19,6 @@ pub use characters::{
 pub use identifiers::{
     ObjectIdentifier, is_identifier, object_identifier_as_bytes, object_identifier_from_bytes,
 };
+pub use named_bits::NamedBits;
 pub use octets::{Any, AnyType, OctetContent, OctetString, OctetStringType, OctetType};
 pub use strings::{CharacterSet, RestrictedString, StringError};

@@ -4,7 +4,7 @@ use Rattle.std.specs.Prelude.{Vec, IsTrue, cond, ◌&&◌, ◌==◌, ℤ}
 use Rattle.std.specs.Result.{IsErrAnd}
 use Rattle.std.proofs.lemmas.Result.{err_from_is_err_and}
 use Rattle.std.specs.declared.alloc.Global.{Global}
-use Rattle.asn1_core.specs.Bounds.{Range}
+use Rattle.asn1_core.specs.Bounds.{Range, Size}
 use Rattle.asn1_core.specs.Octets.{Octets}
 use Rattle.oer_json.specs.Readings.{Reading, Stands, Misfits, Unsaid, boolean_in, null_in, word_of, range_of, allowed, free_range, is_free, counted_of, reading_of_kind, reading_of, Puts, IsWritten, Answers}
 use Rattle.oer_json.specs.Whole.{HasTooManyParts}
@@ -18,11 +18,11 @@ use Rattle.asn1_core.specs.declared.error.EncodeErrorKind.TheVariants.{ValueCons
 use Rattle.asn1_core.specs.declared.error.EncodeErrorKind.TheVariants as encode
 use Rattle.oer_json.specs.declared.refusals.Fault.{Fault}
 use Rattle.oer_json.specs.declared.refusals.Fault.TheVariants as fault
-use Rattle.oer_spec.specs.Failures.{first_failure}
+use Rattle.oer_spec.specs.Failures.{first_bits_failure, first_failure}
 use Rattle.oer_spec.specs.Encoding.{IsTree, IsEncodable, IsEncoding, canonical_octets, fails}
-use Rattle.oer_spec.specs.Leaves.{Failure, BadValue, BadSize, BadTime, TooLong, IsLeaf, unit_of, width_of, leaf_octets, leaf_fails}
+use Rattle.oer_spec.specs.Leaves.{Failure, BadValue, BadSize, BadTime, TooLong, IsLeaf, bits_fail, named_bits, unit_of, width_of, leaf_octets, leaf_fails}
 use Rattle.oer_spec.specs.Mode.{Lenient}
-use Rattle.oer_spec.specs.Tree.{Tree, Primitive, InOctets, Civil, Leaf, Boolean, Null as NullLeaf, Enum, Int, Bits, Text as TextLeaf}
+use Rattle.oer_spec.specs.Tree.{Tree, Primitive, InOctets, Civil, Leaf, Boolean, Null as NullLeaf, Enum, Int, Bits, Named, Text as TextLeaf}
 use Rattle.oer_spec.proofs.Within.{own_sized_within_canonical, canonical_within_lenient}
 use Rattle.oer_spec.proofs.WrittenLeaves.{leaf_form}
 use Rattle.oer_walk.specs.Described.{Describes}
@@ -53,13 +53,17 @@ pub puts_leaf : {T : Type 0} (reading : Reading) (l : Leaf) (x : T) (old new : O
 unfolding canonical_octets fails
 puts_leaf reading l x old new e f h = subst (λ (z : Reading). Puts z (Ok x) old new) (sym e) (f, h)
 
+first_bits : (s : Size) (b : List Bool) (kind : EncodeErrorKind) → first_bits_failure s b ≡ Some kind → ((k : Failure) → bits_fail s b k ≡ false) → ⊥
+first_bits s b kind e f = let a = f BadSize in let c = f TooLong in cc (sym e ∙ ap₂ (λ (x y : Bool). cond x (Some (SizeConstraintNotSatisfied (length b))) (cond y (Some LengthExceedsPlatformSize) None)) a c)
+
 -- a leaf that can't be put there can't be written, or memory was refused
 first_is : (l : Leaf) (kind : EncodeErrorKind) → first_failure l ≡ Some kind → ((k : Failure) → leaf_fails l k ≡ false) → ⊥
 first_is (Boolean b) kind e f = cc
 first_is NullLeaf kind e f = cc
 first_is (Enum n) kind e f = cc
 first_is (Int r n) kind e f = let a = f BadValue in let b = f TooLong in cc (sym e ∙ ap₂ (λ (x y : Bool). cond x (Some ValueConstraintNotSatisfied) (cond y (Some LengthExceedsPlatformSize) None)) a b)
-first_is (Bits s b) kind e f = let a = f BadSize in let c = f TooLong in cc (sym e ∙ ap₂ (λ (x y : Bool). cond x (Some (SizeConstraintNotSatisfied (length b))) (cond y (Some LengthExceedsPlatformSize) None)) a c)
+first_is (Bits s b) kind e f = first_bits s b kind e f
+first_is (Named s b) kind e f = first_bits s (named_bits s b) kind e f
 first_is (TextLeaf r s (InOctets o)) kind e f = let a = f BadSize in let c = f TooLong in cc (sym e ∙ ap₂ (λ (x y : Bool). cond x (Some (SizeConstraintNotSatisfied (length o / unit_of r))) (cond y (Some LengthExceedsPlatformSize) None)) a c)
 first_is (TextLeaf r s (Civil fields)) kind e f = cc (f BadTime)
 

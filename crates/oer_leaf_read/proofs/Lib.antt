@@ -10,6 +10,7 @@ pub mod ReadQuantities
 pub mod ReadIntegers
 pub mod ReadEnumerated
 pub mod ReadBitStrings
+pub mod ReadNamed
 pub mod ReadTexts
 pub mod ReadPlaces
 pub mod ReadValues

@@ -5,9 +5,10 @@ ghost use Rattle.asn1_core.specs.Bounds.{size_bounds};
 ghost use Rattle.oer_spec.specs.Leaves.{IsLeafEncoding};
 ghost use Rattle.oer_spec.specs.Mode.{mode_of};
 ghost use Rattle.oer_spec.specs.Reading.{Gives, seen, ReadsFront, IsNotForMemory};
-ghost use Rattle.oer_spec.specs.ReadingBits.{fixed_bits_at, counted_from, counted_bits_at, bit_string_at};
+ghost use Rattle.oer_spec.specs.ReadingBits.{fixed_bits_at, counted_from, counted_bits_at, bit_string_at, named_bits_at};
 ghost use Rattle.oer_leaf_read.specs.ReadingMemory.{GivesOrMemory};
-ghost use Rattle.oer_spec.specs.Tree.{Bits};
+ghost use Rattle.oer_spec.specs.Tree.{Bits, Named};
+ghost use Rattle.asn1_strings.specs.NamedBits.{IsNamed};
 ghost use Rattle.oer_leaf_read.specs.Views.{bits_in};
 
 use crate::bits::{has_set_fill, is_overfull};
@@ -15,8 +16,8 @@ use crate::lengths::read_length;
 use crate::parts::{read_octet, read_octets, require_canonical};
 use crate::places::refuse_if;
 use asn1_core::{Codec, Constraints, DecodeErrorKind};
-use asn1_strings::BitString;
-use oer_spec::leaf::{octets_for, unused_for};
+use asn1_strings::{BitString, NamedBits, significant_bits};
+use oer_spec::leaf::{least_size, octets_for, unused_for};
 use std::alloc::Global;
 
 /// So many bits in as few octets of the input.
@@ -140,4 +141,42 @@ pub fn read_bit_string(
         input.now (seen (λ x. (x.0, x.1.now)) result) }
 {
     read_owned_bits(alloc, codec, constraints, input)
+}
+
+#[tactic(auto, using(crate::proofs::ReadBitStrings::whole_count), unfolding(oer_spec::specs::ReadingBits::named_bits_at))]
+fn read_owned_named(
+    alloc: Global,
+    codec: Codec,
+    constraints: Constraints,
+    input: &[u8],
+) -> Result<(NamedBits, &[u8]), DecodeErrorKind>
+    ensures { GivesOrMemory (λ x. (x.0, x.1.now)) result (named_bits_at (size_bounds constraints) codec input.now) }
+{
+    let (bits, rest) = read_bits(codec, constraints, input)?;
+    let size = significant_bits(bits.octets, bits.bits).max(least_size(constraints));
+    require_canonical(codec, size < bits.bits)?;
+    let Some(string) = BitString::from_octets(alloc, bits.octets, bits.bits)? else {
+        unreachable!()
+    };
+    Ok((NamedBits::new(string), rest))
+}
+
+/// The BIT STRING with named bits at the front, and what is left (X.680, 22.7, and X.696, 13.3): the bits of a BIT STRING
+/// without the 0 bits at their end.
+///
+/// Refused, the first that applies: as `read_bit_string` without want of memory; in canonical reading a 0 bit at the end
+/// past the least size that the constraint allows, as `NotValidCanonicalEncoding`. Want of memory is tested last, as
+/// `OutOfMemory`.
+pub fn read_named_bits(
+    alloc: Global,
+    codec: Codec,
+    constraints: Constraints,
+    input: &[u8],
+) -> Result<(NamedBits, &[u8]), DecodeErrorKind>
+    ensures function { GivesOrMemory (λ x. (x.0, x.1.now)) result (named_bits_at (size_bounds constraints) codec input.now) }
+    ensures relation { ReadsFront
+        (λ o b. IsLeafEncoding (mode_of codec) o (Named (size_bounds constraints) b) × IsNamed b)
+        input.now (seen (λ x. (x.0, x.1.now)) result) }
+{
+    read_owned_named(alloc, codec, constraints, input)
 }

@@ -21,7 +21,7 @@ mod texts;
 mod times;
 
 pub use bit_slice::BitSlice;
-pub use bit_strings::read_bit_string;
+pub use bit_strings::{read_bit_string, read_named_bits};
 pub use booleans::read_bool;
 pub use enums::read_enumerated;
 pub use identifiers::read_object_identifier;

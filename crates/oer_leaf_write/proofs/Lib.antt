@@ -3,3 +3,4 @@ pub mod Packing
 pub mod WriteTags
 pub mod WriteNumbers
 pub mod WriteEnumerated
+pub mod NamedBits

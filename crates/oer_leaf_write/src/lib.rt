@@ -17,7 +17,7 @@ mod tags;
 mod texts;
 mod times;
 
-pub use bit_strings::write_bit_string;
+pub use bit_strings::{write_bit_string, write_named_bits};
 pub use booleans::write_bool;
 pub use enums::write_enumerated;
 pub use identifiers::write_object_identifier;

@@ -7,13 +7,14 @@ use Rattle.asn1_core.specs.Texts.{Rule, Obeys}
 use Rattle.asn1_core.specs.declared.constraints.Constraints.{Constraints}
 use Rattle.asn1_core.specs.declared.error.DecodeError.{DecodeError}
 use Rattle.asn1_core.specs.declared.error.DecodeErrorKind.{DecodeErrorKind}
+use Rattle.asn1_strings.specs.NamedBits.{IsNamed}
 use Rattle.oer_spec.specs.Encoding.{IsTree}
 use Rattle.oer_spec.specs.Leaves.{IsLeafEncoding, IsText}
 use Rattle.oer_spec.specs.Mode.{Mode, mode_of}
 use Rattle.oer_spec.specs.Reading.{ReadsFront, seen}
 use Rattle.oer_spec.specs.Same.{Alike}
-use Rattle.oer_spec.specs.Spelled.{IsAny, IsTextOf, bit_string, bit_string_is, bit_strings_alike, text, text_is, texts_alike, unsized_text, unsized_text_is, unsized_texts_alike}
-use Rattle.oer_spec.specs.Tree.{Tree, Primitive, Bits, Text, InOctets}
+use Rattle.oer_spec.specs.Spelled.{IsAny, IsTextOf, bit_string, bit_string_is, bit_strings_alike, named_bit_string, named_bit_string_is, named_bit_strings_alike, text, text_is, texts_alike, unsized_text, unsized_text_is, unsized_texts_alike}
+use Rattle.oer_spec.specs.Tree.{Tree, Primitive, Bits, Named, Text, InOctets}
 use Rattle.oer_read.specs.Answers.{Took}
 use Rattle.oer_read.specs.Law.{Decodes}
 use Rattle.oer_read.specs.State.{State}
@@ -68,3 +69,11 @@ unfolding bit_string
 bits_law c old =
     leaf_law (bit_string c) IsAny (λ b. Bits (size_bounds c) b) (λ b. refl) (λ b. b) (λ o b. IsLeafEncoding (mode_of old.codec) o (Bits (size_bounds c) b)) old
     (record { is_tree = λ b i. bit_string_is c b; alike = λ a b i j. bit_strings_alike c a b }) (λ o b l. (tt, l)) (λ o b i l. l)
+
+pub named_bits_law : (c : Constraints) (old : State) (answer : Result (List Bool × Bor (List ℕ)) DecodeErrorKind) (result : Result (List Bool) DecodeError) (new : State)
+    → ReadsFront (λ o b. IsLeafEncoding (mode_of old.codec) o (Named (size_bounds c) b) × IsNamed b) old.input (seen (λ (x : List Bool × Bor (List ℕ)). (x.0, x.1.now)) answer)
+    → Took answer old result new → Decodes (named_bit_string c) IsNamed old result new
+unfolding named_bit_string
+named_bits_law c old =
+    leaf_law (named_bit_string c) IsNamed (λ b. Named (size_bounds c) b) (λ b. refl) (λ b. b) (λ o b. IsLeafEncoding (mode_of old.codec) o (Named (size_bounds c) b) × IsNamed b) old
+    (record { is_tree = λ b i. named_bit_string_is c b i; alike = λ a b i j. named_bit_strings_alike c a b }) (λ o b l. (l.1, l.0)) (λ o b i l. (l, i))

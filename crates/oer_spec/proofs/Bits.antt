@@ -6,6 +6,7 @@ use Rattle.std.proofs.lemmas.Int.Digits.{digits_of_step}
 use Rattle.std.proofs.lemmas.Nat.{div-mul-add, mod-mul-add}
 use Rattle.std.proofs.lemmas.Bool.{eqb-true, eqb-false}
 use Rattle.asn1_core.specs.Octets.{Octets, AreOctets, is_odd, bits8, bits_of, octet_of, pack_into, octets_for, pack, AllFalse}
+use Rattle.asn1_strings.proofs.ZeroBits.{pack_false}
 use Rattle.oer_spec.specs.Lengths.{AreGroups, groups_number, with_top_bits}
 use Rattle.oer_spec.proofs.Unique.{length-bits_of}
 
@@ -28,34 +29,6 @@ octet_bits x b f =
 pack_bits : (c : Octets) → AreOctets c → pack_into (length c) (bits_of c) ≡ c
 pack_bits [] f = refl
 pack_bits (x ∷ c) (f, fs) = ap₂ ◌∷◌ (octet_bits x (bits_of c) f) (pack_bits c fs)
-
--- zero bits at the end change nothing
-get_false : (b u : List Bool) (i : ℕ) → AllFalse u → get_or (b ++ u) i false ≡ get_or b i false
-get_false [] [] i f = refl
-get_false [] (x ∷ u) zero (f, fs) = f
-get_false [] (x ∷ u) (suc i) (f, fs) = get_false [] u i fs
-get_false (y ∷ b) u zero f = refl
-get_false (y ∷ b) u (suc i) f = get_false b u i f
-
-octet_false : (b u : List Bool) → AllFalse u → octet_of (b ++ u) ≡ octet_of b
-octet_false b u f =
-    λ z. cond (get_false b u 0 f z) 1 0 * 128 + cond (get_false b u 1 f z) 1 0 * 64 + cond (get_false b u 2 f z) 1 0 * 32 + cond (get_false b u 3 f z) 1 0 * 16 + cond (get_false b u 4 f z) 1 0 * 8 + cond (get_false b u 5 f z) 1 0 * 4 + cond (get_false b u 6 f z) 1 0 * 2 + cond (get_false b u 7 f z) 1 0
-
-pub drop_nil : (n : ℕ) → drop {A = Bool} n [] ≡ []
-drop_nil zero = refl
-drop_nil (suc n) = refl
-
-drop_false : (n : ℕ) (b u : List Bool) → AllFalse u → (v : List Bool) × AllFalse v × (drop n (b ++ u) ≡ drop n b ++ v)
-drop_false zero b u f = (u, f, refl)
-drop_false (suc n) [] [] f = ([], tt, refl)
-drop_false (suc n) [] (x ∷ u) (f, fs) = let (v, g, e) = drop_false n [] u fs in (v, g, e ∙ ap (λ z. z ++ v) (drop_nil n))
-drop_false (suc n) (y ∷ b) u f = drop_false n b u f
-
-pack_false : (k : ℕ) (b u : List Bool) → AllFalse u → pack_into k (b ++ u) ≡ pack_into k b
-pack_false zero b u f = refl
-pack_false (suc k) b u f =
-    let (v, g, e) = drop_false 8 b u f in
-    ap₂ ◌∷◌ (octet_false b u f) (ap (pack_into k) e ∙ pack_false k (drop 8 b) v g)
 
 octets_count : (c n u : ℕ) → 8 * c ≡ n + u → u < 8 → octets_for n ≡ c
 octets_count c n u e f = omega arith

@@ -15,7 +15,7 @@ use Rattle.oer_spec.specs.Mode.{OwnSized}
 use Rattle.oer_spec.specs.Orders.{Reorders, Stands}
 use Rattle.oer_spec.specs.Places.{Item, IsPreamble, IsAddition, AreAdditions, IsExtension, SpellsStruct, IsInOrder, SpellsList, IsAlternative, SpellsChoice, any_bit, additions_octets, extension_octets, struct_octets, sorted, list_octets, choice_octets, extension_bit, presence, in_writing_order, bodies, needed, present, absent}
 use Rattle.oer_spec.specs.Same.{Same, SameRows, SameSlot, SameTrees, SameReordered, EachTree, OnSlot, StandsIn}
-use Rattle.oer_spec.specs.Tree.{Content, InOctets, Civil, Leaf, Boolean, Null, Enum, Int, Bits, Text, Tree, Primitive, Struct, ListOf, Choice, Rows, NoRows, Required, Optional, Default, Slot, Absent, Present, Trees, NoTrees, More}
+use Rattle.oer_spec.specs.Tree.{Content, InOctets, Civil, Leaf, Boolean, Null, Enum, Int, Bits, Named, Text, Tree, Primitive, Struct, ListOf, Choice, Rows, NoRows, Required, Optional, Default, Slot, Absent, Present, Trees, NoTrees, More}
 use Rattle.oer_spec.proofs.Trees.{EachRow, by_parts}
 use Rattle.oer_spec.proofs.Sorted.{sorted_mixed, sorted_ascends}
 use Rattle.oer_spec.proofs.Lists.{Reorders-length}
@@ -122,6 +122,7 @@ leaf_canonical o Null f = f.1
 leaf_canonical o (Enum n) f = enum_canonical o n f.1
 leaf_canonical o (Int r n) f = int_canonical o (width_of r) n f.1
 leaf_canonical o (Bits s b) f = bits_form_canonical o (fixed_size s) b f.1
+leaf_canonical o (Named s b) f = let (zeros, _, _, spells, least) = f.1 in bits_form_canonical o (fixed_size s) (b ++ zeros) spells ∙ ap (bits_octets (fixed_size s)) least
 leaf_canonical o (Text r s c) f = text_canonical o (fixed_size s) c f.1
 
 -- ---- rows

@@ -1,5 +1,5 @@
 -- Near misses of leaves.
-use Rattle.std.proofs.Common.{◌≡◌, ℕ, ◌<◌, Bool, true, false, List, [], ◌∷◌, ◌++◌, length, inl, inr, refl, sym, ap, subst, arith, ℤ, pos, negsuc, Some, None, append-nil, ◌/◌}
+use Rattle.std.proofs.Common.{◌≡◌, ℕ, ◌<◌, Bool, true, false, not, List, [], ◌∷◌, ◌++◌, length, inl, inr, refl, sym, ap, subst, arith, ℤ, pos, negsuc, Some, None, append-nil, length-append, ◌/◌}
 use Rattle.std.specs.Prelude.{codes}
 use Rattle.std.specs.Str.{chars, is_utf8}
 use Rattle.std.proofs.lemmas.Bool.{not-false}
@@ -7,14 +7,17 @@ use Rattle.std.proofs.lemmas.Str.{IsUtf8-from_is_utf8, is_utf8-from_IsUtf8}
 use Rattle.asn1_core.specs.Octets.{Octets, AreOctets, AllFalse}
 use Rattle.asn1_core.specs.Texts.{Rule, AnyOctets, Utf8, Numeric, Printable, Visible, Ia5, Bmp, Identifier, Utc, Generalized, Date, Obeys}
 use Rattle.asn1_core.specs.Bounds.{size_fits}
+use Rattle.asn1_strings.specs.NamedBits.{significant}
+use Rattle.asn1_strings.proofs.NamedLists.{significant_zeros}
 use Rattle.oer_spec.specs.Encoding.{IsTree, IsEncoding, canonical_octets, levels, fails}
-use Rattle.oer_spec.specs.Examples.{SpellNone, boolean, null, enumerated, integer, integer_from, integer_in, bit_string, bit_string_of, text, text_of}
+use Rattle.oer_spec.specs.Examples.{SpellNone, boolean, null, enumerated, integer, integer_from, integer_in, bit_string, bit_string_of, named, named_within, text, text_of}
 use Rattle.oer_spec.specs.Leaves.{BadValue, BadSize, Counted, IsInteger, IsShort, is_small, leaf_fails}
 use Rattle.oer_spec.specs.Lengths.{IsLength}
 use Rattle.oer_spec.specs.Mode.{Lenient, Canonical}
 use Rattle.oer_spec.specs.NearMisses.{PlainMisses, StringMisses}
-use Rattle.oer_spec.specs.Tree.{Boolean, Enum, Int, Bits, Text, InOctets}
+use Rattle.oer_spec.specs.Tree.{Boolean, Enum, Int, Bits, Named, Text, InOctets}
 use Rattle.oer_spec.proofs.ExampleParts.{are_octets, behind, content, padded, counted_parts, none_fails, spelled}
+use Rattle.oer_spec.proofs.Named.{length_named_bits}
 use Rattle.oer_spec.proofs.Lists.{head_same, not_nil, split_same}
 use Rattle.oer_spec.proofs.UniqueLeaves.{fixed_count}
 
@@ -133,6 +136,27 @@ fixed_fill_bits d w (f, (_, u, _, e, s)) =
     let four : length w ≡ 4 = fixed_count (Some (4, 4)) 4 (length w) (not-false (size_fits (Some (4, 4)) (length w)) (f BadSize)) refl in
     absurd (cc (subst AllFalse (split_same w (false ∷ false ∷ false ∷ true ∷ []) u (false ∷ false ∷ true ∷ true ∷ []) four (sym e)).1 s).1.1.0)
 
+-- eight bits, of which the first alone is set
+zeros_behind : (d : ℕ) (w : List Bool) → IsTree (named w) → IsEncoding Canonical d (0x02 ∷ 0x00 ∷ 0x80 ∷ []) (named w) → ⊥
+unfolding IsEncoding IsTree
+zeros_behind d w i (_, (zeros, f, _, inl (u, g, s), least)) =
+    let p =
+    counted_parts Canonical (0x80 ∷ []) (true ∷ false ∷ false ∷ false ∷ false ∷ false ∷ false ∷ false ∷ []) [] (omega arith) (are_octets (0x00 ∷ 0x80 ∷ []) refl) refl (0x02 ∷ 0x00 ∷ 0x80 ∷ []) [] [] (w ++ zeros) u g refl in
+    let eight : length (w ++ zeros) ≡ 8 = ap length p.0 in
+    let one : significant (w ++ zeros) ≡ 1 = ap significant p.0 in
+    absurd (omega (arith, i, eight, one, significant_zeros w zeros f, ap length least, length_named_bits None w, length-append w zeros))
+zeros_behind d w i (_, (_, _, _, inr (never, _, _), _)) = absurd never
+
+too_few : SpellNone (named_within 4 8) (0x02 ∷ 0x07 ∷ 0x80 ∷ [])
+unfolding IsEncoding
+too_few m d w i (_, (zeros, _, fine, inl (u, g, _), _)) =
+    let p =
+    counted_parts m (0x80 ∷ []) (true ∷ []) (false ∷ false ∷ false ∷ false ∷ false ∷ false ∷ false ∷ []) (omega arith) (are_octets (0x07 ∷ 0x80 ∷ []) refl) refl (0x02 ∷ 0x07 ∷ 0x80 ∷ []) [] [] (w ++ zeros) u g refl in
+    let small : not (size_fits (Some (4, 8)) (length (w ++ zeros))) ≡ true = ap (λ z. not (size_fits (Some (4, 8)) (length z))) p.0 in
+    absurd (cc (fine BadSize, small))
+too_few m d w i (_, (_, _, _, inr (_, b, _), _)) =
+    not_nil 0x07 (0x80 ∷ []) (sym (content m (0x07 ∷ 0x80 ∷ []) (omega arith) (are_octets (0x07 ∷ 0x80 ∷ []) refl) (0x02 ∷ 0x07 ∷ 0x80 ∷ []) [] [] [] b refl).0)
+
 long_length : (l : Octets) → IsLength Lenient l 2 → (IsLength Canonical l 2 → ⊥) → (d : ℕ) (c : Octets) → IsEncoding Canonical d (l ++ (0xAA ∷ 0xBB ∷ [])) (text AnyOctets c) → ⊥
 unfolding IsEncoding
 long_length l f never d c (_, b) = padded l 2 f never (l ++ (0xAA ∷ 0xBB ∷ [])) c [] (0xAA ∷ 0xBB ∷ []) b (append-nil (l ++ (0xAA ∷ 0xBB ∷ [])))
@@ -190,6 +214,22 @@ string_misses = record {
     leniently = (none_fails (leaf_fails (Bits (Some (4, 4)) (false ∷ false ∷ false ∷ true ∷ []))) refl, (are_octets (0x13 ∷ []) refl, false ∷ false ∷ true ∷ true ∷ [], omega arith, refl, tt));
     canonically = λ d w i f. fixed_fill_bits d w f;
   };
+  one_named_bit = spelled (named (true ∷ [])) refl refl refl;
+  named_with_zeros_behind = record {
+    is_tree = refl;
+    leniently = (
+      none_fails (leaf_fails (Named None (true ∷ []))) refl,
+      (
+        false ∷ false ∷ false ∷ false ∷ false ∷ false ∷ false ∷ [],
+        (refl, (refl, (refl, (refl, (refl, (refl, (refl, tt))))))),
+        none_fails (leaf_fails (Bits None (true ∷ false ∷ false ∷ false ∷ false ∷ false ∷ false ∷ false ∷ []))) refl,
+        inl ([], (0x80 ∷ [], behind Lenient (0x00 ∷ 0x80 ∷ []) (omega arith) (are_octets (0x00 ∷ 0x80 ∷ []) refl), omega arith, refl), tt),
+        tt,
+      ),
+    );
+    canonically = λ d w i f. zeros_behind d w i f;
+  };
+  named_below_the_least_size = too_few;
   octets = spelled (text AnyOctets (0xAA ∷ 0xBB ∷ [])) (are_octets (0xAA ∷ 0xBB ∷ []) refl, tt) refl refl;
   octets_with_a_length_in_long_form = record {
     is_tree = (are_octets (0xAA ∷ 0xBB ∷ []) refl, tt);

@@ -4,6 +4,7 @@ pub mod Steps
 pub mod Lists
 pub mod Empties
 pub mod Unique
+pub mod Named
 pub mod UniqueLeaves
 pub mod UniquePlaces
 pub mod Trees

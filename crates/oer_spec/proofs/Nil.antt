@@ -1,15 +1,18 @@
 -- An encoding has octets where what is written has.
 use Rattle.std.proofs.Common.{◌≡◌, ℕ, suc, ◌+◌, ◌-◌, ◌*◌, ◌<◌, Bool, true, false, cond, not, ◌&&◌, List, [], ◌∷◌, ◌++◌, length, inl, inr, refl, sym, ap, ap₂, ◌∙◌, subst, arith, append-nil, ℤ, pos, negsuc, Option, Some, None}
-use Rattle.asn1_core.specs.Bounds.{fixed_size}
+use Rattle.std.proofs.lemmas.Bool.{not-false}
+use Rattle.asn1_core.specs.Bounds.{Size, fixed_size, size_fits}
 use Rattle.asn1_core.specs.Numbers.{low_octets, signed_octets}
 use Rattle.asn1_core.specs.Octets.{Octets, bits_of, pack, octets_for, joined}
 use Rattle.asn1_core.specs.declared.tag.Tag.{Tag}
 use Rattle.oer_spec.specs.Encoding.{IsTree, AreRows, IsEncoding, AreItems, IsItem, canonical_octets, canonical_items, canonical_elements}
-use Rattle.oer_spec.specs.Leaves.{Width, Fixed, Counted, width_of, IsInteger, IsEnumerated, IsBitString, IsText, SpellsLeaf, leaf_octets, int_octets, fixed_octets, enum_octets, bits_octets, text_octets, is_small, counted_octets}
+use Rattle.oer_spec.specs.Leaves.{Width, Fixed, Counted, width_of, IsInteger, IsEnumerated, BadSize, IsBitString, IsNamedBits, IsText, SpellsLeaf, leaf_octets, named_bits, int_octets, fixed_octets, enum_octets, bits_octets, text_octets, is_small, counted_octets}
 use Rattle.oer_spec.specs.Lengths.{IsLength, IsBehindLength, IsTag, behind_length}
 use Rattle.oer_spec.specs.Mode.{Mode}
 use Rattle.oer_spec.specs.Places.{Item, SpellsStruct, SpellsList, SpellsChoice, presence, in_writing_order, bodies, IsExtension}
-use Rattle.oer_spec.specs.Tree.{Content, InOctets, Civil, Leaf, Boolean, Null, Enum, Int, Bits, Text, Tree, Rows, NoRows, Required, Optional, Default, Slot, Absent, Present}
+use Rattle.oer_spec.specs.Tree.{Content, InOctets, Civil, Leaf, Boolean, Null, Enum, Int, Bits, Named, Text, Tree, Rows, NoRows, Required, Optional, Default, Slot, Absent, Present}
+use Rattle.oer_spec.proofs.Named.{whole_size, least_fine}
+use Rattle.oer_spec.proofs.UniqueLeaves.{fixed_count}
 use Rattle.oer_spec.proofs.Unique.{length-bits_of}
 use Rattle.oer_spec.proofs.Trees.{EachRow, by_parts}
 use Rattle.asn1_core.proofs.Complement.{length-complement}
@@ -71,6 +74,23 @@ bits_nil m o (Some n) b (_, u, l, e, _) = pack_nil o b u e l
 bits_nil m o None b (inl (u, (c, a, _, _), _)) = behind_form_some m o (length u ∷ c) a ∙ sym (behind_octets_some ((8 * octets_for (length b) - length b) ∷ pack b))
 bits_nil m o None b (inr (_, a, _)) = behind_form_some m o [] a ∙ sym (behind_octets_some ((8 * octets_for (length b) - length b) ∷ pack b))
 
+packs_nil : (b c : List Bool) → length b ≡ length c → is_nil (pack b) ≡ is_nil (pack c)
+packs_nil [] [] e = refl
+packs_nil [] (y ∷ c) e = absurd (omega arith)
+packs_nil (x ∷ b) [] e = absurd (omega arith)
+packs_nil (x ∷ b) (y ∷ c) e = pack_some x b ∙ sym (pack_some y c)
+
+-- bits of one size
+sized_nil : (s : Option ℕ) (b c : List Bool) → ((n : ℕ) → s ≡ Some n → length b ≡ length c) → is_nil (bits_octets s b) ≡ is_nil (bits_octets s c)
+sized_nil (Some n) b c same = packs_nil b c (same n refl)
+sized_nil None b c same = behind_octets_some ((8 * octets_for (length b) - length b) ∷ pack b) ∙ sym (behind_octets_some ((8 * octets_for (length c) - length c) ∷ pack c))
+
+named_nil : (m : Mode) (o : Octets) (s : Size) (b : List Bool) → IsNamedBits m o s b → is_nil o ≡ is_nil (bits_octets (fixed_size s) (named_bits s b))
+named_nil m o s b (zeros, _, fine, spells, _) =
+    bits_nil m o (fixed_size s) (b ++ zeros) spells
+    ∙ sized_nil (fixed_size s) (b ++ zeros) (named_bits s b)
+    (λ n e. fixed_count s n (length (b ++ zeros)) (whole_size s b zeros fine) e ∙ sym (fixed_count s n (length (named_bits s b)) (not-false (size_fits s (length (named_bits s b))) (least_fine s b zeros fine BadSize)) e))
+
 text_nil : (m : Mode) (o : Octets) (s : Option ℕ) (c : Content) → IsText m o s c → is_nil o ≡ is_nil (text_octets s c)
 text_nil m o (Some n) (InOctets c) f = ap is_nil f.0
 text_nil m o None (InOctets c) f = behind_form_some m o c f ∙ sym (behind_octets_some c)
@@ -82,6 +102,7 @@ leaf_nil m o Null f = ap is_nil f
 leaf_nil m o (Enum n) f = enum_nil m o n f
 leaf_nil m o (Int r n) f = int_nil m o (width_of r) n f
 leaf_nil m o (Bits s b) f = bits_nil m o (fixed_size s) b f
+leaf_nil m o (Named s b) f = named_nil m o s b f
 leaf_nil m o (Text r s c) f = text_nil m o (fixed_size s) c f
 
 -- ---- nodes

@@ -4,11 +4,13 @@ use Rattle.std.proofs.lemmas.Bool.{and_parts, not-false, leb-true, eqb-true}
 use Rattle.asn1_core.specs.Bounds.{fixed_size, size_fits, Size}
 use Rattle.asn1_core.specs.Octets.{Octets}
 use Rattle.asn1_core.specs.Texts.{Rule, Bmp, Obeys}
-use Rattle.oer_spec.specs.Leaves.{BadSize, Width, Fixed, Counted, width_of, IsBoolean, IsInteger, IsEnumerated, IsBitString, IsText, IsLeafEncoding, unit_of, IsLeaf}
+use Rattle.asn1_strings.specs.NamedBits.{IsNamed}
+use Rattle.oer_spec.specs.Leaves.{BadSize, Width, Fixed, Counted, width_of, IsBoolean, IsInteger, IsEnumerated, IsBitString, IsNamedBits, IsText, IsLeafEncoding, unit_of, IsLeaf}
 use Rattle.oer_spec.specs.Mode.{Mode}
 use Rattle.oer_spec.specs.Same.{AlikeLeaf}
-use Rattle.oer_spec.specs.Tree.{Content, InOctets, Civil, Leaf, Boolean, Null, Enum, Int, Bits, Text}
+use Rattle.oer_spec.specs.Tree.{Content, InOctets, Civil, Leaf, Boolean, Null, Enum, Int, Bits, Named, Text}
 use Rattle.oer_spec.proofs.Lists.{head_same, tail_same, not_nil, split_same}
+use Rattle.oer_spec.proofs.Named.{named_unique}
 use Rattle.oer_spec.proofs.Unique.{behind_unique, counted_bits_unique, packed_unique}
 
 boolean_unique : (m : Mode) (o p x y : Octets) (b c : Bool) → IsBoolean m o b → IsBoolean m p c → o ++ x ≡ p ++ y → (o ≡ p) × (b ≡ c)
@@ -76,6 +78,11 @@ bits_leaf_unique m o p x y s b c f g e =
     (λ n h. fixed_count s n (length b) (not-false (size_fits s (length b)) (f.0 BadSize)) h ∙ sym (fixed_count s n (length c) (not-false (size_fits s (length c)) (g.0 BadSize)) h))
     f.1 g.1 e
 
+named_leaf_unique : (m : Mode) (o p x y : Octets) (s : Size) (b c : List Bool) → IsNamed b → IsNamed c → IsNamedBits m o s b → IsNamedBits m p s c → o ++ x ≡ p ++ y → (o ≡ p) × (b ≡ c)
+named_leaf_unique m o p x y s b c i j (zeros, f, fine, spells, _) (others, f', fine', spells', _) e =
+    let r = bits_leaf_unique m o p x y s (b ++ zeros) (c ++ others) (fine, spells) (fine', spells') e in
+    (r.0, named_unique b c zeros others i j f f' r.1)
+
 text_leaf_unique : (m : Mode) (o p x y : Octets) (r : Rule) (s : Size) (c d : Content) → IsLeaf (Text r s c) → IsLeaf (Text r s d) → IsLeafEncoding m o (Text r s c) → IsLeafEncoding m p (Text r s d) → o ++ x ≡ p ++ y → (o ≡ p) × (c ≡ d)
 text_leaf_unique m o p x y r s (Civil c) d i j f g e = absurd (f.1)
 text_leaf_unique m o p x y r s (InOctets c) (Civil d) i j f g e = absurd (g.1)
@@ -95,6 +102,9 @@ leaf_unique m o p x y (Int s n) (Int t k) i j a f g e =
 leaf_unique m o p x y (Bits s b) (Bits t c) i j a f g e =
     let r = bits_leaf_unique m o p x y s b c f (subst (λ q. IsLeafEncoding m p (Bits q c)) (sym a) g) e in
     (r.0, ap₂ Bits a r.1)
+leaf_unique m o p x y (Named s b) (Named t c) i j a f g e =
+    let r = named_leaf_unique m o p x y s b c i j f.1 (subst (λ q. IsNamedBits m p q c) (sym a) g.1) e in
+    (r.0, ap₂ Named a r.1)
 leaf_unique m o p x y (Text w s c) (Text w' t d) i j a f g e =
     let j' : IsLeaf (Text w s d) = subst₂ (λ q z. IsLeaf (Text q z d)) (sym a.0) (sym a.1) j in
     let g' : IsLeafEncoding m p (Text w s d) = subst₂ (λ q z. IsLeafEncoding m p (Text q z d)) (sym a.0) (sym a.1) g in

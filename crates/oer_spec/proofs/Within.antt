@@ -1,5 +1,5 @@
 -- What one mode reads a more lenient one reads.
-use Rattle.std.proofs.Common.{ℕ, ◌-◌, Bool, true, false, List, [], ◌∷◌, length, drop, inl, inr, ℤ, Option, Some, None}
+use Rattle.std.proofs.Common.{ℕ, ◌-◌, Bool, true, false, List, [], ◌∷◌, ◌++◌, length, drop, inl, inr, ℤ, Option, Some, None}
 use Rattle.asn1_core.specs.Bounds.{fixed_size}
 use Rattle.asn1_core.specs.Octets.{Octets}
 use Rattle.asn1_core.specs.Tags.{holds}
@@ -10,7 +10,7 @@ use Rattle.oer_spec.specs.Lengths.{IsLength, IsBehindLength, IsTag, IsOpenType, 
 use Rattle.oer_spec.specs.Mode.{Mode, Lenient, Canonical, OwnSized, InLenient, InStrict, InOwnSized}
 use Rattle.oer_spec.specs.Places.{Item, AreSkipped, IsAddition, AreAdditions, IsExtension, SpellsStruct, IsInOrder, SpellsList, IsAlternative, SpellsChoice}
 use Rattle.oer_spec.specs.Same.{EachTree, OnSlot}
-use Rattle.oer_spec.specs.Tree.{Content, InOctets, Civil, Leaf, Boolean, Null, Enum, Int, Bits, Text, Tree, Rows, NoRows, Required, Optional, Default, Slot, Absent, Present, Trees, NoTrees, More}
+use Rattle.oer_spec.specs.Tree.{Content, InOctets, Civil, Leaf, Boolean, Null, Enum, Int, Bits, Named, Text, Tree, Rows, NoRows, Required, Optional, Default, Slot, Absent, Present, Trees, NoTrees, More}
 use Rattle.oer_spec.proofs.Trees.{EachRow, by_parts}
 
 -- n is as strict as m at most
@@ -68,6 +68,7 @@ module _ (m n : Mode)
   spells_within o (Enum k) f = enum_within o k f
   spells_within o (Int r k) f = int_within o (width_of r) k f
   spells_within o (Bits s b) f = bits_form_within o (fixed_size s) b f
+  spells_within o (Named s b) (zeros, f, fine, spells, e) = (zeros, f, fine, bits_form_within o (fixed_size s) (b ++ zeros) spells, strict _ e)
   spells_within o (Text r s c) f = text_within o (fixed_size s) c f
 
   pub skips_within : (b : List Bool) (o : Octets) → AreSkipped m b o → AreSkipped n b o

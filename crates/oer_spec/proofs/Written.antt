@@ -15,7 +15,8 @@ use Rattle.asn1_core.specs.declared.tag.Tag.{Tag}
 use Rattle.oer_spec.specs.Lengths.{IsLength, IsBehindLength, AreGroups, IsTag, IsOpenType, AreCountedBits, IsQuantity, NoLeadingZero, length_octets, behind_length, quantity_octets, with_top_bits, tag_octets, counted_bits}
 use Rattle.oer_spec.specs.Mode.{OwnSized}
 use Rattle.oer_spec.proofs.Unique.{length-bits_of}
-use Rattle.oer_spec.proofs.Bits.{groups_is, drop_nil}
+use Rattle.asn1_strings.proofs.ZeroBits.{drop_nil}
+use Rattle.oer_spec.proofs.Bits.{groups_is}
 
 -- ---- digits
 first_digit : (n : ℕ) → 0 < n → get_or (digits_of 256 n) 0 0 ≢ 0

@@ -1,5 +1,5 @@
 -- What is written of a leaf is a canonical encoding.
-use Rattle.std.proofs.Common.{◌≡◌, ℕ, zero, suc, ◌+◌, ◌-◌, ◌*◌, ◌/◌, ◌%◌, ◌^◌, ◌<◌, ◌≤◌, Bool, true, false, cond, ◌&&◌, nat_lt, List, [], ◌∷◌, length, get_or, ◌⊎◌, inl, inr, refl, sym, ap, ◌∙◌, subst, arith, ℤ, pos, negsuc, int_le, int_lt, Option, Some, None}
+use Rattle.std.proofs.Common.{◌≡◌, ℕ, zero, suc, ◌+◌, ◌-◌, ◌*◌, ◌/◌, ◌%◌, ◌^◌, ◌<◌, ◌≤◌, Bool, true, false, cond, ◌&&◌, nat_lt, List, [], ◌∷◌, length, replicate, get_or, ◌⊎◌, inl, inr, refl, sym, ap, ◌∙◌, subst, arith, ℤ, pos, negsuc, int_le, int_lt, Option, Some, None}
 use Rattle.std.specs.Prelude.{⊤}
 use Rattle.std.specs.Int.Digits.{digits_of}
 use Rattle.std.proofs.lemmas.Int.{ints}
@@ -9,14 +9,15 @@ use Rattle.asn1_core.specs.Bounds.{in_range, fixed_size, Range}
 use Rattle.asn1_core.specs.Numbers.{number_octets, in_i128, complement, with_sign, low_octets, signed_octets}
 use Rattle.asn1_core.specs.Octets.{Octets, AreOctets, unsigned, signed, usize_max, octets_for}
 use Rattle.asn1_core.specs.Texts.{Rule}
-use Rattle.oer_spec.specs.Leaves.{Width, Fixed, Counted, width_of, signed_width, unsigned_width, holds_signed, IsShort, value_of, fixed_octets, unsigned_octets, counted_octets, int_octets, enum_octets, bits_octets, text_octets, leaf_octets, leaf_fails, count_too_long, string_too_long, is_small, IsInteger, IsEnumerated, IsBitString, IsText, IsLeafEncoding, IsLeaf, Failure, BadValue, BadTime, TooLong}
+use Rattle.oer_spec.specs.Leaves.{Width, Fixed, Counted, width_of, signed_width, unsigned_width, holds_signed, IsShort, value_of, fixed_octets, unsigned_octets, counted_octets, int_octets, enum_octets, bits_octets, text_octets, leaf_octets, leaf_fails, count_too_long, string_too_long, least_size, named_bits, is_small, IsInteger, IsEnumerated, IsBitString, IsText, IsLeafEncoding, IsLeaf, Failure, BadValue, BadTime, TooLong}
 use Rattle.oer_spec.specs.Lengths.{NoLeadingZero, behind_length}
 use Rattle.oer_spec.specs.Mode.{OwnSized}
-use Rattle.oer_spec.specs.Tree.{InOctets, Civil, Leaf, Boolean, Null, Enum, Int, Bits, Text}
+use Rattle.oer_spec.specs.Tree.{InOctets, Civil, Leaf, Boolean, Null, Enum, Int, Bits, Named, Text}
 use Rattle.asn1_core.proofs.Digits.{powers, power_pos, unsigned_cons}
 use Rattle.asn1_core.proofs.Complement.{complement_octets, length-complement, signed_low, signed_high, signed_complement}
 use Rattle.asn1_core.proofs.Fixed.{low_length, low_are_octets, low_value}
 use Rattle.asn1_core.proofs.Shortest.{IsTight, tight_some, signed_octets_are, signed_of_low, signed_of_complement}
+use Rattle.oer_spec.proofs.Named.{all_false}
 use Rattle.oer_spec.proofs.Written.{number_is, behind_form, behind_are_octets, packed_is, counted_bits_form, counted_bits_are_octets, few_digits}
 
 lead_zero : (x p u : ℕ) → 0 < p → x * p + u ≡ u → x ≡ 0
@@ -244,5 +245,9 @@ leaf_form Null i f = ((f, refl), tt)
 leaf_form (Enum n) i f = let r = enum_form n i in ((f, r.0), r.1)
 leaf_form (Int r n) i f = let q = int_form (width_of r) n (holds_width r n (not-false (in_range r n) (f BadValue))) (f TooLong) in ((f, q.0), q.1)
 leaf_form (Bits s b) i f = let q = bits_form (fixed_size s) b (f TooLong) in ((f, q.0), q.1)
+leaf_form (Named s b) i f =
+    let n = least_size s - length b in
+    let q = bits_form (fixed_size s) (named_bits s b) (f TooLong) in
+    ((f, (replicate n false, all_false n, f, q.0, refl)), q.1)
 leaf_form (Text r s (InOctets c)) i f = let q = text_form r (fixed_size s) c i.0 (f TooLong) in ((f, q.0), q.1)
 leaf_form (Text r s (Civil c)) i f = absurd (cc (f BadTime))

@@ -6,7 +6,7 @@ use Rattle.asn1_core.specs.declared.tag.Class.TheVariants.{Application, Context}
 use Rattle.asn1_core.specs.declared.tag.Tag.{Tag}
 use Rattle.oer_spec.specs.Encoding.{IsEncoding, IsTree}
 use Rattle.oer_spec.specs.Mode.{Mode, Lenient, Canonical}
-use Rattle.oer_spec.specs.Tree.{Boolean, Null, Enum, Int, Bits, Text, InOctets, Tree, Primitive, Struct, ListOf, Choice, NoRows, Required, Optional, Default, Slot, Absent, Present, Trees, NoTrees, More}
+use Rattle.oer_spec.specs.Tree.{Boolean, Null, Enum, Int, Bits, Named, Text, InOctets, Tree, Primitive, Struct, ListOf, Choice, NoRows, Required, Optional, Default, Slot, Absent, Present, Trees, NoTrees, More}
 
 -- ---- leaves
 
@@ -38,6 +38,13 @@ bit_string b = Primitive (Bits None b)
 
 abbrev pub bit_string_of : ℕ → List Bool → Tree
 bit_string_of size b = Primitive (Bits (Some (size, size)) b)
+
+-- BIT STRING with named bits, and one of a size from low to high
+abbrev pub named : List Bool → Tree
+named b = Primitive (Named None b)
+
+abbrev pub named_within : ℕ → ℕ → List Bool → Tree
+named_within low high b = Primitive (Named (Some (low, high)) b)
 
 -- octet strings, character strings, identifiers and times by their rule, and those of a fixed size
 abbrev pub text : Rule → Octets → Tree

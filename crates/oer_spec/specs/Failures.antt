@@ -1,10 +1,11 @@
 -- Kinds of refusal in writing, as failures of trees.
-use Rattle.std.specs.Prelude.{◌≡◌, ℕ, ◌/◌, true, cond, ◌⊎◌, length, Option, Some, None}
+use Rattle.std.specs.Prelude.{◌≡◌, ℕ, ◌/◌, Bool, true, cond, List, ◌⊎◌, length, Option, Some, None}
 use Rattle.asn1_core.specs.declared.error.EncodeErrorKind.{EncodeErrorKind}
 use Rattle.asn1_core.specs.declared.error.EncodeErrorKind.TheVariants.{ValueConstraintNotSatisfied, SizeConstraintNotSatisfied, InvalidObjectIdentifier, TimeNotRepresentable, TooManyEmptyElements, LengthExceedsPlatformSize, OutOfMemory}
+use Rattle.asn1_core.specs.Bounds.{Size}
 use Rattle.oer_spec.specs.Encoding.{fails}
-use Rattle.oer_spec.specs.Leaves.{Failure, BadValue, BadSize, BadIdentifier, BadTime, TooManyEmpty, TooLong, leaf_fails, unit_of}
-use Rattle.oer_spec.specs.Tree.{InOctets, Civil, Leaf, Int, Bits, Text, Tree, Primitive, Struct, ListOf, Choice, Rows, NoRows, Required, Optional, Default, Slot, Absent, Present, Trees, NoTrees, More}
+use Rattle.oer_spec.specs.Leaves.{Failure, BadValue, BadSize, BadIdentifier, BadTime, TooManyEmpty, TooLong, bits_fail, leaf_fails, named_bits, unit_of}
+use Rattle.oer_spec.specs.Tree.{InOctets, Civil, Leaf, Int, Bits, Named, Text, Tree, Primitive, Struct, ListOf, Choice, Rows, NoRows, Required, Optional, Default, Slot, Absent, Present, Trees, NoTrees, More}
 
 -- the failure that a kind names; none where memory was refused
 abbrev pub failure_of : EncodeErrorKind → Option Failure
@@ -16,10 +17,14 @@ failure_of TooManyEmptyElements = Some TooManyEmpty
 failure_of LengthExceedsPlatformSize = Some TooLong
 failure_of OutOfMemory = None
 
+abbrev pub first_bits_failure : Size → List Bool → Option EncodeErrorKind
+first_bits_failure s b = cond (bits_fail s b BadSize) (Some (SizeConstraintNotSatisfied (length b))) (cond (bits_fail s b TooLong) (Some LengthExceedsPlatformSize) None)
+
 -- Why a leaf can't be written: a size before a length.
 abbrev pub first_failure : Leaf → Option EncodeErrorKind
 first_failure (Int r n) = cond (leaf_fails (Int r n) BadValue) (Some ValueConstraintNotSatisfied) (cond (leaf_fails (Int r n) TooLong) (Some LengthExceedsPlatformSize) None)
-first_failure (Bits s b) = cond (leaf_fails (Bits s b) BadSize) (Some (SizeConstraintNotSatisfied (length b))) (cond (leaf_fails (Bits s b) TooLong) (Some LengthExceedsPlatformSize) None)
+first_failure (Bits s b) = first_bits_failure s b
+first_failure (Named s b) = first_bits_failure s (named_bits s b)
 first_failure (Text r s (InOctets c)) =
     cond (leaf_fails (Text r s (InOctets c)) BadSize) (Some (SizeConstraintNotSatisfied (length c / unit_of r)))
     (cond (leaf_fails (Text r s (InOctets c)) TooLong) (Some LengthExceedsPlatformSize) None)

@@ -1,13 +1,14 @@
 -- Leaves: why one can't be written, the octets that are written, and the octets that spell one.
-use Rattle.std.specs.Prelude.{◌≡◌, ◌≢◌, ℕ, zero, suc, ◌+◌, ◌-◌, ◌*◌, ◌/◌, ◌%◌, ◌^◌, ◌<◌, ◌≤◌, Bool, true, false, cond, not, ◌&&◌, List, [], ◌∷◌, ◌++◌, length, get_or, map, ◌⊎◌, ⊤, ℤ, pos, negsuc, int_le, int_lt, nat_le, nat_lt, ◌==◌, Option, Some, None}
-use Rattle.asn1_core.specs.Bounds.{Range, fixed_size, in_range, size_fits}
+use Rattle.std.specs.Prelude.{◌≡◌, ◌≢◌, ℕ, zero, suc, ◌+◌, ◌-◌, ◌*◌, ◌/◌, ◌%◌, ◌^◌, ◌<◌, ◌≤◌, Bool, true, false, cond, not, ◌&&◌, List, [], ◌∷◌, ◌++◌, length, replicate, get_or, map, ◌⊎◌, ⊤, ℤ, pos, negsuc, int_le, int_lt, nat_le, nat_lt, ◌==◌, Option, Some, None}
+use Rattle.asn1_core.specs.Bounds.{Range, Size, fixed_size, in_range, size_fits}
 use Rattle.asn1_core.specs.Numbers.{number_octets, signed_octets, low_octets, complement, in_i128, in_isize}
 use Rattle.asn1_core.specs.Octets.{Octets, AreOctets, unsigned, signed, usize_max, bits_of, AllFalse, octets_for, pack}
 use Rattle.asn1_core.specs.Texts.{Rule, Obeys}
 pub use Rattle.asn1_core.specs.Texts.{unit_of}
+use Rattle.asn1_strings.specs.NamedBits.{IsNamed}
 use Rattle.oer_spec.specs.Lengths.{IsBehindLength, AreCountedBits, behind_length, counted_bits}
 use Rattle.oer_spec.specs.Mode.{Mode, InLenient, InStrict}
-use Rattle.oer_spec.specs.Tree.{Content, InOctets, Civil, Leaf, Boolean, Null, Enum, Int, Bits, Text}
+use Rattle.oer_spec.specs.Tree.{Content, InOctets, Civil, Leaf, Boolean, Null, Enum, Int, Bits, Named, Text}
 use Rattle.std.specs.Int.Digits.{digits_of}
 
 -- Why a tree can't be written: a number outside its range, a size outside its bounds, arcs that are no identifier, a time
@@ -70,6 +71,14 @@ abbrev pub bits_octets : Option ℕ → List Bool → Octets
 bits_octets (Some n) b = pack b
 bits_octets None b = counted_bits b
 
+abbrev pub least_size : Size → ℕ
+least_size None = 0
+least_size (Some (low, high)) = low
+
+-- named bits with as many 0 bits as the least size wants (X.680, 22.7; X.696, 13.3)
+abbrev pub named_bits : Size → List Bool → List Bool
+named_bits s b = b ++ replicate (least_size s - length b) false
+
 abbrev pub text_octets : Option ℕ → Content → Octets
 text_octets (Some n) (InOctets c) = c
 text_octets None (InOctets c) = behind_length c
@@ -82,11 +91,13 @@ leaf_octets Null = []
 leaf_octets (Enum n) = enum_octets n
 leaf_octets (Int r n) = int_octets (width_of r) n
 leaf_octets (Bits s b) = bits_octets (fixed_size s) b
+leaf_octets (Named s b) = bits_octets (fixed_size s) (named_bits s b)
 leaf_octets (Text r s c) = text_octets (fixed_size s) c
 
--- What every leaf keeps: an enumerated number is one of isize, and a text obeys its rule.
+-- What every leaf keeps: an enumerated number is one of isize, named bits don't end in a 0 bit, and a text obeys its rule.
 abbrev pub IsLeaf : Leaf → Type 0
 IsLeaf (Enum n) = in_isize n ≡ true
+IsLeaf (Named s b) = IsNamed b
 IsLeaf (Text r s (InOctets c)) = AreOctets c × Obeys r c
 IsLeaf _ = ⊤
 
@@ -101,11 +112,16 @@ abbrev pub string_too_long : Option ℕ → ℕ → Bool
 string_too_long (Some n) k = false
 string_too_long None k = nat_lt (usize_max / 8) k
 
+abbrev pub bits_fail : Size → List Bool → Failure → Bool
+bits_fail s b BadSize = not (size_fits s (length b))
+bits_fail s b TooLong = string_too_long (fixed_size s) (octets_for (length b))
+bits_fail s b _ = false
+
 abbrev pub leaf_fails : Leaf → Failure → Bool
 leaf_fails (Int r n) BadValue = not (in_range r n)
 leaf_fails (Int r n) TooLong = count_too_long (width_of r) n
-leaf_fails (Bits s b) BadSize = not (size_fits s (length b))
-leaf_fails (Bits s b) TooLong = string_too_long (fixed_size s) (octets_for (length b))
+leaf_fails (Bits s b) k = bits_fail s b k
+leaf_fails (Named s b) k = bits_fail s (named_bits s b) k
 leaf_fails (Text r s (InOctets c)) BadSize = not (size_fits s (length c / unit_of r))
 leaf_fails (Text r s (InOctets c)) TooLong = string_too_long (fixed_size s) (length c)
 leaf_fails (Text r s (Civil fields)) BadTime = true
@@ -148,6 +164,13 @@ IsBitString m o None b =
     ((unused : List Bool) × AreCountedBits m o b unused × InStrict m (AllFalse unused))
     ⊎ (InLenient m × IsBehindLength m o [] × (b ≡ []))
 
+-- BIT STRING with named bits (13.3): a bit string of the bits and 0 bits after them, strictly of no more 0 bits than the
+-- least size wants.
+abbrev pub IsNamedBits : Mode → Octets → Size → List Bool → Type 0
+IsNamedBits m o s b =
+    (zeros : List Bool) × AllFalse zeros × ((k : Failure) → bits_fail s (b ++ zeros) k ≡ false) × IsBitString m o (fixed_size s) (b ++ zeros)
+    × InStrict m (b ++ zeros ≡ named_bits s b)
+
 -- Octet strings, character strings, identifiers, times (14, 21, 27, 29): the octets, behind a length where the size isn't fixed.
 abbrev pub IsText : Mode → Octets → Option ℕ → Content → Type 0
 IsText m o (Some n) (InOctets c) = (o ≡ c) × AreOctets c
@@ -161,6 +184,7 @@ SpellsLeaf m o Null = o ≡ []
 SpellsLeaf m o (Enum n) = IsEnumerated m o n
 SpellsLeaf m o (Int r n) = IsInteger m o (width_of r) n
 SpellsLeaf m o (Bits s b) = IsBitString m o (fixed_size s) b
+SpellsLeaf m o (Named s b) = IsNamedBits m o s b
 SpellsLeaf m o (Text r s c) = IsText m o (fixed_size s) c
 
 -- Nothing fails, and the octets spell the leaf.

@@ -2,7 +2,7 @@
 use Rattle.std.specs.Prelude.{true, false, [], ◌∷◌, pos, negsuc, Some, None, codes}
 use Rattle.asn1_core.specs.Texts.{AnyOctets, Utf8, Numeric, Printable, Visible, Ia5, Bmp, Identifier, Utc, Generalized, Date}
 use Rattle.oer_spec.specs.Encoding.{IsEncoding}
-use Rattle.oer_spec.specs.Examples.{IsSpelled, IsSpelledLeniently, SpellNone, boolean, null, enumerated, integer, integer_from, integer_in, bit_string, bit_string_of, text, text_of, context, with_default, first_version, second_version, required_addition, with_group, set_of_two, list_of, set_of, choice, long_tags}
+use Rattle.oer_spec.specs.Examples.{IsSpelled, IsSpelledLeniently, SpellNone, boolean, null, enumerated, integer, integer_from, integer_in, bit_string, bit_string_of, named, named_within, text, text_of, context, with_default, first_version, second_version, required_addition, with_group, set_of_two, list_of, set_of, choice, long_tags}
 use Rattle.oer_spec.specs.Mode.{Mode, Canonical}
 
 -- BOOLEAN, NULL, ENUMERATED and INTEGER (X.696, 9 to 11, 15).
@@ -34,6 +34,9 @@ pub record StringMisses : Type 0 where
   pub eight_unused_bits : SpellNone bit_string (0x02 ∷ 0x08 ∷ 0x00 ∷ [])
   pub four_bits : IsSpelled (0x10 ∷ []) (bit_string_of 4 (false ∷ false ∷ false ∷ true ∷ []))
   pub four_bits_with_fill_bits_set : IsSpelledLeniently (bit_string_of 4) (0x13 ∷ []) (false ∷ false ∷ false ∷ true ∷ [])
+  pub one_named_bit : IsSpelled (0x02 ∷ 0x07 ∷ 0x80 ∷ []) (named (true ∷ []))
+  pub named_with_zeros_behind : IsSpelledLeniently named (0x02 ∷ 0x00 ∷ 0x80 ∷ []) (true ∷ [])
+  pub named_below_the_least_size : SpellNone (named_within 4 8) (0x02 ∷ 0x07 ∷ 0x80 ∷ [])
   pub octets : IsSpelled (0x02 ∷ 0xAA ∷ 0xBB ∷ []) (text AnyOctets (0xAA ∷ 0xBB ∷ []))
   pub octets_with_a_length_in_long_form : IsSpelledLeniently (text AnyOctets) (0x81 ∷ 0x02 ∷ 0xAA ∷ 0xBB ∷ []) (0xAA ∷ 0xBB ∷ [])
   pub octets_with_a_superfluous_octet_in_the_length : IsSpelledLeniently (text AnyOctets) (0x82 ∷ 0x00 ∷ 0x02 ∷ 0xAA ∷ 0xBB ∷ []) (0xAA ∷ 0xBB ∷ [])

@@ -1,11 +1,13 @@
 -- Reading preambles, extension bitmaps, skipped additions and bit strings.
-use Rattle.std.specs.Prelude.{ℕ, ◌-◌, ◌*◌, ◌/◌, ◌==◌, Option, Some, None, Bool, true, false, cond, not, ◌||◌, nat_lt, List, [], ◌∷◌, length, Result, Ok, Err}
+use Rattle.std.specs.Prelude.{ℕ, ◌-◌, ◌*◌, ◌/◌, ◌==◌, max, Option, Some, None, Bool, true, false, cond, not, ◌||◌, nat_lt, List, [], ◌∷◌, length, Result, Ok, Err}
 use Rattle.asn1_core.specs.Bounds.{Size, fixed_size, size_fits}
 use Rattle.asn1_core.specs.Octets.{Octets, octets_for, usize_max}
 use Rattle.asn1_core.specs.declared.codec.Codec.{Codec}
 use Rattle.asn1_core.specs.declared.error.DecodeErrorKind.{DecodeErrorKind}
 use Rattle.asn1_core.specs.declared.error.DecodeErrorKind.TheVariants.{InvalidPreamble, InvalidExtensionHeader, InvalidBitString, LengthExceedsPlatformWidth, SizeConstraintNotSatisfied}
+use Rattle.asn1_strings.specs.NamedBits.{significant, without_zeros}
 use Rattle.oer_spec.specs.Bits.{front_bits, has_set_fill, any_set}
+use Rattle.oer_spec.specs.Leaves.{least_size}
 use Rattle.oer_spec.specs.Reading.{◌>>=◌, ◌>>◌, octet_at, octets_at, canonical, length_at, content_at}
 
 -- a test that refuses by that kind
@@ -89,3 +91,10 @@ sized_bits_at None s codec input = do
 
 unfoldable pub bit_string_at : Size → Codec → Octets → Result (List Bool × Octets) DecodeErrorKind
 bit_string_at s codec input = sized_bits_at (fixed_size s) s codec input
+
+-- named bits (13.3): 0 bits at the end are dropped, of which canonically there are only those that the least size wants
+unfoldable pub named_bits_at : Size → Codec → Octets → Result (List Bool × Octets) DecodeErrorKind
+named_bits_at s codec input = do
+  bits ← bit_string_at s codec input
+  canonical codec (nat_lt (max (significant bits.0) (least_size s)) (length bits.0))
+  Ok (without_zeros bits.0, bits.1)

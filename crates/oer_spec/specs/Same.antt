@@ -1,6 +1,6 @@
 -- Equal trees, and trees that could be of one type.
 use Rattle.std.specs.Prelude.{◌≡◌, true, false, ◌⊎◌, ⊤}
-use Rattle.oer_spec.specs.Tree.{Leaf, Boolean, Null, Enum, Int, Bits, Text, Tree, Primitive, Struct, ListOf, Choice, Rows, NoRows, Required, Optional, Default, Slot, Absent, Present, Trees, NoTrees, More}
+use Rattle.oer_spec.specs.Tree.{Leaf, Boolean, Null, Enum, Int, Bits, Named, Text, Tree, Primitive, Struct, ListOf, Choice, Rows, NoRows, Required, Optional, Default, Slot, Absent, Present, Trees, NoTrees, More}
 
 -- each of the trees, present slots and defaults
 abbrev pub EachTree : (Tree → Type 0) → Trees → Type 0
@@ -53,6 +53,7 @@ AlikeLeaf Null Null = ⊤
 AlikeLeaf (Enum n) (Enum m) = ⊤
 AlikeLeaf (Int r n) (Int r' m) = r ≡ r'
 AlikeLeaf (Bits s b) (Bits s' c) = s ≡ s'
+AlikeLeaf (Named s b) (Named s' c) = s ≡ s'
 AlikeLeaf (Text r s c) (Text r' s' c') = (r ≡ r') × (s ≡ s')
 AlikeLeaf _ _ = ⊥
 

@@ -18,10 +18,11 @@ use Rattle.asn1_times.proofs.TimeTexts.{utc_law, generalized_law, date_law}
 use Rattle.asn1_times.specs.Times.{utc_text, generalized_text, date_text}
 use Rattle.asn1_strings.proofs.IdentifierSpelling.{identifiers_obey, spells_one}
 use Rattle.asn1_strings.specs.Identifiers.{is_identifier, arcs_octets}
+use Rattle.asn1_strings.specs.NamedBits.{IsNamed}
 use Rattle.oer_spec.specs.Encoding.{IsTree, AreTrees}
 use Rattle.oer_spec.specs.Same.{Same, SameTrees, Alike, AlikeTrees, EachTree}
 use Rattle.oer_spec.specs.TimeTexts.{time_content}
-use Rattle.oer_spec.specs.Tree.{Tree, Primitive, Boolean, Null, Enum, Int, Bits, Text, InOctets, ListOf, Trees, NoTrees, More}
+use Rattle.oer_spec.specs.Tree.{Tree, Primitive, Boolean, Null, Enum, Int, Bits, Named, Text, InOctets, ListOf, Trees, NoTrees, More}
 use Rattle.oer_spec.specs.WritingTexts.{identifier_leaf}
 
 -- every range of the constraints holds a number
@@ -54,6 +55,10 @@ integer c n = Primitive (Int (value_bounds c) n)
 -- a bit string under constraints
 unfoldable pub bit_string : Constraints → List Bool → Tree
 bit_string c b = Primitive (Bits (size_bounds c) b)
+
+-- named bits under constraints
+unfoldable pub named_bit_string : Constraints → List Bool → Tree
+named_bit_string c b = Primitive (Named (size_bounds c) b)
 
 -- octets that obey a rule, under constraints; and those whose size no constraint bounds
 unfoldable pub text : Rule → Constraints → Octets → Tree
@@ -137,6 +142,14 @@ pub bit_strings_alike : (c : Constraints) (a b : List Bool) → Alike (bit_strin
 unfolding bit_string Rattle.oer_spec.specs.Same.Alike
 bit_strings_alike c a b = refl
 
+pub named_bit_string_is : (c : Constraints) (b : List Bool) → IsNamed b → IsTree (named_bit_string c b)
+unfolding named_bit_string Rattle.oer_spec.specs.Encoding.IsTree
+named_bit_string_is c b i = i
+
+pub named_bit_strings_alike : (c : Constraints) (a b : List Bool) → Alike (named_bit_string c a) (named_bit_string c b)
+unfolding named_bit_string Rattle.oer_spec.specs.Same.Alike
+named_bit_strings_alike c a b = refl
+
 pub text_is : (r : Rule) (c : Constraints) (o : Octets) → IsTextOf r o → IsTree (text r c o)
 unfolding text Rattle.oer_spec.specs.Encoding.IsTree
 text_is r c o i = (i.octets, i.obeys)
@@ -213,6 +226,11 @@ pub bit_strings_same : (c : Constraints) (a b : List Bool) → Decides (pointwis
 unfolding bit_string Rattle.oer_spec.specs.Same.Same
 bit_strings_same c a b =
     (λ e. ap (Bits (size_bounds c)) ((pointwise_decides booleans_Decides a b).0 e), λ s. (pointwise_decides booleans_Decides a b).1 (cc s))
+
+pub named_bit_strings_same : (c : Constraints) (a b : List Bool) → Decides (pointwise beq a b) (Same (named_bit_string c a) (named_bit_string c b))
+unfolding named_bit_string Rattle.oer_spec.specs.Same.Same
+named_bit_strings_same c a b =
+    (λ e. ap (Named (size_bounds c)) ((pointwise_decides booleans_Decides a b).0 e), λ s. (pointwise_decides booleans_Decides a b).1 (cc s))
 
 pub texts_same : (r : Rule) (c : Constraints) (o p : Octets) → Decides (pointwise nat_eq o p) (Same (text r c o) (text r c p))
 unfolding text Rattle.oer_spec.specs.Same.Same

@@ -17,6 +17,8 @@ pub data Leaf : Type 0 where
   Enum : ℤ → Leaf
   Int : Range → ℤ → Leaf
   Bits : Size → List Bool → Leaf
+  -- bits whose last one, if there is one, is set: 0 bits at the end carry no meaning
+  Named : Size → List Bool → Leaf
   Text : Rule → Size → Content → Leaf
 
 -- Boxes and explicit prefixes are no nodes.

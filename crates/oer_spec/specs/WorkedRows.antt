@@ -2,7 +2,7 @@
 use Rattle.std.specs.Prelude.{◌≡◌, ◌^◌, true, false, [], ◌∷◌, pos, negsuc, Some, None, codes, replicate}
 use Rattle.asn1_core.specs.Texts.{AnyOctets, Utf8, Numeric, Printable, Bmp, Identifier, Utc, Generalized, Date}
 use Rattle.oer_spec.specs.Encoding.{canonical_octets}
-use Rattle.oer_spec.specs.Examples.{boolean, null, enumerated, integer, integer_from, integer_to, integer_in, bit_string, bit_string_of, text, text_of, context, pair, two_optional, with_default, first_version, second_version, required_addition, nested_addition, with_group, additions_alone, second_held, set, set_of_two, list_of, set_of, choice, long_tags}
+use Rattle.oer_spec.specs.Examples.{boolean, null, enumerated, integer, integer_from, integer_to, integer_in, bit_string, bit_string_of, named, named_within, text, text_of, context, pair, two_optional, with_default, first_version, second_version, required_addition, nested_addition, with_group, additions_alone, second_held, set, set_of_two, list_of, set_of, choice, long_tags}
 
 -- BOOLEAN, NULL, ENUMERATED and INTEGER (X.696, 9 to 11, 15).
 pub record PlainRows : Type 0 where
@@ -36,6 +36,10 @@ pub record StringRows : Type 0 where
   pub bits : canonical_octets (bit_string (true ∷ true ∷ true ∷ true ∷ true ∷ true ∷ true ∷ true ∷ false ∷ true ∷ [])) ≡ 0x03 ∷ 0x06 ∷ 0xFF ∷ 0x40 ∷ []
   pub no_bits : canonical_octets (bit_string []) ≡ 0x01 ∷ 0x00 ∷ []
   pub ten_bits : canonical_octets (bit_string_of 10 (true ∷ true ∷ true ∷ true ∷ true ∷ true ∷ true ∷ true ∷ false ∷ true ∷ [])) ≡ 0xFF ∷ 0x40 ∷ []
+  pub one_named_bit : canonical_octets (named (true ∷ [])) ≡ 0x02 ∷ 0x07 ∷ 0x80 ∷ []
+  pub no_named_bit : canonical_octets (named []) ≡ 0x01 ∷ 0x00 ∷ []
+  -- with 0 bits up to the least size
+  pub one_named_bit_of_four : canonical_octets (named_within 4 8 (true ∷ [])) ≡ 0x02 ∷ 0x04 ∷ 0x80 ∷ []
   pub octets : canonical_octets (text AnyOctets (0xAA ∷ 0xBB ∷ [])) ≡ 0x02 ∷ 0xAA ∷ 0xBB ∷ []
   pub two_octets : canonical_octets (text_of AnyOctets 2 (0xAA ∷ 0xBB ∷ [])) ≡ 0xAA ∷ 0xBB ∷ []
   -- a length of 128 and more in the long form

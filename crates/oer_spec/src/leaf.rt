@@ -4,6 +4,6 @@ mod bits;
 mod time_type;
 mod widths;
 
-pub use bits::{octets_for, unused_for};
+pub use bits::{least_size, octets_for, unused_for};
 pub use time_type::TimeType;
 pub use widths::{IntegerWidth, is_in_range, width_of};

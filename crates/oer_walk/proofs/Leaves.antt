@@ -13,7 +13,8 @@ use Rattle.oer_spec.specs.Leaves.{Width, Fixed as FixedWidth, Counted as Counted
 use Rattle.oer_spec.specs.Lengths.{IsBehindLength}
 use Rattle.oer_spec.specs.Mode.{Lenient}
 use Rattle.oer_spec.specs.Reading.{◌>>=◌, octets_at, length_at, content_at}
-use Rattle.oer_spec.specs.Tree.{Content, InOctets, Civil, Leaf, Boolean, Null, Enum, Int, Bits, Text}
+use Rattle.oer_spec.specs.Tree.{Content, InOctets, Civil, Leaf, Boolean, Null, Enum, Int, Bits, Named, Text}
+use Rattle.oer_spec.proofs.Named.{whole_size}
 use Rattle.oer_spec.proofs.Steps.{bind_ok, octets_again}
 use Rattle.oer_walk.specs.Forms.{width_form, bits_form, units_form, leaf_form}
 use Rattle.oer_walk.specs.Walks.{behind_length_at, leaf_at}
@@ -78,6 +79,9 @@ leaf_taken Null o rest i h = fixed_taken 0 o rest (ap length h.1)
 leaf_taken (Enum n) o rest i h = (o ++ rest, rw ((enumerated_reads Oer).again o rest n (i, h)) refl)
 leaf_taken (Int r n) o rest i h = width_taken (width_of r) n o rest h.1
 leaf_taken (Bits s b) o rest i h = bits_taken (fixed_size s) b o rest (λ n f. fixed_only s n (length b) f (not_not (size_fits s (length b)) (h.0 BadSize))) h.1
+leaf_taken (Named s b) o rest i h =
+    let (zeros, _, fine, spells, _) = h.1 in
+    bits_taken (fixed_size s) (b ++ zeros) o rest (λ n f. fixed_only s n (length (b ++ zeros)) f (whole_size s b zeros fine)) spells
 leaf_taken (Text r s (InOctets c)) o rest i h =
     text_taken (fixed_size s) (unit_of r) (InOctets c) o rest (λ n d f same. let e : c ≡ d = cc same in ap length (sym e) ∙ units r c n i.1 (fixed_only s n (length c / unit_of r) f (not_not (size_fits s (length c / unit_of r)) (h.0 BadSize)))) h.1
 leaf_taken (Text r s (Civil fields)) o rest i h = absurd (no_civil (fixed_size s) h.1)

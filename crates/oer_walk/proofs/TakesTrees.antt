@@ -21,7 +21,7 @@ use Rattle.oer_spec.specs.Places.{Item, present, presence, bodies, extension_bit
 use Rattle.oer_spec.specs.Reading.{◌>>=◌, quantity_at}
 use Rattle.oer_spec.specs.ReadingBits.{preamble_at, bitmap_at}
 use Rattle.oer_spec.specs.Same.{EachTree, OnSlot}
-use Rattle.oer_spec.specs.Tree.{Leaf, Boolean, Null, Enum, Int, Bits, Text, Tree, Primitive, Struct, ListOf, Choice as ChoiceTree, Rows, NoRows, Required, Optional, Default, Slot, Absent, Present, Trees, NoTrees, More}
+use Rattle.oer_spec.specs.Tree.{Leaf, Boolean, Null, Enum, Int, Bits, Named, Text, Tree, Primitive, Struct, ListOf, Choice as ChoiceTree, Rows, NoRows, Required, Optional, Default, Slot, Absent, Present, Trees, NoTrees, More}
 use Rattle.oer_spec.proofs.Empties.{reordered_empties}
 use Rattle.oer_spec.proofs.Lists.{Reorders-refl, Reorders-length, Reorders-all}
 use Rattle.oer_spec.proofs.Nil.{nil_alike}
@@ -66,6 +66,7 @@ leaf_is Null = refl
 leaf_is (Enum n) = refl
 leaf_is (Int r n) = width_is (width_of r)
 leaf_is (Bits s b) = bits_is _
+leaf_is (Named s b) = bits_is _
 leaf_is (Text r s c) = units_is (unit_of r) _
 
 -- as many elements have no octets as are written without

@@ -3,7 +3,7 @@ use Rattle.std.specs.Prelude.{ℕ, ◌*◌, Option, Some, None}
 use Rattle.asn1_core.specs.Bounds.{fixed_size}
 use Rattle.asn1_core.specs.Octets.{octets_for}
 use Rattle.oer_spec.specs.Leaves.{Width, Fixed as FixedWidth, Counted as CountedWidth, width_of, unit_of}
-use Rattle.oer_spec.specs.Tree.{Leaf, Boolean, Null, Enum, Int, Bits, Text}
+use Rattle.oer_spec.specs.Tree.{Leaf, Boolean, Null, Enum, Int, Bits, Named, Text}
 use Rattle.oer_walk.specs.declared.table.Form.{Form}
 use Rattle.oer_walk.specs.declared.table.Form.TheVariants.{Fixed, Counted, Enumerated}
 
@@ -26,4 +26,5 @@ leaf_form Null = Fixed 0
 leaf_form (Enum n) = Enumerated
 leaf_form (Int r n) = width_form (width_of r)
 leaf_form (Bits s b) = bits_form (fixed_size s)
+leaf_form (Named s b) = bits_form (fixed_size s)
 leaf_form (Text r s c) = units_form (unit_of r) (fixed_size s)

@@ -11,10 +11,10 @@ use Rattle.asn1_core.specs.declared.error.EncodeErrorKind.{EncodeErrorKind}
 use Rattle.asn1_core.specs.declared.error.EncodeErrorKind.TheVariants.{ValueConstraintNotSatisfied, SizeConstraintNotSatisfied, InvalidObjectIdentifier, TimeNotRepresentable, LengthExceedsPlatformSize}
 use Rattle.oer_spec.specs.Encoding.{fails}
 use Rattle.oer_spec.specs.Failures.{Fails, SizeFails, failure_of, first_failure}
-use Rattle.oer_spec.specs.Leaves.{Failure, BadValue, BadSize, BadTime, TooLong, leaf_fails, unit_of}
-use Rattle.oer_spec.specs.Spelled.{IsIdentifier, bit_string, identifier, integer, text, time, unsized_text}
+use Rattle.oer_spec.specs.Leaves.{Failure, BadValue, BadSize, BadTime, TooLong, leaf_fails, named_bits, unit_of}
+use Rattle.oer_spec.specs.Spelled.{IsIdentifier, bit_string, identifier, integer, named_bit_string, text, time, unsized_text}
 use Rattle.oer_spec.specs.TimeTexts.{time_content}
-use Rattle.oer_spec.specs.Tree.{Leaf, Boolean, Null, Enum, Int, Bits, Text, InOctets, Civil, Primitive}
+use Rattle.oer_spec.specs.Tree.{Leaf, Boolean, Null, Enum, Int, Bits, Named, Text, InOctets, Civil, Primitive}
 use Rattle.oer_spec.specs.WritingTexts.{identifier_leaf}
 use Rattle.oer_write.specs.Written as state
 
@@ -33,6 +33,7 @@ first_leaf_fails Null kind e = absurd cc
 first_leaf_fails (Enum n) kind e = absurd cc
 first_leaf_fails (Int r n) kind e = first_of_two (Int r n) BadValue TooLong ValueConstraintNotSatisfied LengthExceedsPlatformSize kind refl refl _ _ refl refl e
 first_leaf_fails (Bits s b) kind e = first_of_two (Bits s b) BadSize TooLong (SizeConstraintNotSatisfied (length b)) LengthExceedsPlatformSize kind refl refl _ _ refl refl e
+first_leaf_fails (Named s b) kind e = first_of_two (Named s b) BadSize TooLong (SizeConstraintNotSatisfied (length (named_bits s b))) LengthExceedsPlatformSize kind refl refl _ _ refl refl e
 first_leaf_fails (Text r s (InOctets c)) kind e = first_of_two (Text r s (InOctets c)) BadSize TooLong (SizeConstraintNotSatisfied (length c / unit_of r)) LengthExceedsPlatformSize kind refl refl _ _ refl refl e
 first_leaf_fails (Text r s (Civil fields)) kind e = let same : TimeNotRepresentable ≡ kind = cc in (BadTime, ap failure_of (sym same), refl)
 
@@ -57,6 +58,10 @@ integer_by_law r c n e e' h = by_law r (Int (value_bounds c) n) e e' h
 pub bit_string_by_law : (r : Result (Unit {0}) EncodeError) (c : Constraints) (b : List Bool) (e e' : state.Written) → IfErr r (λ x. state.RefusedLeaf (Bits (size_bounds c) b) x e e') → IfErr r (λ x. state.Refused (bit_string c b) x e e')
 unfolding bit_string
 bit_string_by_law r c b e e' h = by_law r (Bits (size_bounds c) b) e e' h
+
+pub named_bits_by_law : (r : Result (Unit {0}) EncodeError) (c : Constraints) (b : List Bool) (e e' : state.Written) → IfErr r (λ x. state.RefusedLeaf (Named (size_bounds c) b) x e e') → IfErr r (λ x. state.Refused (named_bit_string c b) x e e')
+unfolding named_bit_string
+named_bits_by_law r c b e e' h = by_law r (Named (size_bounds c) b) e e' h
 
 pub text_by_law : (r : Result (Unit {0}) EncodeError) (rule : Rule) (c : Constraints) (o : Octets) (e e' : state.Written) → IfErr r (λ x. state.RefusedLeaf (Text rule (size_bounds c) (InOctets o)) x e e') → IfErr r (λ x. state.Refused (text rule c o) x e e')
 unfolding text

@@ -3,8 +3,8 @@ use crate::known::{OnType, with_type};
 use asn1_core::{AsnType, Bounded, Constraints, SetOf};
 use asn1_ints::Integer;
 use asn1_strings::{
-    Any, BitString, BmpString, GeneralString, GraphicString, Ia5String, NumericString, OctetString,
-    PrintableString, TeletexString, VisibleString,
+    Any, BitString, BmpString, GeneralString, GraphicString, Ia5String, NamedBits, NumericString,
+    OctetString, PrintableString, TeletexString, VisibleString,
 };
 use oer_types::{
     AddDef, AllDefault, AllOptional, BoolChoice, Bush, Chain, ConstrainedOptions, Enum3, HashedId3,
@@ -156,6 +156,8 @@ pub fn with_word<W: UnderConstraints + Drop>(word: &str, work: W) -> Option<W::O
         "octets3..6" => Some(work.under::<OctetString>(sizes(3, 6))),
         "bits3..6" => Some(work.under::<BitString>(sizes(3, 6))),
         "bits14" => Some(work.under::<BitString>(sizes(14, 14))),
+        "named" => Some(work.under::<NamedBits>(Constraints::NONE)),
+        "named4..8" => Some(work.under::<NamedBits>(sizes(4, 8))),
         "utf8of3" => Some(work.under::<String>(sizes(3, 3))),
         "bmpof2" => Some(work.under::<BmpString>(sizes(2, 2))),
         _ => with_text(word, work),

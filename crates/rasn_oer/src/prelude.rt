@@ -32,6 +32,7 @@ pub use asn1_base::GeneralString;
 pub use asn1_base::GeneralizedTime;
 pub use asn1_base::GraphicString;
 pub use asn1_base::Ia5String;
+pub use asn1_base::NamedBits;
 pub use asn1_base::NumericString;
 pub use asn1_base::ObjectIdentifier;
 pub use asn1_base::OctetString;

@@ -24,6 +24,10 @@ fn with_memory(call: Call<'_>, d: &mut Decoder<'_>) -> Result<Option<String>> {
             let it = d.decode_bit_string(alloc, Tag::BIT_STRING, NONE);
             left(alloc, d, &it)?
         }
+        "decode_named_bits" => {
+            let it = d.decode_named_bits(alloc, Tag::BIT_STRING, NONE);
+            left(alloc, d, &it)?
+        }
         "decode_integer::<Integer>" => return number::<Integer>(call, d),
         _ => return further_with_memory(call, d),
     };

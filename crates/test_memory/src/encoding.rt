@@ -58,6 +58,11 @@ fn numbers_and_strings(
             begin(alloc)?;
             e.encode_bit_string(Tag::BIT_STRING, NONE, &value)
         }
+        "encode_named_bits" => {
+            let value = d.decode_named_bits(alloc, Tag::BIT_STRING, NONE)?;
+            begin(alloc)?;
+            e.encode_named_bits(Tag::BIT_STRING, NONE, &value)
+        }
         "encode_octet_string" => {
             let value = d.decode_octet_string(Tag::OCTET_STRING, NONE)?;
             begin(alloc)?;

@@ -5,10 +5,10 @@ use asn1_base::{
     Ia5String, UtcTime,
 };
 use oer_forms::leaf::{
-    TimeType, read_any, read_bit_string, read_bitmap, read_object_identifier, read_octet_string,
-    read_preamble, read_text, read_time, read_utf8, skip_additions, write_any, write_bit_string,
-    write_bitmap, write_object_identifier, write_octet_string, write_preamble, write_text,
-    write_time, write_utf8,
+    TimeType, read_any, read_bit_string, read_bitmap, read_named_bits, read_object_identifier,
+    read_octet_string, read_preamble, read_text, read_time, read_utf8, skip_additions, write_any,
+    write_bit_string, write_bitmap, write_named_bits, write_object_identifier, write_octet_string,
+    write_preamble, write_text, write_time, write_utf8,
 };
 use std::alloc::Global;
 use std::fmt::Debug;
@@ -79,6 +79,13 @@ fn owned(word: &str, input: Input<'_>) -> Result<String, Fail> {
             }
             Err(kind) => refused(alloc, &kind),
         },
+        "named" => match read_named_bits(alloc, codec, constraints, input.octets) {
+            Ok((value, rest)) => {
+                let written = write_named_bits(constraints, &value, &mut out);
+                told(alloc, &value.len(), rest, written, out.as_slice())
+            }
+            Err(kind) => refused(alloc, &kind),
+        },
         _ => match read_object_identifier(alloc, codec, input.octets) {
             Ok((value, rest)) => {
                 let written = write_object_identifier(value.arcs(), &mut out);
@@ -139,7 +146,7 @@ fn answer(word: &str, input: Input<'_>) -> Result<String, Fail> {
     match word {
         "octets" | "any" | "utf8" => octets(word, input),
         "bmp" | "ia5" => characters(word, input),
-        "bits" | "oid" => owned(word, input),
+        "bits" | "named" | "oid" => owned(word, input),
         "utctime" => time::<UtcTime>(input),
         "gentime" => time::<GeneralizedTime>(input),
         "date" => time::<Date>(input),
@@ -168,6 +175,31 @@ oer+coer bits - 0302ff40ff40 => 14;ff40;0302ff40\n\
 oer+coer bits 14..14 ff40 => 14;;ff40\n\
 oer bits - 02041f => 4;;020410\n\
 coer bits - 02041f => NotValidCanonicalEncoding\n\
+oer+coer named - 020780ff => 1;ff;020780\n\
+oer+coer named - 0100 => 0;;0100\n\
+oer named - 0302ff40 => 10;;0306ff40\n\
+coer named - 0302ff40 => NotValidCanonicalEncoding\n\
+oer named - 020080 => 1;;020780\n\
+coer named - 020080 => NotValidCanonicalEncoding\n\
+oer named - 03008000 => 1;;020780\n\
+coer named - 03008000 => NotValidCanonicalEncoding\n\
+oer named - 020700 => 0;;0100\n\
+coer named - 020700 => NotValidCanonicalEncoding\n\
+oer named - 00 => 0;;0100\n\
+coer named - 00 => NotValidCanonicalEncoding\n\
+oer named - 02041f => 4;;020410\n\
+coer named - 02041f => NotValidCanonicalEncoding\n\
+oer+coer named - 020880 => InvalidBitString\n\
+oer+coer named 4..8 020480 => 1;;020480\n\
+oer+coer named 4..8 020400 => 0;;020400\n\
+oer+coer named 4..8 0203f8 => 5;;0203f8\n\
+oer named 4..8 020080 => 1;;020480\n\
+coer named 4..8 020080 => NotValidCanonicalEncoding\n\
+oer+coer named 4..8 020780 => SizeConstraintNotSatisfied { size: 1 }\n\
+oer+coer named 4..8 0307ff80 => SizeConstraintNotSatisfied { size: 9 }\n\
+oer+coer named 12..20 03048000 => 1;;03048000\n\
+oer+coer named 14..14 8000 => 1;;8000\n\
+oer+coer named 14..14 ff40 => 10;;ff40\n\
 oer+coer oid - 032a9979 => [1, 2, 3321];;032a9979\n\
 oer+coer oid - 05908080804f => [2, 4294967295];;05908080804f\n\
 oer+coer oid - 059080808050 => InvalidObjectIdentifier\n\

@@ -1,9 +1,9 @@
 //! Tests of the values of object identifiers, bit strings, octets, character strings and times.
 use asn1_base::{
     Any, BitString, BmpString, Codec, Date, GeneralString, GeneralizedTime, GraphicString,
-    Ia5String, NumericString, ObjectIdentifier, OctetString, PrintableString, StringError,
-    TeletexString, TimeError, TimeText, UtcTime, VisibleString, object_identifier_as_bytes,
-    object_identifier_from_bytes,
+    Ia5String, NamedBits, NumericString, ObjectIdentifier, OctetString, PrintableString,
+    StringError, TeletexString, TimeError, TimeText, UtcTime, VisibleString,
+    object_identifier_as_bytes, object_identifier_from_bytes,
 };
 use std::alloc::Global;
 use std::fmt::Debug;
@@ -107,6 +107,35 @@ fn bits_are_kept(rt: HostRuntime) -> Result<(), Fail> {
     for line in BITS.split('\n') {
         let (row, kept) = line.split_once(" => ").unwrap_or((line, ""));
         assert_eq!(rt; bits_of(rt.alloc(), row)?.as_str(), kept, "at {row}");
+    }
+    Ok(())
+}
+
+/// A count of bits and octets; the octets of the bits up to the last that is set, how many these are, and the bits 0 and 9.
+const NAMED: &str = "\
+14 8000 => 80 1 true false\n\
+10 ff40 => ff40 10 true true\n\
+9 0100 => 01 8 false false\n\
+16 0000 =>  0 false false\n\
+0  =>  0 false false";
+
+fn named_of(alloc: Global, row: &str) -> Result<String, Fail> {
+    let (count, text) = row.split_once(' ').unwrap_or((row, ""));
+    let octets = hex::decode(alloc, text)?;
+    let Some(bits) = BitString::from_octets(alloc, octets.as_slice(), count.parse::<usize>()?)?
+    else {
+        return Ok(String::from_str(alloc, "none")?);
+    };
+    let named = NamedBits::new(bits);
+    let shown = hex::encode(alloc, named.as_bits().as_octets())?;
+    Ok(format!(in alloc; "{} {} {} {}", shown, named.len(), named.get(0), named.get(9))?)
+}
+
+#[test]
+fn named_bits_lose_the_zeros_at_their_end(rt: HostRuntime) -> Result<(), Fail> {
+    for line in NAMED.split('\n') {
+        let (row, kept) = line.split_once(" => ").unwrap_or((line, ""));
+        assert_eq!(rt; named_of(rt.alloc(), row)?.as_str(), kept, "at {row}");
     }
     Ok(())
 }

@@ -1,7 +1,11 @@
-//! How many octets bits take, and how many bits of the last octet are unused (X.696, 13).
+//! How many octets bits take, how many bits of the last octet are unused, and how many bits there are at least (X.696, 13).
 ghost use Rattle.std.specs.Prelude.{◌≡◌, ◌<◌};
+ghost use Rattle.asn1_core.specs.Bounds.{size_bounds};
 ghost use Rattle.asn1_core.specs.Octets.{octets_for};
+ghost use Rattle.oer_spec.specs.Leaves.{least_size};
 ghost use Rattle.oer_spec.specs.ReadingBits.{unused_for};
+
+use asn1_core::Constraints;
 
 /// How many octets so many bits take (X.696, 13.1).
 pub fn octets_for(bits: usize) -> usize
@@ -16,4 +20,17 @@ pub fn unused_for(bits: usize) -> u8
     ensures few { result < 8 }
 {
     ((8 - bits % 8) % 8) as u8
+}
+
+/// The least size that a size constraint allows; 0 where there is none, or an extensible one.
+pub fn least_size(constraints: Constraints) -> usize
+    ensures { result ≡ least_size (size_bounds constraints) }
+{
+    match constraints.size() {
+        Some((bounds, false)) => match bounds.as_start() {
+            Some(start) => *start,
+            None => 0,
+        },
+        _ => 0,
+    }
 }

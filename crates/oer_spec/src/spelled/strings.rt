@@ -2,7 +2,7 @@
 
 use crate::spelled::{EqualAsSpelled, Spelled};
 use asn1_core::Utf8String;
-use asn1_strings::{Any, BitString, CharacterSet, OctetString, RestrictedString};
+use asn1_strings::{Any, BitString, CharacterSet, NamedBits, OctetString, RestrictedString};
 
 impl Spelled for BitString {
     ghost use Rattle.oer_spec.specs.Spelled.{IsAny, bit_string, bit_string_is, bit_strings_alike};
@@ -14,6 +14,19 @@ impl Spelled for BitString {
     ghost is_tree = { λ c k b i. bit_string_is c b };
 
     ghost alike = { λ c k a b i j. bit_strings_alike c a b };
+}
+
+impl Spelled for NamedBits {
+    ghost use Rattle.asn1_strings.specs.NamedBits.{IsNamed};
+    ghost use Rattle.oer_spec.specs.Spelled.{named_bit_string, named_bit_string_is, named_bit_strings_alike};
+
+    ghost tree = { named_bit_string };
+
+    ghost IsValue = { IsNamed };
+
+    ghost is_tree = { λ c k b i. named_bit_string_is c b i };
+
+    ghost alike = { λ c k a b i j. named_bit_strings_alike c a b };
 }
 
 impl Spelled for OctetString {
@@ -74,6 +87,12 @@ impl EqualAsSpelled for BitString {
     ghost use Rattle.oer_spec.specs.Spelled.{bit_strings_same};
 
     ghost eq_is_same = { λ c k a b i j. bit_strings_same c a b };
+}
+
+impl EqualAsSpelled for NamedBits {
+    ghost use Rattle.oer_spec.specs.Spelled.{named_bit_strings_same};
+
+    ghost eq_is_same = { λ c k a b i j. named_bit_strings_same c a b };
 }
 
 impl EqualAsSpelled for OctetString {
