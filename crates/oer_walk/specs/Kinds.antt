@@ -1,7 +1,7 @@
 -- The kinds of types by their numbers in a table.
 use Rattle.std.specs.Prelude.{ℕ, Bool, true, false, cond, ◌==◌, Option, Some, None}
 use Rattle.oer_walk.specs.declared.kinds.Kind.{Kind}
-use Rattle.oer_walk.specs.declared.kinds.Kind.TheVariants.{Boolean, Null, FixedInteger, Integer, Enumerated, FixedBitString, BitString, FixedString, String, List, Sequence, Choice}
+use Rattle.oer_walk.specs.declared.kinds.Kind.TheVariants.{Boolean, Null, FixedInteger, Integer, Enumerated, FixedBitString, BitString, FixedString, String, NamedBitString, List, Sequence, Choice}
 
 abbrev pub kind_numbered : ℕ → Option Kind
 kind_numbered n =
@@ -14,9 +14,10 @@ kind_numbered n =
     (cond (n == 6) (Some BitString)
     (cond (n == 7) (Some FixedString)
     (cond (n == 8) (Some String)
+    (cond (n == 9) (Some NamedBitString)
     (cond (n == 10) (Some List)
     (cond (n == 11) (Some Sequence)
-    (cond (n == 12) (Some Choice) None)))))))))))
+    (cond (n == 12) (Some Choice) None))))))))))))
 
 abbrev pub kind_number : Kind → ℕ
 kind_number Boolean = 0
@@ -28,6 +29,7 @@ kind_number FixedBitString = 5
 kind_number BitString = 6
 kind_number FixedString = 7
 kind_number String = 8
+kind_number NamedBitString = 9
 kind_number List = 10
 kind_number Sequence = 11
 kind_number Choice = 12
@@ -43,5 +45,6 @@ has_parts Integer = false
 has_parts Enumerated = false
 has_parts FixedBitString = false
 has_parts BitString = false
+has_parts NamedBitString = false
 has_parts FixedString = false
 has_parts String = false

@@ -4,7 +4,7 @@ use Rattle.asn1_core.specs.Tags.{class_number}
 use Rattle.asn1_core.specs.declared.tag.Tag.{Tag}
 use Rattle.oer_walk.specs.Kinds.{kind_numbered}
 use Rattle.oer_walk.specs.declared.kinds.Kind.{Kind}
-use Rattle.oer_walk.specs.declared.kinds.Kind.TheVariants.{Boolean, Null, FixedInteger, Integer, Enumerated as EnumeratedKind, FixedBitString, BitString, FixedString, String, List as ListKind, Sequence as SequenceKind, Choice as ChoiceKind}
+use Rattle.oer_walk.specs.declared.kinds.Kind.TheVariants.{Boolean, Null, FixedInteger, Integer, Enumerated as EnumeratedKind, FixedBitString, BitString, FixedString, String, NamedBitString, List as ListKind, Sequence as SequenceKind, Choice as ChoiceKind}
 use Rattle.oer_walk.specs.declared.table.Form.{Form}
 use Rattle.oer_walk.specs.declared.table.Form.TheVariants.{Fixed, Counted, Enumerated, List as ListForm, Sequence, Choice, Nothing}
 use Rattle.oer_walk.specs.declared.table.Parts.{Parts}
@@ -46,6 +46,7 @@ form_of_kind ws i (Some Integer) = Counted
 form_of_kind ws i (Some EnumeratedKind) = Enumerated
 form_of_kind ws i (Some FixedBitString) = Fixed ((word ws (i + 1) + 7) / 8)
 form_of_kind ws i (Some BitString) = Counted
+form_of_kind ws i (Some NamedBitString) = Counted
 form_of_kind ws i (Some FixedString) = Fixed (word ws (i + 1))
 form_of_kind ws i (Some String) = Counted
 form_of_kind ws i (Some ListKind) = ListForm (word ws (i + 2))

@@ -16,6 +16,8 @@ pub enum Kind {
     FixedBitString,
     /// A BIT STRING behind a length.
     BitString,
+    /// A BIT STRING behind a length, with named bits: 0 bits at its end carry no meaning (X.680, 22.7).
+    NamedBitString,
     /// Octets or characters, so many octets: `octets text`.
     FixedString,
     /// Octets or characters behind a length: `text`.
@@ -43,6 +45,7 @@ impl Kind {
             6 => Some(Kind::BitString),
             7 => Some(Kind::FixedString),
             8 => Some(Kind::String),
+            9 => Some(Kind::NamedBitString),
             10 => Some(Kind::List),
             11 => Some(Kind::Sequence),
             12 => Some(Kind::Choice),
@@ -65,6 +68,7 @@ impl Kind {
             Kind::BitString => 6,
             Kind::FixedString => 7,
             Kind::String => 8,
+            Kind::NamedBitString => 9,
             Kind::List => 10,
             Kind::Sequence => 11,
             Kind::Choice => 12,
