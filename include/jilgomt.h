@@ -143,8 +143,8 @@ typedef struct jilgomt_node {
 
 enum {
     JILGOMT_BOOLEAN = 0, JILGOMT_NULL = 1, JILGOMT_FIXED_INTEGER = 2, JILGOMT_INTEGER = 3, JILGOMT_ENUMERATED = 4,
-    JILGOMT_FIXED_BITS = 5, JILGOMT_BITS = 6, JILGOMT_FIXED_OCTETS = 7, JILGOMT_OCTETS = 8, JILGOMT_LIST = 10,
-    JILGOMT_SEQUENCE = 11, JILGOMT_CHOICE = 12
+    JILGOMT_FIXED_BITS = 5, JILGOMT_BITS = 6, JILGOMT_FIXED_OCTETS = 7, JILGOMT_OCTETS = 8,
+    JILGOMT_NAMED_BITS = 9, JILGOMT_LIST = 10, JILGOMT_SEQUENCE = 11, JILGOMT_CHOICE = 12
 };
 
 /* Walks the value of that type at the front of `in`, by a table that `oergen --table` prints of ASN.1 modules, as lenient reading

@@ -11,7 +11,7 @@ from .library import Node
 
 NONE = 2**32 - 1
 UNFINISHED = 2**64 - 1
-BOOLEAN, NULL, FIXED_INTEGER, INTEGER, ENUMERATED, FIXED_BITS, BITS, FIXED_OCTETS, OCTETS = range(9)
+BOOLEAN, NULL, FIXED_INTEGER, INTEGER, ENUMERATED, FIXED_BITS, BITS, FIXED_OCTETS, OCTETS, NAMED_BITS = range(10)
 LIST, SEQUENCE, CHOICE = 10, 11, 12
 # Contents that are text: UTF-8, and others of one octet a character; times too.
 UTF8, OTHER_TEXTS = 1, (2, 3, 4, 5, 6, 7, 8, 21, 22, 23)
@@ -134,7 +134,7 @@ class Module:
         if node.kind == ENUMERATED:
             number = content[0] if content[0] < 128 else int.from_bytes(content[1:], "big", signed=True)
             return self._values.get(node.type_number, {}).get(number, number)
-        if node.kind == BITS:
+        if node.kind in (BITS, NAMED_BITS):
             return {"value": content[1:].hex(), "length": 8 * len(content) - 8 - content[0] if content else 0}
         return self._text(node, content)
 

@@ -6,7 +6,7 @@ use Rattle.std.proofs.lemmas.Result.{err_from_is_err_and}
 use Rattle.std.specs.declared.alloc.Global.{Global}
 use Rattle.asn1_core.specs.Bounds.{Range, Size}
 use Rattle.asn1_core.specs.Octets.{Octets}
-use Rattle.oer_json.specs.Readings.{Reading, Stands, Misfits, Unsaid, boolean_in, null_in, word_of, range_of, allowed, free_range, is_free, counted_of, reading_of_kind, reading_of, Puts, IsWritten, Answers}
+use Rattle.oer_json.specs.Readings.{Reading, Stands, Misfits, Unsaid, boolean_in, null_in, word_of, bounds_of, allowed, free_range, is_free, counted_of, reading_of_kind, reading_of, Puts, IsWritten, Answers}
 use Rattle.oer_json.specs.Whole.{HasTooManyParts}
 use Rattle.oer_json.specs.declared.json.Json.{Json, Null, Bool as Truth, Number}
 use Rattle.oer_json.specs.declared.refusals.Refusal.{Refusal}
@@ -126,7 +126,7 @@ stands_of tables n json t s = at (kind_numbered (kind_of tables.words.items n)) 
     at : (k : Option Kind) → kind_numbered (kind_of tables.words.items n) ≡ k → reading_of_kind tables n k json ≡ Stands t → IsOf tables.words.items n t
     at (Some kinds.Boolean) e h = boolean_is tables.words.items n json t e h
     at (Some kinds.Null) e h = null_is tables.words.items n json t e h
-    at (Some kinds.Integer) e h = counted_is tables.words.items n (word_of tables.words.items n 0 == 1) (range_of tables.ranges.items n) json t e h
+    at (Some kinds.Integer) e h = counted_is tables.words.items n (word_of tables.words.items n 0 == 1) (bounds_of tables.ranges.items n) json t e h
     at (Some _) e h = absurd cc
     at None e h = absurd cc
 

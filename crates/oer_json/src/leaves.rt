@@ -2,25 +2,20 @@
 ghost use Rattle.oer_json.specs.Readings.{Puts, boolean_in, null_in, number_in, reading_of_kind};
 ghost use Rattle.std.specs.Prelude.{Some};
 
+use crate::bits::{put_bits, put_fixed_bits, put_named_bits};
+use crate::hexadecimal::{hexadecimal, octets_in};
 use crate::json::Json;
 use crate::numbers::{put_counted, put_fixed, put_long, put_name};
-use crate::refusals::{Fault, Misfit};
+use crate::refusals::{Fault, Misfit, wrong_sort};
 use crate::tables::{Bounds, Tables};
 use asn1_strings::{
     CharacterSet, Ia5Characters, NumericCharacters, PrintableCharacters, RestrictedString,
     VisibleCharacters,
 };
 use asn1_times::{Date, GeneralizedTime, UtcTime};
-use oer_leaf_write::{write_bool, write_content, write_length, write_object_identifier};
+use oer_leaf_write::{write_bool, write_content, write_object_identifier};
 use oer_walk::Kind;
 use std::alloc::Global;
-
-/// What a text that stands for octets, bits and open types is.
-const HEXADECIMAL: &str = "a text in hexadecimal";
-
-fn wrong_sort(sort: &'static str) -> Fault {
-    Fault::Misfit(Misfit::WrongSort(sort))
-}
 
 /// Appends a BOOLEAN.
 fn put_boolean(json: &Json, out: &mut Vec<u8>) -> Result<(), Fault>
@@ -42,23 +37,7 @@ fn put_null(json: &Json, out: &mut Vec<u8>) -> Result<(), Fault>
     }
 }
 
-/// The octets that a text has in hexadecimal.
-fn octets_in(alloc: Global, text: &str) -> Result<Vec<u8>, Fault> {
-    match hex::decode(alloc, text) {
-        Ok(octets) => Ok(octets),
-        Err(_) => Err(Fault::Misfit(Misfit::NoHexadecimal)),
-    }
-}
-
-/// The octets of a value that is a text in hexadecimal.
-fn hexadecimal(alloc: Global, json: &Json) -> Result<Vec<u8>, Fault> {
-    match json {
-        Json::Text(text) => octets_in(alloc, text.as_str()),
-        _ => Err(wrong_sort(HEXADECIMAL)),
-    }
-}
-
-/// Refused where so many octets, bits or characters are none of the type's sizes.
+/// Refused where so many octets or characters are none of the type's sizes.
 fn check_size(tables: &Tables, type_number: u32, size: usize) -> Result<(), Fault> {
     match tables.size_of(type_number) {
         Some(bounds) => check_bounds(bounds, size),
@@ -75,72 +54,6 @@ fn check_bounds(bounds: Bounds, size: usize) -> Result<(), Fault> {
         low: bounds.low,
         high: bounds.high,
     }))
-}
-
-/// Refused where octets don't hold exactly so many bits, or a bit behind them is set.
-fn check_bits(octets: &[u8], bits: usize) -> Result<(), Fault> {
-    if octets.len() != bits.div_ceil(8) {
-        return Err(Fault::Misfit(Misfit::WrongLength));
-    }
-    match octets.last() {
-        Some(last) if !bits.is_multiple_of(8) && *last & (0xFF >> (bits % 8)) != 0 => {
-            Err(Fault::Misfit(Misfit::UnusedBits))
-        }
-        _ => Ok(()),
-    }
-}
-
-/// Appends the bits of a type that has no other size.
-fn put_fixed_bits(
-    alloc: Global,
-    tables: &Tables,
-    type_number: u32,
-    json: &Json,
-    out: &mut Vec<u8>,
-) -> Result<(), Fault> {
-    let octets = hexadecimal(alloc, json)?;
-    check_bits(octets.as_slice(), tables.word_of(type_number, 0) as usize)?;
-    Ok(out.extend_from_slice(octets.as_slice())?)
-}
-
-/// The digits and the count of bits in an object of `value` and `length`.
-fn counted_bits(json: &Json) -> Result<(&Json, usize), Fault> {
-    let expected = "an object of value and length";
-    let Json::Members(members) = json else {
-        return Err(wrong_sort(expected));
-    };
-    let (value, length) = match members.as_slice() {
-        [value, length] if value.0.as_str() == "value" => (value, length),
-        [length, value] if value.0.as_str() == "value" => (value, length),
-        _ => return Err(wrong_sort(expected)),
-    };
-    match &length.1 {
-        Json::Number(count) if length.0.as_str() == "length" => match usize::try_from(*count) {
-            Ok(count) => Ok((&value.1, count)),
-            Err(_) => Err(Fault::Misfit(Misfit::WrongLength)),
-        },
-        _ => Err(wrong_sort(expected)),
-    }
-}
-
-/// Appends the bits of a type that may have other sizes (X.696, 13): a length, the count of unused bits, and the octets.
-fn put_bits(
-    alloc: Global,
-    tables: &Tables,
-    type_number: u32,
-    json: &Json,
-    out: &mut Vec<u8>,
-) -> Result<(), Fault> {
-    let (value, bits) = counted_bits(json)?;
-    let octets = hexadecimal(alloc, value)?;
-    check_bits(octets.as_slice(), bits)?;
-    check_size(tables, type_number, bits)?;
-    write_length(octets.len().saturating_add(1), out)?;
-    out.push(match bits % 8 {
-        0 => 0,
-        used => 8 - used as u8,
-    })?;
-    Ok(out.extend_from_slice(octets.as_slice())?)
 }
 
 /// Octets that are a text of a type, and how many characters they are.
@@ -346,6 +259,7 @@ pub fn put_leaf(
         }
         Kind::FixedBitString => put_fixed_bits(alloc, tables, type_number, json, out),
         Kind::BitString => put_bits(alloc, tables, type_number, json, out),
+        Kind::NamedBitString => put_named_bits(alloc, tables, type_number, json, out),
         Kind::FixedString => put_fixed_string(alloc, tables, type_number, json, out),
         Kind::String => put_string(alloc, tables, type_number, json, out),
         Kind::List | Kind::Sequence | Kind::Choice => Err(Fault::Misfit(Misfit::UnknownType)),

@@ -3,7 +3,9 @@
 //! What is read is what `oershow --json` prints of a value. The octets are walked by the same table before they are answered.
 #![tactic(auto)]
 
+mod bits;
 mod components;
+mod hexadecimal;
 mod json;
 mod leaves;
 mod numbers;

@@ -1,7 +1,7 @@
 //! Numbers: INTEGER and ENUMERATED (X.696, 10 and 11).
 ghost use Rattle.std.specs.Prelude.{◌≡◌, true, false, MatchResult};
 ghost use Rattle.asn1_core.specs.Bounds.{value_bounds};
-ghost use Rattle.oer_json.specs.Readings.{Puts, Stands, allowed, range_of, free_range, is_free, counted_in};
+ghost use Rattle.oer_json.specs.Readings.{Puts, Stands, allowed, bounds_of, free_range, is_free, counted_in};
 ghost use Rattle.oer_spec.specs.Tree.{Primitive, Int};
 ghost use Rattle.oer_json.specs.declared.json.Json.{Number};
 
@@ -13,7 +13,7 @@ use oer_leaf_write::{write_content, write_enumerated, write_integer};
 
 /// Refused where a number is outside a type's range.
 fn check_range(tables: &Tables, type_number: u32, number: i128) -> Result<(), Fault>
-    ensures { MatchResult result (λ _. allowed (range_of tables.now.ranges.items type_number) number ≡ true) (λ _. allowed (range_of tables.now.ranges.items type_number) number ≡ false) }
+    ensures { MatchResult result (λ _. allowed (bounds_of tables.now.ranges.items type_number) number ≡ true) (λ _. allowed (bounds_of tables.now.ranges.items type_number) number ≡ false) }
 {
     match tables.range_of(type_number) {
         Some(bounds) if !bounds.allows(number) => Err(out_of_range(bounds)),

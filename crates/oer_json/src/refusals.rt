@@ -180,6 +180,11 @@ pub enum Fault {
     OutOfMemory,
 }
 
+/// The fault of a value that isn't of the JSON sort that stands there.
+pub fn wrong_sort(sort: &'static str) -> Fault {
+    Fault::Misfit(Misfit::WrongSort(sort))
+}
+
 impl From<Misfit> for Fault {
     fn from(misfit: Misfit) -> Fault {
         Fault::Misfit(misfit)

@@ -1,6 +1,6 @@
 //! Tables of types with their names, as `oergen --table` writes them.
 ghost use Rattle.std.specs.Prelude.{◌≡◌};
-ghost use Rattle.oer_json.specs.Readings.{allows, described, word_of, range_of};
+ghost use Rattle.oer_json.specs.Readings.{allows, described, word_of, bounds_of};
 ghost use Rattle.oer_walk.specs.Kinds.{kind_numbered};
 ghost use Rattle.oer_walk.specs.Tables.{kind_of};
 
@@ -61,6 +61,18 @@ pub struct Bounds {
 }
 
 impl Bounds {
+    /// Those of a type, where some are.
+    fn of(all: &[Bounds], type_number: u32) -> Option<Bounds>
+        ensures { result ≡ bounds_of all.now type_number }
+    {
+        for it in all.iter() {
+            if it.type_number == type_number {
+                return Some(*it);
+            }
+        }
+        None
+    }
+
     /// Whether a number is among them.
     pub fn allows(self, number: i128) -> bool
         ensures { result ≡ allows self number }
@@ -326,22 +338,16 @@ impl Tables {
 
     /// The range of a type, where it has one.
     pub fn range_of(&self, type_number: u32) -> Option<Bounds>
-        ensures { result ≡ range_of self.now.ranges.items type_number }
+        ensures { result ≡ bounds_of self.now.ranges.items type_number }
     {
-        for it in self.ranges.iter() {
-            if it.type_number == type_number {
-                return Some(*it);
-            }
-        }
-        None
+        Bounds::of(self.ranges.as_slice(), type_number)
     }
 
     /// The sizes of a type, where it has some.
-    pub fn size_of(&self, type_number: u32) -> Option<Bounds> {
-        self.sizes
-            .iter()
-            .find(|it| it.type_number == type_number)
-            .copied()
+    pub fn size_of(&self, type_number: u32) -> Option<Bounds>
+        ensures { result ≡ bounds_of self.now.sizes.items type_number }
+    {
+        Bounds::of(self.sizes.as_slice(), type_number)
     }
 
     /// The value of a component that is absent, where it has one.

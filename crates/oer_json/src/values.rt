@@ -4,6 +4,7 @@ ghost use Rattle.oer_json.specs.Readings.{Puts, reading_of};
 use crate::components::{
     Member, UNKNOWN, alternative_of, check_members, has_any_of, is_extensible, member, members_of,
 };
+use crate::hexadecimal::hexadecimal;
 use crate::json::Json;
 use crate::leaves::put_leaf;
 use crate::refusals::{Fault, Misfit, Step};
@@ -309,13 +310,7 @@ fn push_unknown(alloc: Global, members: &[Member], written: &mut Written) -> Res
         if it.0.as_str() != UNKNOWN {
             continue;
         }
-        let Json::Text(text) = &it.1 else {
-            return Err(Fault::Misfit(Misfit::WrongSort("a text in hexadecimal")));
-        };
-        match hex::decode(alloc, text.as_str()) {
-            Ok(octets) => written.push_addition(Some(octets))?,
-            Err(_) => return Err(Fault::Misfit(Misfit::NoHexadecimal)),
-        }
+        written.push_addition(Some(hexadecimal(alloc, &it.1)?))?;
     }
     Ok(())
 }

@@ -200,7 +200,7 @@ pub fn leaf_of(alloc: Global, tables: &Tables, node: Node, octets: &[u8]) -> Res
             let digits = hex_of(alloc, octets)?;
             Ok(Leaf::FixedBits(word(0) as usize, digits, names))
         }
-        Some(Kind::BitString | Kind::NamedBitString) => bits_leaf(alloc, tables, node, octets),
+        Some(Kind::BitString | Kind::NamedBitString) => { bits_leaf(alloc, tables, node, octets) }
         Some(Kind::FixedString) => octets_leaf(alloc, octets, word(1)),
         Some(Kind::String) => octets_leaf(alloc, octets, word(0)),
         _ => Ok(Leaf::Hex(hex_of(alloc, octets)?)),
