@@ -4,9 +4,11 @@ use Rattle.std.specs.Prelude.{Vec, IsTrue, cond, ◌&&◌, ◌==◌, ℤ}
 use Rattle.std.specs.Result.{IsErrAnd}
 use Rattle.std.proofs.lemmas.Result.{err_from_is_err_and}
 use Rattle.std.specs.declared.alloc.Global.{Global}
-use Rattle.asn1_core.specs.Bounds.{Range, Size}
+use Rattle.asn1_core.specs.Bounds.{Range, Size, fixed_size}
 use Rattle.asn1_core.specs.Octets.{Octets}
-use Rattle.oer_json.specs.Readings.{Reading, Stands, Misfits, Unsaid, boolean_in, null_in, word_of, bounds_of, allowed, free_range, is_free, counted_of, reading_of_kind, reading_of, Puts, IsWritten, Answers}
+use Rattle.asn1_strings.specs.NamedBits.{without_zeros}
+use Rattle.asn1_strings.proofs.NamedLists.{without_zeros_is_named}
+use Rattle.oer_json.specs.Readings.{Reading, Stands, Misfits, Unsaid, boolean_in, null_in, word_of, bounds_of, allowed, free_range, is_free, counted_of, bits_in, bits_of_size, sizes_of, reading_of_kind, reading_of, Puts, IsWritten, Answers}
 use Rattle.oer_json.specs.Whole.{HasTooManyParts}
 use Rattle.oer_json.specs.declared.json.Json.{Json, Null, Bool as Truth, Number}
 use Rattle.oer_json.specs.declared.refusals.Refusal.{Refusal}
@@ -26,7 +28,7 @@ use Rattle.oer_spec.specs.Tree.{Tree, Primitive, InOctets, Civil, Leaf, Boolean,
 use Rattle.oer_spec.proofs.Within.{own_sized_within_canonical, canonical_within_lenient}
 use Rattle.oer_spec.proofs.WrittenLeaves.{leaf_form}
 use Rattle.oer_walk.specs.Described.{Describes}
-use Rattle.oer_walk.specs.Forms.{width_form}
+use Rattle.oer_walk.specs.Forms.{width_form, bits_form, leaf_form as form_of_leaf}
 use Rattle.oer_walk.specs.Kinds.{kind_numbered}
 use Rattle.oer_walk.specs.Tables.{kind_of, kind_at, place_of, form_of, form_at, form_if, form_of_kind}
 use Rattle.oer_walk.specs.declared.table.Form.TheVariants.{Counted}
@@ -79,6 +81,17 @@ number_put r s m n old new e same f h = subst (λ (z : Tree). Puts {T = Unit {0}
 pub number_refused : (r s : Range) (m n : ℤ) (kind : EncodeErrorKind) (e : Fault) (old new : Octets) → r ≡ s → m ≡ n → (kind ≡ encode.OutOfMemory → e ≡ fault.OutOfMemory) → (kind ≡ encode.OutOfMemory) ⊎ (first_failure (Int r m) ≡ Some kind) → Puts {T = Unit {0}} (Stands (Primitive (Int s n))) (Err e) old new
 number_refused r s m n kind e old new is same gives h = subst (λ (z : Tree). Puts {T = Unit {0}} (Stands z) (Err e) old new) (ap₂ (λ (x : Range) (y : ℤ). Primitive (Int x y)) is same) (leaf_refused (Unit {0}) (Stands (Primitive (Int r m))) (Int r m) kind e old new refl gives h)
 
+-- bits, which are found in what was handed in
+module _ (leaf : List Bool → Leaf) (size : Option ℕ) (found : Option (List Bool)) where
+  bits_stand : (b : List Bool) (l : Leaf) → size ≡ None → found ≡ Some b → l ≡ leaf b → bits_of_size size leaf found ≡ Stands (Primitive l)
+  bits_stand b l free is same = ap₂ (λ (n : Option ℕ) (o : Option (List Bool)). bits_of_size n leaf o) free is ∙ ap (λ (z : Leaf). Stands (Primitive z)) (sym same)
+
+  pub bits_put : (b : List Bool) (l : Leaf) (old new : Octets) → size ≡ None → found ≡ Some b → l ≡ leaf b → ((k : Failure) → leaf_fails l k ≡ false) → new ≡ old ++ leaf_octets l → Puts {T = Unit {0}} (bits_of_size size leaf found) (Ok tt) old new
+  bits_put b l old new free is same f h = puts_leaf (bits_of_size size leaf found) l tt old new (bits_stand b l free is same) f h
+
+  pub bits_refused : (b : List Bool) (l : Leaf) (kind : EncodeErrorKind) (e : Fault) (old new : Octets) → size ≡ None → found ≡ Some b → l ≡ leaf b → (kind ≡ encode.OutOfMemory → e ≡ fault.OutOfMemory) → (kind ≡ encode.OutOfMemory) ⊎ (first_failure l ≡ Some kind) → Puts {T = Unit {0}} (bits_of_size size leaf found) (Err e) old new
+  bits_refused b l kind e old new free is same gives h = leaf_refused (Unit {0}) (bits_of_size size leaf found) l kind e old new (bits_stand b l free is same) gives h
+
 -- a tree of the type, whose canonical octets are an encoding
 pub record IsOf (ws : List ℕ) (n : ℕ) (t : Tree) : Type 0 where
   pub tree : IsTree t
@@ -101,6 +114,11 @@ counted_is_of : (ws : List ℕ) (n : ℕ) (is_signed : Bool) (i : ℤ) → kind_
 unfolding IsTree Describes
 counted_is_of ws n is_signed i e = record { tree = tt; described = (form_is ws n kinds.Integer e).2 ∙ sym (free_form is_signed); spelled = leaf_taken (Int (free_range is_signed) i) tt }
 
+-- bits that lie behind a length
+bits_of : (ws : List ℕ) (n : ℕ) (k : Kind) (l : Leaf) → kind_numbered (kind_of ws n) ≡ Some k → ((i : ℕ) → form_of_kind ws i (Some k) ≡ Counted) → IsLeaf l → form_of_leaf l ≡ Counted → IsOf ws n (Primitive l)
+unfolding IsTree Describes
+bits_of ws n k l e form i counted = let f = form_is ws n k e in record { tree = i; described = f.2 ∙ form f.0 ∙ sym counted; spelled = leaf_taken l i }
+
 same_tree : (t u : Tree) → Stands t ≡ Stands u → t ≡ u
 same_tree t u e = cc
 
@@ -120,6 +138,11 @@ counted_is ws n is_signed range (Number i) t e s = at (allowed range i && is_fre
     at false h = absurd cc
 counted_is ws n is_signed range _ t e s = absurd cc
 
+bits_is : (ws : List ℕ) (n : ℕ) (k : Kind) (leaf : List Bool → Leaf) (size : Option ℕ) (found : Option (List Bool)) (t : Tree) → kind_numbered (kind_of ws n) ≡ Some k → ((i : ℕ) → form_of_kind ws i (Some k) ≡ Counted) → ((b : List Bool) → IsLeaf (leaf b)) → ((b : List Bool) → form_of_leaf (leaf b) ≡ bits_form size) → bits_of_size size leaf found ≡ Stands t → IsOf ws n t
+bits_is ws n k leaf None (Some b) t e form i lies s = subst (IsOf ws n) (same_tree (Primitive (leaf b)) t s) (bits_of ws n k (leaf b) e form (i b) (lies b))
+bits_is ws n k leaf None None t e form i lies s = absurd cc
+bits_is ws n k leaf (Some m) found t e form i lies s = absurd cc
+
 pub stands_of : (tables : Tables) (n : ℕ) (json : Json) (t : Tree) → reading_of tables n json ≡ Stands t → IsOf tables.words.items n t
 stands_of tables n json t s = at (kind_numbered (kind_of tables.words.items n)) refl s
   where
@@ -127,6 +150,12 @@ stands_of tables n json t s = at (kind_numbered (kind_of tables.words.items n)) 
     at (Some kinds.Boolean) e h = boolean_is tables.words.items n json t e h
     at (Some kinds.Null) e h = null_is tables.words.items n json t e h
     at (Some kinds.Integer) e h = counted_is tables.words.items n (word_of tables.words.items n 0 == 1) (bounds_of tables.ranges.items n) json t e h
+    at (Some kinds.BitString) e h =
+        let s = sizes_of tables n in
+        bits_is tables.words.items n kinds.BitString (λ b. Bits s b) (fixed_size s) (bits_in json) t e (λ i. refl) (λ b. tt) (λ b. refl) h
+    at (Some kinds.NamedBitString) e h =
+        let s = sizes_of tables n in
+        bits_is tables.words.items n kinds.NamedBitString (λ b. Named s (without_zeros b)) (fixed_size s) (bits_in json) t e (λ i. refl) without_zeros_is_named (λ b. refl) h
     at (Some _) e h = absurd cc
     at None e h = absurd cc
 
@@ -137,6 +166,14 @@ written_not (Stands t) f e old new (inl m) gives = inl (gives m)
 written_not (Stands t) f e old new (inr x) gives = inr x
 written_not Misfits f e old new h gives = refl
 written_not Unsaid f e old new h gives = tt
+
+no_memory : (reading : Reading) (e : Refusal) → e ≡ OutOfMemory → IsWritten reading (Err e)
+no_memory (Stands t) e same = inl same
+no_memory Misfits e same = refl
+no_memory Unsaid e same = tt
+
+pub written_no_memory : (reading : Reading) (q : Result (Vec ℕ Global) Refusal) → IsErrAnd q (λ d. d ≡ OutOfMemory) → IsWritten reading q
+written_no_memory reading q h = let p = err_from_is_err_and q h in subst (IsWritten reading) (sym p.1) (no_memory reading p.0 p.2)
 
 module _ (ws : List ℕ) (n : ℕ) where
   pub answered : (reading : Reading) (v : Vec ℕ Global) → IsWritten reading (Ok v) → Answers ws n 1024 reading (Ok v)

@@ -1,8 +1,9 @@
 -- What a value in JSON stands for (X.697), by a table of types. It is said of BOOLEAN, NULL, and INTEGER and BIT STRING behind a length, and
 -- of no other type.
-use Rattle.std.specs.Prelude.{◌≡◌, ◌⊎◌, ⊤, ◌++◌, ◌+◌, ◌-◌, ◌^◌, ◌&&◌, ◌==◌, ℕ, ℤ, pos, int_le, Bool, true, false, cond, nat_lt, min, Option, Some, None, option_and_then, unwrap_or, Result, MatchResult, IsErr, List, [], ◌∷◌, length, take, Vec, slice_get, String, string_bytes, codes, nat_eq, nat_le, negsuc, option_map, result_ok}
+use Rattle.std.specs.Prelude.{◌≡◌, ◌⊎◌, ⊤, ◌++◌, ◌+◌, ◌-◌, ◌^◌, ◌&&◌, ◌==◌, ℕ, ℤ, pos, int_le, Bool, true, false, cond, nat_lt, min, Option, Some, None, option_and_then, unwrap_or, Result, MatchResult, IsErr, List, [], ◌∷◌, length, take, Vec, slice_get, String, string_bytes, codes, nat_eq, nat_le, negsuc, option_map}
 use Rattle.std.specs.Cmp.Lexicographic.{pointwise}
 use Rattle.std.specs.List.{find}
+use Rattle.std.specs.Result.{result_ok}
 use Rattle.std.specs.declared.alloc.Global.{Global}
 use Rattle.asn1_core.specs.Bounds.{Range, Size, fixed_size, is_from, is_to}
 use Rattle.asn1_core.specs.Octets.{Octets, bits_of, octets_for, pack, usize_max}
@@ -10,6 +11,8 @@ use Rattle.asn1_strings.specs.NamedBits.{without_zeros}
 use Rattle.hex.specs.Hex.{decode_of}
 use Rattle.oer_json.specs.Whole.{HasTooManyParts}
 use Rattle.oer_json.specs.declared.json.Json.{Json, Null, Bool as Truth, Number, Text}
+use Rattle.oer_json.specs.declared.json.Json.TheOpen.{Members}
+use Rattle.oer_json.specs.declared.json.Json.TheViews.{out-Json}
 use Rattle.oer_json.specs.declared.refusals.Fault.{Fault}
 use Rattle.oer_json.specs.declared.refusals.Fault.TheVariants as fault
 use Rattle.oer_json.specs.declared.refusals.Refusal.{Refusal}

@@ -1,7 +1,7 @@
 //! BIT STRING (X.680, 22, and X.696, 13), with named bits or without.
-ghost use Rattle.std.specs.Prelude.{◌≡◌, None, IsSome, MatchResult};
+ghost use Rattle.std.specs.Prelude.{◌≡◌, Some, None, IsSome, MatchOption, MatchResult};
 ghost use Rattle.asn1_core.specs.Bounds.{size_bounds, fixed_size};
-ghost use Rattle.oer_json.specs.Readings.{Finds, Puts, is_named, parts_in, count_in, first_bits, bits_in, size_at, size_in, bit_string_in, named_bits_in};
+ghost use Rattle.oer_json.specs.Readings.{Finds, Puts, is_named, parts_of, parts_in, count_in, first_bits, bits_in, size_at, size_in, bit_string_in, named_bits_in};
 
 use crate::components::Member;
 use crate::hexadecimal::hexadecimal;
@@ -50,21 +50,32 @@ fn is_named(member: &Member, name: &str) -> bool
     member.0.as_str() == name
 }
 
-/// What stands in an object of `value` and `length`, in either order.
+/// What stands in members `value` and `length`, in either order.
+fn parts_of(members: &[Member]) -> Option<(&Json, &Json)>
+    ensures { MatchOption result (parts_of members.now ≡ None) (λ parts. parts_of members.now ≡ Some (parts.0.now, parts.1.now)) }
+{
+    let [first, second] = members else {
+        return None;
+    };
+    if is_named(first, "value") && is_named(second, "length") {
+        return Some((&first.1, &second.1));
+    }
+    if is_named(second, "value") && is_named(first, "length") {
+        return Some((&second.1, &first.1));
+    }
+    None
+}
+
+/// What stands in an object of `value` and `length`.
 fn parts_in(json: &Json) -> Result<(&Json, &Json), Fault>
     ensures { Finds (λ parts. (parts.0.now, parts.1.now)) result (parts_in json.now) }
 {
     let Json::Members(members) = json else {
         return Err(wrong_sort(BITS));
     };
-    match members.as_slice() {
-        [value, length] if is_named(value, "value") && is_named(length, "length") => {
-            Ok((&value.1, &length.1))
-        }
-        [length, value] if is_named(value, "value") && is_named(length, "length") => {
-            Ok((&value.1, &length.1))
-        }
-        _ => Err(wrong_sort(BITS)),
+    match parts_of(members.as_slice()) {
+        Some(parts) => Ok(parts),
+        None => Err(wrong_sort(BITS)),
     }
 }
 

@@ -1,5 +1,5 @@
 -- Named bits are read exactly where a front of the octets spells them.
-use Rattle.std.proofs.Common.{◌≡◌, ℕ, ◌+◌, ◌-◌, ◌<◌, ◌≤◌, max, Bool, true, false, ltb, List, ◌++◌, length, drop, Ok, refl, sym, ap, subst, ◌∙◌, arith, length-append, length-drop}
+use Rattle.std.proofs.Common.{◌≡◌, ◌-◌, ◌≤◌, max, Bool, true, false, ltb, List, ◌++◌, length, drop, Ok, ap, subst, ◌∙◌, arith, length-append, length-drop}
 use Rattle.std.proofs.lemmas.Bool.{ltb-false, le-ltb}
 use Rattle.asn1_core.specs.Bounds.{Size, fixed_size}
 use Rattle.asn1_core.specs.Octets.{Octets, AreOctets}
@@ -8,7 +8,7 @@ use Rattle.asn1_strings.specs.NamedBits.{significant, without_zeros, IsNamed}
 use Rattle.asn1_strings.proofs.NamedLists.{significant_le, significant_zeros, rest_is_zeros, parts_of_named, length_named, without_zeros_is_named}
 use Rattle.oer_spec.specs.Leaves.{Failure, bits_fail, least_size, named_bits, IsBitString, IsLeafEncoding}
 use Rattle.oer_spec.specs.Mode.{mode_of}
-use Rattle.oer_spec.specs.Reading.{◌>>=◌, ◌>>◌, canonical, is_coer}
+use Rattle.oer_spec.specs.Reading.{◌>>◌, canonical, is_coer}
 use Rattle.oer_spec.specs.ReadingBits.{bit_string_at, named_bits_at}
 use Rattle.oer_spec.specs.Tree.{Bits, Named}
 use Rattle.oer_leaf_read.proofs.ReadBitStrings.{bit_string_reads}

@@ -211,6 +211,29 @@ Newer {"octets":true,"value":false} => 80ff0207800100
 Newer {"octets":true} => MissingComponent at $.value: expected this component
 Loop [[],[]] => 010201000100"#;
 
+/// Named bits of any size, of 3 to 6 bits, and of a size that has no length.
+const NAMED_TABLE: &str = r#"words 3 4 5 6 9 9 9
+type Free
+type Sized
+type Fixed
+size 1 3 6
+size 2 4 4"#;
+
+const NAMED_ROWS: &str = r#"Free {"value":"A0","length":8} => 0205a0
+Free {"value":"A0","length":3} => 0205a0
+Free {"value":"0180","length":16} => 03070180
+Free {"value":"0000","length":12} => 0100
+Free {"value":"","length":0} => 0100
+Free {"length":2,"value":"80"} => 020780
+Free {"value":"A8","length":4} => UnusedBits at $: expected zero bits behind the last one
+Free {"value":"A0","length":9} => WrongLength at $: expected as many octets as the bits need
+Free "A0" => WrongSort at $: expected an object of value and length
+Sized {"value":"80","length":1} => 020580
+Sized {"value":"0000","length":16} => 020500
+Sized {"value":"A8","length":8} => 0203a8
+Sized {"value":"02","length":7} => WrongSize at $: expected a size from 3 to 6
+Fixed {"value":"80","length":4} => UnknownType at $: expected a type that the table describes"#;
+
 /// The octets in hexadecimal, or the refusal; of a text that is no JSON its name alone.
 fn answer_of(
     alloc: Global,
@@ -231,6 +254,19 @@ fn rows(rt: HostRuntime) {
     let alloc = rt.alloc();
     let tables = Tables::of_lines(alloc, TABLE).expect(&rt, "a table");
     for row in ROWS.lines() {
+        let (asked, wanted) = row.split_once(" =>").unwrap_or((row, ""));
+        let (type_name, json) = asked.split_once(" ").unwrap_or((asked, ""));
+        let answer = answer_of(alloc, &tables, type_name, json.as_bytes()).expect(&rt, "memory");
+        assert_eq!(rt; answer.as_str(), wanted.trim(), "{row}");
+    }
+}
+
+/// Zeros at the end of named bits carry no meaning (X.680, 22.7).
+#[test]
+fn rows_of_named_bits(rt: HostRuntime) {
+    let alloc = rt.alloc();
+    let tables = Tables::of_lines(alloc, NAMED_TABLE).expect(&rt, "a table");
+    for row in NAMED_ROWS.lines() {
         let (asked, wanted) = row.split_once(" =>").unwrap_or((row, ""));
         let (type_name, json) = asked.split_once(" ").unwrap_or((asked, ""));
         let answer = answer_of(alloc, &tables, type_name, json.as_bytes()).expect(&rt, "memory");

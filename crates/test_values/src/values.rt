@@ -128,7 +128,13 @@ fn named_of(alloc: Global, row: &str) -> Result<String, Fail> {
     };
     let named = NamedBits::new(bits);
     let shown = hex::encode(alloc, named.as_bits().as_octets())?;
-    Ok(format!(in alloc; "{} {} {} {}", shown, named.len(), named.get(0), named.get(9))?)
+    Ok(format!(in alloc;
+        "{} {} {} {}",
+        shown,
+        named.len(),
+        named.get(0),
+        named.get(9)
+    )?)
 }
 
 #[test]
