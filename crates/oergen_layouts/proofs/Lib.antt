@@ -1,5 +1,6 @@
 -- The lemmas that proofs use.
 mod Allowed
+mod Alternatives
 mod Digits
 mod Distinct
 mod Giving

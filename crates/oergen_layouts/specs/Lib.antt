@@ -4,4 +4,5 @@ pub mod Numbers
 pub mod Preambles
 pub mod Rows
 pub mod Tags
+pub mod Untagged
 pub mod Widths

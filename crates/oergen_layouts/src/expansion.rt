@@ -16,7 +16,7 @@ use oergen_parse::skips::skip_assignment;
 use std::alloc::{AllocError, Global};
 
 /// How many types with parameters may stand inside one another.
-const MAX_NESTING: usize = 64;
+const MAX_PARAMETERIZED: usize = 64;
 
 /// How many tokens there may be before one more type with parameters is put in its place.
 const MAX_TOKENS: usize = 1000000;
@@ -102,7 +102,7 @@ impl<'m, 'a> Source<'m, 'a> {
     /// import it themselves.
     fn home_of(&self, module: usize, name: &str) -> usize {
         let mut home = module;
-        for _ in 0..MAX_NESTING {
+        for _ in 0..MAX_PARAMETERIZED {
             match self.scope.home_behind(home, name) {
                 Some(next) => home = next,
                 None => break,
@@ -146,7 +146,7 @@ impl<'m, 'a> Source<'m, 'a> {
     /// The class whose name stands in front, past other names of it, from its `CLASS` on; nothing where none does.
     fn class_of(&self, tokens: &[Token<'a>]) -> Option<&'m [Token<'a>]> {
         let mut body = self.assigned(tokens)?;
-        for _ in 0..MAX_NESTING {
+        for _ in 0..MAX_PARAMETERIZED {
             if is_at(body, 0, "CLASS") {
                 return Some(body);
             }
@@ -460,7 +460,7 @@ fn expanded<'a>(scope: Scope<'_, 'a>) -> Result<Vec<Token<'a>>, Refusal> {
     };
     let mut tokens = source.plain_tokens()?;
     let mut copies = 0usize;
-    for _ in 0..MAX_NESTING {
+    for _ in 0..MAX_PARAMETERIZED {
         let before = copies;
         tokens = source.replaced(tokens.as_slice(), &mut copies)?;
         if copies == before {

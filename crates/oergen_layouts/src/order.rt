@@ -1,7 +1,9 @@
 //! An order in which each type stands behind those that it uses, and the places where a box is needed.
+ghost use Rattle.std.specs.Prelude.{◌≡◌};
+ghost use Rattle.oergen_layouts.specs.Untagged.{first_target, is_name_of, past_names};
 
 use crate::definitions::{Definition, Part};
-use oergen_parse::ast::Body;
+use oergen_parse::ast::{Body, Type};
 use std::alloc::{AllocError, Global};
 
 /// How many names may stand for one another.
@@ -46,21 +48,36 @@ impl Walk {
 }
 
 /// Past names of types, which hold nothing themselves, to the type that is named.
-pub fn behind_names(definitions: &[Definition<'_>], start: usize) -> usize {
+pub fn behind_names(definitions: &[Definition<'_>], start: usize) -> usize
+    ensures { result ≡ past_names 64 definitions.now start }
+{
     let mut at = start;
     for _ in 0..MAX_CHAIN {
         match definitions.get(at) {
-            Some(definition) if matches!(definition.of.body, Body::Reference(_)) => {
+            Some(definition) if is_name(definition.of) => {
                 at = first_target(definition).unwrap_or(at);
             }
-            Some(_) | None => break,
+            Some(_) | None => return at,
         }
     }
     at
 }
 
-fn first_target(definition: &Definition<'_>) -> Option<usize> {
-    definition.parts.first().and_then(|p| p.target)
+/// Whether a type is a name of another.
+fn is_name(of: &Type) -> bool
+    ensures { result ≡ is_name_of of.now.body }
+{
+    matches!(of.body, Body::Reference(_))
+}
+
+/// What the first part of a definition leads to.
+fn first_target(definition: &Definition<'_>) -> Option<usize>
+    ensures { result ≡ first_target definition.now }
+{
+    match definition.parts.first() {
+        Some(part) => part.target,
+        None => None,
+    }
 }
 
 /// The definition that a part leads to; where boxes are sought, not through a list, and past names.

@@ -1,10 +1,11 @@
 //! The components of a SEQUENCE or a SET, and the alternatives of a CHOICE: each with its place and its tag.
 ghost use Rattle.std.specs.Prelude.{◌≡◌, ◌≢◌, ◌<◌, ◌-◌, ◌^◌, ◌⊎◌, List, [], true, false, cond, IfErr, IfOk, IsOkAnd, MatchOption, MatchResult, OnErr, OnOk, map, length};
-ghost use Rattle.std.specs.List.{All, Contains, filter};
+ghost use Rattle.std.specs.List.{All, filter};
 ghost use Rattle.oergen_parse.specs.declared.ast.Member.{Member};
 ghost use Rattle.oergen_parse.specs.declared.refusal.Refusal.TheVariants.{OutOfMemory};
 ghost use Rattle.oergen_layouts.specs.Rows.{AreRowsOf, HaveComponents, HaveOwnTags, HaveTagsFor, components_of, is_choice, is_own, is_required, passed, placed, position_in};
 ghost use Rattle.oergen_layouts.specs.Tags.{AreAutomatic, AreMembers, HasUntagged, IsAutomatic, IsUntagged, automatic_tags, has_members, is_root, with_tag};
+ghost use Rattle.oergen_layouts.specs.Untagged.{FindsTag};
 
 use crate::numbers::{Spot, number_of};
 use crate::scope::Scope;
@@ -15,7 +16,7 @@ use oergen_parse::refusal::Refusal;
 use std::alloc::{AllocError, Global};
 
 /// How deep COMPONENTS OF may lead.
-const MAX_NESTING: u32 = 64;
+const MAX_COMPONENTS_OF: u32 = 64;
 
 /// What marks and groups may stand in a type.
 const MARKS: &str =
@@ -379,7 +380,7 @@ fn require_rows<'m>(
 
 /// The row that has a tag.
 fn same_tag<'m>(rows: &[Row<'m>], tag: Option<Tag>) -> Option<Row<'m>>
-    ensures { MatchOption result (All (λ row. row.tag ≢ tag) rows.now) (λ row. Contains rows.now row × (row.tag ≡ tag)) }
+    ensures { FindsTag (λ row. row.tag) rows.now tag result }
 {
     for row in rows.iter() {
         if row.tag == tag {
@@ -491,7 +492,7 @@ pub fn untagged_rows<'m>(
         Some(members) if is_choice || matches!(of.body, Body::Set(_)) => members,
         Some(_) | None => return Ok(None),
     };
-    let found = written_rows(scope, members, MAX_NESTING)?;
+    let found = written_rows(scope, members, MAX_COMPONENTS_OF)?;
     let rows = with_tags(scope, of, members, found.as_slice())?;
     if !have_untagged_choice(scope, rows.as_slice(), is_choice)? {
         return Ok(None);
@@ -513,7 +514,7 @@ pub fn rows_of<'m>(scope: Scope<'m, '_>, of: &'m Type) -> Result<Vec<Row<'m>>, R
     let Some(members) = members_of(of) else {
         return Ok(Vec::new(scope.alloc));
     };
-    let written = written_rows(scope, members, MAX_NESTING)?;
+    let written = written_rows(scope, members, MAX_COMPONENTS_OF)?;
     let rows = with_tags(scope, of, members, written.as_slice())?;
     require_rows(scope, of, members, rows.as_slice())?;
     Ok(rows)

@@ -1,5 +1,11 @@
 //! CHOICEs without a tag in a CHOICE (X.680, 31, and X.696, 20): no octet of the outer one is written, so their alternatives stand in its
 //! place. In a SET (X.696, 18) they count by the least tag of their root alternatives.
+ghost use Rattle.std.specs.Prelude.{◌≡◌, ◌≢◌, ◌++◌, ◌∷◌, [], true, false, List, Some, None, Ok, IfErr, IfOk, IfSome, IsSomeAnd, OnOk, MatchOption, map};
+ghost use Rattle.std.specs.List.{All, cons_option, list_any};
+ghost use Rattle.std.specs.Option.{option_map};
+ghost use Rattle.oergen_parse.specs.declared.refusal.Refusal.TheVariants.{OutOfMemory};
+ghost use Rattle.oergen_layouts.specs.Rows.{is_choice};
+ghost use Rattle.oergen_layouts.specs.Untagged.{FindsTag, HaveOwnPartTags, IsLeastOf, alternatives, in_place, lacks_tag, part_tag, places_from, root_tag, root_tags, type_behind, unnamed, unnamed_with};
 
 use crate::definitions::{Definition, Part, definitions};
 use crate::layouts::is_extensible;
@@ -8,13 +14,14 @@ use crate::order::behind_names;
 use crate::rows::{Position, Row, tag_text};
 use crate::scope::Scope;
 use asn1_core::Tag;
+use asn1_core::laws::tag_order;
 use oergen_parse::ast::Body;
 use oergen_parse::lexer::TokenId;
 use oergen_parse::refusal::Refusal;
 use std::alloc::{AllocError, Global};
 
 /// How many of them may stand inside one another.
-const MAX_NESTING: u32 = 64;
+const MAX_UNTAGGED: u32 = 64;
 
 /// What a CHOICE or a SET has, and whether it has an extension mark.
 #[derive(Drop)]
@@ -29,9 +36,14 @@ fn named<'m>(
     part: &Part<'m>,
     name: String,
     tag: Option<Tag>,
-) -> Result<Part<'m>, AllocError> {
+) -> Result<Part<'m>, AllocError>
+    ensures { IfOk result (λ made. unnamed made ≡ unnamed_with part.now tag) }
+{
     Ok(Part {
-        row: part.row.map(|row| Row { tag, ..row }),
+        row: match part.row {
+            Some(row) => Some(Row { tag, ..row }),
+            None => None,
+        },
         rust_name: component_name(alloc, name.as_str())?,
         name,
         lists: part.lists,
@@ -43,12 +55,19 @@ fn named<'m>(
 }
 
 /// The tag of a part; nothing where it has none.
-fn tag_of(part: &Part<'_>) -> Option<Tag> {
-    part.row.and_then(|row| row.tag)
+fn tag_of(part: &Part<'_>) -> Option<Tag>
+    ensures { result ≡ part_tag part.now }
+{
+    match part.row {
+        Some(row) => row.tag,
+        None => None,
+    }
 }
 
 /// The part that has a tag.
-fn same_tag<'p, 'm>(parts: &'p [Part<'m>], tag: Option<Tag>) -> Option<&'p Part<'m>> {
+fn same_tag<'p, 'm>(parts: &'p [Part<'m>], tag: Option<Tag>) -> Option<&'p Part<'m>>
+    ensures { FindsTag part_tag parts.now tag (option_map (λ one. one.now) result) }
+{
     for part in parts.iter() {
         if tag_of(part) == tag {
             return Some(part);
@@ -63,7 +82,11 @@ fn push_own<'m>(
     parts: &mut Vec<Part<'m>>,
     part: Part<'m>,
     at: TokenId,
-) -> Result<(), Refusal> {
+) -> Result<(), Refusal>
+    ensures pushed { OnOk result (parts.new.items ≡ parts.old.items ++ part.entry ∷ []) }
+    ensures own { OnOk result (All (λ other. part_tag other ≢ part_tag part.entry) parts.old.items) }
+    ensures refused { All (λ other. part_tag other ≢ part_tag part.entry) parts.old.items → IfErr result (λ e. e ≡ OutOfMemory) }
+{
     let tag = tag_of(&part);
     if let Some(other) = same_tag(parts.as_slice(), tag) {
         return Err(scope.refused_beside(
@@ -77,17 +100,26 @@ fn push_own<'m>(
     Ok(())
 }
 
+/// The type that a part is of, past names.
+fn type_of<'m, 'd>(all: &'d [Definition<'m>], part: &Part<'m>) -> Option<&'d Definition<'m>>
+    ensures { MatchOption result (type_behind all.now part.now ≡ None) (λ one. type_behind all.now part.now ≡ Some one.now) }
+{
+    match part.target {
+        Some(target) => all.get(behind_names(all, target)),
+        None => None,
+    }
+}
+
 /// The CHOICE without a tag that a part is of, past names.
 fn choice_of<'m, 'd>(
     scope: Scope<'m, '_>,
     all: &'d [Definition<'m>],
     part: &Part<'m>,
     row: Row<'m>,
-) -> Result<&'d Definition<'m>, Refusal> {
-    match part
-        .target
-        .and_then(|target| all.get(behind_names(all, target)))
-    {
+) -> Result<&'d Definition<'m>, Refusal>
+    ensures { IfOk result (λ choice. type_behind all.now part.now ≡ Some choice.now) }
+{
+    match type_of(all, part) {
         Some(choice) if choice.fault.is_some() => {
             Err(scope.refused(part.inner.first, "a type that is printed"))
         }
@@ -116,7 +148,10 @@ fn push_part<'m>(
     part: &Part<'m>,
     row: Row<'m>,
     levels: u32,
-) -> Result<(), Refusal> {
+) -> Result<(), Refusal>
+    ensures in_place { part.now.row ≡ Some row.entry → OnOk result (map unnamed flat.new.parts.items ≡ map unnamed flat.old.parts.items ++ in_place levels all.now part.now row.entry) }
+    ensures tags { part.now.row ≡ Some row.entry → HaveOwnPartTags flat.old.parts.items → OnOk result (HaveOwnPartTags flat.new.parts.items) }
+{
     if row.tag.is_some() {
         let name = part.name.clone()?;
         let part = named(scope.alloc, part, name, row.tag)?;
@@ -143,7 +178,10 @@ fn flat_choice<'m>(
     choice: &Definition<'m>,
     levels: u32,
     at: TokenId,
-) -> Result<Flat<'m>, Refusal> {
+) -> Result<Flat<'m>, Refusal>
+    ensures alternatives { IfOk result (λ flat. map unnamed flat.parts.items ≡ alternatives levels all.now choice.now.parts.items) }
+    ensures tags { IfOk result (λ flat. HaveOwnPartTags flat.parts.items) }
+{
     let Some(levels) = levels.checked_sub(1) else {
         return Err(scope.refused(
             at,
@@ -165,17 +203,38 @@ fn flat_choice<'m>(
     Ok(flat)
 }
 
+/// The tag of a component or an alternative of the root.
+fn root_tag(part: &Part<'_>) -> Option<Tag>
+    ensures { result ≡ root_tag part.now.row }
+{
+    match part.row {
+        Some(row) => match row.position {
+            Position::Root => row.tag,
+            Position::Addition | Position::Group(_) => None,
+        },
+        None => None,
+    }
+}
+
+/// The lesser one of the least of some tags, and of one more.
+fn lesser(least: Option<Tag>, own: Option<Tag>) -> Option<Tag>
+    ensures { (tags : List Tag) → IsLeastOf tags least → IsLeastOf (tags ++ cons_option own []) result }
+{
+    tag_order();
+    match (least, own) {
+        (Some(before), Some(own)) => Some(before.min(own)),
+        (None, own) => own,
+        (before, None) => before,
+    }
+}
+
 /// The least tag of root alternatives; nothing where there are none.
-fn least_tag(parts: &[Part<'_>]) -> Option<Tag> {
+fn least_tag(parts: &[Part<'_>]) -> Option<Tag>
+    ensures { IsLeastOf (root_tags parts.now) result }
+{
     let mut least: Option<Tag> = None;
     for part in parts.iter() {
-        if let Some(row) = part.row {
-            least = match (row.position, least, row.tag) {
-                (Position::Root, Some(before), Some(own)) => Some(before.min(own)),
-                (Position::Root, None, own) => own,
-                (_, before, _) => before,
-            };
-        }
+        least = lesser(least, root_tag(part));
     }
     least
 }
@@ -189,7 +248,7 @@ fn set_part<'m>(
     row: Row<'m>,
 ) -> Result<Part<'m>, Refusal> {
     let before = taken.parts.len();
-    push_part(scope, all, taken, part, row, MAX_NESTING)?;
+    push_part(scope, all, taken, part, row, MAX_UNTAGGED)?;
     let tag = match row.tag {
         Some(tag) => Some(tag),
         None => least_tag(taken.parts.get(before..).unwrap_or(&[])),
@@ -230,10 +289,13 @@ fn flat_of<'m>(
     scope: Scope<'m, '_>,
     all: &[Definition<'m>],
     definition: &Definition<'m>,
-) -> Result<Option<Flat<'m>>, Refusal> {
+) -> Result<Option<Flat<'m>>, Refusal>
+    ensures stays { list_any lacks_tag definition.now.parts.items ≡ false → result ≡ Ok None }
+    ensures choices { is_choice definition.now.of.now.body ≡ true → list_any lacks_tag definition.now.parts.items ≡ true → IfOk result (λ made. IsSomeAnd made (λ flat. (map unnamed flat.parts.items ≡ alternatives 64 all.now definition.now.parts.items) × HaveOwnPartTags flat.parts.items)) }
+{
     match &definition.of.body {
         Body::Choice(_) if has_untagged(definition) => {
-            Ok(Some(flat_choice(scope, all, definition, MAX_NESTING, definition.of.first)?))
+            Ok(Some(flat_choice(scope, all, definition, MAX_UNTAGGED, definition.of.first)?))
         }
         Body::Set(_) if has_untagged(definition) => Ok(Some(flat_set(scope, all, definition)?)),
         Body::Choice(_) | Body::Set(_) | Body::Sequence(_) | Body::Enumerated(_, _) => Ok(None),
@@ -243,7 +305,9 @@ fn flat_of<'m>(
 }
 
 /// Whether a component or an alternative has no tag.
-fn has_untagged(definition: &Definition<'_>) -> bool {
+fn has_untagged(definition: &Definition<'_>) -> bool
+    ensures { result ≡ list_any lacks_tag definition.now.parts.items }
+{
     definition
         .parts
         .iter()
@@ -281,7 +345,10 @@ fn put_flat<'m>(
     made: Result<Option<Flat<'m>>, Refusal>,
     keeps_faults: bool,
     unused: &mut Vec<bool>,
-) -> Result<(), Refusal> {
+) -> Result<(), Refusal>
+    ensures stays { made.entry ≡ Ok None → definition.new.parts ≡ definition.old.parts }
+    ensures put { IfOk made.entry (λ found. IfSome found (λ flat. OnOk result (definition.new.parts ≡ flat.parts))) }
+{
     definition.is_extensible = is_extensible(definition.of);
     match made {
         Ok(None) => {}
@@ -302,7 +369,9 @@ fn put_flat<'m>(
 }
 
 /// The places that definitions have without the unused ones; nothing for these.
-fn places_of(alloc: Global, unused: &[bool]) -> Result<Vec<Option<usize>>, AllocError> {
+fn places_of(alloc: Global, unused: &[bool]) -> Result<Vec<Option<usize>>, AllocError>
+    ensures { IfOk result (λ places. places.items ≡ places_from 0 unused.now) }
+{
     let mut places = Vec::new(alloc);
     let mut count = 0usize;
     for is_unused in unused.iter() {

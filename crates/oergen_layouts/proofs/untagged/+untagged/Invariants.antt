@@ -1,4 +1,5 @@
-use Rattle.std.proofs.Common.{◌+◌, ◌*◌}
+use Rattle.std.proofs.Common.{◌≡◌, ◌+◌, ◌*◌, Some, ◌++◌, map, take}
+use Rattle.oergen_layouts.specs.Untagged.{HaveOwnPartTags, alternatives, unnamed}
 use Rattle.oergen_layouts.proofs.untagged.+untagged.Given as goal
 
 abbrev pub decreases-push_part : goal.decreases-push_part
@@ -6,3 +7,15 @@ decreases-push_part l = 2 * l.levels + 1
 
 abbrev pub decreases-flat_choice : goal.decreases-flat_choice
 decreases-flat_choice l = 2 * l.levels
+
+abbrev pub invariant-flat_choice-loop-part : goal.invariant-flat_choice-loop-part
+invariant-flat_choice-loop-part l = record {
+  in_place : map unnamed l.flat.parts.items ≡ alternatives l.fn.levels l.all (take l.part-index l.part-items);
+  tags : HaveOwnPartTags l.flat.parts.items;
+}
+
+abbrev pub invariant-push_part-loop-one : goal.invariant-push_part-loop-one
+invariant-push_part-loop-one l = record {
+  in_place : map unnamed l.flat.parts.items ≡ map unnamed l.initial.flat.parts.items ++ map unnamed (take l.one-index l.one-items);
+  tags : l.part.row ≡ Some l.row → HaveOwnPartTags l.initial.flat.parts.items → HaveOwnPartTags l.flat.parts.items;
+}
