@@ -1,4 +1,4 @@
-use Rattle.std.proofs.Common.{◌≡◌, ◌≢◌, ◌∙◌, ◌-◌, ◌≤◌, true, Some, is_some, List, [], ◌∷◌, ◌++◌, map, take, rules, ap, sym, subst, arith}
+use Rattle.std.proofs.Common.{◌≡◌, ◌≢◌, ◌∙◌, ◌-◌, ◌≤◌, true, is_some, List, [], ◌∷◌, ◌++◌, map, rules, ap, sym, subst, arith}
 use Rattle.std.specs.List.{All}
 use Rattle.oergen_layouts.specs.Untagged.{HaveOwnPartTags, Unnamed, in_place, part_tag, unnamed, unnamed_with}
 use Rattle.oergen_layouts.specs.declared.definitions.Part.{Part}

@@ -1,4 +1,4 @@
-use Rattle.std.proofs.Common.{Option, Some, List, [], ◌++◌, sym, subst}
+use Rattle.std.proofs.Common.{Option, Some, [], ◌++◌, sym, subst}
 use Rattle.std.specs.List.{cons_option}
 use Rattle.asn1_core.specs.declared.tag.Tag.{Tag}
 use Rattle.oergen_layouts.specs.Untagged.{IsLeastOf}

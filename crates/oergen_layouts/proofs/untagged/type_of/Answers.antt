@@ -1,7 +1,4 @@
-use Rattle.std.proofs.Common.{◌≡◌, ◌∙◌, Option, Some, None, ℕ, List, ap, sym, slice_get}
-use Rattle.oergen_layouts.specs.Untagged.{past_names, type_behind}
-use Rattle.oergen_layouts.specs.declared.definitions.Definition.{Definition}
-use Rattle.oergen_layouts.proofs.Alternatives.{found, missed, behind_target}
+use Rattle.oergen_layouts.proofs.Alternatives.{behind_target}
 use Rattle.oergen_layouts.proofs.untagged.type_of.Goals as goal
 
 pub returns-in-Some : goal.returns-in-Some
