@@ -97,9 +97,10 @@ MADE = "M DEFINITIONS AUTOMATIC TAGS ::= BEGIN\n{}\nEND\n"
 # what is printed of each
 NAMES = (
     (
-        "Bare ::= NULL Sequence ::= BOOLEAN Date ::= SEQUENCE { place Place } Place ::= CHOICE { a NULL }",
+        "Bare ::= NULL NamedBits ::= NULL Sequence ::= BOOLEAN Date ::= SEQUENCE { place Place } Place ::= CHOICE { a NULL }",
         (
             "pub type Bare_ = ();",
+            "pub type NamedBits_ = ();",
             "pub type Sequence_ = bool;",
             "pub type Date_ = Sequence<Date_Components, 1, 0>;",
             "    pub place: Place_,",

@@ -145,6 +145,8 @@ class Comparison:
             rust = f"{'i' if is_signed else 'u'}{8 * width}" if width else "Integer"
             bits = 8 * (width or 0)
             own = (None, None) if not width else (-(2 ** (bits - 1)), 2 ** (bits - 1) - 1) if is_signed else (0, 2**bits - 1)
+        if base.sort == "BIT STRING" and base.inside and limits.fixed() is None:
+            rust = "NamedBits"
         if limits.mark or (limits.low, limits.high) == own:
             return (rust,)
         return ("Limited", (rust,), (is_size, limits.low, limits.high))

@@ -681,7 +681,9 @@ class World:
             limits = self.limits(of, around, True)
             fixed = limits.fixed()
             behind = "behind a length and the count of unused bits" if fixed is None else octets((fixed + 7) // 8)
-            return f"BIT STRING{limits.text()}, {behind}"
+            # X.680, 22.7, and X.696, 13.3: where bits have names 0 bits are added and removed at the end, as the size lets them be
+            names = ", named bits" if base.inside and fixed is None else ""
+            return f"BIT STRING{limits.text()}{names}, {behind}"
         if base.sort in SIMPLE:
             unit = SIMPLE[base.sort][1]
             limits = self.limits(of, around, True) if unit else Limits()

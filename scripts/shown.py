@@ -25,7 +25,8 @@ PUBLISHED = sorted(str(it) for it in (top / "scripts/v2x.d").glob("*.asn"))
 ABSENT = "oershow: NoModule: absent.asn: No such file or directory (os error 2)\n"
 
 # modules, and their tables: an addition in a group of a CHOICE; a choice without a tag in another; a SET, whose root is in the order of
-# tags, with a group; lists; names of numbers that a type has from the one that it is a name of; defaults, with words in them that stand in lists of layouts too
+# tags, with a group; lists; names of numbers that a type has from the one that it is a name of; defaults, with words in them that stand in
+# lists of layouts too; named bits of a fixed size and of others, with as many 0 bits in defaults as the least size wants
 TABLES = (
     (
         "A ::= CHOICE { a NULL, ..., [[ b BOOLEAN ]] }",
@@ -73,6 +74,16 @@ TABLES = (
                     *('5 "ABC0"', "6 true", "7 []"),
                 )
             ),
+        ),
+    ),
+    (
+        "B ::= BIT STRING { x(1), y(9) } A ::= SEQUENCE { a B DEFAULT '1000'B, b B (SIZE(4..12)) DEFAULT {x}, c B (SIZE(8)) }",
+        "words 5 6 7 20 21 22 9 11 0 3 0 0 1 2 1 1 3 2 0 4 9 9 5 8",
+        "abc",
+        "BABBB",
+        (
+            *(f"value {of} {it}" for of in (0, 2, 3, 4) for it in ("1 x", "9 y")),
+            *("size 3 4 12", "size 4 8 8", 'default 1 0 {"value": "80", "length": 1}', 'default 1 1 {"value": "40", "length": 4}'),
         ),
     ),
 )

@@ -27,6 +27,7 @@ NAMES = {
     "-5..5": "Small", "-129..0": "UpToZero", "5..5": "Five", "0..i128max": "FromZero", "i16range": "TwoSigned",
     "ext1..8": "OneToEight", "Positive": "Positive", "Negative<Integer>": "Negative", "Negative<Positive>": "NegativePositive",
     "octets3..6": "Octets3to6", "bits3..6": "Bits3to6", "bits14": "Bits14", "bmpof2": "BmpOf2",
+    "named": "Named", "named4..8": "Named4to8",
     "bmp": "Bmp", "numeric": "Numeric", "printable": "Printable", "visible": "Visible", "ia5": "Ia5", "general": "General",
     "graphic": "Graphic", "teletex": "Teletex", "HashedId3": "HashedId3", "Enum3": "Enum3", "enum4": "Enum4",
     "empty": "Empty", "Pair": "Pair", "Nested": "Nested", "defint": "DefaultInteger", "defopt": "DefaultAndOptional",

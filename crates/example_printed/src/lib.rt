@@ -26,4 +26,7 @@ pub use types_04::{
     ThenComponents,
 };
 pub use types_05::{Leaves, LeavesComponents, Taken, TakenComponents};
-pub use types_06::{Both, BothB, BothBAlternatives, BothComponents, Reply, ReplyAlternatives};
+pub use types_06::{
+    Both, BothB, BothBAlternatives, BothComponents, Card, CardComponents, Marks, Reply,
+    ReplyAlternatives,
+};

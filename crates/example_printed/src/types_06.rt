@@ -1,7 +1,7 @@
 //! Types of ASN.1 modules, as oergen printed them.
 
 use rasn_oer::prelude::*;
-use std::alloc::Global;
+use std::alloc::{AllocError, Global};
 
 /// `Reply ::= CHOICE { plain [0] BOOLEAN, other CHOICE { one [1] INTEGER (0..255), two [2] NULL,
 /// ..., more [4] BOOLEAN }, last [3] NULL }`
@@ -252,4 +252,147 @@ impl InTagOrder<3, 0> for BothComponents {
     fn text_fields() -> &'static [Field<'static>] {
         Self::SET_FIELDS.fields
     }
+}
+
+/// `Marks ::= BIT STRING { urgent(0), sealed(1), read(9) }`
+pub type Marks = NamedBits;
+
+/// The limits of `CardLeast`.
+#[derive(Drop)]
+pub enum CardLeastLimits {}
+
+impl Limits for CardLeastLimits {
+    ghost use Rattle.std.specs.Prelude.{None, Some, false, negsuc, pos, refl};
+    ghost use Rattle.rasn_oer.specs.Bounded.{Range, Single};
+
+    ghost LIMITS = { record { value = None; size = Some (Range (Some 4) (Some 12), false) } };
+
+    const LIMITS: Constraints = Constraints {
+        value: None,
+        size: Some((
+            Bounded::Range {
+                start: Some(4),
+                end: Some(12),
+            },
+            false,
+        )),
+    };
+
+    ghost consistent = { refl };
+}
+
+/// The default '1000'B of `CardUsual`.
+pub struct CardUsualDefault;
+
+impl DefaultValue<NamedBits> for CardUsualDefault {
+    ghost use Rattle.std.specs.Prelude.{◌∷◌, [], take, refl};
+    ghost use Rattle.rasn_oer.specs.Octets.{bits_of};
+
+    ghost value = { take 1 (bits_of (128 ∷ [])) };
+
+    fn value(alloc: Global) -> Result<NamedBits, AllocError> {
+        let octets: [u8; 1] = [0x80];
+        let bits = bits_from(alloc, &octets, 1)?;
+        Ok(NamedBits::new(bits))
+    }
+
+    fn is_value(other: &NamedBits) -> bool {
+        let octets: [u8; 1] = [0x80];
+        are_bits(other.as_bits(), &octets, 1)
+    }
+
+    ghost admitted = { refl };
+}
+
+/// `Card ::= SEQUENCE { marks Marks, least Marks (SIZE(4..12)), more Marks OPTIONAL, usual Marks
+/// DEFAULT '1000'B }`
+pub type Card = Sequence<CardComponents, 4, 0>;
+
+/// The components of `Card`.
+#[derive(Debug, PartialEq, Eq, Drop)]
+pub struct CardComponents {
+    pub marks: Marks,
+    pub least: Limited<NamedBits, CardLeastLimits>,
+    pub more: Option<Marks>,
+    pub usual: Marks,
+}
+
+type CardRow = Required<
+    Context<0>,
+    Marks,
+    Required<
+        Context<1>,
+        Limited<NamedBits, CardLeastLimits>,
+        Optional<Context<2>, Marks, Defaulted<Context<3>, Marks, CardUsualDefault, End>>,
+    >,
+>;
+
+impl Rowed for CardComponents {
+    ghost use Rattle.rasn_oer.specs.Values.{both};
+
+    type Values = <CardRow as Components>::Values;
+
+    ghost EXTENSIBLE = { ⟦<CardRow as Components>⟧.EXTENSIBLE };
+
+    const EXTENSIBLE: bool = false;
+
+    ghost row_schema = { ⟦<CardRow as Components>⟧.schema };
+
+    ghost row_is_schema = { ⟦<CardRow as Components>⟧.is_schema };
+
+    ghost components = { λ v. both v.marks (both v.least (both v.more (both v.usual tt))) };
+
+    fn from_row(row: Self::Values) -> Self {
+        built![CardComponents from row:
+            marks,
+            least,
+            more,
+            usual
+        ]
+    }
+}
+
+impl Takes for CardComponents {
+    ghost Refuses = { ⟦<CardRow as Reads>⟧.Refuses };
+
+    #[inline(always)]
+    fn take(alloc: Global, decoder: &mut Decoder<'_>) -> Result<Self, DecodeError> {
+        read_row::<Self, CardRow>(alloc, decoder)
+    }
+}
+
+impl Tabled<4, 0> for CardComponents {
+    ghost use Rattle.std.specs.Prelude.{refl};
+
+    const FIELDS: Fields<4> = Fields {
+        fields: fields![
+            0 Required Context 0 "marks",
+            1 Required Context 1 "least",
+            2 Optional Context 2 "more",
+            3 Default Context 3 "usual"
+        ],
+    };
+
+    const EXTENDED_FIELDS: Option<Fields<0>> = None;
+
+    fn root_fields() -> &'static [Field<'static>] {
+        Self::FIELDS.fields
+    }
+
+    fn addition_fields() -> &'static [Field<'static>] {
+        rows_of!(Self::EXTENDED_FIELDS)
+    }
+
+    #[inline(always)]
+    fn put(&self, encoder: &mut Encoder<'_>) -> Result<(), EncodeError> {
+        let view = views![self:
+            marks,
+            least,
+            more,
+            usual
+        ];
+        CardRow::write(&view, encoder)
+    }
+
+    ghost counts = { (refl, refl) };
 }

@@ -26,3 +26,12 @@ pub const NAMED_LOW: i8 = -3;
 
 /// The number `high` of `Named`.
 pub const NAMED_HIGH: i8 = 3;
+
+/// The place of the bit `urgent` of `Marks`.
+pub const MARKS_URGENT: usize = 0;
+
+/// The place of the bit `sealed` of `Marks`.
+pub const MARKS_SEALED: usize = 1;
+
+/// The place of the bit `read` of `Marks`.
+pub const MARKS_READ: usize = 9;

@@ -59,8 +59,7 @@ pub fn lists_of(alloc: Global, start: &Type) -> Result<String, AllocError> {
     Ok(text)
 }
 
-/// A type's layout, with the constraints that give it. Refused where named bits have no fixed size, since canonical form would drop
-/// trailing zero bits (X.696, 13.3).
+/// A type's layout, with the constraints that give it.
 pub fn layout_of<'m>(scope: Scope<'m, '_>, of: &'m Type) -> Result<String, Refusal> {
     let chain = scope.chain_of(of)?;
     let base = chain.last().copied().unwrap_or(of);
@@ -72,13 +71,7 @@ pub fn layout_of<'m>(scope: Scope<'m, '_>, of: &'m Type) -> Result<String, Refus
         }
         Body::BitString(bits) => {
             let limits = size_of(scope, chain.as_slice())?;
-            if !bits.is_empty() && limits.fixed().is_none() {
-                return Err(scope.refused(
-                    base.first,
-                    "a BIT STRING with named bits under one fixed size",
-                ));
-            }
-            Ok(bits_text(scope.alloc, limits)?)
+            Ok(bits_text(scope.alloc, limits, !bits.is_empty())?)
         }
         Body::Simple(simple) => match unit_of(*simple) {
             Some(unit) => {
@@ -149,16 +142,19 @@ fn integer_text(alloc: Global, limits: Limits) -> Result<String, AllocError> {
     }
 }
 
-fn bits_text(alloc: Global, limits: Limits) -> Result<String, AllocError> {
+fn bits_text(alloc: Global, limits: Limits, has_names: bool) -> Result<String, AllocError> {
     let range = range_text(alloc, limits)?;
     match limits.fixed() {
         Some(bits) => {
             let octets = octets_text(alloc, bits.saturating_add(7).checked_div(8).unwrap_or(0))?;
             format!(in alloc; "BIT STRING{range}, {octets}")
         }
-        None => format!(in alloc;
-            "BIT STRING{range}, behind a length and the count of unused bits"
-        ),
+        None => {
+            let names = if has_names { ", named bits" } else { "" };
+            format!(in alloc;
+                "BIT STRING{range}{names}, behind a length and the count of unused bits"
+            )
+        }
     }
 }
 

@@ -4,10 +4,10 @@ ghost use Rattle.std.specs.Prelude.{◌≡◌, false, true, int_le, IfOk, IfSome
 use crate::cells::variant_name;
 use crate::items::push_defined;
 use crate::literals::{
-    bits_of_literal, bits_of_names, fill_up, octets_of_text, packed, push_array, push_list,
-    push_written,
+    bits_of_literal, bits_of_names, drop_zeros, fill_up, octets_of_text, packed, push_array,
+    push_list, push_written,
 };
-use crate::shapes::{number_of_octets, simple_type, sizes_of};
+use crate::shapes::{drops_zeros, number_of_octets, simple_type, sizes_of};
 use crate::templates::DEFAULT;
 use crate::text::{Text, Words};
 use oergen_layouts::definitions::Definition;
@@ -122,18 +122,48 @@ fn put_octets(words: &mut Words, octets: &[u8]) {
     push_list(words.begin("LIST"), octets);
 }
 
+/// How a default of bits is written: its Rust type, what its ghost members take from std, how it is made, what of a value is compared, and
+/// what shows that it is a value.
+#[derive(Clone, Copy)]
+struct BitsText {
+    rust: &'static str,
+    uses: &'static str,
+    made: &'static str,
+    compared: &'static str,
+    admitted: &'static str,
+}
+
+const PLAIN_BITS: BitsText = BitsText {
+    rust: "BitString",
+    uses: "take",
+    made: "bits_from(alloc, &octets, @COUNT@)",
+    compared: "other",
+    admitted: "tt",
+};
+
+const NAMED_BITS: BitsText = BitsText {
+    rust: "NamedBits",
+    uses: "take, refl",
+    made: "let bits = bits_from(alloc, &octets, @COUNT@)?;\n        Ok(NamedBits::new(bits))",
+    compared: "other.as_bits()",
+    admitted: "refl",
+};
+
 /// The words of a bit string, but for its text.
-fn bits_words(alloc: Global, name: &str, octets: &[u8], count: usize) -> Words {
+fn bits_words(alloc: Global, name: &str, text: BitsText, octets: &[u8], count: usize) -> Words {
     const USES: &str =
-        "ghost use Rattle.std.specs.Prelude.{◌∷◌, [], take};\n    ghost use Rattle.rasn_oer.specs.Octets.{bits_of};";
-    let mut words = words_of(alloc, name, "BitString", true);
-    words.put("USES", USES);
+        "ghost use Rattle.std.specs.Prelude.{◌∷◌, [], @STD@};\n    ghost use Rattle.rasn_oer.specs.Octets.{bits_of};";
+    let mut words = words_of(alloc, name, text.rust, true);
+    words.put("STD", text.uses);
+    words.put_filled("USES", USES);
     put_octets(&mut words, octets);
     words.begin("COUNT").push_count(count);
     words.put_filled("GHOST", "take @COUNT@ (bits_of @LIST@)");
-    words.put_filled("CODE", "@OCTETS@bits_from(alloc, &octets, @COUNT@)");
-    words.put_filled("TEST", "@OCTETS@are_bits(other, &octets, @COUNT@)");
-    words.put("ADMITTED", "tt");
+    words.put_filled("MADE", text.made);
+    words.put_filled("CODE", "@OCTETS@@MADE@");
+    words.put("COMPARED", text.compared);
+    words.put_filled("TEST", "@OCTETS@are_bits(@COMPARED@, &octets, @COUNT@)");
+    words.put("ADMITTED", text.admitted);
     words
 }
 
@@ -152,8 +182,8 @@ fn written_bits<'m>(
     }
 }
 
-/// The bits of a default of a BIT STRING; one with named bits has zero bits behind them, up to its least size (X.680, 22.7). Refused where
-/// the limits don't allow so many.
+/// The bits of a default of a BIT STRING: with named bits and zero bits behind them up to a fixed size, and none of another (X.680, 22.7).
+/// Refused where the limits don't allow so many.
 fn default_bits<'m>(
     scope: Scope<'m, '_>,
     row: Row<'m>,
@@ -163,10 +193,14 @@ fn default_bits<'m>(
     const MAX_BITS: i128 = 65536;
     let mut bits = written_bits(scope, row, spot)?;
     let least = limits.low.unwrap_or(0);
-    if !spot.names.is_empty() && least <= MAX_BITS {
+    let is_named = drops_zeros(spot.names, limits);
+    if is_named {
+        drop_zeros(&mut bits);
+    } else if !spot.names.is_empty() && least <= MAX_BITS {
         fill_up(&mut bits, usize::try_from(least).unwrap_or(0))?;
     }
-    if allows(limits, i128::try_from(bits.len()).unwrap_or(i128::MAX)) {
+    let count = i128::try_from(bits.len()).unwrap_or(i128::MAX);
+    if allows(limits, if is_named { count.max(least) } else { count }) {
         Ok(bits)
     } else {
         Err(scope.refused(row.name, ALLOWED))
@@ -184,7 +218,12 @@ fn push_bits<'m>(
     let (is_limited, limits) = sizes_of(scope, row.of)?;
     let bits = default_bits(scope, row, spot, limits)?;
     let octets = packed(scope.alloc, bits.as_slice())?;
-    let mut words = bits_words(scope.alloc, name, octets.as_slice(), bits.len());
+    let text = if drops_zeros(spot.names, limits) {
+        NAMED_BITS
+    } else {
+        PLAIN_BITS
+    };
+    let mut words = bits_words(scope.alloc, name, text, octets.as_slice(), bits.len());
     push_written(scope, words.begin("TEXT"), spot.value);
     Ok(push_words(scope.alloc, out, name, is_limited, &words))
 }

@@ -1,7 +1,7 @@
 //! How deep the structs, enums, tuples and references of printed types stand in one another: the language refuses more than 64.
 
 use crate::sequences::{in_text_order, root_places};
-use crate::shapes::{number_of_octets, sizes_of};
+use crate::shapes::{drops_zeros, number_of_octets, sizes_of};
 use oergen_layouts::definitions::{Definition, Part, Tie};
 use oergen_layouts::rows::Position;
 use oergen_layouts::scope::Scope;
@@ -26,6 +26,9 @@ const INTEGER: usize = 5;
 
 /// The depth of a bit string.
 const BITS: usize = 4;
+
+/// The depth of a bit string without 0 bits at its end.
+const NAMED_BITS: usize = 5;
 
 /// The depth of the octets of an alternative of a newer version, less that of the enum that a CHOICE has.
 const KEPT: usize = 7;
@@ -139,7 +142,11 @@ fn part_depth<'m>(
             let (rust, has_limits, _) = number_of_octets(scope, part.inner)?;
             (if rust == "Integer" { INTEGER } else { 0 }, has_limits)
         }
-        Body::BitString(_) => (BITS, sizes_of(scope, part.inner)?.0),
+        Body::BitString(names) => {
+            let (has_limits, limits) = sizes_of(scope, part.inner)?;
+            let is_named = drops_zeros(names.as_slice(), limits);
+            (if is_named { NAMED_BITS } else { BITS }, has_limits)
+        }
         Body::Simple(simple) => (simple_depth(*simple), sizes_of(scope, part.inner)?.0),
         Body::Sequence(_) | Body::Set(_) | Body::Choice(_) => (own_at(depths, at), false),
         Body::Enumerated(_, _) | Body::Reference(_) => (own_at(depths, at), false),

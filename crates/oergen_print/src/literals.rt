@@ -81,6 +81,17 @@ pub fn fill_up(bits: &mut Vec<bool>, count: usize) -> Result<(), AllocError> {
     Ok(())
 }
 
+/// Drops the zero bits at the end.
+pub fn drop_zeros(bits: &mut Vec<bool>) {
+    let mut count = 0usize;
+    for (at, bit) in bits.iter().enumerate() {
+        if *bit {
+            count = at.saturating_add(1);
+        }
+    }
+    bits.truncate(count);
+}
+
 /// Bits in whole octets, filled up with zero bits.
 pub fn packed(alloc: Global, bits: &[bool]) -> Result<Vec<u8>, AllocError> {
     let mut octets = Vec::new(alloc);

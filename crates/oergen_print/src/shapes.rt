@@ -6,7 +6,7 @@ use oergen_layouts::layouts::unit_of;
 use oergen_layouts::numbers::names_of;
 use oergen_layouts::scope::Scope;
 use oergen_layouts::visible::{Limits, Purpose, UNLIMITED, limits_of};
-use oergen_parse::ast::{Body, Simple, Type};
+use oergen_parse::ast::{Body, Numbered, Simple, Type};
 use oergen_parse::refusal::Refusal;
 use std::alloc::Global;
 
@@ -63,6 +63,21 @@ fn number_type(limits: Limits) -> (&'static str, Limits) {
         is_extensible: false,
     };
     (name, own)
+}
+
+/// Whether the 0 bits at the end of a BIT STRING carry no meaning: its bits have names (X.680, 22.7), and no fixed size says how many
+/// there are.
+pub fn drops_zeros(names: &[Numbered], limits: Limits) -> bool {
+    !names.is_empty() && limits.fixed().is_none()
+}
+
+/// The Rust type of a BIT STRING.
+fn bits_type(names: &[Numbered], limits: Limits) -> &'static str {
+    if drops_zeros(names, limits) {
+        "NamedBits"
+    } else {
+        "BitString"
+    }
 }
 
 /// A type that is taken by its name, with a text behind it.
@@ -124,7 +139,7 @@ fn base_shape<'m>(
     };
     let (rust, own) = match &base.body {
         Body::Integer(_) => number_type(limits),
-        Body::BitString(_) => ("BitString", UNLIMITED),
+        Body::BitString(names) => (bits_type(names.as_slice(), limits), UNLIMITED),
         Body::Simple(simple) => (simple_type(*simple), UNLIMITED),
         Body::Sequence(_) | Body::Set(_) | Body::Choice(_) => ("", UNLIMITED),
         Body::Enumerated(_, _) | Body::SequenceOf(_) | Body::SetOf(_) => ("", UNLIMITED),

@@ -1,5 +1,5 @@
 -- The words of a type's form in a table: the number of its kind, and what goes with it, as the comments of `Kind` say.
-use Rattle.std.specs.Prelude.{◌≡◌, ◌⊎◌, ℕ, ◌+◌, ◌-◌, ◌^◌, ℤ, pos, ◌*ℤ◌, ◌≤ℤ◌, ◌<ℤ◌, unsigned_abs, Bool, true, false, cond, not, count_by, Option, Some, None, List, [], ◌∷◌, ◌++◌, length, string_bytes}
+use Rattle.std.specs.Prelude.{◌≡◌, ◌⊎◌, ℕ, ◌+◌, ◌-◌, ◌^◌, ℤ, pos, ◌*ℤ◌, ◌≤ℤ◌, ◌<ℤ◌, unsigned_abs, Bool, true, false, cond, not, ◌==◌, count_by, Option, Some, None, List, [], ◌∷◌, ◌++◌, length, string_bytes}
 use Rattle.std.specs.Int.{from_bool}
 use Rattle.std.specs.List.{flat_map}
 use Rattle.std.specs.Ordering.{int_eq}
@@ -13,7 +13,7 @@ use Rattle.oergen_parse.specs.declared.ast.Body.TheVariants.{Integer as IntegerB
 use Rattle.oergen_parse.specs.declared.ast.Simple.{Simple}
 use Rattle.oergen_parse.specs.declared.ast.Simple.TheVariants.{Boolean, Null, OctetString, ObjectIdentifier, Utf8String, NumericString, PrintableString, VisibleString, Ia5String, GeneralString, GraphicString, TeletexString, BmpString, UtcTime, GeneralizedTime, Date, Any}
 use Rattle.oer_walk.specs.Kinds.{kind_number}
-use Rattle.oer_walk.specs.declared.kinds.Kind.TheVariants.{Boolean as BooleanKind, Null as NullKind, FixedInteger, Integer, FixedBitString, BitString, FixedString, String, Sequence, Choice}
+use Rattle.oer_walk.specs.declared.kinds.Kind.TheVariants.{Boolean as BooleanKind, Null as NullKind, FixedInteger, Integer, FixedBitString, BitString, FixedString, String, NamedBitString, Sequence, Choice}
 use Rattle.oergen_tables.specs.declared.rows.Field.{Field}
 
 -- a number that is a word of a table: below the one that stands for nothing
@@ -36,10 +36,11 @@ same_limit _ _ = None
 abbrev pub fixed_size : Limits → Option ℤ
 fixed_size limits = cond limits.is_extensible None (same_limit limits.low limits.high)
 
--- a BIT STRING: its bits where their count is fixed
-abbrev pub bits_words : Option ℤ → List ℕ
-bits_words (Some bits) = kind_number FixedBitString ∷ unsigned_abs bits ∷ []
-bits_words None = kind_number BitString ∷ []
+-- a BIT STRING, of named bits or not: its bits where their count is fixed
+abbrev pub bits_words : Bool → Option ℤ → List ℕ
+bits_words is_named (Some bits) = kind_number FixedBitString ∷ unsigned_abs bits ∷ []
+bits_words true None = kind_number NamedBitString ∷ []
+bits_words false None = kind_number BitString ∷ []
 
 -- a string whose sizes count units of so many octets: what its octets are, behind their count where it is fixed
 abbrev pub string_words : ℕ → ℤ → Option ℤ → List ℕ
@@ -72,10 +73,10 @@ sizeless_words Boolean = kind_number BooleanKind ∷ []
 sizeless_words Null = kind_number NullKind ∷ []
 sizeless_words simple = kind_number String ∷ text_number simple ∷ []
 
--- A type without parts: an INTEGER by its range, a BIT STRING by its size, another with or without a size.
+-- A type without parts: an INTEGER by its range, a BIT STRING by its names and its size, another with or without a size.
 abbrev pub AreLeafWords : Body → Limits → Limits → List ℕ → Type 0
 AreLeafWords (IntegerBody _) range size words = words ≡ integer_words range
-AreLeafWords (BitsBody _) range size words = words ≡ bits_words (fixed_size size)
+AreLeafWords (BitsBody names) range size words = words ≡ bits_words (not (length names.items == 0)) (fixed_size size)
 AreLeafWords (SimpleBody simple) range size words = (words ≡ sizeless_words simple) ⊎ ((unit : ℤ) × (words ≡ string_words (text_number simple) unit (fixed_size size)))
 AreLeafWords _ range size words = ⊥
 

@@ -99,13 +99,37 @@ fn bit_numbers<'m>(
     Ok(numbers)
 }
 
-/// So many bits, of which those with these numbers are set.
-fn numbered_bits(alloc: Global, numbers: &[i128], count: i128) -> Result<Vec<bool>, AllocError> {
+/// How many bits there are up to the last with one of these numbers.
+fn count_of(numbers: &[i128]) -> i128 {
+    let mut count = 0i128;
+    for number in numbers.iter() {
+        count = count.max(number.saturating_add(1));
+    }
+    count
+}
+
+/// The bits up to the last with one of these numbers, of which those are set; nothing past the most bits.
+fn numbered_bits(alloc: Global, numbers: &[i128]) -> Result<Option<Vec<bool>>, AllocError> {
+    let count = count_of(numbers);
+    if count > MAX_BITS {
+        return Ok(None);
+    }
     let mut bits = Vec::new(alloc);
     for number in 0..count {
         bits.push(numbers.contains(&number))?;
     }
-    Ok(bits)
+    Ok(Some(bits))
+}
+
+/// Drops the zero bits at the end.
+fn drop_zeros(bits: &mut Vec<bool>) {
+    let mut count = 0usize;
+    for (at, bit) in bits.iter().enumerate() {
+        if *bit {
+            count = at.saturating_add(1);
+        }
+    }
+    bits.truncate(count);
 }
 
 /// Puts zero bits behind others, up to so many.
@@ -139,34 +163,54 @@ fn digits_of(alloc: Global, bits: &[bool]) -> Result<String, AllocError> {
     Ok(digits)
 }
 
-/// The bits of a BIT STRING's default, up to its size where its bits have names (X.680, 22.7); nothing of a size that no default is filled
-/// up to.
+/// The bits of a BIT STRING's default as they are written, of named ones up to the last; nothing of more than a default has.
+fn written_bits<'m>(
+    scope: Scope<'m, '_>,
+    names: &'m [Numbered],
+    value: &'m Value,
+) -> Result<Option<Vec<bool>>, Refusal> {
+    match settled(scope, Spot { value, names })?.value {
+        Value::Literal(id) => Ok(Some(literal_bits(scope.alloc, scope.token(*id))?)),
+        Value::Names(_, named) => {
+            let numbers = bit_numbers(scope, names, named.as_slice())?;
+            Ok(numbered_bits(scope.alloc, numbers.as_slice())?)
+        }
+        Value::Negative(_) | Value::Reference(_) | Value::Braces(_) => Ok(None),
+    }
+}
+
+/// The least size that a default is filled up to: none of a constraint with an extension mark.
+fn least_size(limits: Limits) -> i128 {
+    if limits.is_extensible {
+        0
+    } else {
+        limits.low.unwrap_or(0)
+    }
+}
+
+/// The bits of a BIT STRING's default. Where they have names, the zero bits at the end are those that its size wants (X.680, 22.7, and
+/// X.696, 13.3). Nothing of a size that no default is filled up to.
 fn bits_of<'m>(
     scope: Scope<'m, '_>,
     names: &'m [Numbered],
     value: &'m Value,
     limits: Limits,
 ) -> Result<Option<Vec<bool>>, Refusal> {
-    let size = if names.is_empty() {
-        0
-    } else {
-        limits.fixed().unwrap_or(0)
+    let Some(mut bits) = written_bits(scope, names, value)? else {
+        return Ok(None);
     };
-    if size > MAX_BITS {
+    if names.is_empty() {
+        return Ok(Some(bits));
+    }
+    if limits.fixed().is_none() {
+        drop_zeros(&mut bits);
+    }
+    let least = least_size(limits);
+    if least > MAX_BITS {
         return Ok(None);
     }
-    match settled(scope, Spot { value, names })?.value {
-        Value::Literal(id) => {
-            let mut bits = literal_bits(scope.alloc, scope.token(*id))?;
-            fill_up(&mut bits, usize::try_from(size).unwrap_or(0))?;
-            Ok(Some(bits))
-        }
-        Value::Names(_, named) => {
-            let numbers = bit_numbers(scope, names, named.as_slice())?;
-            Ok(Some(numbered_bits(scope.alloc, numbers.as_slice(), size)?))
-        }
-        Value::Negative(_) | Value::Reference(_) | Value::Braces(_) => Ok(None),
-    }
+    fill_up(&mut bits, usize::try_from(least).unwrap_or(0))?;
+    Ok(Some(bits))
 }
 
 /// A BIT STRING's default in JSON: with its length where the type has no fixed size.

@@ -125,9 +125,14 @@ fn integer_form(alloc: Global, limits: Limits) -> Result<Form, AllocError>
     })
 }
 
-/// The form of a BIT STRING.
-fn bits_form(scope: Scope<'_, '_>, of: &Type, limits: Limits) -> Result<Form, Refusal>
-    ensures words { IfOk result (λ form. form.words.items ≡ bits_words (fixed_size limits)) }
+/// The form of a BIT STRING, with names for its bits or without.
+fn bits_form(
+    scope: Scope<'_, '_>,
+    of: &Type,
+    limits: Limits,
+    is_named: bool,
+) -> Result<Form, Refusal>
+    ensures words { IfOk result (λ form. form.words.items ≡ bits_words is_named (fixed_size limits)) }
     ensures limits { IfOk result (λ form. (form.range ≡ UNLIMITED) × (form.size ≡ limits)) }
     ensures fits { OnOk result (IfSome (fixed_size limits) IsWord) }
     ensures refused { IfSome (fixed_size limits) IsWord → IfErr result (λ e. e ≡ OutOfMemory) }
@@ -137,6 +142,7 @@ fn bits_form(scope: Scope<'_, '_>, of: &Type, limits: Limits) -> Result<Form, Re
             Kind::FixedBitString.number(),
             size_word(scope, of, bits)?,
         ]?,
+        None if is_named => vec![in scope.alloc; Kind::NamedBitString.number()]?,
         None => vec![in scope.alloc; Kind::BitString.number()]?,
     };
     Ok(Form {
@@ -265,9 +271,9 @@ fn base_form<'m>(
             let limits = limits_of(scope, chain, names_of(base), Purpose::Value)?;
             Ok(integer_form(scope.alloc, limits)?)
         }
-        Body::BitString(_) => {
+        Body::BitString(names) => {
             let limits = limits_of(scope, chain, &[], Purpose::Size)?;
-            bits_form(scope, of, limits)
+            bits_form(scope, of, limits, !names.is_empty())
         }
         Body::Simple(simple) => match unit_of(*simple) {
             Some(unit) => {

@@ -3,9 +3,9 @@
 use crate::printed::reading::answer_of;
 use anyhow::{Error, Result};
 use example_printed::{
-    Again, Area, Bag, Below, Bits, Both, Colour, Colours, Folder, Key, Labels, Leaves, Letter,
-    Level, Name, Named, Names, Narrow, Percent, Permit, Plain, Reply, Rights, Row, Signal, Spot,
-    Taken, Then,
+    Again, Area, Bag, Below, Bits, Both, Card, Colour, Colours, Folder, Key, Labels, Leaves,
+    Letter, Level, Name, Named, Names, Narrow, Percent, Permit, Plain, Reply, Rights, Row, Signal,
+    Spot, Taken, Then,
 };
 use std::alloc::Global;
 
@@ -48,6 +48,7 @@ fn of_components(alloc: Global, name: &str, verb: &str, octets: &[u8]) -> Result
         "Row" => answer_of::<Row>(alloc, verb, octets),
         "Bag" => answer_of::<Bag>(alloc, verb, octets),
         "Both" => answer_of::<Both>(alloc, verb, octets),
+        "Card" => answer_of::<Card>(alloc, verb, octets),
         "Letter" => answer_of::<Letter>(alloc, verb, octets),
         "Permit" => answer_of::<Permit>(alloc, verb, octets),
         "Folder" => answer_of::<Folder>(alloc, verb, octets),
