@@ -105,6 +105,19 @@ class Table:
         return f"tshark leaves {left} octets" if left else None, known
 
 
+def octets_by_hand(folder):
+    """The octets of each sample that stand there: runs are written as in tables, a sample's octets by its name."""
+    found, name = {}, None
+    for file in sorted(folder.glob("*.octets.txt")):
+        for line in file.read_text().splitlines():
+            words = line.partition("#")[0].split()
+            if words and line[0] != " ":
+                name = words.pop(0)
+            if words:
+                found[name] = found.get(name, "") + "".join(found.get(it, spelled(it).replace(":", "")) for it in words)
+    return found
+
+
 def tables(folder):
     """The table of each sample."""
     samples, blocks, table = {}, {}, None
