@@ -9,8 +9,8 @@ use crate::numbers::{put_counted, put_fixed, put_long, put_name};
 use crate::refusals::{Fault, Misfit, wrong_sort};
 use crate::tables::{Bounds, Tables};
 use asn1_strings::{
-    CharacterSet, Ia5Characters, NumericCharacters, PrintableCharacters, RestrictedString,
-    VisibleCharacters,
+    BmpCharacters, CharacterSet, Ia5Characters, NumericCharacters, PrintableCharacters,
+    RestrictedString, UniversalCharacters, VisibleCharacters,
 };
 use asn1_times::{Date, GeneralizedTime, UtcTime};
 use oer_leaf_write::{write_bool, write_content, write_object_identifier};
@@ -80,17 +80,18 @@ fn restricted<C: CharacterSet>(
     Ok(one_octet_each(Vec::from_slice(alloc, text.as_bytes())?))
 }
 
-/// A text of two octets a character (X.680, 41.15).
-fn wide(alloc: Global, text: &str) -> Result<Units, Fault> {
+/// A text of two octets a character, or of four (X.680, clause 41).
+fn wide<C: CharacterSet>(alloc: Global, text: &str, name: &'static str) -> Result<Units, Fault> {
     let mut octets = Vec::new(alloc);
     let mut count: usize = 0;
     for character in text.chars() {
-        let code = character as u32;
-        if code > 0xFFFF {
-            return Err(Fault::Misfit(Misfit::NotInAlphabet("BMPString")));
+        let [group, plane, row, cell] = (character as u32).to_be_bytes();
+        if C::OCTETS_PER_CHARACTER > 2 {
+            octets.extend_from_slice(&[group, plane])?;
+        } else if plane != 0 {
+            return Err(Fault::Misfit(Misfit::NotInAlphabet(name)));
         }
-        octets.push((code / 256) as u8)?;
-        octets.push((code % 256) as u8)?;
+        octets.extend_from_slice(&[row, cell])?;
         count = count.saturating_add(1);
     }
     Ok(Units { octets, count })
@@ -113,7 +114,8 @@ fn units_of(alloc: Global, text: &str, sort: u32) -> Result<Units, Fault> {
         3 => restricted::<PrintableCharacters>(alloc, text, "PrintableString"),
         4 => restricted::<VisibleCharacters>(alloc, text, "VisibleString"),
         5 => restricted::<Ia5Characters>(alloc, text, "IA5String"),
-        9 => wide(alloc, text),
+        9 => wide::<BmpCharacters>(alloc, text, "BMPString"),
+        10 => wide::<UniversalCharacters>(alloc, text, "UniversalString"),
         21 => time(
             alloc,
             text,
@@ -136,7 +138,7 @@ fn string(alloc: Global, json: &Json, sort: u32) -> Result<Units, Fault> {
     match json {
         Json::Text(text) => units_of(alloc, text.as_str(), sort),
         Json::Members(members) => match members.as_slice() {
-            [(name, value)] if name.as_str() == "octets" && matches!(sort, 6..=9) => {
+            [(name, value)] if name.as_str() == "octets" && matches!(sort, 6..=10) => {
                 let octets = hexadecimal(alloc, value)?;
                 let count = if sort == 9 {
                     octets.len() / 2
