@@ -148,7 +148,7 @@ fn push_character(octets: &mut Vec<u8>, simple: Simple, c: char) -> Result<(), A
     match unit_of(simple) {
         Some(4) => octets.extend_from_slice(&[group, plane, row, cell]),
         Some(2) => octets.extend_from_slice(&[row, cell]),
-        _ => octets.push(cell),
+        _ => octets.extend_from_slice(&[cell]),
     }
 }
 
