@@ -133,6 +133,15 @@ fn units_of(alloc: Global, text: &str, sort: u32) -> Result<Units, Fault> {
     }
 }
 
+/// How many characters so many octets are, by what the table says that they are.
+fn characters_in(octets: usize, sort: u32) -> usize {
+    match sort {
+        9 => octets / 2,
+        10 => octets / 4,
+        _ => octets,
+    }
+}
+
 /// The octets of a string: a text; of a type whose characters may be any octets, also an object of `octets`, if they are no text.
 fn string(alloc: Global, json: &Json, sort: u32) -> Result<Units, Fault> {
     match json {
@@ -140,11 +149,7 @@ fn string(alloc: Global, json: &Json, sort: u32) -> Result<Units, Fault> {
         Json::Members(members) => match members.as_slice() {
             [(name, value)] if name.as_str() == "octets" && matches!(sort, 6..=10) => {
                 let octets = hexadecimal(alloc, value)?;
-                let count = if sort == 9 {
-                    octets.len() / 2
-                } else {
-                    octets.len()
-                };
+                let count = characters_in(octets.len(), sort);
                 Ok(Units { octets, count })
             }
             _ => Err(wrong_sort("a text")),
@@ -189,7 +194,7 @@ fn put_fixed_string(
     let string = string(alloc, json, sort)?;
     let wanted = tables.word_of(type_number, 0);
     if string.octets.len() != wanted as usize {
-        let size = Some(i128::from(if sort == 9 { wanted / 2 } else { wanted }));
+        let size = Some(characters_in(wanted as usize, sort) as i128);
         return Err(Fault::Misfit(Misfit::WrongSize {
             size: string.count,
             low: size,
