@@ -29,7 +29,7 @@ RUST = {
     "BOOLEAN": "bool", "NULL": "()", "OCTET STRING": "Octets", "OBJECT IDENTIFIER": "ObjectIdentifier", "UTF8String": "Utf8Text",
     "NumericString": "NumericText", "PrintableString": "PrintableText", "VisibleString": "VisibleText", "IA5String": "Ia5Text",
     "GeneralString": "GeneralText", "GraphicString": "GraphicText", "TeletexString": "TeletexText", "BMPString": "BmpText",
-    "UTCTime": "UtcTime", "GeneralizedTime": "GeneralizedTime", "DATE": "Date", "ANY": "OpenOctets", "BIT STRING": "BitString",
+    "UniversalString": "UniversalText", "UTCTime": "UtcTime", "GeneralizedTime": "GeneralizedTime", "DATE": "Date", "ANY": "OpenOctets", "BIT STRING": "BitString",
 }  # fmt: skip
 
 

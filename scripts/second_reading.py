@@ -12,7 +12,7 @@ BLOCK = re.compile(r"/\*(?:[^*/]|\*(?!/)|/(?!\*))*\*/")
 SIMPLE = {
     "BOOLEAN": (1, None), "NULL": (5, None), "OCTET STRING": (4, 1), "OBJECT IDENTIFIER": (6, None), "UTF8String": (12, None),
     "NumericString": (18, 1), "PrintableString": (19, 1), "VisibleString": (26, 1), "IA5String": (22, 1), "GeneralString": (27, None),
-    "GraphicString": (25, None), "TeletexString": (20, None), "BMPString": (30, 2), "UTCTime": (23, None),
+    "GraphicString": (25, None), "TeletexString": (20, None), "BMPString": (30, 2), "UniversalString": (28, 4), "UTCTime": (23, None),
     "GeneralizedTime": (24, None), "DATE": (31, None), "ANY": (None, None),
 }  # fmt: skip
 OTHER_NAMES = {"ISO646String": "VisibleString", "T61String": "TeletexString"}

@@ -59,11 +59,11 @@ TYPES = {
     "seq7": Seq([A], ["b", "b", "i", "group7"]), "group7": Seq([("b", OPT), ("i", b"\x01\x00")]), "bag3": List("seq7"),
     "posbig": "u", "0..i128max": "u", "Positive": "u", "ext1..8": "i", "i16inext1..8": "i", "u128": "i", "Negative<Integer>": "i",
     "enum4": "e", "Enum3": "e", "bits14": "t", "bits3..6": "s", "named": "s", "named4..8": "s", "octets3..6": "o", "Boxed": "b", "null": "n", "nulls": List("n"),
-    "bmp": "o", "ia5": "o", "numeric": "o", "printable": "o", "visible": "o", "general": "o", "graphic": "o", "teletex": "o",
+    "bmp": "o", "universal": "o", "ia5": "o", "numeric": "o", "printable": "o", "visible": "o", "general": "o", "graphic": "o", "teletex": "o",
     "ConstrainedOptions": Seq([(3, OPT)]),
     # integers of fixed width, octets and characters of fixed size
     "small": 1, "-5..5": 1, "5..5": 1, "0..255": 1, "0..65535": 2, "2..65535": 2, "-129..0": 2, "i16range": 2, "Negative<Positive>": 1,
-    "HashedId3": 3, "utf8of3": 3, "bmpof2": 4,
+    "HashedId3": 3, "utf8of3": 3, "bmpof2": 4, "universalof2": 8,
     # the default takes more levels than there are where it is spelled out
     "deepdef": Seq([("nest", OPT)]),
     "tag130": Choice({0xBF: Behind(2, "b")}), "tagmax": Choice({0x80: "i", 0x81: "i", 0xBF: Behind(5, "i")}),

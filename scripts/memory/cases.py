@@ -102,6 +102,7 @@ ROWS = [
     Row("bits14", "ff 40", "BitString { octets: [255, 64], bits: 14 }", is_own=False),
     Row("utf8", "02 c3 84", '"Ä"'),
     Row("bmp", "04 00 41 00 42", text([0, 65, 0, 66])),
+    Row("universal", "04 00 01 f6 00", text([0, 1, 246, 0])),
     Row("ia5", "02 41 42", text([65, 66])),
     Row("numeric", "03 31 32 61", "PermittedAlphabetError"),
     Row("utctime", "0d" + hexed("191009130005Z"), "UtcTime { value: 2019-10-09T13:00:05 }"),
@@ -264,6 +265,7 @@ def methods():
         ("decode_choice", "82" + open_great, f"Medium({number(GREAT)})", False),
         ("decode_utf8_string", "024142", '"AB"', False),
         ("decode_bmp_string", "0400410042", text([0, 65, 0, 66]), False),
+        ("decode_universal_string", "040001f600", text([0, 1, 246, 0]), False),
         ("decode_numeric_string", "023132", text([49, 50]), False),
     ]
     rows += [(f"decode_{kind}_string", "024142", TEXT, False) for kind in ("visible", "general", "graphic", "ia5", "printable", "teletex")]
@@ -308,7 +310,8 @@ def encoder():
         "bool": "ff", "null": "", "enumerated": "82fc18", "bit_string": "0302ff40", "named_bits": "020780", "octet_string": "03616263",
         "any": "03616263",
         "object_identifier": "032a9979", "utc_time": "0d" + hexed("191009130005Z"), "generalized_time": "0f" + hexed("20000101000000Z"),
-        "date": "08" + hexed("20240229"), "utf8_string": "024142", "bmp_string": "0400410042", "numeric_string": "023132",
+        "date": "08" + hexed("20240229"), "utf8_string": "024142", "bmp_string": "0400410042", "universal_string": "040001f600",
+        "numeric_string": "023132",
         "sequence_of": "010201010102",
     }  # fmt: skip
     same.update({f"{kind}_string": "024142" for kind in ("visible", "general", "graphic", "ia5", "printable", "teletex")})
@@ -357,7 +360,9 @@ def values():
     yield answered("NumericString::from_bytes", "3132", f"Ok({text([49, 50])})")
     yield answered("NumericString::from_bytes", "3141", "Err(PermittedAlphabet)")
     yield made("GeneralString::from_text", "4142", TEXT)
+    yield answered("UniversalString::from_bytes", "0001f600", f"Ok({text([0, 1, 246, 0])})")
     yield made("BmpString::from_units", "", text([0, 65, 0, 66]))
+    yield made("UniversalString::from_units", "", text([0, 1, 246, 0]))
     yield made("BmpString::to_bytes", "", "[0, 65, 0, 66]")
     yield answered("UtcTime::from_text", hexed("191009130005Z"), "Ok(UtcTime { value: 2019-10-09T13:00:05 })", True)
     yield answered("GeneralizedTime::from_text", hexed("20000101000000Z"), "Ok(GeneralizedTime { value: 2000-01-01T00:00:00 })", True)

@@ -12,7 +12,7 @@ pub use asn1_strings::{
     GeneralString, GraphicCharacters, GraphicString, Ia5Characters, Ia5String, NamedBits,
     NumericCharacters, NumericString, ObjectIdentifier, OctetContent, OctetString, OctetStringType,
     OctetType, PrintableCharacters, PrintableString, RestrictedString, StringError,
-    TeletexCharacters, TeletexString, VisibleCharacters, VisibleString, is_identifier,
-    object_identifier_as_bytes, object_identifier_from_bytes,
+    TeletexCharacters, TeletexString, UniversalCharacters, UniversalString, VisibleCharacters,
+    VisibleString, is_identifier, object_identifier_as_bytes, object_identifier_from_bytes,
 };
 pub use asn1_times::{Date, GeneralizedTime, TimeError, TimeText, UtcTime};

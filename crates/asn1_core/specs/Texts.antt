@@ -6,7 +6,7 @@ use Rattle.asn1_core.specs.Octets.{Octets}
 
 -- what octets are: an octet string or an open type's content, a character string, an object identifier, a time
 pub data Rule : Type 0 where
-  AnyOctets Utf8 Numeric Printable Visible Ia5 General Graphic Teletex Bmp Identifier Utc Generalized Date : Rule
+  AnyOctets Utf8 Numeric Printable Visible Ia5 General Graphic Teletex Bmp Universal Identifier Utc Generalized Date : Rule
 
 abbrev pub from_to : ℕ → ℕ → ℕ → Bool
 from_to low high x = nat_le low x && nat_le x high
@@ -35,9 +35,10 @@ is_visible x = from_to 0x20 0x7E x
 abbrev pub is_ia5 : ℕ → Bool
 is_ia5 x = nat_lt x 128
 
--- how many octets a text's size counts as one: a BMPString's characters are two octets each, other sizes count octets
+-- how many octets a text's size counts as one: a BMPString's characters are two octets each, a UniversalString's four, and other sizes count octets
 abbrev pub unit_of : Rule → ℕ
 unit_of Bmp = 2
+unit_of Universal = 4
 unit_of _ = 1
 
 -- ---- object identifiers (X.690, 8.19): the parts in base 128, highest group first
@@ -119,6 +120,7 @@ Obeys General c = ⊤
 Obeys Graphic c = ⊤
 Obeys Teletex c = ⊤
 Obeys Bmp c = (n : ℕ) × (length c ≡ 2 * n)
+Obeys Universal c = (n : ℕ) × (length c ≡ 4 * n)
 Obeys Identifier c = are_parts (parts_from false 0 c) ≡ true
 Obeys Utc c = is_utc c ≡ true
 Obeys Generalized c = is_generalized c ≡ true

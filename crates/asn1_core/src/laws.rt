@@ -15,9 +15,9 @@ pub fn universal_tags()
         Tag.OBJECT_IDENTIFIER ∷ Tag.ENUMERATED ∷ Tag.UTF8_STRING ∷ Tag.SEQUENCE ∷ Tag.SET ∷
         Tag.NUMERIC_STRING ∷ Tag.PRINTABLE_STRING ∷ Tag.TELETEX_STRING ∷ Tag.IA5_STRING ∷
         Tag.UTC_TIME ∷ Tag.GENERALIZED_TIME ∷ Tag.GRAPHIC_STRING ∷ Tag.VISIBLE_STRING ∷
-        Tag.GENERAL_STRING ∷ Tag.BMP_STRING ∷ Tag.DATE ∷ []
+        Tag.GENERAL_STRING ∷ Tag.UNIVERSAL_STRING ∷ Tag.BMP_STRING ∷ Tag.DATE ∷ []
         ≡ map (λ n. record { class = Class.Universal; value = n })
-        (0 ∷ 1 ∷ 2 ∷ 3 ∷ 4 ∷ 5 ∷ 6 ∷ 10 ∷ 12 ∷ 16 ∷ 17 ∷ 18 ∷ 19 ∷ 20 ∷ 22 ∷ 23 ∷ 24 ∷ 25 ∷ 26 ∷ 27 ∷ 30 ∷ 31 ∷ []) }
+        (0 ∷ 1 ∷ 2 ∷ 3 ∷ 4 ∷ 5 ∷ 6 ∷ 10 ∷ 12 ∷ 16 ∷ 17 ∷ 18 ∷ 19 ∷ 20 ∷ 22 ∷ 23 ∷ 24 ∷ 25 ∷ 26 ∷ 27 ∷ 28 ∷ 30 ∷ 31 ∷ []) }
 {}
 
 /// Tags are ordered by class, universal, application, context, private, and then by number (X.680, 8.6): a total order

@@ -139,6 +139,11 @@ impl Tag {
         class: Class::Universal,
         value: 27,
     };
+    /// UniversalString.
+    pub const UNIVERSAL_STRING: Tag = Tag {
+        class: Class::Universal,
+        value: 28,
+    };
     /// BMPString.
     pub const BMP_STRING: Tag = Tag {
         class: Class::Universal,

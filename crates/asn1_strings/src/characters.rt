@@ -256,7 +256,7 @@ impl CharacterSet for BmpCharacters {
     ghost use Rattle.std.specs.Prelude.{refl, true};
     ghost use Rattle.asn1_core.specs.declared.tag.TheConstants.Tag.{BMP_STRING};
     ghost use Rattle.asn1_core.specs.Texts.{Bmp};
-    ghost use Rattle.asn1_strings.specs.Characters.{two_octets_each};
+    ghost use Rattle.asn1_strings.specs.Characters.{whole_characters};
 
     ghost rule = { Bmp };
 
@@ -276,5 +276,39 @@ impl CharacterSet for BmpCharacters {
 
     ghost unit = { refl };
 
-    ghost obeys = { two_octets_each };
+    ghost obeys = { whole_characters 2 };
+}
+
+/// UniversalString: 32-bit units, four octets each, the highest first (X.680, clause 41).
+pub type UniversalString = RestrictedString<UniversalCharacters>;
+
+/// The characters of UniversalString.
+#[derive(Drop)]
+pub enum UniversalCharacters {}
+
+impl CharacterSet for UniversalCharacters {
+    ghost use Rattle.std.specs.Prelude.{refl, true};
+    ghost use Rattle.asn1_core.specs.declared.tag.TheConstants.Tag.{UNIVERSAL_STRING};
+    ghost use Rattle.asn1_core.specs.Texts.{Universal};
+    ghost use Rattle.asn1_strings.specs.Characters.{whole_characters};
+
+    ghost rule = { Universal };
+
+    ghost permitted = { λ _. true };
+
+    ghost TAG = { UNIVERSAL_STRING };
+
+    const TAG: Tag = Tag::UNIVERSAL_STRING;
+
+    ghost OCTETS_PER_CHARACTER = { 4 };
+
+    const OCTETS_PER_CHARACTER: usize = 4;
+
+    fn permits(_octet: u8) -> bool {
+        true
+    }
+
+    ghost unit = { refl };
+
+    ghost obeys = { whole_characters 4 };
 }

@@ -9,12 +9,14 @@ pub mod laws;
 mod named_bits;
 mod octets;
 mod strings;
+mod universal;
 
 pub use bits::{BitString, significant_bits};
 pub use characters::{
     BmpCharacters, BmpString, GeneralCharacters, GeneralString, GraphicCharacters, GraphicString,
     Ia5Characters, Ia5String, NumericCharacters, NumericString, PrintableCharacters,
-    PrintableString, TeletexCharacters, TeletexString, VisibleCharacters, VisibleString,
+    PrintableString, TeletexCharacters, TeletexString, UniversalCharacters, UniversalString,
+    VisibleCharacters, VisibleString,
 };
 pub use identifiers::{
     ObjectIdentifier, is_identifier, object_identifier_as_bytes, object_identifier_from_bytes,

@@ -166,6 +166,13 @@ impl<C: CharacterSet> RestrictedString<C> {
         each_below_256(self.octets.as_slice())
     }
 
+    /// A copy of the text's octets.
+    pub fn to_bytes(&self, alloc: Global) -> Result<Vec<u8>, AllocError>
+        ensures { IfOk result (λ v. v.items ≡ self.now) }
+    {
+        Vec::from_slice(alloc, self.as_bytes())
+    }
+
     /// How many characters the text has.
     pub fn len(&self) -> usize
         ensures { result ≡ length self.now / unit_of C.rule }

@@ -9,8 +9,8 @@ use crate::numbers::{put_counted, put_fixed, put_long, put_name};
 use crate::refusals::{Fault, Misfit, wrong_sort};
 use crate::tables::{Bounds, Tables};
 use asn1_strings::{
-    CharacterSet, Ia5Characters, NumericCharacters, PrintableCharacters, RestrictedString,
-    VisibleCharacters,
+    BmpCharacters, CharacterSet, Ia5Characters, NumericCharacters, PrintableCharacters,
+    RestrictedString, UniversalCharacters, VisibleCharacters,
 };
 use asn1_times::{Date, GeneralizedTime, UtcTime};
 use oer_leaf_write::{write_bool, write_content, write_object_identifier};
@@ -80,17 +80,18 @@ fn restricted<C: CharacterSet>(
     Ok(one_octet_each(Vec::from_slice(alloc, text.as_bytes())?))
 }
 
-/// A text of two octets a character (X.680, 41.15).
-fn wide(alloc: Global, text: &str) -> Result<Units, Fault> {
+/// A text of two octets a character, or of four (X.680, clause 41).
+fn wide<C: CharacterSet>(alloc: Global, text: &str, name: &'static str) -> Result<Units, Fault> {
     let mut octets = Vec::new(alloc);
     let mut count: usize = 0;
     for character in text.chars() {
-        let code = character as u32;
-        if code > 0xFFFF {
-            return Err(Fault::Misfit(Misfit::NotInAlphabet("BMPString")));
+        let [group, plane, row, cell] = (character as u32).to_be_bytes();
+        if C::OCTETS_PER_CHARACTER > 2 {
+            octets.extend_from_slice(&[group, plane])?;
+        } else if plane != 0 {
+            return Err(Fault::Misfit(Misfit::NotInAlphabet(name)));
         }
-        octets.push((code / 256) as u8)?;
-        octets.push((code % 256) as u8)?;
+        octets.extend_from_slice(&[row, cell])?;
         count = count.saturating_add(1);
     }
     Ok(Units { octets, count })
@@ -113,7 +114,8 @@ fn units_of(alloc: Global, text: &str, sort: u32) -> Result<Units, Fault> {
         3 => restricted::<PrintableCharacters>(alloc, text, "PrintableString"),
         4 => restricted::<VisibleCharacters>(alloc, text, "VisibleString"),
         5 => restricted::<Ia5Characters>(alloc, text, "IA5String"),
-        9 => wide(alloc, text),
+        9 => wide::<BmpCharacters>(alloc, text, "BMPString"),
+        10 => wide::<UniversalCharacters>(alloc, text, "UniversalString"),
         21 => time(
             alloc,
             text,
@@ -131,18 +133,23 @@ fn units_of(alloc: Global, text: &str, sort: u32) -> Result<Units, Fault> {
     }
 }
 
+/// How many characters so many octets are, by what the table says that they are.
+fn characters_in(octets: usize, sort: u32) -> usize {
+    match sort {
+        9 => octets / 2,
+        10 => octets / 4,
+        _ => octets,
+    }
+}
+
 /// The octets of a string: a text; of a type whose characters may be any octets, also an object of `octets`, if they are no text.
 fn string(alloc: Global, json: &Json, sort: u32) -> Result<Units, Fault> {
     match json {
         Json::Text(text) => units_of(alloc, text.as_str(), sort),
         Json::Members(members) => match members.as_slice() {
-            [(name, value)] if name.as_str() == "octets" && matches!(sort, 6..=9) => {
+            [(name, value)] if name.as_str() == "octets" && matches!(sort, 6..=10) => {
                 let octets = hexadecimal(alloc, value)?;
-                let count = if sort == 9 {
-                    octets.len() / 2
-                } else {
-                    octets.len()
-                };
+                let count = characters_in(octets.len(), sort);
                 Ok(Units { octets, count })
             }
             _ => Err(wrong_sort("a text")),
@@ -187,7 +194,7 @@ fn put_fixed_string(
     let string = string(alloc, json, sort)?;
     let wanted = tables.word_of(type_number, 0);
     if string.octets.len() != wanted as usize {
-        let size = Some(i128::from(if sort == 9 { wanted / 2 } else { wanted }));
+        let size = Some(characters_in(wanted as usize, sort) as i128);
         return Err(Fault::Misfit(Misfit::WrongSize {
             size: string.count,
             low: size,

@@ -1,10 +1,11 @@
 -- Octet strings, character strings, object identifiers and times are read exactly where a front of the octets spells them.
 use Rattle.std.proofs.Common.{◌≡◌, ℕ, zero, suc, ◌+◌, ◌-◌, ◌*◌, ◌/◌, ◌%◌, ◌<◌, ◌≤◌, Bool, true, false, cond, ltb, eqb, leb, List, [], ◌∷◌, ◌++◌, length, take, drop, Result, Ok, Err, Option, Some, None, refl, sym, ap, ap₂, subst, ◌∙◌, arith, append_assoc, length-append, get_or, Fits, w8, inl, inr, ◌⊎◌}
 use Rattle.std.specs.Prelude.{not, ◌&&◌, ◌↔◌, ◌==◌, nat_le}
+use Rattle.std.proofs.Math.Nat.{mul-div_cancel}
 use Rattle.std.proofs.lemmas.Bool.{ltb-false, le-ltb, and_parts, and_from, leb-true, le-leb, eqb-true, eq-eqb, not-false}
 use Rattle.asn1_core.specs.Bounds.{Size, fixed_size, size_fits}
 use Rattle.asn1_core.specs.Octets.{Octets, AreOctets, usize_max}
-use Rattle.asn1_core.specs.Texts.{Rule, AnyOctets, Utf8, Numeric, Printable, Visible, Ia5, General, Graphic, Teletex, Bmp, Identifier, Utc, Generalized, Date, Obeys, unit_of}
+use Rattle.asn1_core.specs.Texts.{Rule, AnyOctets, Utf8, Numeric, Printable, Visible, Ia5, General, Graphic, Teletex, Bmp, Universal, Identifier, Utc, Generalized, Date, Obeys, unit_of}
 use Rattle.asn1_core.specs.declared.codec.Codec.{Codec}
 use Rattle.asn1_core.specs.declared.error.DecodeErrorKind.{DecodeErrorKind}
 use Rattle.asn1_core.specs.declared.error.DecodeErrorKind.TheVariants.{LengthExceedsPlatformWidth, SizeConstraintNotSatisfied, PermittedAlphabetError}
@@ -139,7 +140,7 @@ module _ (is_text : Octets → Bool) (kind : DecodeErrorKind) (r : Rule) (one : 
   pub text_reads : Reads (text_at is_text kind s codec) (λ o c. IsLeafEncoding (mode_of codec) o (Text r s (InOctets c)) × Obeys r c)
   text_reads = record { found = text_found; again = text_again }
 
--- ---- two octets a character
+-- ---- several octets a character
 
 -- A reading answers exactly what a front of the octets spells, where these are no more than so many.
 pub record ReadsWithin {V : Type 0} (limit : ℕ) (read : Octets → Result (V × Octets) DecodeErrorKind) (Spells : Octets → V → Type 0) : Type 0 where
@@ -154,49 +155,58 @@ front_within {V} {X} {limit} {read} {Spells} reads view input (Err d) f l e = λ
     contra : (v : V) (rest : Octets) → ◌≡◌ {A = Result (V × Octets) DecodeErrorKind} (Err d) (Ok (v, rest)) → ⊥
     contra v rest h = cc
 
-halves : (n k : ℕ) → n ≡ 2 * k → n / 2 ≡ k
-halves n k e = omega arith
+-- texts of the rule are whole characters, of more than one octet each
+record IsWide (r : Rule) : Type 0 where
+  pub several : zero < unit_of r
+  pub wide : (unit_of r == 1) ≡ false
+  pub whole : (c : Octets) → Obeys r c ↔ ((n : ℕ) × (length c ≡ n * unit_of r))
 
-module _ (is_text : Octets → Bool) (tells : Tells is_text Bmp) (s : Size) (codec : Codec) where
-  units_found : (f : Option ℕ) → fixed_size s ≡ f → (input rest c : Octets) → AreOctets input → sized_units_at is_text f s codec input ≡ Ok (c, rest) → (o : Octets) × (input ≡ o ++ rest) × (IsLeafEncoding (mode_of codec) o (Text Bmp s (InOctets c)) × Obeys Bmp c)
+module _ (is_text : Octets → Bool) (r : Rule) (is : IsWide r) (tells : Tells is_text r) (s : Size) (codec : Codec) where
+  count_is : (n k : ℕ) → n ≡ k * unit_of r → n / unit_of r ≡ k
+  count_is n k e = ap (λ z. z / unit_of r) e ∙ mul-div_cancel k is.several
+
+  units_found : (f : Option ℕ) → fixed_size s ≡ f → (input rest c : Octets) → AreOctets input → sized_units_at (unit_of r) is_text f s codec input ≡ Ok (c, rest) → (o : Octets) × (input ≡ o ++ rest) × (IsLeafEncoding (mode_of codec) o (Text r s (InOctets c)) × Obeys r c)
   units_found (Some n) f input rest c fits e =
-      let t = then_ok (refuse_if (ltb usize_max (2 * n)) LengthExceedsPlatformWidth) (octets_at (2 * n) input) (c, rest) e in
-      let p = octets_found (2 * n) input (c, rest) t.2 in
-      let size : size_fits s (length c / 2) ≡ true = ap (size_fits s) (halves (length c) n p.0) ∙ fixed_fits s n f in
-      (c, p.1, ((text_fine Bmp s c size (ap (λ z. string_too_long z (length c)) f), subst (λ z. IsText (mode_of codec) c z (InOctets c)) (sym f) (refl, front_octets c rest (subst AreOctets p.1 fits))), (n, p.0)))
+      let t = then_ok (refuse_if (ltb usize_max (n * unit_of r)) LengthExceedsPlatformWidth) (octets_at (n * unit_of r) input) (c, rest) e in
+      let p = octets_found (n * unit_of r) input (c, rest) t.2 in
+      let size : size_fits s (length c / unit_of r) ≡ true = ap (size_fits s) (count_is (length c) n p.0) ∙ fixed_fits s n f in
+      (c, p.1, ((text_fine r s c size (ap (λ z. string_too_long z (length c)) f), subst (λ z. IsText (mode_of codec) c z (InOctets c)) (sym f) (refl, front_octets c rest (subst AreOctets p.1 fits))), (is.whole c).1 (n, p.0)))
   units_found None f input rest c fits e =
-      let a = bind_ok (string_at codec input) (λ octets. refuse_if (not (is_text octets.0)) PermittedAlphabetError >> (size_test s (length octets.0 / 2) >> Ok octets)) (c, rest) e in
-      let t = then_ok (refuse_if (not (is_text a.0.0)) PermittedAlphabetError) (size_test s (length a.0.0 / 2) >> Ok a.0) (c, rest) a.2 in
-      let w = then_ok (size_test s (length a.0.0 / 2)) (Ok a.0) (c, rest) t.2 in
+      let a = bind_ok (string_at codec input) (λ octets. refuse_if (not (is_text octets.0)) PermittedAlphabetError >> (size_test s (length octets.0 / unit_of r) >> Ok octets)) (c, rest) e in
+      let t = then_ok (refuse_if (not (is_text a.0.0)) PermittedAlphabetError) (size_test s (length a.0.0 / unit_of r) >> Ok a.0) (c, rest) a.2 in
+      let w = then_ok (size_test s (length a.0.0 / unit_of r)) (Ok a.0) (c, rest) t.2 in
       let same = pair_is a.0.0 c a.0.1 rest w.2 in
       let k = string_found codec input rest c fits (a.1 ∙ w.2) in
       let passes : is_text a.0.0 ≡ true = not_not (is_text a.0.0) (refuse_ok (not (is_text a.0.0)) PermittedAlphabetError t.0 t.1) in
-      let plain : size_fits s (length a.0.0 / 2) ≡ true = not_not (size_fits s (length a.0.0 / 2)) (refuse_ok (not (size_fits s (length a.0.0 / 2))) (SizeConstraintNotSatisfied (length a.0.0 / 2)) w.0 w.1) in
-      let size : size_fits s (length c / 2) ≡ true = subst (λ z. size_fits s (length z / 2) ≡ true) same.0 plain in (
+      let plain : size_fits s (length a.0.0 / unit_of r) ≡ true = not_not (size_fits s (length a.0.0 / unit_of r)) (refuse_ok (not (size_fits s (length a.0.0 / unit_of r))) (SizeConstraintNotSatisfied (length a.0.0 / unit_of r)) w.0 w.1) in
+      let size : size_fits s (length c / unit_of r) ≡ true = subst (λ z. size_fits s (length z / unit_of r) ≡ true) same.0 plain in (
         k.0,
         k.1,
-        ((text_fine Bmp s c size (ap (λ z. string_too_long z (length c)) f ∙ le-ltb (usize_max / 8) (length c) k.3), subst (λ z. IsText (mode_of codec) k.0 z (InOctets c)) (sym f) k.2), (tells c).0 (subst (λ z. is_text z ≡ true) same.0 passes)),
+        ((text_fine r s c size (ap (λ z. string_too_long z (length c)) f ∙ le-ltb (usize_max / 8) (length c) k.3), subst (λ z. IsText (mode_of codec) k.0 z (InOctets c)) (sym f) k.2), (tells c).0 (subst (λ z. is_text z ≡ true) same.0 passes)),
       )
 
-  units_again : (f : Option ℕ) → fixed_size s ≡ f → (o rest c : Octets) → length (o ++ rest) ≤ usize_max → (IsLeafEncoding (mode_of codec) o (Text Bmp s (InOctets c)) × Obeys Bmp c) → sized_units_at is_text f s codec (o ++ rest) ≡ Ok (c, rest)
-  units_again (Some n) f o rest c small ((fine, spells), (k, twice)) =
+  units_again : (f : Option ℕ) → fixed_size s ≡ f → (o rest c : Octets) → length (o ++ rest) ≤ usize_max → (IsLeafEncoding (mode_of codec) o (Text r s (InOctets c)) × Obeys r c) → sized_units_at (unit_of r) is_text f s codec (o ++ rest) ≡ Ok (c, rest)
+  units_again (Some n) f o rest c small ((fine, spells), obeys) =
       let text : (o ≡ c) × AreOctets c = subst (λ z. IsText (mode_of codec) o z (InOctets c)) f spells in
-      let half : length c / 2 ≡ n = fixed_only s n (length c / 2) f (text_size Bmp s c fine) in
-      let count : length o ≡ 2 * n = omega (arith, ap length text.0, twice, half) in
-      let fits : 2 * n ≤ usize_max = omega (arith, count, length-append o rest, small) in
-      rw (le-ltb usize_max (2 * n) fits) (octets_again o rest (2 * n) count ∙ ap (λ z. Ok (z, rest)) text.0)
+      let all = (is.whole c).0 obeys in
+      let same : all.0 ≡ n = sym (count_is (length c) all.0 all.1) ∙ fixed_only s n (length c / unit_of r) f (text_size r s c fine) in
+      let count : length o ≡ n * unit_of r = ap length text.0 ∙ all.1 ∙ ap (λ z. z * unit_of r) same in
+      let few : length o ≤ usize_max = omega (arith, length-append o rest, small) in
+      let fits : n * unit_of r ≤ usize_max = subst (λ z. z ≤ usize_max) count few in
+      rw (le-ltb usize_max (n * unit_of r) fits) (octets_again o rest (n * unit_of r) count ∙ ap (λ z. Ok (z, rest)) text.0)
   units_again None f o rest c small ((fine, spells), obeys) =
       let text : IsBehindLength (mode_of codec) o c = subst (λ z. IsText (mode_of codec) o z (InOctets c)) f spells in
       let long : ltb (usize_max / 8) (length c) ≡ false = ap (λ z. string_too_long z (length c)) (sym f) ∙ fine TooLong in
-      rw (string_again codec o rest c text (ltb-false (usize_max / 8) (length c) long), (tells c).1 obeys, text_size Bmp s c fine) refl
+      rw (string_again codec o rest c text (ltb-false (usize_max / 8) (length c) long), (tells c).1 obeys, text_size r s c fine) refl
 
-  units_reads : ReadsWithin usize_max (units_at is_text s codec) (λ o c. IsLeafEncoding (mode_of codec) o (Text Bmp s (InOctets c)) × Obeys Bmp c)
+  units_reads : ReadsWithin usize_max (units_at (unit_of r) is_text s codec) (λ o c. IsLeafEncoding (mode_of codec) o (Text r s (InOctets c)) × Obeys r c)
   unfolding units_at
   units_reads = record { found = units_found (fixed_size s) refl; again = units_again (fixed_size s) refl }
 
 -- ---- both
-unit_cases : (r : Rule) → (unit_of r ≡ 1) ⊎ (r ≡ Bmp)
-unit_cases Bmp = inr refl
+unit_cases : (r : Rule) → (unit_of r ≡ 1) ⊎ IsWide r
+unit_cases Bmp = inr (record { several = omega arith; wide = refl; whole = λ c. (λ (n, e). (n, omega (arith, e)), λ (n, e). (n, omega (arith, e))) })
+unit_cases Universal = inr (record { several = omega arith; wide = refl; whole = λ c. (λ (n, e). (n, omega (arith, e)), λ (n, e). (n, omega (arith, e))) })
 unit_cases AnyOctets = inl refl
 unit_cases Utf8 = inl refl
 unit_cases Numeric = inl refl
@@ -213,13 +223,16 @@ unit_cases Date = inl refl
 
 pub characters_reads : (is_text : Octets → Bool) (r : Rule) → Tells is_text r → (s : Size) (codec : Codec) → ReadsWithin usize_max (characters_at (unit_of r) is_text s codec) (λ o c. IsLeafEncoding (mode_of codec) o (Text r s (InOctets c)) × Obeys r c)
 unfolding characters_at
-characters_reads is_text r tells s codec = go (unit_cases r) tells
+characters_reads is_text r tells s codec = go (unit_cases r)
   where
-    go : (unit_of r ≡ 1) ⊎ (r ≡ Bmp) → Tells is_text r → ReadsWithin usize_max (characters_at (unit_of r) is_text s codec) (λ o c. IsLeafEncoding (mode_of codec) o (Text r s (InOctets c)) × Obeys r c)
-    go (inl one) tells =
+    both : Bool → Octets → Result (Octets × Octets) DecodeErrorKind
+    both b input = cond b (text_at is_text PermittedAlphabetError s codec input) (units_at (unit_of r) is_text s codec input)
+
+    Reads_by : Bool → Type 0
+    Reads_by b = ReadsWithin usize_max (both b) (λ o c. IsLeafEncoding (mode_of codec) o (Text r s (InOctets c)) × Obeys r c)
+
+    go : (unit_of r ≡ 1) ⊎ IsWide r → Reads_by (unit_of r == 1)
+    go (inl one) =
         let reads = text_reads is_text PermittedAlphabetError r one tells s codec in
-        subst (λ u. ReadsWithin usize_max (λ input. cond (u == 1) (text_at is_text PermittedAlphabetError s codec input) (units_at is_text s codec input)) (λ o c. IsLeafEncoding (mode_of codec) o (Text r s (InOctets c)) × Obeys r c)) (sym one)
-        (record { found = reads.found; again = λ o rest v small spells. reads.again o rest v spells })
-    go (inr bmp) tells =
-        subst (λ q. Tells is_text q → ReadsWithin usize_max (λ input. cond (unit_of q == 1) (text_at is_text PermittedAlphabetError s codec input) (units_at is_text s codec input)) (λ o c. IsLeafEncoding (mode_of codec) o (Text q s (InOctets c)) × Obeys q c)) (sym bmp)
-        (λ t. units_reads is_text t s codec) tells
+        subst Reads_by (sym (eq-eqb (unit_of r) 1 one)) (record { found = reads.found; again = λ o rest v small spells. reads.again o rest v spells })
+    go (inr is) = subst Reads_by (sym is.wide) (units_reads is_text r is tells s codec)

@@ -148,16 +148,15 @@ fn text<C: CharacterSet>(
     Ok((octets, rest))
 }
 
-/// The octets of so many characters of two octets each.
-fn read_units(size: usize, input: &[u8]) -> Result<(&[u8], &[u8]), DecodeErrorKind>
-    ensures function { Gives (λ x. (x.0.now, x.1.now)) result (many_units_at size input.now) }
+/// The octets of so many characters.
+fn read_units<C: CharacterSet>(size: usize, input: &[u8]) -> Result<(&[u8], &[u8]), DecodeErrorKind>
+    ensures function { Gives (λ x. (x.0.now, x.1.now)) result (many_units_at (unit_of C.rule) size input.now) }
     ensures memory { IfErr result IsNotForMemory }
 {
-    refuse_if(
-        size > usize::MAX / 2,
-        DecodeErrorKind::LengthExceedsPlatformWidth,
-    )?;
-    read_octets(2 * size, input)
+    match size.checked_mul(C::OCTETS_PER_CHARACTER) {
+        Some(count) => read_octets(count, input),
+        None => Err(DecodeErrorKind::LengthExceedsPlatformWidth),
+    }
 }
 
 #[tactic(auto, unfolding(oer_spec::specs::ReadingTexts::units_at))]
@@ -167,18 +166,18 @@ fn units<C: CharacterSet>(
     input: &[u8],
 ) -> Result<(&[u8], &[u8]), DecodeErrorKind>
     ensures function { Gives (λ x. (x.0.now, x.1.now)) result
-        (units_at (are_characters (unit_of C.rule) C.permitted) (size_bounds constraints) codec input.now) }
+        (units_at (unit_of C.rule) (are_characters (unit_of C.rule) C.permitted) (size_bounds constraints) codec input.now) }
     ensures memory { IfErr result IsNotForMemory }
 {
     if let Some(size) = constraints.fixed_size() {
-        return read_units(size, input);
+        return read_units::<C>(size, input);
     }
     let (octets, rest) = read_string(codec, input)?;
     refuse_if(
         !RestrictedString::<C>::is_text(octets),
         DecodeErrorKind::PermittedAlphabetError,
     )?;
-    let size = octets.len() / 2;
+    let size = octets.len() / C::OCTETS_PER_CHARACTER;
     refuse_if(
         !constraints.allows_size(size),
         DecodeErrorKind::SizeConstraintNotSatisfied { size },
@@ -205,12 +204,12 @@ fn characters<C: CharacterSet>(
 
 /// The octets of a restricted character string at the front, borrowed from the input, and what is left (X.696, 27).
 ///
-/// Sizes count characters: octets, or in a BMPString two octets each. Refused, of one octet a character: as an octet
-/// string is (`read_octet_string`); then a character outside the alphabet, as `PermittedAlphabetError`. Refused, of a
-/// BMPString: under a fixed size twice the size past `usize::MAX`, as `LengthExceedsPlatformWidth`, then `Incomplete` by
-/// as many octets as are missing; else as the length is, a length above `usize::MAX / 8` as `LengthExceedsPlatformWidth`,
-/// `Incomplete`, an odd count of octets as `PermittedAlphabetError`, and a size that the constraint doesn't allow as
-/// `SizeConstraintNotSatisfied` with the size in characters.
+/// Sizes count characters: octets, or in a BMPString two octets each and in a UniversalString four. Refused, of one octet
+/// a character: as an octet string is (`read_octet_string`); then a character outside the alphabet, as
+/// `PermittedAlphabetError`. Refused, of the two others: under a fixed size more octets than `usize::MAX`, as
+/// `LengthExceedsPlatformWidth`, then `Incomplete` by as many octets as are missing; else as the length is, a length above
+/// `usize::MAX / 8` as `LengthExceedsPlatformWidth`, `Incomplete`, a part of a character as `PermittedAlphabetError`, and
+/// a size that the constraint doesn't allow as `SizeConstraintNotSatisfied` with the size in characters.
 pub fn read_text<C: CharacterSet>(
     codec: Codec,
     constraints: Constraints,

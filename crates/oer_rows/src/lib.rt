@@ -32,9 +32,9 @@ pub use held_octets::{Octets, OpenOctets};
 pub use held_texts::{Ia5Text, NumericText, PrintableText, Utf8Text, VisibleText};
 pub use limited::{Limited, Limits};
 pub use lists::{IsEmptyList, ListOf};
-pub use literals::{are_bits, bits_from, bmp_from, utf8_from};
+pub use literals::{are_bits, bits_from, bmp_from, universal_from, utf8_from};
 pub use more_additions::{AdditionGroup, DefaultedAddition, RequiredAddition};
-pub use more_texts::{BmpText, GeneralText, GraphicText, TeletexText};
+pub use more_texts::{BmpText, GeneralText, GraphicText, TeletexText, UniversalText};
 pub use places::{
     Application, Context, DefaultValue, IsFalse, IsNull, IsNumber, IsTrue, Place, Private,
     Universal, Within,

@@ -6,8 +6,8 @@ ghost use Rattle.asn1_core.specs.Octets.{bits_of, octets_for};
 ghost use Rattle.oer_rows.specs.Literals.{IsLiteral, is_spelled};
 
 use crate::held_texts::Utf8Text;
-use crate::more_texts::BmpText;
-use asn1_strings::{BitString, BmpString};
+use crate::more_texts::{BmpText, UniversalText};
+use asn1_strings::{BitString, BmpString, UniversalString};
 use std::alloc::{AllocError, Global};
 
 /// The BIT STRING of the first `count` bits of the octets, the first bit highest; these are as many as so many bits need.
@@ -39,6 +39,16 @@ pub fn bmp_from(alloc: Global, octets: &[u8]) -> Result<BmpText, AllocError>
     ensures { IfOk result (λ s. s.0 ≡ octets.now) }
 {
     Ok(BmpText(BmpString::from_text(alloc, octets)?))
+}
+
+/// The UniversalString of these octets, four of each character.
+///
+/// Refused for want of memory alone.
+pub fn universal_from(alloc: Global, octets: &[u8]) -> Result<UniversalText, AllocError>
+    requires { length octets.now % 4 ≡ 0 }
+    ensures { IfOk result (λ s. s.0 ≡ octets.now) }
+{
+    Ok(UniversalText(UniversalString::from_text(alloc, octets)?))
 }
 
 /// The UTF8String of these octets, which are UTF-8.

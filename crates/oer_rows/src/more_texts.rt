@@ -4,7 +4,7 @@
 //! parameters can stand there. So a row that stands in another has these, and not the types within.
 
 use asn1_core::{AsnType, Constraints, DecodeError, EncodeError, Tag};
-use asn1_strings::{BmpString, GeneralString, GraphicString, TeletexString};
+use asn1_strings::{BmpString, GeneralString, GraphicString, TeletexString, UniversalString};
 use oer_read::{Decode, Decoder};
 use oer_spec::{EqualAsSpelled, Spelled};
 use oer_write::{Encode, Encoder};
@@ -273,6 +273,73 @@ impl Decode for BmpText {
     ) -> Result<BmpText, DecodeError> {
         match BmpString::decode_with_tag_and_constraints(alloc, decoder, tag, constraints) {
             Ok(content) => Ok(BmpText(content)),
+            Err(e) => Err(e),
+        }
+    }
+}
+
+/// `UniversalString`
+#[derive(Debug, PartialEq, Eq, Drop)]
+pub struct UniversalText(pub UniversalString);
+
+impl AsnType for UniversalText {
+    ghost use Rattle.std.specs.Prelude.{refl};
+    ghost use Rattle.asn1_core.specs.declared.tag.TheConstants.Tag.{UNIVERSAL_STRING};
+    ghost use Rattle.asn1_core.specs.declared.constraints.TheConstants.Constraints.{NONE};
+
+    ghost TAG = { UNIVERSAL_STRING };
+
+    const TAG: Tag = Tag::UNIVERSAL_STRING;
+
+    ghost CONSTRAINTS = { NONE };
+
+    const CONSTRAINTS: Constraints = Constraints::NONE;
+
+    ghost consistent = { refl };
+}
+
+impl Spelled for UniversalText {
+    ghost tree = { λ c v. ⟦<UniversalString as Spelled>⟧.tree c v.0 };
+
+    ghost IsValue = { λ v. ⟦<UniversalString as Spelled>⟧.IsValue v.0 };
+
+    ghost is_tree = { λ c k v i. ⟦<UniversalString as Spelled>⟧.is_tree c k v.0 i };
+
+    ghost alike = { λ c k v w i j. ⟦<UniversalString as Spelled>⟧.alike c k v.0 w.0 i j };
+}
+
+impl EqualAsSpelled for UniversalText {
+    ghost use Rattle.asn1_core.specs.Texts.{Universal};
+    ghost use Rattle.oer_spec.specs.Spelled.{texts_same};
+
+    ghost eq_is_same = { λ c k v w i j. texts_same Universal c v.0 w.0 };
+}
+
+impl Encode for UniversalText {
+    fn encode_with_tag_and_constraints(
+        &self,
+        encoder: &mut Encoder<'_>,
+        tag: Tag,
+        constraints: Constraints,
+    ) -> Result<(), EncodeError> {
+        self.0
+            .encode_with_tag_and_constraints(encoder, tag, constraints)
+    }
+}
+
+impl Decode for UniversalText {
+    ghost use Rattle.std.specs.Result.{result_map_both};
+
+    ghost Answered = { λ c s r t. ⟦<UniversalString as Decode>⟧.Answered c s (result_map_both (λ v. v.0) (λ e. e) r) t };
+
+    fn decode_with_tag_and_constraints(
+        alloc: Global,
+        decoder: &mut Decoder<'_>,
+        tag: Tag,
+        constraints: Constraints,
+    ) -> Result<UniversalText, DecodeError> {
+        match UniversalString::decode_with_tag_and_constraints(alloc, decoder, tag, constraints) {
+            Ok(content) => Ok(UniversalText(content)),
             Err(e) => Err(e),
         }
     }

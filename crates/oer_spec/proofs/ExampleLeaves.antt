@@ -5,7 +5,7 @@ use Rattle.std.specs.Str.{chars, is_utf8}
 use Rattle.std.proofs.lemmas.Bool.{not-false}
 use Rattle.std.proofs.lemmas.Str.{IsUtf8-from_is_utf8, is_utf8-from_IsUtf8}
 use Rattle.asn1_core.specs.Octets.{Octets, AreOctets, AllFalse}
-use Rattle.asn1_core.specs.Texts.{Rule, AnyOctets, Utf8, Numeric, Printable, Visible, Ia5, Bmp, Identifier, Utc, Generalized, Date, Obeys}
+use Rattle.asn1_core.specs.Texts.{Rule, AnyOctets, Utf8, Numeric, Printable, Visible, Ia5, Bmp, Universal, Identifier, Utc, Generalized, Date, Obeys}
 use Rattle.asn1_core.specs.Bounds.{size_fits}
 use Rattle.asn1_strings.specs.NamedBits.{significant}
 use Rattle.asn1_strings.proofs.NamedLists.{significant_zeros}
@@ -190,6 +190,9 @@ a_umlaut = IsUtf8-from_is_utf8 (0xC3 ∷ 0x84 ∷ []) refl
 no_bmp : Obeys Bmp (0x00 ∷ 0x41 ∷ 0x00 ∷ []) → ⊥
 no_bmp (n, e) = absurd (omega (arith, e))
 
+no_universal : Obeys Universal (0x00 ∷ 0x41 ∷ []) → ⊥
+no_universal (n, e) = absurd (omega (arith, e))
+
 pub string_misses : StringMisses
 unfolding IsEncoding canonical_octets levels fails IsTree
 string_misses = record {
@@ -248,6 +251,8 @@ string_misses = record {
   no_utf8 = disobeyed Utf8 (0xFF ∷ []) (omega arith) (are_octets (0xFF ∷ []) refl) no_utf8;
   bmp = spelled (text Bmp (0x00 ∷ 0x41 ∷ [])) (are_octets (0x00 ∷ 0x41 ∷ []) refl, (1, refl)) refl refl;
   half_a_bmp_character = disobeyed Bmp (0x00 ∷ 0x41 ∷ 0x00 ∷ []) (omega arith) (are_octets (0x00 ∷ 0x41 ∷ 0x00 ∷ []) refl) no_bmp;
+  universal = spelled (text Universal (0x00 ∷ 0x01 ∷ 0xF6 ∷ 0x00 ∷ [])) (are_octets (0x00 ∷ 0x01 ∷ 0xF6 ∷ 0x00 ∷ []) refl, (1, refl)) refl refl;
+  half_a_universal_character = disobeyed Universal (0x00 ∷ 0x41 ∷ []) (omega arith) (are_octets (0x00 ∷ 0x41 ∷ []) refl) no_universal;
   numeric = spelled (text Numeric (codes "31")) (are_octets (codes "31") refl, refl) refl refl;
   a_letter_in_a_numeric_string = disobeyed Numeric (codes "3A") (omega arith) (are_octets (codes "3A") refl) (λ e. absurd (cc e));
   printable = spelled (text Printable (codes "A?")) (are_octets (codes "A?") refl, refl) refl refl;

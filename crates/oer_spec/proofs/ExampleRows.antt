@@ -69,6 +69,7 @@ string_rows = record {
   numeric = refl;
   printable_of_three = refl;
   bmp_of_two = refl;
+  universal_of_two = refl;
   identifier = refl;
   utc_time = refl;
   generalized_time = refl;

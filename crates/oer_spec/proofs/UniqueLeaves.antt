@@ -3,7 +3,7 @@ use Rattle.std.proofs.Common.{◌≡◌, ℕ, ◌/◌, Bool, true, false, cond, 
 use Rattle.std.proofs.lemmas.Bool.{and_parts, not-false, leb-true, eqb-true}
 use Rattle.asn1_core.specs.Bounds.{fixed_size, size_fits, Size}
 use Rattle.asn1_core.specs.Octets.{Octets}
-use Rattle.asn1_core.specs.Texts.{Rule, Bmp, Obeys}
+use Rattle.asn1_core.specs.Texts.{Rule, Bmp, Universal, Obeys}
 use Rattle.asn1_strings.specs.NamedBits.{IsNamed}
 use Rattle.oer_spec.specs.Leaves.{BadSize, Width, Fixed, Counted, width_of, IsBoolean, IsInteger, IsEnumerated, IsBitString, IsNamedBits, IsText, IsLeafEncoding, unit_of, IsLeaf}
 use Rattle.oer_spec.specs.Mode.{Mode}
@@ -70,6 +70,8 @@ fixed_count (Some (low, high)) n k f g = go (low == high) refl g
 text_count : (r : Rule) (s : Size) (c d : Octets) (n : ℕ) → Obeys r c → Obeys r d → fixed_size s ≡ Some n → size_fits s (length c / unit_of r) ≡ true → size_fits s (length d / unit_of r) ≡ true → length c ≡ length d
 text_count Bmp s c d n (i, a) (j, b) h f g =
     omega (arith, a, b, fixed_count s n (length c / 2) f h, fixed_count s n (length d / 2) g h)
+text_count Universal s c d n (i, a) (j, b) h f g =
+    omega (arith, a, b, fixed_count s n (length c / 4) f h, fixed_count s n (length d / 4) g h)
 text_count r s c d n i j h f g = omega (arith, fixed_count s n (length c / 1) f h, fixed_count s n (length d / 1) g h)
 
 bits_leaf_unique : (m : Mode) (o p x y : Octets) (s : Size) (b c : List Bool) → IsLeafEncoding m o (Bits s b) → IsLeafEncoding m p (Bits s c) → o ++ x ≡ p ++ y → (o ≡ p) × (b ≡ c)

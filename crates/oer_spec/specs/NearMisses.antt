@@ -1,6 +1,6 @@
 -- For every sort of node octets that spell a value, and near misses: octets that spell it leniently alone, or nothing.
 use Rattle.std.specs.Prelude.{true, false, [], ◌∷◌, pos, negsuc, Some, None, codes}
-use Rattle.asn1_core.specs.Texts.{AnyOctets, Utf8, Numeric, Printable, Visible, Ia5, Bmp, Identifier, Utc, Generalized, Date}
+use Rattle.asn1_core.specs.Texts.{AnyOctets, Utf8, Numeric, Printable, Visible, Ia5, Bmp, Universal, Identifier, Utc, Generalized, Date}
 use Rattle.oer_spec.specs.Encoding.{IsEncoding}
 use Rattle.oer_spec.specs.Examples.{IsSpelled, IsSpelledLeniently, SpellNone, boolean, null, enumerated, integer, integer_from, integer_in, bit_string, bit_string_of, named, named_within, text, text_of, context, with_default, first_version, second_version, required_addition, with_group, set_of_two, list_of, set_of, choice, long_tags}
 use Rattle.oer_spec.specs.Mode.{Mode, Canonical}
@@ -47,6 +47,8 @@ pub record StringMisses : Type 0 where
   pub no_utf8 : SpellNone (text Utf8) (0x01 ∷ 0xFF ∷ [])
   pub bmp : IsSpelled (0x02 ∷ 0x00 ∷ 0x41 ∷ []) (text Bmp (0x00 ∷ 0x41 ∷ []))
   pub half_a_bmp_character : SpellNone (text Bmp) (0x03 ∷ 0x00 ∷ 0x41 ∷ 0x00 ∷ [])
+  pub universal : IsSpelled (0x04 ∷ 0x00 ∷ 0x01 ∷ 0xF6 ∷ 0x00 ∷ []) (text Universal (0x00 ∷ 0x01 ∷ 0xF6 ∷ 0x00 ∷ []))
+  pub half_a_universal_character : SpellNone (text Universal) (0x02 ∷ 0x00 ∷ 0x41 ∷ [])
   pub numeric : IsSpelled (0x02 ∷ codes "31") (text Numeric (codes "31"))
   pub a_letter_in_a_numeric_string : SpellNone (text Numeric) (0x02 ∷ codes "3A")
   pub printable : IsSpelled (0x02 ∷ codes "A?") (text Printable (codes "A?"))

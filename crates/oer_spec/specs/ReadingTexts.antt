@@ -35,26 +35,26 @@ text_at is_text kind s codec input = do
   refuse_if (not (is_text octets.0)) kind
   Ok octets
 
--- two octets for each of so many characters
-abbrev pub many_units_at : ℕ → Octets → Result (Octets × Octets) DecodeErrorKind
-many_units_at n input = refuse_if (nat_lt usize_max (2 * n)) LengthExceedsPlatformWidth >> octets_at (2 * n) input
+-- as many octets as a character has for each of so many characters
+abbrev pub many_units_at : ℕ → ℕ → Octets → Result (Octets × Octets) DecodeErrorKind
+many_units_at unit n input = refuse_if (nat_lt usize_max (n * unit)) LengthExceedsPlatformWidth >> octets_at (n * unit) input
 
--- so many, where the size is fixed; else octets behind a length, an even count, of a size that is allowed
-abbrev pub sized_units_at : (Octets → Bool) → Option ℕ → Size → Codec → Octets → Result (Octets × Octets) DecodeErrorKind
-sized_units_at is_text (Some n) s codec input = many_units_at n input
-sized_units_at is_text None s codec input = do
+-- so many, where the size is fixed; else octets behind a length, those of whole characters, of a size that is allowed
+abbrev pub sized_units_at : ℕ → (Octets → Bool) → Option ℕ → Size → Codec → Octets → Result (Octets × Octets) DecodeErrorKind
+sized_units_at unit is_text (Some n) s codec input = many_units_at unit n input
+sized_units_at unit is_text None s codec input = do
   octets ← string_at codec input
   refuse_if (not (is_text octets.0)) PermittedAlphabetError
-  size_test s (length octets.0 / 2)
+  size_test s (length octets.0 / unit)
   Ok octets
 
--- BMPString (27), whose size counts characters.
-unfoldable pub units_at : (Octets → Bool) → Size → Codec → Octets → Result (Octets × Octets) DecodeErrorKind
-units_at is_text s codec input = sized_units_at is_text (fixed_size s) s codec input
+-- BMPString and UniversalString (27), whose sizes count characters of so many octets.
+unfoldable pub units_at : ℕ → (Octets → Bool) → Size → Codec → Octets → Result (Octets × Octets) DecodeErrorKind
+units_at unit is_text s codec input = sized_units_at unit is_text (fixed_size s) s codec input
 
--- A text of characters of one octet or of two.
+-- A text of characters of one octet or of more.
 unfoldable pub characters_at : ℕ → (Octets → Bool) → Size → Codec → Octets → Result (Octets × Octets) DecodeErrorKind
-characters_at unit is_text s codec input = cond (unit == 1) (text_at is_text PermittedAlphabetError s codec input) (units_at is_text s codec input)
+characters_at unit is_text s codec input = cond (unit == 1) (text_at is_text PermittedAlphabetError s codec input) (units_at unit is_text s codec input)
 
 -- octets that pass a test
 abbrev pub tested : (Octets → Bool) → DecodeErrorKind → Octets → Result Octets DecodeErrorKind

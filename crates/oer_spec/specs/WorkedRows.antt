@@ -1,6 +1,6 @@
 -- Worked rows: a value's tree and its canonical octets.
 use Rattle.std.specs.Prelude.{◌≡◌, ◌^◌, true, false, [], ◌∷◌, pos, negsuc, Some, None, codes, replicate}
-use Rattle.asn1_core.specs.Texts.{AnyOctets, Utf8, Numeric, Printable, Bmp, Identifier, Utc, Generalized, Date}
+use Rattle.asn1_core.specs.Texts.{AnyOctets, Utf8, Numeric, Printable, Bmp, Universal, Identifier, Utc, Generalized, Date}
 use Rattle.oer_spec.specs.Encoding.{canonical_octets}
 use Rattle.oer_spec.specs.Examples.{boolean, null, enumerated, integer, integer_from, integer_to, integer_in, bit_string, bit_string_of, named, named_within, text, text_of, context, pair, two_optional, with_default, first_version, second_version, required_addition, nested_addition, with_group, additions_alone, second_held, set, set_of_two, list_of, set_of, choice, long_tags}
 
@@ -50,6 +50,8 @@ pub record StringRows : Type 0 where
   pub printable_of_three : canonical_octets (text_of Printable 3 (codes "foo")) ≡ 0x66 ∷ 0x6F ∷ 0x6F ∷ []
   -- two characters of two octets each
   pub bmp_of_two : canonical_octets (text_of Bmp 2 (0x00 ∷ 0x41 ∷ 0x00 ∷ 0x42 ∷ [])) ≡ 0x00 ∷ 0x41 ∷ 0x00 ∷ 0x42 ∷ []
+  -- two characters of four octets each
+  pub universal_of_two : canonical_octets (text_of Universal 2 (0x00 ∷ 0x00 ∷ 0x00 ∷ 0x41 ∷ 0x00 ∷ 0x01 ∷ 0xF6 ∷ 0x00 ∷ [])) ≡ 0x00 ∷ 0x00 ∷ 0x00 ∷ 0x41 ∷ 0x00 ∷ 0x01 ∷ 0xF6 ∷ 0x00 ∷ []
   -- 1.2.3321
   pub identifier : canonical_octets (text Identifier (0x2A ∷ 0x99 ∷ 0x79 ∷ [])) ≡ 0x03 ∷ 0x2A ∷ 0x99 ∷ 0x79 ∷ []
   pub utc_time : canonical_octets (text Utc (codes "191009130005Z")) ≡ 0x0D ∷ codes "191009130005Z"

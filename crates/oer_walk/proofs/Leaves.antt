@@ -2,7 +2,7 @@
 use Rattle.std.proofs.Common.{◌≡◌, ℕ, ◌*◌, ◌/◌, Bool, List, [], ◌∷◌, ◌++◌, length, Result, Ok, Option, Some, None, refl, sym, ap, ◌∙◌, arith, inl, inr}
 use Rattle.asn1_core.specs.Bounds.{fixed_size, size_fits}
 use Rattle.asn1_core.specs.Octets.{Octets, octets_for}
-use Rattle.asn1_core.specs.Texts.{Rule, AnyOctets, Utf8, Numeric, Printable, Visible, Ia5, General, Graphic, Teletex, Bmp, Identifier, Utc, Generalized, Date, Obeys}
+use Rattle.asn1_core.specs.Texts.{Rule, AnyOctets, Utf8, Numeric, Printable, Visible, Ia5, General, Graphic, Teletex, Bmp, Universal, Identifier, Utc, Generalized, Date, Obeys}
 use Rattle.asn1_core.specs.declared.codec.Codec.TheVariants.{Oer}
 use Rattle.asn1_core.specs.declared.error.DecodeErrorKind.{DecodeErrorKind}
 use Rattle.oer_leaf_read.proofs.ReadEnumerated.{enumerated_reads}
@@ -61,6 +61,7 @@ units General c n o e = omega (arith, e)
 units Graphic c n o e = omega (arith, e)
 units Teletex c n o e = omega (arith, e)
 units Bmp c n (k, even) e = omega (arith, even, e)
+units Universal c n (k, whole) e = omega (arith, whole, e)
 units Identifier c n o e = omega (arith, e)
 units Utc c n o e = omega (arith, e)
 units Generalized c n o e = omega (arith, e)

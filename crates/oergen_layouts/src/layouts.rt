@@ -183,6 +183,7 @@ pub fn unit_of(simple: Simple) -> Option<i128> {
         Simple::Utf8String | Simple::GeneralString => None,
         Simple::GraphicString | Simple::TeletexString => None,
         Simple::BmpString => Some(2),
+        Simple::UniversalString => Some(4),
         Simple::OctetString | Simple::NumericString | Simple::PrintableString => Some(1),
         Simple::VisibleString | Simple::Ia5String => Some(1),
     }
@@ -204,6 +205,7 @@ fn simple_name(simple: Simple) -> &'static str {
         Simple::GraphicString => "GraphicString, behind a length",
         Simple::TeletexString => "TeletexString, behind a length",
         Simple::BmpString => "BMPString",
+        Simple::UniversalString => "UniversalString",
         Simple::UtcTime => "UTCTime, behind a length",
         Simple::GeneralizedTime => "GeneralizedTime, behind a length",
         Simple::Date => "DATE, behind a length",

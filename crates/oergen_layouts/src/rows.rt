@@ -267,6 +267,7 @@ fn simple_tag(simple: Simple) -> Option<Tag> {
         Simple::GraphicString => Tag::GRAPHIC_STRING,
         Simple::TeletexString => Tag::TELETEX_STRING,
         Simple::BmpString => Tag::BMP_STRING,
+        Simple::UniversalString => Tag::UNIVERSAL_STRING,
         Simple::UtcTime => Tag::UTC_TIME,
         Simple::GeneralizedTime => Tag::GENERALIZED_TIME,
         Simple::Date => Tag::DATE,

@@ -155,7 +155,7 @@ fn is_of(simple: Simple, token: Token<'_>) -> bool {
         Simple::PrintableString | Simple::VisibleString => token.kind == Kind::Text,
         Simple::Ia5String | Simple::GeneralString => token.kind == Kind::Text,
         Simple::GraphicString | Simple::TeletexString => token.kind == Kind::Text,
-        Simple::BmpString => token.kind == Kind::Text,
+        Simple::BmpString | Simple::UniversalString => token.kind == Kind::Text,
     }
 }
 

@@ -128,6 +128,7 @@ pub enum Simple {
     GraphicString,
     TeletexString,
     BmpString,
+    UniversalString,
     UtcTime,
     GeneralizedTime,
     Date,

@@ -3,12 +3,8 @@
 /// What can be read where a word of X.680 stands that begins no type which is read.
 pub fn instead_of(word: &str) -> &'static str {
     match word {
-        "REAL"
-        | "UniversalString"
-        | "VideotexString"
-        | "RELATIVE-OID"
-        | "OID-IRI"
-        | "RELATIVE-OID-IRI" => "OCTET STRING for its octets, as docs/COMPILER.md says",
+        "REAL" | "VideotexString" | "RELATIVE-OID" | "OID-IRI" | "RELATIVE-OID-IRI" =>
+            "OCTET STRING for its octets, as docs/COMPILER.md says",
         "TIME" | "TIME-OF-DAY" | "DATE-TIME" | "DURATION" =>
             "OCTET STRING for its octets, as docs/COMPILER.md says",
         "EMBEDDED" | "CHARACTER" =>

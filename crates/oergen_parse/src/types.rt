@@ -13,7 +13,7 @@ use crate::words::is_unread;
 use asn1_core::Class;
 
 /// Types without parts, by their first word.
-static SIMPLE: [(&str, Simple); 19] = [
+static SIMPLE: [(&str, Simple); 20] = [
     ("BOOLEAN", Simple::Boolean),
     ("NULL", Simple::Null),
     ("UTF8String", Simple::Utf8String),
@@ -27,6 +27,7 @@ static SIMPLE: [(&str, Simple); 19] = [
     ("TeletexString", Simple::TeletexString),
     ("T61String", Simple::TeletexString),
     ("BMPString", Simple::BmpString),
+    ("UniversalString", Simple::UniversalString),
     ("UTCTime", Simple::UtcTime),
     ("GeneralizedTime", Simple::GeneralizedTime),
     ("DATE", Simple::Date),
@@ -162,7 +163,7 @@ fn skip_rest(reader: &mut Reader<'_>, simple: Simple) -> Result<(), Refusal> {
         Simple::Any | Simple::Boolean | Simple::Null | Simple::Utf8String => Ok(()),
         Simple::NumericString | Simple::PrintableString | Simple::VisibleString => Ok(()),
         Simple::Ia5String | Simple::GeneralString | Simple::GraphicString => Ok(()),
-        Simple::TeletexString | Simple::BmpString => Ok(()),
+        Simple::TeletexString | Simple::BmpString | Simple::UniversalString => Ok(()),
         Simple::UtcTime | Simple::GeneralizedTime | Simple::Date => Ok(()),
     }
 }

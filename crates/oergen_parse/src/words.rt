@@ -3,12 +3,13 @@
 /// Words that begin types which are read, with `ANY` of the older notation (X.208).
 const READ: &str =
     "ANY BIT BMPString BOOLEAN CHOICE DATE ENUMERATED GeneralString GeneralizedTime GraphicString IA5String INTEGER \
-ISO646String NULL NumericString OBJECT OCTET PrintableString SEQUENCE SET T61String TeletexString UTCTime UTF8String VisibleString";
+ISO646String NULL NumericString OBJECT OCTET PrintableString SEQUENCE SET T61String TeletexString UTCTime UTF8String UniversalString \
+VisibleString";
 
 /// Words that are types which aren't read, or classes.
 const UNREAD: &str =
     "ABSTRACT-SYNTAX DATE-TIME DURATION EXTERNAL OID-IRI ObjectDescriptor REAL RELATIVE-OID RELATIVE-OID-IRI TIME \
-TIME-OF-DAY TYPE-IDENTIFIER UniversalString VideotexString";
+TIME-OF-DAY TYPE-IDENTIFIER VideotexString";
 
 /// Further words that begin no type, or no whole one.
 const OTHER: &str =

@@ -11,6 +11,7 @@ use crate::shapes::{drops_zeros, number_of_octets, simple_type, sizes_of};
 use crate::templates::DEFAULT;
 use crate::text::{Text, Words};
 use oergen_layouts::definitions::Definition;
+use oergen_layouts::layouts::unit_of;
 use oergen_layouts::numbers::{Spot, names_of, number_of, settled};
 use oergen_layouts::rows::Row;
 use oergen_layouts::scope::Scope;
@@ -235,8 +236,8 @@ enum Evidence {
     Any,
     /// Each of them is tested.
     Each,
-    /// They are twice as many as so many.
-    Pairs,
+    /// They are units of so many.
+    Units(usize),
     /// They are UTF-8.
     Utf8,
 }
@@ -263,7 +264,8 @@ fn held_of(simple: Simple) -> Option<Held> {
         Simple::GeneralString => ("General", TEXT, Evidence::Any),
         Simple::GraphicString => ("Graphic", TEXT, Evidence::Any),
         Simple::TeletexString => ("Teletex", TEXT, Evidence::Any),
-        Simple::BmpString => ("Bmp", "bmp_from", Evidence::Pairs),
+        Simple::BmpString => ("Bmp", "bmp_from", Evidence::Units(2)),
+        Simple::UniversalString => ("Universal", "universal_from", Evidence::Units(4)),
         Simple::Boolean | Simple::Null | Simple::ObjectIdentifier | Simple::Any => return None,
         Simple::UtcTime | Simple::GeneralizedTime | Simple::Date => return None,
     };
@@ -285,13 +287,19 @@ fn held_words(alloc: Global, name: &str, held: Held, octets: &[u8]) -> Words {
     const RECORD: &str = "record { 0 = @LIST@ }";
     let mut words = words_of(alloc, name, held.holder, true);
     put_octets(&mut words, octets);
-    words.begin("HALF").push_count(octets.len() / 2);
+    let unit = match held.evidence {
+        Evidence::Units(unit) => unit,
+        _ => 1,
+    };
+    words
+        .begin("COUNT")
+        .push_count(octets.len().checked_div(unit).unwrap_or(0));
     words.put("RULE", held.rule);
     words.put_filled("FROM", held.from);
     let (spelled, value, made, obeys) = match held.evidence {
         Evidence::Any => ("", RECORD, MADE, "tt"),
         Evidence::Each => ("", RECORD, MADE, "refl"),
-        Evidence::Pairs => ("", RECORD, "@FROM@(alloc, &octets)", "(@HALF@, refl)"),
+        Evidence::Units(_) => ("", RECORD, "@FROM@(alloc, &octets)", "(@COUNT@, refl)"),
         Evidence::Utf8 => (
             ", spelled",
             "@LIST@",
@@ -329,9 +337,9 @@ fn default_octets<'m>(
 
 /// Whether limits allow a string of so many octets.
 fn allows_octets(limits: Limits, simple: Simple, octets: usize) -> bool {
-    let unit = if simple == Simple::BmpString { 2 } else { 1 };
-    let size = octets.checked_div(unit).unwrap_or(0);
-    allows(limits, i128::try_from(size).unwrap_or(i128::MAX))
+    let octets = i128::try_from(octets).unwrap_or(i128::MAX);
+    let unit = unit_of(simple).unwrap_or(1);
+    allows(limits, octets.checked_div(unit).unwrap_or(0))
 }
 
 /// Prints the default of an OCTET STRING or a character string.

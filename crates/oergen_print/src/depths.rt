@@ -111,7 +111,8 @@ fn simple_depth(simple: Simple) -> usize {
         Simple::OctetString | Simple::Any => 8,
         Simple::Utf8String | Simple::NumericString | Simple::PrintableString => 5,
         Simple::VisibleString | Simple::Ia5String | Simple::GeneralString => 5,
-        Simple::GraphicString | Simple::TeletexString | Simple::BmpString => 5,
+        Simple::GraphicString | Simple::TeletexString => 5,
+        Simple::BmpString | Simple::UniversalString => 5,
     }
 }
 

@@ -1,6 +1,7 @@
 //! What a module writes of bits, octets and characters: the octets that a default of them has.
 
 use crate::text::Text;
+use oergen_layouts::layouts::unit_of;
 use oergen_layouts::numbers::{Spot, named, number_of};
 use oergen_layouts::scope::Scope;
 use oergen_parse::ast::{Numbered, Simple, Value};
@@ -122,7 +123,7 @@ fn is_permitted(simple: Simple, c: char) -> bool {
         Simple::PrintableString => c.is_ascii_alphanumeric() || " '()+,-./:=?".contains(c),
         Simple::VisibleString => c == ' ' || c.is_ascii_graphic(),
         Simple::BmpString => u32::from(c) <= 65535 && c != '\n',
-        Simple::Utf8String => c != '\n',
+        Simple::Utf8String | Simple::UniversalString => c != '\n',
         Simple::Ia5String | Simple::GeneralString => c.is_ascii() && c != '\n',
         Simple::GraphicString | Simple::TeletexString => c.is_ascii() && c != '\n',
         Simple::Boolean | Simple::Null | Simple::OctetString => false,
@@ -138,17 +139,17 @@ fn push_utf8(octets: &mut Vec<u8>, c: char) -> Result<(), AllocError> {
     octets.extend_from_slice(text.as_bytes())
 }
 
-/// Puts a character's octets to others: those of UTF-8 in a UTF8String, two in a BMPString, else one.
+/// Puts a character's octets to others: those of UTF-8 in a UTF8String, two in a BMPString, four in a UniversalString, else one.
 fn push_character(octets: &mut Vec<u8>, simple: Simple, c: char) -> Result<(), AllocError> {
     if simple == Simple::Utf8String {
         return push_utf8(octets, c);
     }
-    let number = u32::from(c);
-    if simple == Simple::BmpString {
-        octets.push(u8::try_from(number / 256).unwrap_or(0))?;
+    let [group, plane, row, cell] = u32::from(c).to_be_bytes();
+    match unit_of(simple) {
+        Some(4) => octets.extend_from_slice(&[group, plane, row, cell]),
+        Some(2) => octets.extend_from_slice(&[row, cell]),
+        _ => octets.extend_from_slice(&[cell]),
     }
-    octets.push(u8::try_from(number % 256).unwrap_or(0))?;
-    Ok(())
 }
 
 /// The octets of a text between quotes, of which two within stand for one (X.680, 12.14). Refused where a character isn't the type's.
@@ -170,7 +171,7 @@ pub fn octets_of_text(
         if !is_permitted(simple, c) {
             return Err(scope.refused(
                 id,
-                "a text of the type's characters, ASCII but in a UTF8String or a BMPString",
+                "a text of the type's characters, ASCII but in a UTF8String, a BMPString or a UniversalString",
             ));
         }
         push_character(&mut octets, simple, c)?;

@@ -30,16 +30,16 @@ const TAKEN: &str =
     "option some none result ok err vec string box drop debug partialeq eq copy clone self bool str any asntype \
 bitstring bmpstring bounded choice class codec constraints constructed date decodeerror decodeerrorkind encodeerror \
 encodeerrorkind enumerated field fieldpresence fields generalstring generalizedtime graphicstring ia5string \
-numericstring objectidentifier octetstring printablestring sequenceof setof tag teletexstring utctime utf8string \
-visiblestring constrainedinteger integer integerrange alternating alternative alternatives alternativeviews either \
+numericstring objectidentifier octetstring printablestring sequenceof setof tag teletexstring universalstring utctime \
+utf8string visiblestring constrainedinteger integer integerrange alternating alternative alternatives alternativeviews either \
 enumeration numbered oneof decode decodechoice decodeinside decodeknot decoder decoderoptions additiongroup additions \
 additionviews alternativeknot application compared components context defaulted defaultedaddition defaultvalue end \
 extensible held holdsknot intagorder isfalse isnull isnumber istrue knot knotalternating knotalternatives knotrow \
 knotrowed layered limited limits listof optional optionaladdition optionaladditionknot optionalknot place private \
 reads readsadditions readsalternatives readsknot readsknotalternatives required requiredaddition requiredknot rowed \
 schemed sequence set tabled takes takesalternative takesknot takesknotalternative textorder universal views writes \
-octets openoctets bmptext generaltext graphictext ia5text numerictext printabletext teletextext utf8text visibletext \
-within equalasspelled spelled encode encoder bare isemptylist utf8_from are_bits bits_from bmp_from built fields \
+octets openoctets bmptext generaltext graphictext ia5text numerictext printabletext teletextext universaltext utf8text visibletext \
+within equalasspelled spelled encode encoder bare isemptylist utf8_from are_bits bits_from bmp_from universal_from built fields \
 from_row pairs rows_of table tags to_row namedbits";
 
 /// How often names may be put right.

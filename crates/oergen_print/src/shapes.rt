@@ -37,6 +37,7 @@ pub fn simple_type(simple: Simple) -> &'static str {
         Simple::GraphicString => "GraphicText",
         Simple::TeletexString => "TeletexText",
         Simple::BmpString => "BmpText",
+        Simple::UniversalString => "UniversalText",
         Simple::UtcTime => "UtcTime",
         Simple::GeneralizedTime => "GeneralizedTime",
         Simple::Date => "Date",

@@ -11,7 +11,7 @@ use Rattle.oergen_layouts.specs.declared.visible.Limits.{Limits}
 use Rattle.oergen_parse.specs.declared.ast.Body.{Body}
 use Rattle.oergen_parse.specs.declared.ast.Body.TheVariants.{Integer as IntegerBody, BitString as BitsBody, Simple as SimpleBody}
 use Rattle.oergen_parse.specs.declared.ast.Simple.{Simple}
-use Rattle.oergen_parse.specs.declared.ast.Simple.TheVariants.{Boolean, Null, OctetString, ObjectIdentifier, Utf8String, NumericString, PrintableString, VisibleString, Ia5String, GeneralString, GraphicString, TeletexString, BmpString, UtcTime, GeneralizedTime, Date, Any}
+use Rattle.oergen_parse.specs.declared.ast.Simple.TheVariants.{Boolean, Null, OctetString, ObjectIdentifier, Utf8String, NumericString, PrintableString, VisibleString, Ia5String, GeneralString, GraphicString, TeletexString, BmpString, UniversalString, UtcTime, GeneralizedTime, Date, Any}
 use Rattle.oer_walk.specs.Kinds.{kind_number}
 use Rattle.oer_walk.specs.declared.kinds.Kind.TheVariants.{Boolean as BooleanKind, Null as NullKind, FixedInteger, Integer, FixedBitString, BitString, FixedString, String, NamedBitString, Sequence, Choice}
 use Rattle.oergen_tables.specs.declared.rows.Field.{Field}
@@ -61,6 +61,7 @@ text_number GeneralString = 6
 text_number GraphicString = 7
 text_number TeletexString = 8
 text_number BmpString = 9
+text_number UniversalString = 10
 text_number ObjectIdentifier = 20
 text_number UtcTime = 21
 text_number GeneralizedTime = 22

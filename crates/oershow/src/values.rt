@@ -147,22 +147,32 @@ fn identifier_of(alloc: Global, octets: &[u8]) -> Result<Option<String>> {
     Ok(Some(text))
 }
 
-/// The text of characters of two octets each (X.680, 41.15); nothing where a character lacks an octet or is none.
-fn wide_text(alloc: Global, octets: &[u8]) -> Result<Option<String>> {
+/// The first unit of two octets, or of four, and what is behind it.
+fn first_unit(octets: &[u8], unit: usize) -> Option<(u32, &[u8])> {
+    match octets {
+        [row, cell, behind @ ..] if unit == 2 => {
+            Some((u32::from_be_bytes([0, 0, *row, *cell]), behind))
+        }
+        [group, plane, row, cell, behind @ ..] if unit == 4 => {
+            Some((u32::from_be_bytes([*group, *plane, *row, *cell]), behind))
+        }
+        _ => None,
+    }
+}
+
+/// The text of characters of two octets each, or of four (X.680, clause 41); nothing where a character lacks an octet or is none.
+fn wide_text(alloc: Global, octets: &[u8], unit: usize) -> Result<Option<String>> {
     let mut text = String::new(alloc);
     let mut rest = octets;
     for _ in 0..octets.len() {
-        match rest {
-            [high, low, behind @ ..] => {
-                let code = u32::from(*high) * 256 + u32::from(*low);
-                let Some(character) = char::from_u32(code) else {
-                    return Ok(None);
-                };
-                text.push(character)?;
-                rest = behind;
-            }
-            _ => break,
-        }
+        let Some((code, behind)) = first_unit(rest, unit) else {
+            break;
+        };
+        let Some(character) = char::from_u32(code) else {
+            return Ok(None);
+        };
+        text.push(character)?;
+        rest = behind;
     }
     Ok(if rest.is_empty() { Some(text) } else { None })
 }
@@ -174,7 +184,7 @@ fn octets_leaf(alloc: Global, octets: &[u8], text: u32) -> Result<Leaf> {
             Ok(text) => Ok(Leaf::Text(String::from_str(alloc, text)?)),
             Err(_) => Ok(Leaf::NoText(hex_of(alloc, octets)?)),
         },
-        9 => match wide_text(alloc, octets)? {
+        9 | 10 => match wide_text(alloc, octets, if text == 9 { 2 } else { 4 })? {
             Some(text) => Ok(Leaf::Text(text)),
             None => Ok(Leaf::NoText(hex_of(alloc, octets)?)),
         },

@@ -4,7 +4,7 @@ use asn1_core::{AsnType, Bounded, Constraints, SetOf};
 use asn1_ints::Integer;
 use asn1_strings::{
     Any, BitString, BmpString, GeneralString, GraphicString, Ia5String, NamedBits, NumericString,
-    OctetString, PrintableString, TeletexString, VisibleString,
+    OctetString, PrintableString, TeletexString, UniversalString, VisibleString,
 };
 use oer_types::{
     AddDef, AllDefault, AllOptional, BoolChoice, Bush, Chain, ConstrainedOptions, Enum3, HashedId3,
@@ -160,6 +160,7 @@ pub fn with_word<W: UnderConstraints + Drop>(word: &str, work: W) -> Option<W::O
         "named4..8" => Some(work.under::<NamedBits>(sizes(4, 8))),
         "utf8of3" => Some(work.under::<String>(sizes(3, 3))),
         "bmpof2" => Some(work.under::<BmpString>(sizes(2, 2))),
+        "universalof2" => Some(work.under::<UniversalString>(sizes(2, 2))),
         _ => with_text(word, work),
     }
 }
@@ -168,6 +169,7 @@ pub fn with_word<W: UnderConstraints + Drop>(word: &str, work: W) -> Option<W::O
 fn with_text<W: UnderConstraints + Drop>(word: &str, work: W) -> Option<W::Output> {
     match word {
         "bmp" => Some(work.under::<BmpString>(Constraints::NONE)),
+        "universal" => Some(work.under::<UniversalString>(Constraints::NONE)),
         "numeric" => Some(work.under::<NumericString>(Constraints::NONE)),
         "printable" => Some(work.under::<PrintableString>(Constraints::NONE)),
         "visible" => Some(work.under::<VisibleString>(Constraints::NONE)),

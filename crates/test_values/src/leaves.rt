@@ -2,7 +2,7 @@
 use crate::numbers::{Input, codec_of, constraints_of, refused, told};
 use asn1_base::{
     BmpCharacters, BmpString, Constraints, Date, EncodeErrorKind, GeneralizedTime, Ia5Characters,
-    Ia5String, UtcTime,
+    Ia5String, UniversalCharacters, UniversalString, UtcTime,
 };
 use oer_forms::leaf::{
     TimeType, read_any, read_bit_string, read_bitmap, read_named_bits, read_object_identifier,
@@ -51,6 +51,14 @@ fn characters(word: &str, input: Input<'_>) -> Result<String, Fail> {
         "bmp" => match read_text::<BmpCharacters>(codec, constraints, input.octets) {
             Ok((value, rest)) => {
                 let text = BmpString::from_bytes(input.alloc, value)?;
+                let written = write_text(constraints, &text, &mut out);
+                told(input.alloc, &value, rest, written, out.as_slice())
+            }
+            Err(kind) => refused(input.alloc, &kind),
+        },
+        "universal" => match read_text::<UniversalCharacters>(codec, constraints, input.octets) {
+            Ok((value, rest)) => {
+                let text = UniversalString::from_bytes(input.alloc, value)?;
                 let written = write_text(constraints, &text, &mut out);
                 told(input.alloc, &value, rest, written, out.as_slice())
             }
@@ -145,7 +153,7 @@ fn bitmap(input: Input<'_>) -> Result<String, Fail> {
 fn answer(word: &str, input: Input<'_>) -> Result<String, Fail> {
     match word {
         "octets" | "any" | "utf8" => octets(word, input),
-        "bmp" | "ia5" => characters(word, input),
+        "bmp" | "universal" | "ia5" => characters(word, input),
         "bits" | "named" | "oid" => owned(word, input),
         "utctime" => time::<UtcTime>(input),
         "gentime" => time::<GeneralizedTime>(input),
@@ -169,6 +177,11 @@ oer+coer any - 89010000000000000000 => LengthExceedsPlatformWidth\n\
 oer+coer any - 00 => [];;00\n\
 oer+coer utf8 3..3 666f6f21 => \"foo\";21;666f6f\n\
 oer+coer bmp 2..2 00410042 => [0, 65, 0, 66];;00410042\n\
+oer+coer universal 1..1 0001f60000 => [0, 1, 246, 0];00;0001f600\n\
+oer+coer universal - 0400000041 => [0, 0, 0, 65];;0400000041\n\
+oer+coer universal - 0200410a => PermittedAlphabetError\n\
+oer+coer universal 2..2 00000041 => Incomplete { needed: 4 }\n\
+oer+coer universal 1..2 0c000000410000004200000043 => SizeConstraintNotSatisfied { size: 3 }\n\
 oer+coer ia5 - 04040481e90001 => PermittedAlphabetError\n\
 oer+coer ia5 - 02410a00 => [65, 10];00;02410a\n\
 oer+coer bits - 0302ff40ff40 => 14;ff40;0302ff40\n\

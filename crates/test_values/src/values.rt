@@ -2,7 +2,7 @@
 use asn1_base::{
     Any, BitString, BmpString, Codec, Date, GeneralString, GeneralizedTime, GraphicString,
     Ia5String, NamedBits, NumericString, ObjectIdentifier, OctetString, PrintableString,
-    StringError, TeletexString, TimeError, TimeText, UtcTime, VisibleString,
+    StringError, TeletexString, TimeError, TimeText, UniversalString, UtcTime, VisibleString,
     object_identifier_as_bytes, object_identifier_from_bytes,
 };
 use std::alloc::Global;
@@ -161,6 +161,8 @@ graphic 81 => 1 81\n\
 teletex 81 => 1 81\n\
 bmp 004100 => a character is outside the permitted alphabet\n\
 bmp 00410042 => 2 00410042\n\
+universal 000041 => a character is outside the permitted alphabet\n\
+universal 0001f600ffffffff => 2 0001f600ffffffff\n\
 octets 010203 => 3 010203\n\
 any 020105 => 3 020105";
 
@@ -220,6 +222,10 @@ fn octets_of_value(alloc: Global, word: &str, octets: &[u8]) -> Result<String, S
             let text = BmpString::from_bytes(alloc, octets)?;
             kept(alloc, text.len(), text.to_bytes(alloc)?.as_slice())
         }
+        "universal" => {
+            let text = UniversalString::from_bytes(alloc, octets)?;
+            kept(alloc, text.len(), text.to_bytes(alloc)?.as_slice())
+        }
         "octets" => {
             let value = OctetString::from_slice(alloc, octets)?;
             kept(alloc, value.len(), value.as_bytes())
@@ -245,6 +251,8 @@ fn texts_obey_their_alphabets(rt: HostRuntime) -> Result<(), Fail> {
     }
     let ab = BmpString::from_units(rt.alloc(), &[0x41, 0x42])?;
     assert!(rt; ab == BmpString::from_bytes(rt.alloc(), b"\0A\0B")?);
+    let face = UniversalString::from_units(rt.alloc(), &[0x1F600])?;
+    assert!(rt; face == UniversalString::from_bytes(rt.alloc(), b"\0\x01\xf6\0")?);
     assert!(rt; Any::from_slice(rt.alloc(), &[])?.is_empty());
     Ok(())
 }

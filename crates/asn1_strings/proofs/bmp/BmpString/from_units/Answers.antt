@@ -1,10 +1,11 @@
 use Rattle.std.proofs.Common.{◌≡◌, ◌*◌, ◌++◌, length, take, ap, ap₂, ◌∙◌}
+use Rattle.std.specs.Int.{w16}
 use Rattle.asn1_strings.proofs.CharacterLists.{one_more_unit, two_octets_a_unit}
 use Rattle.asn1_strings.proofs.bmp.BmpString.from_units.Goals as goal
 
 pub loop-unit-preserved : goal.loop-unit-preserved
 loop-unit-preserved c =
-    c.in_ok-extend_from_slice.ensures.items ∙ ap₂ ◌++◌ c.loop-unit.invariant c.to_be_bytes.ensures ∙ one_more_unit c.args.units.now c.loop-unit.unit-index c.loop-unit-test.true
+    c.in_ok-extend_from_slice.ensures.items ∙ ap₂ ◌++◌ c.loop-unit.invariant c.to_be_bytes.ensures ∙ one_more_unit w16 c.args.units.now c.loop-unit.unit-index c.loop-unit-test.true
 
 pub from_vec-requires : goal.from_vec-requires
 from_vec-requires c =
