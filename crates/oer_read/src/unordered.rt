@@ -58,6 +58,7 @@ impl<'input> Decoder<'input> {
         f: &F,
     ) -> Result<(D, &'input [u8], usize), DecodeError>
     where
+        D: Drop,
         F: Fn(&mut Decoder<'_>) -> Result<D, DecodeError>,
         requires level { 0 < self.now.levels }
         requires few { empties ≤ 65536 }

@@ -6,8 +6,8 @@ use Rattle.oer_read.specs.Unordered.{ElementRefused, TooManyEmpty, OutOfOrder}
 use Rattle.oer_read.proofs.UnorderedSteps.{count_more, none_taken}
 use Rattle.oer_read.proofs.decoder.Decoder.next_element.Goals as goal
 
-pub front_of-requires : goal.front_of-requires
-front_of-requires g c =
+pub front_of-octets-requires : goal.front_of-octets-requires
+front_of-octets-requires g c =
     let k = c.in_ok-item.ensures.ok in
     rw (c.remaining-rest.ensures, c.remaining-left.ensures, k.2) (c.requires.keeps c.in_ok-item.item k.0 k.1)
 
