@@ -2,7 +2,7 @@ use Rattle.oer_read.proofs.Promises.{promise_of_fn, decodes_rear}
 use Rattle.oer_read.proofs.UnorderedLaw.{unordered_law}
 use Rattle.oer_read.proofs.UnorderedSteps.{unordered_answers}
 use Rattle.oer_read.specs.Law.{Decodes}
-use Rattle.oer_knots.proofs.lists.SetOfDecodeInside.decode_inside.Goals as goal
+use Rattle.oer_knots.proofs.unordered.SetOfDecodeInside.decode_inside.Goals as goal
 
 pub decode_set_of_with-requires-clause-keeps : goal.decode_set_of_with-requires-clause-keeps
 decode_set_of_with-requires-clause-keeps g c rest v after lends k =
