@@ -42,5 +42,8 @@ assert isinstance(e, Refused) and (e.kind, e.octet, str(e)) == ("Incomplete", 8,
 letters = Module.load(str(pathlib.Path(__file__).resolve().parents[2] / "crates/oershow/data/letters.table"))
 assert letters.value("Part", bytes.fromhex("80026869")) == ({"text": "hi"}, b"")
 assert letters.value("Colour", b"\x82\x01\x2c\0") == ("far", b"\0")
+assert letters.value("Label", bytes.fromhex("800400e920ac")) == ({"wide": "\u00e9\u20ac"}, b"")
+assert letters.value("Label", bytes.fromhex("8108000000e90001f600")) == ({"widest": "\u00e9\U0001f600"}, b"")
+assert letters.value("Label", bytes.fromhex("8200110000")) == ({"sign": "\ufffd"}, b"")
 assert isinstance(refused(Module.of_lines, "name a\n"), ValueError)
 print("calls.py: all as wanted")

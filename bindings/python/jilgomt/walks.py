@@ -13,8 +13,8 @@ NONE = 2**32 - 1
 UNFINISHED = 2**64 - 1
 BOOLEAN, NULL, FIXED_INTEGER, INTEGER, ENUMERATED, FIXED_BITS, BITS, FIXED_OCTETS, OCTETS, NAMED_BITS = range(10)
 LIST, SEQUENCE, CHOICE = 10, 11, 12
-# Contents that are text: UTF-8, and others of one octet a character; times too.
-UTF8, OTHER_TEXTS = 1, (2, 3, 4, 5, 6, 7, 8, 21, 22, 23)
+# The encodings of contents that are text, by what a table says that they are; times too.
+TEXTS = {1: "utf-8", 9: "utf-16-be", 10: "utf-32-be", **dict.fromkeys((2, 3, 4, 5, 6, 7, 8, 21, 22, 23), "latin-1")}
 
 
 class Part(NamedTuple):
@@ -140,6 +140,4 @@ class Module:
 
     def _text(self, node: Node, content: bytes) -> str:
         text = self._form(node)[2 if node.kind == FIXED_OCTETS else 1] if node.kind in (FIXED_OCTETS, OCTETS) else 0
-        if text == UTF8:
-            return content.decode("utf-8", "replace")
-        return content.decode("latin-1") if text in OTHER_TEXTS else content.hex()
+        return content.decode(TEXTS[text], "replace") if text in TEXTS else content.hex()

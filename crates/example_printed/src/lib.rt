@@ -7,6 +7,7 @@ mod types_03;
 mod types_04;
 mod types_05;
 mod types_06;
+mod types_07;
 pub mod values;
 
 pub use types_01::{
@@ -28,5 +29,6 @@ pub use types_04::{
 pub use types_05::{Leaves, LeavesComponents, Taken, TakenComponents};
 pub use types_06::{
     Both, BothB, BothBAlternatives, BothComponents, Card, CardComponents, Marks, Reply,
-    ReplyAlternatives,
+    ReplyAlternatives, Title, TitleAlternatives,
 };
+pub use types_07::{Person, PersonComponents};

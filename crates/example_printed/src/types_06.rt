@@ -396,3 +396,161 @@ impl Tabled<4, 0> for CardComponents {
 
     ghost counts = { (refl, refl) };
 }
+
+/// The limits of `TitlePrintableString`.
+#[derive(Drop)]
+pub enum TitlePrintableStringLimits {}
+
+impl Limits for TitlePrintableStringLimits {
+    ghost use Rattle.std.specs.Prelude.{None, Some, false, negsuc, pos, refl};
+    ghost use Rattle.rasn_oer.specs.Bounded.{Range, Single};
+
+    ghost LIMITS = { record { value = None; size = Some (Range (Some 1) (Some 3), false) } };
+
+    const LIMITS: Constraints = Constraints {
+        value: None,
+        size: Some((
+            Bounded::Range {
+                start: Some(1),
+                end: Some(3),
+            },
+            false,
+        )),
+    };
+
+    ghost consistent = { refl };
+}
+
+/// The limits of `TitleUniversalString`.
+#[derive(Drop)]
+pub enum TitleUniversalStringLimits {}
+
+impl Limits for TitleUniversalStringLimits {
+    ghost use Rattle.std.specs.Prelude.{None, Some, false, negsuc, pos, refl};
+    ghost use Rattle.rasn_oer.specs.Bounded.{Range, Single};
+
+    ghost LIMITS = { record { value = None; size = Some (Range (Some 1) (Some 3), false) } };
+
+    const LIMITS: Constraints = Constraints {
+        value: None,
+        size: Some((
+            Bounded::Range {
+                start: Some(1),
+                end: Some(3),
+            },
+            false,
+        )),
+    };
+
+    ghost consistent = { refl };
+}
+
+/// The limits of `TitleBmpString`.
+#[derive(Drop)]
+pub enum TitleBmpStringLimits {}
+
+impl Limits for TitleBmpStringLimits {
+    ghost use Rattle.std.specs.Prelude.{None, Some, false, negsuc, pos, refl};
+    ghost use Rattle.rasn_oer.specs.Bounded.{Range, Single};
+
+    ghost LIMITS = { record { value = None; size = Some (Range (Some 1) (Some 3), false) } };
+
+    const LIMITS: Constraints = Constraints {
+        value: None,
+        size: Some((
+            Bounded::Range {
+                start: Some(1),
+                end: Some(3),
+            },
+            false,
+        )),
+    };
+
+    ghost consistent = { refl };
+}
+
+/// `Title ::= CHOICE { teletexString TeletexString (SIZE(1..3)), printableString PrintableString (SIZE(1..3)),
+/// universalString UniversalString (SIZE(1..3)), utf8String UTF8String (SIZE(1..3)),
+/// bmpString BMPString (SIZE(1..3)) }`
+pub type Title = OneOf<TitleAlternatives>;
+
+/// The alternatives of `Title`.
+#[derive(Debug, PartialEq, Eq, Drop)]
+pub enum TitleAlternatives {
+    TeletexString(TeletexText),
+    PrintableString(Limited<PrintableText, TitlePrintableStringLimits>),
+    UniversalString(Limited<UniversalText, TitleUniversalStringLimits>),
+    Utf8String(Utf8Text),
+    BmpString(Limited<BmpText, TitleBmpStringLimits>),
+}
+
+type TitleRow = Alternative<
+    Context<0>,
+    TeletexText,
+    Alternative<
+        Context<1>,
+        Limited<PrintableText, TitlePrintableStringLimits>,
+        Alternative<
+            Context<2>,
+            Limited<UniversalText, TitleUniversalStringLimits>,
+            Alternative<
+                Context<3>,
+                Utf8Text,
+                Alternative<Context<4>, Limited<BmpText, TitleBmpStringLimits>, End>,
+            >,
+        >,
+    >,
+>;
+
+const TITLE_ROOTS: &'static [Tag] = tags![Context 0, Context 1, Context 2, Context 3, Context 4];
+
+impl Alternating for TitleAlternatives {
+    ghost use Rattle.std.specs.Prelude.{refl};
+    ghost use Rattle.rasn_oer.specs.Alternative.{First, Rest};
+    ghost use Rattle.example_printed.specs.declared.types_06.TitleAlternatives.TheVariants.{TeletexString, PrintableString, UniversalString, Utf8String, BmpString};
+
+    type Values = <TitleRow as Alternatives>::Values;
+
+    ghost row_choices = { ⟦<TitleRow as Alternatives>⟧.choices };
+
+    ghost row_are_choices = { ⟦<TitleRow as Alternatives>⟧.are_choices };
+
+    ghost alternative = { elim [ TeletexString held ↦ First held | PrintableString held ↦ Rest (First held) | UniversalString held ↦ Rest (Rest (First held)) | Utf8String held ↦ Rest (Rest (Rest (First held))) | BmpString held ↦ Rest (Rest (Rest (Rest (First held)))) ] };
+
+    const VARIANTS: &'static [Tag] = TITLE_ROOTS;
+
+    const EXTENDED_VARIANTS: Option<&'static [Tag]> = None;
+
+    fn root_tags() -> &'static [Tag] {
+        Self::VARIANTS
+    }
+
+    fn addition_tags() -> Option<&'static [Tag]> {
+        Self::EXTENDED_VARIANTS
+    }
+
+    fn from_alternative(value: Self::Values) -> Self {
+        from_row!(value => TitleAlternatives: TeletexString, PrintableString, UniversalString, Utf8String, BmpString)
+    }
+
+    #[inline(always)]
+    fn put<E: Choice>(&self, encoder: &mut Encoder<'_>) -> Result<(), EncodeError> {
+        let view =
+            to_row!(self => TitleAlternatives: TeletexString, PrintableString, UniversalString, Utf8String, BmpString);
+        TitleRow::write_alternative::<E>(&view, encoder)
+    }
+
+    ghost apart = { refl };
+}
+
+impl TakesAlternative for TitleAlternatives {
+    ghost Refuses = { ⟦<TitleRow as ReadsAlternatives>⟧.Refuses };
+
+    fn take<D: Choice>(
+        alloc: Global,
+        decoder: &mut Decoder<'_>,
+        tag: Tag,
+    ) -> Result<Self, DecodeError> {
+        read_alternative::<Self, TitleRow, D>(alloc, decoder, tag)
+    }
+}

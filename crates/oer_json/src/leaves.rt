@@ -68,16 +68,22 @@ fn one_octet_each(octets: Vec<u8>) -> Units {
     Units { octets, count }
 }
 
+/// Octets that have to be whole characters of an alphabet.
+fn characters<C: CharacterSet>(octets: Vec<u8>, name: &'static str) -> Result<Units, Fault> {
+    if !RestrictedString::<C>::is_text(octets.as_slice()) {
+        return Err(Fault::Misfit(Misfit::NotInAlphabet(name)));
+    }
+    let count = octets.len() / C::OCTETS_PER_CHARACTER;
+    Ok(Units { octets, count })
+}
+
 /// A text of one octet a character, of an alphabet.
 fn restricted<C: CharacterSet>(
     alloc: Global,
     text: &str,
     name: &'static str,
 ) -> Result<Units, Fault> {
-    if !RestrictedString::<C>::is_text(text.as_bytes()) {
-        return Err(Fault::Misfit(Misfit::NotInAlphabet(name)));
-    }
-    Ok(one_octet_each(Vec::from_slice(alloc, text.as_bytes())?))
+    characters::<C>(Vec::from_slice(alloc, text.as_bytes())?, name)
 }
 
 /// A text of two octets a character, or of four (X.680, clause 41).
@@ -133,12 +139,12 @@ fn units_of(alloc: Global, text: &str, sort: u32) -> Result<Units, Fault> {
     }
 }
 
-/// How many characters so many octets are, by what the table says that they are.
-fn characters_in(octets: usize, sort: u32) -> usize {
+/// Octets that stand for characters, by what the table says that they are.
+fn characters_of(octets: Vec<u8>, sort: u32) -> Result<Units, Fault> {
     match sort {
-        9 => octets / 2,
-        10 => octets / 4,
-        _ => octets,
+        9 => characters::<BmpCharacters>(octets, "BMPString"),
+        10 => characters::<UniversalCharacters>(octets, "UniversalString"),
+        _ => Ok(one_octet_each(octets)),
     }
 }
 
@@ -148,9 +154,7 @@ fn string(alloc: Global, json: &Json, sort: u32) -> Result<Units, Fault> {
         Json::Text(text) => units_of(alloc, text.as_str(), sort),
         Json::Members(members) => match members.as_slice() {
             [(name, value)] if name.as_str() == "octets" && matches!(sort, 6..=10) => {
-                let octets = hexadecimal(alloc, value)?;
-                let count = characters_in(octets.len(), sort);
-                Ok(Units { octets, count })
+                characters_of(hexadecimal(alloc, value)?, sort)
             }
             _ => Err(wrong_sort("a text")),
         },
@@ -180,6 +184,15 @@ fn put_identifier(alloc: Global, json: &Json, out: &mut Vec<u8>) -> Result<(), F
         return Err(Fault::Misfit(Misfit::NoIdentifier));
     }
     Ok(write_object_identifier(arcs.as_slice(), out)?)
+}
+
+/// How many characters so many octets are, by what the table says that they are.
+fn characters_in(octets: usize, sort: u32) -> usize {
+    match sort {
+        9 => octets / 2,
+        10 => octets / 4,
+        _ => octets,
+    }
 }
 
 /// Appends a string of so many octets, and no length.

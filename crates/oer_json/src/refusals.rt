@@ -39,7 +39,7 @@ pub enum Misfit {
     WrongLength,
     /// A bit behind the last one is set.
     UnusedBits,
-    /// A character that the type of that name doesn't have.
+    /// A character that the type of that name doesn't have, or octets that aren't whole characters of it.
     NotInAlphabet(&'static str),
     /// A text that is no object identifier.
     NoIdentifier,

@@ -5,7 +5,7 @@ use std::alloc::Global;
 
 /// A table of one type of each form, and of some under constraints.
 const TABLE: &str =
-    r#"words 49 50 51 52 55 58 60 62 63 65 66 67 70 72 74 76 79 81 83 85 88 90 92 94 96 98 100 103 106 126 148 158 168 171 174 176 178 181 182 183 184 187 189 190 191 201 202 205 206 207 0 1 2 1 1 2 2 0 3 1 3 0 4 5 12 6 6 7 2 0 8 0 8 1 8 2 7 2 3 8 4 8 5 8 9 7 4 9 8 6 8 20 8 21 8 22 8 23 8 24 10 0 32 10 1 33 12 1 3 1 0 2 0 34 1 2 1 35 2 1 63 36 3 2 2 37 11 1 3 3 4 0 38 5 1 39 6 1 40 7 1 41 11 1 43 10 1 25 11 0 2 0 13 0 45 12 0 44 11 1 1 1 14 0 46 15 0 47 10 0 31 2 2 0 8 0 8 5 2 1 1 0 0 0 2 2 0 8 1 0 0 11 0 2 0 8 0 6 9 1 42 0 2 1 1 0 0 8 10
+    r#"words 50 51 52 53 56 59 61 63 64 66 67 68 71 73 75 77 80 82 84 86 89 91 93 95 97 99 101 104 107 127 149 159 169 172 175 177 179 182 183 184 185 188 190 191 192 202 203 206 207 208 210 0 1 2 1 1 2 2 0 3 1 3 0 4 5 12 6 6 7 2 0 8 0 8 1 8 2 7 2 3 8 4 8 5 8 9 7 4 9 8 6 8 20 8 21 8 22 8 23 8 24 10 0 32 10 1 33 12 1 3 1 0 2 0 34 1 2 1 35 2 1 63 36 3 2 2 37 11 1 3 3 4 0 38 5 1 39 6 1 40 7 1 41 11 1 43 10 1 25 11 0 2 0 13 0 45 12 0 44 11 1 1 1 14 0 46 15 0 47 10 0 31 2 2 0 8 0 8 5 2 1 1 0 0 0 2 2 0 8 1 0 0 11 0 2 0 8 0 6 9 1 42 0 2 1 1 0 0 8 10 7 4 10
 name text
 name number
 name far
@@ -71,6 +71,7 @@ type Small
 type Truth
 type Truth
 type Widest
+type Sign
 value 6 0 red
 value 6 300 far
 value 6 -129 cold
@@ -90,6 +91,8 @@ size 13 1 4
 size 14 2 2
 size 18 2 2
 size 33 1 3
+size 48 1 2
+size 49 1 1
 default 28 1 7
 default 43 1 true"#;
 
@@ -157,10 +160,25 @@ Ascii "\u00e9" => NotInAlphabet at $: expected characters of a IA5String
 Wide "\u00e9\u20ac" => 0400e920ac
 Wide "\ud83d\ude00" => NotInAlphabet at $: expected characters of a BMPString
 Wide {"octets":"D83D"} => 02d83d
+Wide {"octets":"D8"} => NotInAlphabet at $: expected characters of a BMPString
+Wide {"octets":"D8 3D"} => NoHexadecimal at $: expected pairs of hexadecimal digits
 Widest "\u00e9\ud83d\ude00" => 08000000e90001f600
+Widest "\ud83d" => NotJson
+Widest "abc" => WrongSize at $: expected a size from 1 to 2
 Widest {"octets":"FFFFFFFF"} => 04ffffffff
+Widest {"octets":"0000D83D0000DE00"} => 080000d83d0000de00
+Widest {"octets":"0001F6"} => NotInAlphabet at $: expected characters of a UniversalString
+Widest {"octets":""} => WrongSize at $: expected a size from 1 to 2
+Widest 65 => WrongSort at $: expected a text
+Sign "\ud83d\ude00" => 0001f600
+Sign "" => WrongSize at $: expected a size from 1 to 1
+Sign {"octets":"00110000"} => 00110000
+Sign {"octets":"0000004100"} => NotInAlphabet at $: expected characters of a UniversalString
+Sign {"octets":"0000004100000042"} => WrongSize at $: expected a size from 1 to 1
 Pair "ab" => 00610062
 Pair "a" => WrongSize at $: expected a size from 2 to 2
+Pair {"octets":"D83DDE00"} => d83dde00
+Pair {"octets":"D83DDE"} => NotInAlphabet at $: expected characters of a BMPString
 Loose "\u00e9" => 02c3a9
 Loose {"octets":"E9"} => 01e9
 Note {"octets":"E9"} => WrongSort at $: expected a text

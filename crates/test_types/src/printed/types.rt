@@ -4,8 +4,8 @@ use crate::printed::reading::answer_of;
 use anyhow::{Error, Result};
 use example_printed::{
     Again, Area, Bag, Below, Bits, Both, Card, Colour, Colours, Folder, Key, Labels, Leaves,
-    Letter, Level, Name, Named, Names, Narrow, Percent, Permit, Plain, Reply, Rights, Row, Signal,
-    Spot, Taken, Then,
+    Letter, Level, Name, Named, Names, Narrow, Percent, Permit, Person, Plain, Reply, Rights, Row,
+    Signal, Spot, Taken, Then, Title,
 };
 use std::alloc::Global;
 
@@ -38,6 +38,7 @@ fn of_scope(alloc: Global, name: &str, verb: &str, octets: &[u8]) -> Result<Stri
         "Spot" => answer_of::<Spot>(alloc, verb, octets),
         "Then" => answer_of::<Then>(alloc, verb, octets),
         "Plain" => answer_of::<Plain>(alloc, verb, octets),
+        "Title" => answer_of::<Title>(alloc, verb, octets),
         _ => of_components(alloc, name, verb, octets),
     }
 }
@@ -55,6 +56,7 @@ fn of_components(alloc: Global, name: &str, verb: &str, octets: &[u8]) -> Result
         "Labels" => answer_of::<Labels>(alloc, verb, octets),
         "Taken" => answer_of::<Taken>(alloc, verb, octets),
         "Leaves" => answer_of::<Leaves>(alloc, verb, octets),
+        "Person" => answer_of::<Person>(alloc, verb, octets),
         _ => Err(Error::msg("no such type")),
     }
 }
