@@ -14,7 +14,6 @@ mod rows;
 mod sequences;
 mod sets;
 mod ties;
-mod unordered;
 
 pub use additions::{KnotAdditions, OptionalAdditionKnot, ReadsKnotAdditions};
 pub use cells::{OptionalKnot, RequiredKnot};
