@@ -40,6 +40,8 @@ NAMES = {
     "bag1": "Bag1", "bag2": "Bag2", "bag3": "Bag3", "nest": "Nest", "Link": "Link", "toplevel": "TopLevel", "Bush": "Bush",
     "Node": "Node", "Chain": "Chain",
 }
+# Words whose rows would be answered otherwise: a required addition is printed as one that may be absent.
+OTHERWISE = {"dup"}
 ARM = re.compile(r'"([^"]+)" => (?:\{\s*)?(Ok|Some)\(work\.(on|under)::<.*?>\([^\n]*\)\)(?:\n\s*\}\n|,\n)')
 
 
@@ -73,7 +75,7 @@ def turn(copy, types):
     def arm(found):
         word, some, call = found[1], found[2], found[3]
         name = NAMES.get(word)
-        if name not in types:
+        if name not in types or word in OTHERWISE:
             return found[0]
         turned.add(word)
         path = f"{types[name]}::{name}"
