@@ -1,6 +1,6 @@
 #!/usr/bin/env python3
 """Says where crates/example_printed or crates/example_recursive, or the line of one in crates.txt, isn't what oergen prints of its module
-in crates/oergen/data, where types of made modules are put into other crates than they should be, or lack names, comments, constants
+in crates/oergen/data, where types of made modules are put into other crates than they should be, or crates use others than they should, or types lack names, comments, constants
 or boxes that they should have, where of the published modules in scripts/v2x.d a type is left out or isn't listed as listed.txt there has it, where the types of scripts/printed.d/cycle.asn, which contain each other, aren't printed with the definitions beside it,
 where what is printed of long.asn, which has long names and wide choices, or of comments, isn't in the layout that `rt fmt` leaves as it is, and
 where the library for C of a BOOLEAN hasn't the functions that crates/jilgomt has of `bool`, by other names.
@@ -31,12 +31,15 @@ def sequences(count):
 
 CYCLE = ["Tree ::= SEQUENCE { leaves Leaves OPTIONAL }", "Leaves ::= SEQUENCE { tree Tree OPTIONAL, last NULL }"]
 
-# types, and how many of them each crate should have
+# types, how many of them each crate should have, and which of the crates before it each should use
 CRATES = (
-    ([f"N{at} ::= NULL" for at in range(81)], [40, 40, 1]),
-    (sequences(2) + CYCLE, [4]),
-    (sequences(30) + CYCLE, [30, 2]),
-    (sequences(30) + CYCLE + ["Last ::= NULL"], [30, 3]),
+    ([f"N{at} ::= NULL" for at in range(81)], [40, 40, 1], [[], [], []]),
+    ([f"N{at} ::= NULL" for at in range(80)] + ["Last ::= SEQUENCE { n N39 }"], [40, 40, 1], [[], [], [1]]),
+    ([f"N{at} ::= NULL" for at in range(40)] + [f"M{at} ::= SEQUENCE OF N{at}" for at in range(40)] + ["Last ::= M1"], [40, 40, 1], [[], [1], [2]]),
+    (sequences(2) + CYCLE, [4], [[]]),
+    (sequences(30) + CYCLE, [30, 2], [[], []]),
+    (sequences(30) + CYCLE + ["Last ::= NULL"], [30, 3], [[], []]),
+    (sequences(30) + CYCLE + ["Last ::= SEQUENCE { s S29 }"], [30, 3], [[], [1]]),
 )
 
 # what is printed of cycle.asn: the line for crates.txt, how many files, and the definitions among them
@@ -77,16 +80,19 @@ def faults_of(program, name):
 
 
 def misplaced(program):
-    """The made modules whose types are put into other crates than they should be."""
+    """The made modules whose types are put into other crates than they should be, or into crates that use others than they should."""
     faults = []
-    for types, wanted in CRATES:
+    for types, wanted, used in CRATES:
         with tempfile.TemporaryDirectory() as folder:
             module = pathlib.Path(folder) / "made.asn"
             module.write_text("Made DEFINITIONS AUTOMATIC TAGS ::= BEGIN\n" + "\n".join(types) + "\nEND\n")
             lines, _ = printed(program, folder, "made", module)
             crates = [pathlib.Path(folder) / line.partition(":")[0] / "src" for line in lines.splitlines()]
             found = [sum(len(re.findall(r"^/// `\w+ ::= ", it.read_text(), re.M)) for it in at.glob("types_*.rt")) for at in crates]
-        faults += [f"{len(types)} types, of which the last is {types[-1]}: crates of {found}, and not {wanted}"] if found != wanted else []
+            uses = [[int(it) for it in re.findall(r"\bmade_(\d+)\b", line.partition(":")[2])] for line in lines.splitlines()]
+        what = f"{len(types)} types, of which the last is {types[-1]}"
+        faults += [f"{what}: crates of {found}, and not {wanted}"] if found != wanted else []
+        faults += [f"{what}: crates that use {uses}, and not {used}"] if uses != used else []
     return faults
 
 

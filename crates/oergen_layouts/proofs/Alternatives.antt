@@ -55,7 +55,7 @@ alternatives_none (suc levels) all = refl
 abbrev of_part : ℕ → List Definition → Part → List Unnamed
 of_part levels all part = elim part.row [ None ↦ [] | Some row ↦ in_place levels all part row ]
 
-parts_more : (f : Part → List Unnamed) (parts : List Part) (at : ℕ) (part : Part) → at < length parts → part ≡ get_or parts at part → flat_map f (take (at + 1) parts) ≡ flat_map f (take at parts) ++ f part
+pub parts_more : (f : Part → List Unnamed) (parts : List Part) (at : ℕ) (part : Part) → at < length parts → part ≡ get_or parts at part → flat_map f (take (at + 1) parts) ≡ flat_map f (take at parts) ++ f part
 parts_more f parts at part below is =
     let cut : take (at + 1) parts ≡ take at parts ++ part ∷ [] = take_more parts at part below ∙ ap (λ (it : Part). take at parts ++ it ∷ []) (sym is) in
     ap (flat_map f) cut ∙ (flat_map-append f (take at parts) (part ∷ []) ∙ ap (λ (it : List Unnamed). flat_map f (take at parts) ++ it) (append-nil (f part)))

@@ -6,6 +6,7 @@ mod Distinct
 mod Giving
 mod Members
 mod OwnTags
+mod Placing
 mod Tagging
 mod Walking
 mod Writing

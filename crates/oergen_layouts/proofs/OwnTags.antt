@@ -94,6 +94,9 @@ own_for (Choice' _ _) rows own = own
 own_for (Set' _ _) rows own = roots_own rows own
 own_for _ rows own = tt
 
+pub automatic_tagged : (rows : List Row) → rows ≡ automatic_tags rows → All (λ row. is_some row.tag ≡ true) rows
+automatic_tagged rows e = let own = subst HaveOwnTags (sym e) (automatic_own rows) in own.each_has
+
 -- those of AUTOMATIC TAGS are
 pub automatic_for : (body : Body) (rows : List Row) → rows ≡ automatic_tags rows → HaveTagsFor body rows
 automatic_for body rows e = own_for body rows (subst HaveOwnTags (sym e) (automatic_own rows))

@@ -1,4 +1,5 @@
 -- The definitions that contracts cite.
+pub mod Bits
 pub mod Enumerations
 pub mod Numbers
 pub mod Preambles

@@ -1,11 +1,25 @@
 -- The preamble of a SEQUENCE or a SET (X.696, 16.2): a bit for the extension mark, where there is one, and one for each component of the
 -- root that is OPTIONAL or has a default, filled up to whole octets.
-use Rattle.std.specs.Prelude.{ℕ, ◌+◌, ◌/◌, Bool, true, false, cond, List, count_by, Some, None}
+use Rattle.std.specs.Prelude.{◌≡◌, ℕ, ◌+◌, ◌/◌, Bool, true, false, cond, List, count_by, Some, None}
+use Rattle.std.specs.List.{list_any}
+use Rattle.oergen_parse.specs.declared.ast.Body.{Body}
+use Rattle.oergen_parse.specs.declared.ast.Member.{Member}
+use Rattle.oergen_parse.specs.declared.ast.Member.TheVariants.{Mark}
 use Rattle.oergen_parse.specs.declared.ast.Need.{Need}
 use Rattle.oergen_parse.specs.declared.ast.Need.TheVariants.{Required, Optional, Default}
+use Rattle.oergen_layouts.specs.Tags.{AreMembers, has_members}
 use Rattle.oergen_layouts.specs.declared.definitions.Part.{Part}
 use Rattle.oergen_layouts.specs.declared.rows.Position.{Position}
 use Rattle.oergen_layouts.specs.declared.rows.Position.TheVariants.{Root, Addition, Group}
+
+abbrev pub is_mark : Member → Bool
+is_mark (Mark _) = true
+is_mark _ = false
+
+-- whether a type has an extension mark: a SEQUENCE, a SET or a CHOICE may have one
+pub record SaysMark (body : Body) (says : Bool) : Type 0 where
+  pub among : (members : List Member) → AreMembers body members → says ≡ list_any is_mark members
+  pub of_others : has_members body ≡ false → says ≡ false
 
 -- whether a component has one, by where it stands and by its need
 abbrev pub needs_bit : Position → Need → Bool

@@ -71,6 +71,10 @@ abbrev pub is_choice : Body → Bool
 is_choice (Choice' _ _) = true
 is_choice _ = false
 
+abbrev pub is_set : Body → Bool
+is_set (Set' _ _) = true
+is_set _ = false
+
 -- the alternatives of a CHOICE, and the root components of a SET, have tags of their own
 abbrev pub HaveTagsFor : Body → List Row → Type 0
 HaveTagsFor (Choice' _ _) rows = HaveOwnTags rows

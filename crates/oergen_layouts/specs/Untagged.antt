@@ -1,18 +1,22 @@
 -- CHOICEs without a tag. In a CHOICE (X.680, 31, and X.696, 20) no octet of them is written but those of the alternative, so their
 -- alternatives stand in their place. In a SET (X.696, 18) they count by the least tag of their root alternatives.
-use Rattle.std.specs.Prelude.{◌≡◌, ◌≢◌, ℕ, zero, suc, ◌+◌, Bool, true, false, cond, not, Option, Some, None, is_some, MatchOption, List, [], ◌∷◌, slice_get}
-use Rattle.std.specs.List.{All, AllPairs, Contains, filter_map, flat_map}
+use Rattle.std.specs.Prelude.{◌≡◌, ◌≢◌, ℕ, zero, suc, ◌+◌, ◌++◌, Bool, true, false, cond, not, ◌&&◌, Option, Some, None, is_some, MatchOption, MatchResult, Result, Ok, IfOk, IfSome, List, [], ◌∷◌, length, map, replicate, set, slice_get}
+use Rattle.std.specs.List.{All, AllPairs, AllZip, Contains, filter_map, flat_map, list_any, zip}
 use Rattle.std.specs.Option.{option_map, unwrap_or}
 use Rattle.asn1_core.specs.Tags.{tag_le}
 use Rattle.asn1_core.specs.declared.tag.Tag.{Tag}
 use Rattle.oergen_parse.specs.declared.ast.Body.{Body}
 use Rattle.oergen_parse.specs.declared.ast.Body.TheVariants.{Reference}
 use Rattle.oergen_parse.specs.declared.ast.Type.{«Type»}
+use Rattle.oergen_parse.specs.declared.refusal.Refusal.{Refusal}
+use Rattle.oergen_layouts.specs.Preambles.{SaysMark}
+use Rattle.oergen_layouts.specs.Rows.{is_choice, is_set}
 use Rattle.oergen_layouts.specs.Tags.{is_root}
 use Rattle.oergen_layouts.specs.declared.definitions.Definition.{Definition}
 use Rattle.oergen_layouts.specs.declared.definitions.Part.{Part}
 use Rattle.oergen_layouts.specs.declared.definitions.Tie.{Tie}
 use Rattle.oergen_layouts.specs.declared.rows.Row.{Row}
+use Rattle.oergen_layouts.specs.declared.untagged.Flat.{Flat}
 
 -- the one with a tag, where there is one
 abbrev pub FindsTag : {X : Type 0} → (X → Option Tag) → List X → Option Tag → Option X → Type 0
@@ -88,8 +92,113 @@ root_tags parts = filter_map (λ part. root_tag part.row) parts
 abbrev pub IsLeastOf : List Tag → Option Tag → Type 0
 IsLeastOf tags least = MatchOption least (tags ≡ []) (λ tag. Contains tags tag × All (λ other. tag_le tag other ≡ true) tags)
 
+-- the tags of root alternatives among what stands in the place of a choice
+abbrev pub tags_in_root : List Unnamed → List Tag
+tags_in_root parts = filter_map (λ (part : Unnamed). root_tag part.0) parts
+
+-- A root component of a SET, with the tag that it counts by: its own, or of a choice without one the least of its root alternatives.
+pub record IsRootInSet (all : List Definition) (part : Part) (row : Row) (made : Part) : Type 0 where
+  pub is_same : unnamed made ≡ unnamed_with part (part_tag made)
+  pub has_tag : is_some (part_tag made) ≡ true
+  pub counts : MatchOption row.tag (IsLeastOf (tags_in_root (in_place 64 all part row)) (part_tag made)) (λ own. part_tag made ≡ Some own)
+
+-- a component of the root
+abbrev pub root_row : Option Row → Option Row
+root_row None = None
+root_row (Some row) = cond (is_root row) (Some row) None
+
+-- what a SET has for a component: of its root that one with its tag, else itself
+abbrev pub IsInSet : List Definition → Part → Part → Type 0
+IsInSet all part made = MatchOption (root_row part.row) (unnamed made ≡ unnamed part) (λ row. IsRootInSet all part row made)
+
+-- what stands in the place of a root component; nothing in that of an addition
+abbrev pub root_place : List Definition → Part → List Unnamed
+root_place all part = elim (root_row part.row) [ None ↦ [] | Some row ↦ in_place 64 all part row ]
+
+-- What a SET has for each component, in their order. Those of its root, and the alternatives of choices in their place, differ in their tags.
+pub record AreInSet (all : List Definition) (parts made : List Part) : Type 0 where
+  pub each : AllZip (IsInSet all) parts made
+  pub places : List Part
+  pub are_places : map unnamed places ≡ flat_map (root_place all) parts
+  pub are_own : HaveOwnPartTags places
+
+-- What a definition has in the end for its parts: those of a CHOICE and of a SET with a part without a tag are put in its place, others
+-- stay.
+pub record ArePlaced (all : List Definition) (one : Definition) (made : List Part) : Type 0 where
+  pub tagged : list_any lacks_tag one.parts.items ≡ false → made ≡ one.parts.items
+  pub choice : is_choice one.of.now.body ≡ true → list_any lacks_tag one.parts.items ≡ true → (map unnamed made ≡ alternatives 64 all one.parts.items) × HaveOwnPartTags made
+  pub in_set : is_set one.of.now.body ≡ true → list_any lacks_tag one.parts.items ≡ true → AreInSet all one.parts.items made
+  pub others : is_choice one.of.now.body ≡ false → is_set one.of.now.body ≡ false → made ≡ one.parts.items
+
+-- what is found for a definition: nothing where its parts stay
+abbrev pub Found : Type 0
+Found = Result (Option Flat) Refusal
+
+abbrev pub parts_with : Definition → Option Flat → List Part
+parts_with one None = one.parts.items
+parts_with one (Some flat) = flat.parts.items
+
+pub record IsFound (all : List Definition) (one : Definition) (found : Found) : Type 0 where
+  pub stays : list_any lacks_tag one.parts.items ≡ false → found ≡ Ok None
+  pub placed : IfOk found (λ it. ArePlaced all one (parts_with one it))
+  pub in_set : is_set one.of.now.body ≡ true → IfOk found (λ it. IfSome it (λ flat. SaysMark one.of.now.body flat.is_extensible))
+
+-- a definition with what is found for it: no parts, and why, where it can't be resolved
+pub record IsSettled (one : Definition) (found : Found) (now : Definition) : Type 0 where
+  pub is_same : (now.rust_name ≡ one.rust_name) × (now.module ≡ one.module) × (now.of ≡ one.of)
+  pub has : MatchResult found (λ it. (now.parts.items ≡ parts_with one it) × (now.fault ≡ one.fault)) (λ why. (now.parts.items ≡ []) × (now.fault ≡ Some why))
+  pub extends : MatchResult found (λ it. MatchOption it (SaysMark one.of.now.body now.is_extensible) (λ flat. now.is_extensible ≡ flat.is_extensible)) (λ why. SaysMark one.of.now.body now.is_extensible)
+
+-- the place of a CHOICE without a tag that is written in an alternative
+abbrev pub taken_up : Part → Option ℕ
+taken_up part = cond (is_choice part.inner.now.body && not (is_some (part_tag part))) part.target None
+
+-- whether something stands in the place of a CHOICE's alternatives
+abbrev pub is_put : Definition → Found → Bool
+is_put one (Ok (Some flat)) = is_choice one.of.now.body
+is_put one _ = false
+
+-- the places of the definitions that stand only in that of a choice
+abbrev pub all_taken_up : List Definition → List Found → List ℕ
+all_taken_up [] found = []
+all_taken_up (one ∷ all) [] = []
+all_taken_up (one ∷ all) (it ∷ found) = cond (is_put one it) (filter_map taken_up one.parts.items) [] ++ all_taken_up all found
+
+-- flags, of which those at these places are set
+abbrev pub marked : List ℕ → List Bool → List Bool
+marked [] flags = flags
+marked (at ∷ places) flags = marked places (set flags at true)
+
 -- the places of definitions without those that nothing uses, from so many on; none of these
 abbrev pub places_from : ℕ → List Bool → List (Option ℕ)
 places_from count [] = []
 places_from count (true ∷ unused) = None ∷ places_from count unused
 places_from count (false ∷ unused) = Some count ∷ places_from (count + 1) unused
+
+-- the definitions that aren't among the unused ones
+abbrev pub used_of : List (Definition × Bool) → List Definition
+used_of [] = []
+used_of ((one, is_unused) ∷ all) = cond is_unused (used_of all) (one ∷ used_of all)
+
+-- a part whose target is named by its new place
+abbrev pub new_place : List (Option ℕ) → Option ℕ → Option ℕ
+new_place places None = None
+new_place places (Some target) = unwrap_or (slice_get places target) None
+
+abbrev pub at_place : List (Option ℕ) → Part → Part
+at_place places part = record part { target = new_place places part.target }
+
+pub record IsAtPlaces (places : List (Option ℕ)) (one now : Definition) : Type 0 where
+  pub is_same : (now.rust_name ≡ one.rust_name) × (now.module ≡ one.module) × (now.of ≡ one.of) × (now.is_extensible ≡ one.is_extensible) × (now.fault ≡ one.fault)
+  pub parts : now.parts.items ≡ map (at_place places) one.parts.items
+
+-- Definitions in the end, by those that are written: what is found for each is put, and those that stand only in the place of a choice are
+-- left out.
+pub record AreResolved (written kept : List Definition) : Type 0 where
+  pub found : List Found
+  pub are_found : AllZip (IsFound written) written found
+  pub settled : List Definition
+  pub are_settled : AllZip (λ both now. IsSettled both.0 both.1 now) (zip written found) settled
+  pub unused : List Bool
+  pub are_unused : unused ≡ marked (all_taken_up written found) (replicate (length written) false)
+  pub are_kept : AllZip (IsAtPlaces (places_from 0 unused)) (used_of (zip settled unused)) kept

@@ -1,6 +1,7 @@
 //! How a type lies in octets, in words: which constraint gives which width, and where a length stands (X.696, clauses 9 to 29).
 ghost use Rattle.std.specs.Prelude.{◌≡◌};
-ghost use Rattle.oergen_layouts.specs.Preambles.{has_bit, octets_of_preamble};
+ghost use Rattle.std.specs.List.{list_any};
+ghost use Rattle.oergen_layouts.specs.Preambles.{SaysMark, has_bit, is_mark, octets_of_preamble};
 
 use crate::definitions::Part;
 use crate::numbers::names_of;
@@ -14,10 +15,21 @@ use std::alloc::{AllocError, Global};
 /// How many lists may stand inside one another.
 const MAX_LISTS: usize = 64;
 
+/// Whether one of a type's members is an extension mark.
+fn has_mark(members: &[Member]) -> bool
+    ensures { result ≡ list_any is_mark members.now }
+{
+    members
+        .iter()
+        .any(|member| matches!(member, Member::Mark(_)))
+}
+
 /// Whether a type has an extension mark.
-pub fn is_extensible<'m>(of: &'m Type) -> bool {
+pub fn is_extensible<'m>(of: &'m Type) -> bool
+    ensures { SaysMark of.now.body result }
+{
     match members_of(of) {
-        Some(members) => members.iter().any(|m| matches!(m, Member::Mark(_))),
+        Some(members) => has_mark(members),
         None => false,
     }
 }

@@ -1,6 +1,7 @@
 //! Resolves ASN.1 modules to what the octet encoding rules need of them: tags, needs, layouts, Rust names, and an order of use.
 #![tactic(auto)]
 
+pub mod bits;
 pub mod classes;
 pub mod cuts;
 pub mod cycles;

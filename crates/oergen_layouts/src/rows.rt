@@ -1,9 +1,9 @@
 //! The components of a SEQUENCE or a SET, and the alternatives of a CHOICE: each with its place and its tag.
-ghost use Rattle.std.specs.Prelude.{◌≡◌, ◌≢◌, ◌<◌, ◌-◌, ◌^◌, ◌⊎◌, List, [], true, false, cond, IfErr, IfOk, IsOkAnd, MatchOption, MatchResult, OnErr, OnOk, map, length};
+ghost use Rattle.std.specs.Prelude.{◌≡◌, ◌≢◌, ◌<◌, ◌-◌, ◌^◌, ◌⊎◌, List, [], Ok, None, true, false, cond, is_some, IfErr, IfOk, IfSome, IsOkAnd, MatchOption, MatchResult, OnErr, OnOk, map, length};
 ghost use Rattle.std.specs.List.{All, filter};
 ghost use Rattle.oergen_parse.specs.declared.ast.Member.{Member};
 ghost use Rattle.oergen_parse.specs.declared.refusal.Refusal.TheVariants.{OutOfMemory};
-ghost use Rattle.oergen_layouts.specs.Rows.{AreRowsOf, HaveComponents, HaveOwnTags, HaveTagsFor, components_of, is_choice, is_own, is_required, passed, placed, position_in};
+ghost use Rattle.oergen_layouts.specs.Rows.{AreRowsOf, HaveComponents, HaveOwnTags, HaveTagsFor, components_of, is_choice, is_own, is_required, is_set, passed, placed, position_in};
 ghost use Rattle.oergen_layouts.specs.Tags.{AreAutomatic, AreMembers, HasUntagged, IsAutomatic, IsUntagged, automatic_tags, has_members, is_root, with_tag};
 ghost use Rattle.oergen_layouts.specs.Untagged.{FindsTag};
 
@@ -277,7 +277,7 @@ fn simple_tag(simple: Simple) -> Option<Tag> {
 
 impl<'m> Row<'m> {
     /// Whether it is of the root.
-    fn is_root(&self) -> bool
+    pub fn is_root(&self) -> bool
         ensures { result ≡ is_root self.now }
     {
         match self.position {
@@ -463,23 +463,53 @@ fn require_alternatives<'m>(
     Ok(())
 }
 
-/// Whether a component or an alternative is a CHOICE without a tag.
-fn is_untagged_choice<'m>(scope: Scope<'m, '_>, row: Row<'m>) -> Result<bool, Refusal> {
-    Ok(row.tag.is_none() && matches!(scope.base_of(row.of)?.body, Body::Choice(_)))
+/// Whether an alternative of a CHOICE, or a root component of a SET, is a CHOICE without a tag.
+fn is_untagged_choice<'m>(
+    scope: Scope<'m, '_>,
+    row: Row<'m>,
+    is_choice: bool,
+) -> Result<bool, Refusal>
+    ensures { is_some row.entry.tag ≡ true → result ≡ Ok false }
+{
+    if row.tag.is_some() || !(is_choice || row.is_root()) {
+        return Ok(false);
+    }
+    Ok(matches!(scope.base_of(row.of)?.body, Body::Choice(_)))
 }
 
-/// Whether an alternative of a CHOICE, or a root component of a SET, is a CHOICE without a tag.
+/// Whether one of these is.
 fn have_untagged_choice<'m>(
     scope: Scope<'m, '_>,
     rows: &[Row<'m>],
     is_choice: bool,
-) -> Result<bool, Refusal> {
+) -> Result<bool, Refusal>
+    ensures { All (λ row. is_some row.tag ≡ true) rows.now → result ≡ Ok false }
+{
     for row in rows.iter() {
-        if (is_choice || row.is_root()) && is_untagged_choice(scope, *row)? {
+        if is_untagged_choice(scope, *row, is_choice)? {
             return Ok(true);
         }
     }
     Ok(false)
+}
+
+/// Whether a type is a CHOICE.
+fn is_choice(of: &Type) -> bool
+    ensures { result ≡ is_choice of.now.body }
+{
+    matches!(of.body, Body::Choice(_))
+}
+
+/// The members of a CHOICE or a SET; nothing of another type.
+fn choice_or_set<'m>(of: &'m Type) -> Option<&'m [Member]>
+    ensures members { IfSome result (λ members. AreMembers of.now.body members.now) }
+    ensures others { is_choice of.now.body ≡ false → is_set of.now.body ≡ false → result ≡ None }
+{
+    match &of.body {
+        Body::Choice(members) | Body::Set(members) => Some(members.as_slice()),
+        Body::Sequence(_) | Body::SequenceOf(_) | Body::SetOf(_) | Body::Reference(_) => None,
+        Body::Simple(_) | Body::Integer(_) | Body::BitString(_) | Body::Enumerated(_, _) => None,
+    }
 }
 
 /// The alternatives of a CHOICE, or the components of a SET, of which one is a CHOICE without a tag: that one has none. Nothing where none is,
@@ -487,14 +517,18 @@ fn have_untagged_choice<'m>(
 pub fn untagged_rows<'m>(
     scope: Scope<'m, '_>,
     of: &'m Type,
-) -> Result<Option<Vec<Row<'m>>>, Refusal> {
-    let is_choice = matches!(of.body, Body::Choice(_));
-    let members = match members_of(of) {
-        Some(members) if is_choice || matches!(of.body, Body::Set(_)) => members,
-        Some(_) | None => return Ok(None),
+) -> Result<Option<Vec<Row<'m>>>, Refusal>
+    ensures rows { IfOk result (λ found. IfSome found (λ rows. (members : List Member) → AreMembers of.now.body members → AreRowsOf members rows.items)) }
+    ensures some { IfOk result (λ found. IfSome found (λ rows. ¬ All (λ row. is_some row.tag ≡ true) rows.items)) }
+    ensures automatic { AreAutomatic scope.entry.modules.now → HasUntagged of.now.body → HaveComponents of.now.body → MatchResult result (λ found. found ≡ None) (λ e. e ≡ OutOfMemory) }
+    ensures others { is_choice of.now.body ≡ false → is_set of.now.body ≡ false → result ≡ Ok None }
+{
+    let Some(members) = choice_or_set(of) else {
+        return Ok(None);
     };
     let found = written_rows(scope, members, MAX_COMPONENTS_OF)?;
     let rows = with_tags(scope, of, members, found.as_slice())?;
+    let is_choice = is_choice(of);
     if !have_untagged_choice(scope, rows.as_slice(), is_choice)? {
         return Ok(None);
     }

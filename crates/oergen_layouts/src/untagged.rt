@@ -1,11 +1,13 @@
 //! CHOICEs without a tag in a CHOICE (X.680, 31, and X.696, 20): no octet of the outer one is written, so their alternatives stand in its
 //! place. In a SET (X.696, 18) they count by the least tag of their root alternatives.
-ghost use Rattle.std.specs.Prelude.{◌≡◌, ◌≢◌, ◌++◌, ◌∷◌, [], true, false, List, Some, None, Ok, IfErr, IfOk, IfSome, IsSomeAnd, OnOk, MatchOption, map};
-ghost use Rattle.std.specs.List.{All, cons_option, list_any};
+ghost use Rattle.std.specs.Prelude.{◌≡◌, ◌≢◌, ◌++◌, ◌∷◌, [], true, false, Bool, List, Some, None, Ok, IfErr, IfOk, IfSome, OnOk, MatchOption, map, length, drop, replicate};
+ghost use Rattle.std.specs.List.{All, AllZip, cons_option, filter_map, list_any, zip};
 ghost use Rattle.std.specs.Option.{option_map};
 ghost use Rattle.oergen_parse.specs.declared.refusal.Refusal.TheVariants.{OutOfMemory};
-ghost use Rattle.oergen_layouts.specs.Rows.{is_choice};
-ghost use Rattle.oergen_layouts.specs.Untagged.{FindsTag, HaveOwnPartTags, IsLeastOf, alternatives, in_place, lacks_tag, part_tag, places_from, root_tag, root_tags, type_behind, unnamed, unnamed_with};
+ghost use Rattle.oergen_layouts.specs.Preambles.{SaysMark};
+ghost use Rattle.oergen_layouts.specs.Rows.{is_set};
+ghost use Rattle.oergen_layouts.specs.declared.definitions.Definition.{Definition};
+ghost use Rattle.oergen_layouts.specs.Untagged.{AreInSet, AreResolved, ArePlaced, FindsTag, HaveOwnPartTags, IsAtPlaces, IsFound, IsInSet, IsLeastOf, IsRootInSet, IsSettled, all_taken_up, alternatives, in_place, is_put, lacks_tag, marked, new_place, part_tag, parts_with, places_from, root_place, root_row, root_tag, root_tags, taken_up, type_behind, unnamed, unnamed_with, used_of};
 
 use crate::definitions::{Definition, Part, definitions};
 use crate::layouts::is_extensible;
@@ -239,6 +241,16 @@ fn least_tag(parts: &[Part<'_>]) -> Option<Tag>
     least
 }
 
+/// The tag that a component counts by: its own, or the least of the root alternatives in its place, which stand behind so many parts.
+fn counted_tag(row: Row<'_>, parts: &[Part<'_>], before: usize) -> Option<Tag>
+    ensures { MatchOption row.entry.tag (IsLeastOf (root_tags (drop before parts.now)) result) (λ own. result ≡ Some own) }
+{
+    match row.tag {
+        Some(tag) => Some(tag),
+        None => least_tag(parts.get(before..).unwrap_or(&[])),
+    }
+}
+
 /// A root component of a SET with its tag, behind what stands for others in `taken`.
 fn set_part<'m>(
     scope: Scope<'m, '_>,
@@ -246,17 +258,45 @@ fn set_part<'m>(
     taken: &mut Flat<'m>,
     part: &Part<'m>,
     row: Row<'m>,
-) -> Result<Part<'m>, Refusal> {
+) -> Result<Part<'m>, Refusal>
+    ensures made { part.now.row ≡ Some row.entry → IfOk result (λ made. IsRootInSet all.now part.now row.entry made) }
+    ensures place { part.now.row ≡ Some row.entry → OnOk result (map unnamed taken.new.parts.items ≡ map unnamed taken.old.parts.items ++ in_place 64 all.now part.now row.entry) }
+    ensures tags { part.now.row ≡ Some row.entry → HaveOwnPartTags taken.old.parts.items → OnOk result (HaveOwnPartTags taken.new.parts.items) }
+{
     let before = taken.parts.len();
     push_part(scope, all, taken, part, row, MAX_UNTAGGED)?;
-    let tag = match row.tag {
-        Some(tag) => Some(tag),
-        None => least_tag(taken.parts.get(before..).unwrap_or(&[])),
-    };
+    let tag = counted_tag(row, taken.parts.as_slice(), before);
     if tag.is_none() {
         return Err(scope.refused(row.name, "a choice with an alternative of its root"));
     }
     Ok(named(scope.alloc, part, part.name.clone()?, tag)?)
+}
+
+/// A component of the root; nothing of another.
+fn root_of<'m>(part: &Part<'m>) -> Option<Row<'m>>
+    ensures { result ≡ root_row part.now.row }
+{
+    match part.row {
+        Some(row) if row.is_root() => Some(row),
+        Some(_) | None => None,
+    }
+}
+
+/// What a SET has for a component, behind what stands for others in `taken`.
+fn in_set<'m>(
+    scope: Scope<'m, '_>,
+    all: &[Definition<'m>],
+    taken: &mut Flat<'m>,
+    part: &Part<'m>,
+) -> Result<Part<'m>, Refusal>
+    ensures made { IfOk result (λ made. IsInSet all.now part.now made) }
+    ensures place { OnOk result (map unnamed taken.new.parts.items ≡ map unnamed taken.old.parts.items ++ root_place all.now part.now) }
+    ensures tags { HaveOwnPartTags taken.old.parts.items → OnOk result (HaveOwnPartTags taken.new.parts.items) }
+{
+    match root_of(part) {
+        Some(row) => set_part(scope, all, taken, part, row),
+        None => Ok(named(scope.alloc, part, part.name.clone()?, tag_of(part))?),
+    }
 }
 
 /// The components of a SET, those of its root with tags.
@@ -264,19 +304,17 @@ fn flat_set<'m>(
     scope: Scope<'m, '_>,
     all: &[Definition<'m>],
     set: &Definition<'m>,
-) -> Result<Flat<'m>, Refusal> {
+) -> Result<Flat<'m>, Refusal>
+    ensures parts { IfOk result (λ flat. AreInSet all.now set.now.parts.items flat.parts.items) }
+    ensures extends { IfOk result (λ flat. SaysMark set.now.of.now.body flat.is_extensible) }
+{
     let mut parts = Vec::new(scope.alloc);
     let mut taken = Flat {
         parts: Vec::new(scope.alloc),
         is_extensible: false,
     };
     for part in set.parts.iter() {
-        parts.push(match part.row {
-            Some(row) if row.position == Position::Root => {
-                set_part(scope, all, &mut taken, part, row)?
-            }
-            Some(_) | None => named(scope.alloc, part, part.name.clone()?, tag_of(part))?,
-        })?;
+        parts.push(in_set(scope, all, &mut taken, part)?)?;
     }
     Ok(Flat {
         parts,
@@ -291,7 +329,8 @@ fn flat_of<'m>(
     definition: &Definition<'m>,
 ) -> Result<Option<Flat<'m>>, Refusal>
     ensures stays { list_any lacks_tag definition.now.parts.items ≡ false → result ≡ Ok None }
-    ensures choices { is_choice definition.now.of.now.body ≡ true → list_any lacks_tag definition.now.parts.items ≡ true → IfOk result (λ made. IsSomeAnd made (λ flat. (map unnamed flat.parts.items ≡ alternatives 64 all.now definition.now.parts.items) × HaveOwnPartTags flat.parts.items)) }
+    ensures in_set { is_set definition.now.of.now.body ≡ true → IfOk result (λ found. IfSome found (λ flat. SaysMark definition.now.of.now.body flat.is_extensible)) }
+    ensures placed { IfOk result (λ found. ArePlaced all.now definition.now (parts_with definition.now found)) }
 {
     match &definition.of.body {
         Body::Choice(_) if has_untagged(definition) => {
@@ -318,7 +357,9 @@ fn has_untagged(definition: &Definition<'_>) -> bool
 fn all_flat<'m>(
     scope: Scope<'m, '_>,
     all: &[Definition<'m>],
-) -> Result<Vec<Result<Option<Flat<'m>>, Refusal>>, AllocError> {
+) -> Result<Vec<Result<Option<Flat<'m>>, Refusal>>, AllocError>
+    ensures { IfOk result (λ made. AllZip (IsFound all.now) all.now made.items) }
+{
     let mut made = Vec::new(scope.alloc);
     for definition in all.iter() {
         made.push(flat_of(scope, all, definition))?;
@@ -326,36 +367,71 @@ fn all_flat<'m>(
     Ok(made)
 }
 
+/// The place of the CHOICE that is written in an alternative, and has no tag; nothing of another alternative.
+fn taken_up(part: &Part<'_>) -> Option<usize>
+    ensures { result ≡ taken_up part.now }
+{
+    match part.inner.body {
+        Body::Choice(_) if tag_of(part).is_none() => part.target,
+        _ => None,
+    }
+}
+
 /// Says of the choices that are written in a CHOICE, and have no tag, that nothing uses them any more.
-fn put_unused(definition: &Definition<'_>, unused: &mut Vec<bool>) {
+fn put_unused(definition: &Definition<'_>, unused: &mut Vec<bool>)
+    ensures { unused.new.items ≡ marked (filter_map taken_up definition.now.parts.items) unused.old.items }
+{
     for part in definition.parts.iter() {
-        let is_written = matches!(part.inner.body, Body::Choice(_)) && tag_of(part).is_none();
-        if let (true, Some(target)) = (is_written, part.target) {
-            if let Some(place) = unused.get_mut(target) {
-                *place = true;
+        if let Some(place) = taken_up(part) {
+            if place < unused.len() {
+                unused[place] = true;
             }
         }
     }
 }
 
-/// Puts what a definition has in the place of its parts. With `keeps_faults` it says why it can't be resolved.
-fn put_flat<'m>(
+/// Whether what is found for a definition stands in the place of a CHOICE's alternatives.
+fn is_put(definition: &Definition<'_>, found: &Result<Option<Flat<'_>>, Refusal>) -> bool
+    ensures { result ≡ is_put definition.now found.now }
+{
+    match found {
+        Ok(Some(_)) => matches!(definition.of.body, Body::Choice(_)),
+        Ok(None) | Err(_) => false,
+    }
+}
+
+/// Of each definition, whether it stands only in the place of a choice.
+fn unused_of(
+    alloc: Global,
+    all: &[Definition<'_>],
+    found: &[Result<Option<Flat<'_>>, Refusal>],
+) -> Result<Vec<bool>, AllocError>
+    ensures { IfOk result (λ unused. unused.items ≡ marked (all_taken_up all.now found.now) (replicate (length all.now) false)) }
+{
+    let mut unused = vec![in alloc; false; all.len()]?;
+    for (at, definition) in all.iter().enumerate() {
+        if let Some(one) = found.get(at) {
+            if is_put(definition, one) {
+                put_unused(definition, &mut unused);
+            }
+        }
+    }
+    Ok(unused)
+}
+
+/// Puts what is found for a definition. With `keeps_faults` it says why it can't be resolved.
+fn put_found<'m>(
     alloc: Global,
     definition: &mut Definition<'m>,
-    made: Result<Option<Flat<'m>>, Refusal>,
+    found: Result<Option<Flat<'m>>, Refusal>,
     keeps_faults: bool,
-    unused: &mut Vec<bool>,
 ) -> Result<(), Refusal>
-    ensures stays { made.entry ≡ Ok None → definition.new.parts ≡ definition.old.parts }
-    ensures put { IfOk made.entry (λ found. IfSome found (λ flat. OnOk result (definition.new.parts ≡ flat.parts))) }
+    ensures { OnOk result (IsSettled definition.old found.entry definition.new) }
 {
     definition.is_extensible = is_extensible(definition.of);
-    match made {
+    match found {
         Ok(None) => {}
         Ok(Some(flat)) => {
-            if matches!(definition.of.body, Body::Choice(_)) {
-                put_unused(definition, unused);
-            }
             definition.parts = flat.parts;
             definition.is_extensible = flat.is_extensible;
         }
@@ -366,6 +442,23 @@ fn put_flat<'m>(
         Err(why) => return Err(why),
     }
     Ok(())
+}
+
+/// Definitions with what is found for each.
+fn settled<'m>(
+    alloc: Global,
+    all: Vec<Definition<'m>>,
+    found: Vec<Result<Option<Flat<'m>>, Refusal>>,
+    keeps_faults: bool,
+) -> Result<Vec<Definition<'m>>, Refusal>
+    ensures { IfOk result (λ settled. AllZip (λ both now. IsSettled both.0 both.1 now) (zip all.entry.items found.entry.items) settled.items) }
+{
+    let mut settled = Vec::new(alloc);
+    for (mut definition, one) in all.into_iter().zip(found) {
+        put_found(alloc, &mut definition, one, keeps_faults)?;
+        settled.push(definition)?;
+    }
+    Ok(settled)
 }
 
 /// The places that definitions have without the unused ones; nothing for these.
@@ -381,14 +474,40 @@ fn places_of(alloc: Global, unused: &[bool]) -> Result<Vec<Option<usize>>, Alloc
     Ok(places)
 }
 
-/// Gives the parts of a definition their targets' new places.
-fn place_targets(definition: &mut Definition<'_>, places: &[Option<usize>]) {
-    for part in definition.parts.iter_mut() {
-        part.target = match part.target {
-            Some(target) => places.get(target).copied().unwrap_or(None),
-            None => None,
-        };
+/// The new place of a target; nothing where it has none.
+fn new_place(places: &[Option<usize>], target: Option<usize>) -> Option<usize>
+    ensures { result ≡ new_place places.now target }
+{
+    match target {
+        Some(target) => places.get(target).copied().unwrap_or(None),
+        None => None,
     }
+}
+
+/// Gives the parts of a definition their targets' new places.
+fn place_targets(definition: &mut Definition<'_>, places: &[Option<usize>])
+    ensures { IsAtPlaces places.now definition.old definition.new }
+{
+    for part in definition.parts.iter_mut() {
+        part.target = new_place(places, part.target);
+    }
+}
+
+/// Puts a definition with its parts' targets at their new places behind those that are kept, but for an unused one.
+fn push_used<'m>(
+    kept: &mut Vec<Definition<'m>>,
+    mut definition: Definition<'m>,
+    is_unused: bool,
+    places: &[Option<usize>],
+) -> Result<(), AllocError>
+    ensures { OnOk result ((before : List (Definition × Bool)) → AllZip (IsAtPlaces places.now) (used_of before) kept.old.items → AllZip (IsAtPlaces places.now) (used_of (before ++ (definition.entry, is_unused) ∷ [])) kept.new.items) }
+{
+    if is_unused {
+        return Ok(());
+    }
+    place_targets(&mut definition, places);
+    kept.push(definition)?;
+    Ok(())
 }
 
 /// The definitions without the unused ones.
@@ -396,16 +515,30 @@ fn used<'m>(
     alloc: Global,
     all: Vec<Definition<'m>>,
     unused: &[bool],
-) -> Result<Vec<Definition<'m>>, AllocError> {
+) -> Result<Vec<Definition<'m>>, AllocError>
+    ensures { IfOk result (λ kept. AllZip (IsAtPlaces (places_from 0 unused.now)) (used_of (zip all.entry.items unused.now)) kept.items) }
+{
     let places = places_of(alloc, unused)?;
     let mut kept = Vec::new(alloc);
-    for (at, mut definition) in all.into_iter().enumerate() {
-        if unused.get(at).copied() != Some(true) {
-            place_targets(&mut definition, places.as_slice());
-            kept.push(definition)?;
-        }
+    for (definition, is_unused) in all.into_iter().zip(unused.iter()) {
+        push_used(&mut kept, definition, *is_unused, places.as_slice())?;
     }
     Ok(kept)
+}
+
+/// Definitions as they are written, with what stands in the place of choices without a tag; those that stand only there aren't among them.
+fn resolved<'m>(
+    scope: Scope<'m, '_>,
+    written: Vec<Definition<'m>>,
+    keeps_faults: bool,
+) -> Result<Vec<Definition<'m>>, Refusal>
+    ensures { IfOk result (λ kept. AreResolved written.entry.items kept.items) }
+{
+    let alloc = scope.alloc;
+    let found = all_flat(scope, written.as_slice())?;
+    let unused = unused_of(alloc, written.as_slice(), found.as_slice())?;
+    let settled = settled(alloc, written, found, keeps_faults)?;
+    Ok(used(alloc, settled, unused.as_slice())?)
 }
 
 /// All definitions, with the alternatives of choices without a tag in their place; the types that stand only there aren't among them.
@@ -414,14 +547,5 @@ pub fn all_definitions<'m>(
     scope: Scope<'m, '_>,
     keeps_faults: bool,
 ) -> Result<Vec<Definition<'m>>, Refusal> {
-    let alloc = scope.alloc;
-    let mut all = definitions(scope, keeps_faults)?;
-    let made = all_flat(scope, all.as_slice())?;
-    let mut unused = vec![in alloc; false; all.len()]?;
-    for (at, one) in made.into_iter().enumerate() {
-        if let Some(definition) = all.get_mut(at) {
-            put_flat(alloc, definition, one, keeps_faults, &mut unused)?;
-        }
-    }
-    Ok(used(alloc, all, unused.as_slice())?)
+    resolved(scope, definitions(scope, keeps_faults)?, keeps_faults)
 }

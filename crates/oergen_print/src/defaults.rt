@@ -4,12 +4,12 @@ ghost use Rattle.std.specs.Prelude.{◌≡◌, false, true, int_le, IfOk, IfSome
 use crate::cells::variant_name;
 use crate::items::push_defined;
 use crate::literals::{
-    bits_of_literal, bits_of_names, drop_zeros, fill_up, octets_of_text, packed, push_array,
-    push_list, push_written,
+    bits_of_literal, bits_of_names, octets_of_text, packed, push_array, push_list, push_written,
 };
 use crate::shapes::{drops_zeros, number_of_octets, simple_type, sizes_of};
 use crate::templates::DEFAULT;
 use crate::text::{Text, Words};
+use oergen_layouts::bits::{drop_zeros, fill_up};
 use oergen_layouts::definitions::Definition;
 use oergen_layouts::layouts::unit_of;
 use oergen_layouts::numbers::{Spot, names_of, number_of, settled};

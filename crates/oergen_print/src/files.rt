@@ -8,7 +8,7 @@ use crate::outputs::{File, push_placed};
 use crate::printer::{LeftOut, Outcome, Printed, free_names, print_types};
 use crate::sizes::hold_large;
 use crate::text::Text;
-use crate::uses::{Homes, Paths, path_lines, push_path, use_lines};
+use crate::uses::{Homes, Paths, names_crate, path_lines, push_path, use_lines};
 use oergen_layouts::cycles::find_cycles;
 use oergen_layouts::expansion::tokens_of;
 use oergen_layouts::scope::Scope;
@@ -417,19 +417,34 @@ fn push_libraries(out: &mut Text, types: &[Printed], all: &[Section], library: &
     out.push("\n");
 }
 
-/// Appends the lines of `crates.txt`, lowest first.
-fn push_crates(alloc: Global, out: &mut Text, types: &[Printed], all: &[Section]) {
-    let mut lower = Text::new(alloc);
+/// Whether a file of a crate names another crate.
+fn uses_crate(files: &[File], library: &str, other: &str) -> bool {
+    files.iter().any(|file| file.is_of(library) && names_crate(file.text.as_str(), other))
+}
+
+/// Appends the printed crates below one that its files name, lowest first.
+fn push_lower(out: &mut Text, all: &[Section], files: &[File], library: &str) {
+    for section in all.iter() {
+        let other = section.library.as_str();
+        if other == library {
+            return;
+        }
+        if section.module.as_str() == FIRST_MODULE && uses_crate(files, library, other) {
+            out.push_all(&[other, " "]);
+        }
+    }
+}
+
+/// Appends the lines of `crates.txt`, lowest first: so that crates of which none uses the other can be proved side by side.
+fn push_crates(out: &mut Text, types: &[Printed], all: &[Section], files: &[File]) {
     for section in all.iter() {
         if section.module.as_str() == FIRST_MODULE {
             let library = section.library.as_str();
             out.push_all(&[library, ": "]);
-            out.push_text(&lower);
+            push_lower(out, all, files, library);
             push_libraries(out, types, all, library);
-            lower.push_all(&[library, " "]);
         }
     }
-    out.heed(&lower);
 }
 
 /// Puts the types of a crate to others.
@@ -531,12 +546,13 @@ fn output_of(
     let alloc = scope.alloc;
     let types = outcome.printed.as_slice();
     let all = sections(alloc, wish.name, types)?;
+    let files = crate_files(alloc, types, all.as_slice(), constants)?;
     let mut lines = Text::new(alloc);
-    push_crates(alloc, &mut lines, types, all.as_slice());
+    push_crates(&mut lines, types, all.as_slice(), files.as_slice());
     push_all_unread(scope, &mut lines, wish.files)?;
     push_left_out(&mut lines, outcome.left_out.as_slice(), wish.files)?;
     Ok(Output {
-        files: crate_files(alloc, types, all.as_slice(), constants)?,
+        files,
         lines: lines.end()?,
         types: named_types(alloc, types, all.as_slice())?,
     })

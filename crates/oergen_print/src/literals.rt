@@ -1,6 +1,7 @@
 //! What a module writes of bits, octets and characters: the octets that a default of them has.
 
 use crate::text::Text;
+use oergen_layouts::bits::fill_up;
 use oergen_layouts::layouts::unit_of;
 use oergen_layouts::numbers::{Spot, named, number_of};
 use oergen_layouts::scope::Scope;
@@ -72,25 +73,6 @@ pub fn bits_of_names<'m>(
         }
     }
     Ok(bits)
-}
-
-/// Puts zero bits behind others, up to so many.
-pub fn fill_up(bits: &mut Vec<bool>, count: usize) -> Result<(), AllocError> {
-    for _ in bits.len()..count {
-        bits.push(false)?;
-    }
-    Ok(())
-}
-
-/// Drops the zero bits at the end.
-pub fn drop_zeros(bits: &mut Vec<bool>) {
-    let mut count = 0usize;
-    for (at, bit) in bits.iter().enumerate() {
-        if *bit {
-            count = at.saturating_add(1);
-        }
-    }
-    bits.truncate(count);
 }
 
 /// Bits in whole octets, filled up with zero bits.

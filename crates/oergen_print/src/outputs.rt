@@ -19,6 +19,14 @@ impl File {
             text,
         })
     }
+
+    /// Whether it stands in the folder of a crate.
+    pub fn is_of(&self, library: &str) -> bool {
+        match self.path.as_str().strip_prefix(library) {
+            Some(rest) => rest.starts_with('/'),
+            None => false,
+        }
+    }
 }
 
 /// Appends a text with what names its place, a module of a crate, for the marks: `@HOME@`, `@CRATE@` and `@MODULE@`.

@@ -1,4 +1,4 @@
-//! The `use` lines of a file, from the words of its text.
+//! The `use` lines of a file, from the words of its text, and the crates that a text names.
 
 use crate::text::Text;
 use std::alloc::{AllocError, Global};
@@ -242,6 +242,36 @@ pub fn use_lines(
         }
     }
     path_lines(alloc, "use", &paths)
+}
+
+/// Whether a text goes on with a crate's name, and with what leads from there into the crate.
+fn leads_into(text: &str, library: &str, way: &str) -> bool {
+    match text.strip_prefix(library) {
+        Some(rest) => rest.starts_with(way),
+        None => false,
+    }
+}
+
+/// Whether a line names a crate: in a `use`, or by its definitions. A comment names none.
+fn line_names(line: &str, library: &str) -> bool {
+    let code = line.trim_start();
+    if code.starts_with("//") {
+        return false;
+    }
+    let is_used = match code.strip_prefix("use ") {
+        Some(path) => leads_into(path, library, "::"),
+        None => false,
+    };
+    is_used
+        || code
+            .split("Rattle.")
+            .skip(1)
+            .any(|path| leads_into(path, library, ".specs."))
+}
+
+/// Whether a file's text names a crate.
+pub fn names_crate(text: &str, library: &str) -> bool {
+    text.lines().any(|line| line_names(line, library))
 }
 
 /// The name that a line declares, and whether others may use it.

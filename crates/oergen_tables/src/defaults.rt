@@ -1,6 +1,7 @@
 //! The values of defaults in JSON (X.697).
 
 use crate::leaves::named_number;
+use oergen_layouts::bits::{drop_zeros, fill_up};
 use oergen_layouts::numbers::{Spot, named, names_of, settled};
 use oergen_layouts::rows::Row;
 use oergen_layouts::scope::Scope;
@@ -119,25 +120,6 @@ fn numbered_bits(alloc: Global, numbers: &[i128]) -> Result<Option<Vec<bool>>, A
         bits.push(numbers.contains(&number))?;
     }
     Ok(Some(bits))
-}
-
-/// Drops the zero bits at the end.
-fn drop_zeros(bits: &mut Vec<bool>) {
-    let mut count = 0usize;
-    for (at, bit) in bits.iter().enumerate() {
-        if *bit {
-            count = at.saturating_add(1);
-        }
-    }
-    bits.truncate(count);
-}
-
-/// Puts zero bits behind others, up to so many.
-fn fill_up(bits: &mut Vec<bool>, count: usize) -> Result<(), AllocError> {
-    for _ in bits.len()..count {
-        bits.push(false)?;
-    }
-    Ok(())
 }
 
 /// The octet of at most eight bits, the highest first.

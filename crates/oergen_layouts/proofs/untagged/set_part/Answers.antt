@@ -1,0 +1,12 @@
+use Rattle.std.proofs.Common.{◌≡◌, length, arith}
+use Rattle.std.proofs.lemmas.Grind.{common_steps}
+use Rattle.oergen_layouts.proofs.Placing.{root_in_set}
+use Rattle.oergen_layouts.proofs.untagged.set_part.Goals as goal
+
+pub returns-clause-made : goal.returns-clause-made
+returns-clause-made c = λ has.
+    let part = c.args.part.now in
+    let old = c.args.taken.now.parts.items in
+    let before : c.len-before.result ≡ length old = grind (arith, common_steps, c.len-before.ensures) in
+    let counts = rw (c.as_slice.ensures.value, before) at c.counted_tag-tag.ensures in
+    root_in_set c.args.all.now part c.in_ok-named.field-0 c.args.row old c.push_part.new.flat.parts.items c.counted_tag-tag.result has (c.in_ok-push_part.ensures.in_place has) counts c.if-is_none.ensures c.in_ok-named.ensures
