@@ -265,7 +265,6 @@ def methods():
         ("decode_choice", "82" + open_great, f"Medium({number(GREAT)})", False),
         ("decode_utf8_string", "024142", '"AB"', False),
         ("decode_bmp_string", "0400410042", text([0, 65, 0, 66]), False),
-        ("decode_universal_string", "040001f600", text([0, 1, 246, 0]), False),
         ("decode_numeric_string", "023132", text([49, 50]), False),
     ]
     rows += [(f"decode_{kind}_string", "024142", TEXT, False) for kind in ("visible", "general", "graphic", "ia5", "printable", "teletex")]
@@ -310,8 +309,7 @@ def encoder():
         "bool": "ff", "null": "", "enumerated": "82fc18", "bit_string": "0302ff40", "named_bits": "020780", "octet_string": "03616263",
         "any": "03616263",
         "object_identifier": "032a9979", "utc_time": "0d" + hexed("191009130005Z"), "generalized_time": "0f" + hexed("20000101000000Z"),
-        "date": "08" + hexed("20240229"), "utf8_string": "024142", "bmp_string": "0400410042", "universal_string": "040001f600",
-        "numeric_string": "023132",
+        "date": "08" + hexed("20240229"), "utf8_string": "024142", "bmp_string": "0400410042", "numeric_string": "023132",
         "sequence_of": "010201010102",
     }  # fmt: skip
     same.update({f"{kind}_string": "024142" for kind in ("visible", "general", "graphic", "ia5", "printable", "teletex")})
@@ -360,9 +358,7 @@ def values():
     yield answered("NumericString::from_bytes", "3132", f"Ok({text([49, 50])})")
     yield answered("NumericString::from_bytes", "3141", "Err(PermittedAlphabet)")
     yield made("GeneralString::from_text", "4142", TEXT)
-    yield answered("UniversalString::from_bytes", "0001f600", f"Ok({text([0, 1, 246, 0])})")
     yield made("BmpString::from_units", "", text([0, 65, 0, 66]))
-    yield made("UniversalString::from_units", "", text([0, 1, 246, 0]))
     yield made("BmpString::to_bytes", "", "[0, 65, 0, 66]")
     yield answered("UtcTime::from_text", hexed("191009130005Z"), "Ok(UtcTime { value: 2019-10-09T13:00:05 })", True)
     yield answered("GeneralizedTime::from_text", hexed("20000101000000Z"), "Ok(GeneralizedTime { value: 2000-01-01T00:00:00 })", True)

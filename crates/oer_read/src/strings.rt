@@ -3,7 +3,7 @@
 ghost use Rattle.std.specs.Prelude.{true, string_bytes};
 ghost use Rattle.std.specs.Str.{is_utf8};
 ghost use Rattle.asn1_core.specs.Bounds.{size_bounds};
-ghost use Rattle.asn1_core.specs.Texts.{Bmp, General, Graphic, Ia5, Numeric, Printable, Teletex, Universal, Utf8, Visible, is_ia5, is_numeric, is_printable, is_visible, unit_of};
+ghost use Rattle.asn1_core.specs.Texts.{Bmp, General, Graphic, Ia5, Numeric, Printable, Teletex, Utf8, Visible, is_ia5, is_numeric, is_printable, is_visible, unit_of};
 ghost use Rattle.asn1_core.specs.declared.error.DecodeErrorKind.TheVariants.{StringConversionFailed, PermittedAlphabetError};
 ghost use Rattle.asn1_strings.specs.Characters.{are_characters};
 ghost use Rattle.oer_spec.specs.ReadingTexts.{characters_at, text_at};
@@ -18,8 +18,8 @@ use asn1_core::{Constraints, DecodeError, Tag, Utf8String};
 use asn1_strings::{
     BmpCharacters, BmpString, CharacterSet, GeneralCharacters, GeneralString, GraphicCharacters,
     GraphicString, Ia5Characters, Ia5String, NumericCharacters, NumericString, PrintableCharacters,
-    PrintableString, RestrictedString, TeletexCharacters, TeletexString, UniversalCharacters,
-    UniversalString, VisibleCharacters, VisibleString,
+    PrintableString, RestrictedString, TeletexCharacters, TeletexString, VisibleCharacters,
+    VisibleString,
 };
 use std::alloc::Global;
 
@@ -183,26 +183,6 @@ impl<'input> Decoder<'input> {
         ensures law { Decodes (text Bmp constraints) (IsTextOf Bmp) self.old result self.new }
     {
         self.restricted::<BmpCharacters>(alloc, constraints)
-    }
-
-    /// Reads a UniversalString (X.696, 27), whose size counts characters of four octets.
-    ///
-    /// Refused, the first that applies: of a fixed size, four times the size past `usize::MAX` by
-    /// `LengthExceedsPlatformWidth`, then `Incomplete`; else what the length is refused by, above `usize::MAX / 8` octets
-    /// by `LengthExceedsPlatformWidth`, `Incomplete`, a part of a character by `PermittedAlphabetError`, and
-    /// `SizeConstraintNotSatisfied` with the size in characters. `OutOfMemory` comes last.
-    #[inline(always)]
-    pub fn decode_universal_string(
-        &mut self,
-        alloc: Global,
-        _tag: Tag,
-        constraints: Constraints,
-    ) -> Result<UniversalString, DecodeError>
-        ensures function { Answers (λ v. v) self.old result self.new
-            (characters_at 4 (are_characters 4 (λ _. true)) (size_bounds constraints) self.old.codec self.old.input) }
-        ensures law { Decodes (text Universal constraints) (IsTextOf Universal) self.old result self.new }
-    {
-        self.restricted::<UniversalCharacters>(alloc, constraints)
     }
 
     /// Reads a restricted character string, whose size counts characters.

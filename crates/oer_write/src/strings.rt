@@ -1,7 +1,7 @@
 //! Character strings are written under the size constraint.
 ghost use Rattle.std.specs.Prelude.{◌≡◌, string_bytes, OnOk, IfErr};
 ghost use Rattle.asn1_core.specs.Octets.{AreOctets};
-ghost use Rattle.asn1_core.specs.Texts.{Utf8, Visible, General, Graphic, Ia5, Printable, Numeric, Teletex, Bmp, Universal};
+ghost use Rattle.asn1_core.specs.Texts.{Utf8, Visible, General, Graphic, Ia5, Printable, Numeric, Teletex, Bmp};
 ghost use Rattle.oer_spec.specs.Spelled.{IsTextOf, text};
 ghost use Rattle.asn1_core.specs.Bounds.{size_bounds};
 ghost use Rattle.oer_spec.specs.Tree.{Text, InOctets};
@@ -13,8 +13,8 @@ use asn1_core::{Constraints, EncodeError, Tag, Utf8String};
 use asn1_strings::{
     BmpCharacters, BmpString, CharacterSet, GeneralCharacters, GeneralString, GraphicCharacters,
     GraphicString, Ia5Characters, Ia5String, NumericCharacters, NumericString, PrintableCharacters,
-    PrintableString, RestrictedString, TeletexCharacters, TeletexString, UniversalCharacters,
-    UniversalString, VisibleCharacters, VisibleString,
+    PrintableString, RestrictedString, TeletexCharacters, TeletexString, VisibleCharacters,
+    VisibleString,
 };
 use oer_leaf_write::{write_text, write_utf8};
 
@@ -215,25 +215,6 @@ impl<'buffer> Encoder<'buffer> {
         ensures law { IfErr result (λ x. Refused (text Bmp constraints value.now) x self.old self.new) }
     {
         self.put_text::<BmpCharacters>(constraints, value)
-    }
-
-    /// Writes a UniversalString (X.696, 27), whose size counts characters of four octets.
-    ///
-    /// Refused, the first that applies: a size that a constraint that isn't extensible doesn't allow, by
-    /// `SizeConstraintNotSatisfied` with the size; more than `usize::MAX / 8` octets behind a length, by
-    /// `LengthExceedsPlatformSize`.
-    #[inline(always)]
-    pub fn encode_universal_string(
-        &mut self,
-        _tag: Tag,
-        constraints: Constraints,
-        value: &UniversalString,
-    ) -> Result<(), EncodeError>
-        ensures done { OnOk result (Encodes (text Universal constraints value.now) self.old self.new) }
-        ensures refused { IfErr result (λ x. RefusedLeaf (Text Universal (size_bounds constraints) (InOctets value.now)) x self.old self.new) }
-        ensures law { IfErr result (λ x. Refused (text Universal constraints value.now) x self.old self.new) }
-    {
-        self.put_text::<UniversalCharacters>(constraints, value)
     }
 
     #[tactic(auto, using(crate::proofs::Regions::more_shown, crate::proofs::Regions::more_within), unfolding(oer_spec::specs::Spelled::text, oer_spec::specs::Encoding::canonical_octets, oer_spec::specs::Encoding::fails))]

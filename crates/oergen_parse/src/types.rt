@@ -3,13 +3,13 @@
 use crate::ast::{Body, Component, Member, Need, Simple, Type, WrittenTag};
 use crate::constraints::{MAX_NESTING, read_constraint, read_constraints, read_type_name};
 use crate::instead::instead_of;
-use crate::lexer::Kind;
+use crate::lexer::{Kind, TokenId};
 use crate::reader::Reader;
 use crate::refusal::Refusal;
 use crate::values::{
     goes_on, read_default, read_enumerated, read_exception, read_numbers, read_value,
 };
-use crate::words::is_unread;
+use crate::words::{begins_type, is_type, is_unread};
 use asn1_core::Class;
 
 /// Types without parts, by their first word.
@@ -253,14 +253,33 @@ fn read_member(reader: &mut Reader<'_>, levels: u32) -> Result<Member, Refusal> 
     }
 }
 
+/// Whether a component begins with its type, as X.208 allows: with a type's own word, or a type's name that no other type follows.
+fn is_nameless(reader: &Reader<'_>) -> bool {
+    let first = reader.peek();
+    let second = reader.second();
+    let is_whole = match second.kind {
+        Kind::Name => second.text == "OPTIONAL" || second.text == "DEFAULT",
+        _ => second.text != "[",
+    };
+    first.kind == Kind::Name && (begins_type(first.text) || is_whole && is_type(first.text))
+}
+
+/// The name of a component; the first word of its type where it has none, which is left.
+fn read_name(reader: &mut Reader<'_>) -> Result<TokenId, Refusal> {
+    if is_nameless(reader) {
+        return Ok(reader.id());
+    }
+    reader.takes(
+        Kind::Word,
+        "a component's name, '...', '[[' or COMPONENTS OF",
+    )
+}
+
 /// A component, or an alternative.
 #[cycle(types)]
 fn read_component(reader: &mut Reader<'_>, levels: u32) -> Result<Component, Refusal> {
     let text = reader.peek().text;
-    let name = reader.takes(
-        Kind::Word,
-        "a component's name, '...', '[[' or COMPONENTS OF",
-    )?;
+    let name = read_name(reader)?;
     let of = read_type(reader, levels)?;
     let need = read_need(reader, text)?;
     Ok(Component { name, of, need })

@@ -28,6 +28,11 @@ pub fn is_unread(word: &str) -> bool {
     is_in(UNREAD, word) || is_in(OTHER, word)
 }
 
+/// Whether a word begins a type that is read, and is no type's name.
+pub fn begins_type(word: &str) -> bool {
+    is_in(READ, word)
+}
+
 /// Whether a word is kept for X.680 itself.
 pub fn is_reserved(word: &str) -> bool {
     is_in(READ, word) || is_unread(word)

@@ -111,7 +111,7 @@ fn further_texts(call: Call<'_>, d: &mut Decoder<'_>) -> Result<Option<String>> 
     Ok(Some(line))
 }
 
-/// The last ones.
+/// The last two.
 fn last_texts(call: Call<'_>, d: &mut Decoder<'_>) -> Result<Option<String>> {
     let alloc = call.alloc;
     let line = match call.word {
@@ -121,10 +121,6 @@ fn last_texts(call: Call<'_>, d: &mut Decoder<'_>) -> Result<Option<String>> {
         }
         "decode_bmp_string" => {
             let it = d.decode_bmp_string(alloc, Tag::BMP_STRING, NONE);
-            left(alloc, d, &it)?
-        }
-        "decode_universal_string" => {
-            let it = d.decode_universal_string(alloc, Tag::UNIVERSAL_STRING, NONE);
             left(alloc, d, &it)?
         }
         _ => return Ok(None),

@@ -188,7 +188,7 @@ fn further_texts(
     Ok(Some(done))
 }
 
-/// The last ones.
+/// The last two.
 fn last_texts(alloc: Global, word: &str, d: &mut Decoder<'_>, e: &mut Encoder<'_>) -> Result<Done> {
     let done = match word {
         "encode_teletex_string" => {
@@ -200,11 +200,6 @@ fn last_texts(alloc: Global, word: &str, d: &mut Decoder<'_>, e: &mut Encoder<'_
             let text = d.decode_bmp_string(alloc, Tag::BMP_STRING, NONE)?;
             begin(alloc)?;
             e.encode_bmp_string(Tag::BMP_STRING, NONE, &text)
-        }
-        "encode_universal_string" => {
-            let text = d.decode_universal_string(alloc, Tag::UNIVERSAL_STRING, NONE)?;
-            begin(alloc)?;
-            e.encode_universal_string(Tag::UNIVERSAL_STRING, NONE, &text)
         }
         _ => return Ok(None),
     };

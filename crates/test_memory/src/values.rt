@@ -6,7 +6,7 @@ use asn1_core::{Codec, SetOf};
 use asn1_ints::{Integer, IntegerType};
 use asn1_strings::{
     Any, BitString, BmpString, GeneralString, GraphicString, Ia5String, NumericString,
-    ObjectIdentifier, OctetString, PrintableString, TeletexString, UniversalString, VisibleString,
+    ObjectIdentifier, OctetString, PrintableString, TeletexString, VisibleString,
     object_identifier_as_bytes, object_identifier_from_bytes,
 };
 use asn1_times::{Date, GeneralizedTime, UtcTime};
@@ -50,10 +50,6 @@ fn wide_characters(alloc: Global, word: &str, octets: &[u8]) -> Result<Option<St
         "TeletexString::from_bytes" => plain(alloc, &TeletexString::from_bytes(alloc, octets))?,
         "BmpString::from_bytes" => plain(alloc, &BmpString::from_bytes(alloc, octets))?,
         "BmpString::from_units" => made(alloc, &BmpString::from_units(alloc, &[0x41, 0x42]))?,
-        "UniversalString::from_bytes" => plain(alloc, &UniversalString::from_bytes(alloc, octets))?,
-        "UniversalString::from_units" => {
-            made(alloc, &UniversalString::from_units(alloc, &[0x1F600]))?
-        }
         _ => return times_of_texts(alloc, word, octets),
     };
     Ok(Some(line))
