@@ -26,9 +26,11 @@ pub use types_04::{
     Colours, ColoursAlternatives, Level, Named, Plain, PlainComponents, Spot, SpotComponents, Then,
     ThenComponents,
 };
-pub use types_05::{Leaves, LeavesComponents, Taken, TakenComponents};
+pub use types_05::{Numbers, NumbersComponents, Ranges, RangesComponents, Taken, TakenComponents};
 pub use types_06::{
-    Both, BothB, BothBAlternatives, BothComponents, Card, CardComponents, Marks, Reply,
-    ReplyAlternatives, Title, TitleAlternatives,
+    Both, BothB, BothBAlternatives, BothComponents, Leaves, LeavesComponents, Reply,
+    ReplyAlternatives, Strings, StringsComponents,
 };
-pub use types_07::{Person, PersonComponents};
+pub use types_07::{
+    Card, CardComponents, Marks, Person, PersonComponents, Title, TitleAlternatives,
+};

@@ -140,11 +140,11 @@ impl Tabled<6, 1> for TakenComponents {
     ghost counts = { (refl, refl) };
 }
 
-/// The limits of `LeavesTwo`.
+/// The limits of `NumbersTwo`.
 #[derive(Drop)]
-pub enum LeavesTwoLimits {}
+pub enum NumbersTwoLimits {}
 
-impl Limits for LeavesTwoLimits {
+impl Limits for NumbersTwoLimits {
     ghost use Rattle.std.specs.Prelude.{None, Some, false, negsuc, pos, refl};
     ghost use Rattle.rasn_oer.specs.Bounded.{Range, Single};
 
@@ -164,11 +164,11 @@ impl Limits for LeavesTwoLimits {
     ghost consistent = { refl };
 }
 
-/// The limits of `LeavesWide`.
+/// The limits of `NumbersWide`.
 #[derive(Drop)]
-pub enum LeavesWideLimits {}
+pub enum NumbersWideLimits {}
 
-impl Limits for LeavesWideLimits {
+impl Limits for NumbersWideLimits {
     ghost use Rattle.std.specs.Prelude.{None, Some, false, negsuc, pos, refl};
     ghost use Rattle.rasn_oer.specs.Bounded.{Range, Single};
 
@@ -188,11 +188,11 @@ impl Limits for LeavesWideLimits {
     ghost consistent = { refl };
 }
 
-/// The limits of `LeavesLong`.
+/// The limits of `NumbersLong`.
 #[derive(Drop)]
-pub enum LeavesLongLimits {}
+pub enum NumbersLongLimits {}
 
-impl Limits for LeavesLongLimits {
+impl Limits for NumbersLongLimits {
     ghost use Rattle.std.specs.Prelude.{None, Some, false, negsuc, pos, refl};
     ghost use Rattle.rasn_oer.specs.Bounded.{Range, Single};
 
@@ -212,11 +212,11 @@ impl Limits for LeavesLongLimits {
     ghost consistent = { refl };
 }
 
-/// The limits of `LeavesDown`.
+/// The limits of `NumbersDown`.
 #[derive(Drop)]
-pub enum LeavesDownLimits {}
+pub enum NumbersDownLimits {}
 
-impl Limits for LeavesDownLimits {
+impl Limits for NumbersDownLimits {
     ghost use Rattle.std.specs.Prelude.{None, Some, false, negsuc, pos, refl};
     ghost use Rattle.rasn_oer.specs.Bounded.{Range, Single};
 
@@ -236,11 +236,11 @@ impl Limits for LeavesDownLimits {
     ghost consistent = { refl };
 }
 
-/// The limits of `LeavesNamed`.
+/// The limits of `NumbersNamed`.
 #[derive(Drop)]
-pub enum LeavesNamedLimits {}
+pub enum NumbersNamedLimits {}
 
-impl Limits for LeavesNamedLimits {
+impl Limits for NumbersNamedLimits {
     ghost use Rattle.std.specs.Prelude.{None, Some, false, negsuc, pos, refl};
     ghost use Rattle.rasn_oer.specs.Bounded.{Range, Single};
 
@@ -260,321 +260,90 @@ impl Limits for LeavesNamedLimits {
     ghost consistent = { refl };
 }
 
-/// The limits of `LeavesSingle`.
-#[derive(Drop)]
-pub enum LeavesSingleLimits {}
-
-impl Limits for LeavesSingleLimits {
-    ghost use Rattle.std.specs.Prelude.{None, Some, false, negsuc, pos, refl};
-    ghost use Rattle.rasn_oer.specs.Bounded.{Range, Single};
-
-    ghost LIMITS = { record { value = Some (Range (Some (pos 5)) (Some (pos 5)), false); size = None } };
-
-    const LIMITS: Constraints = Constraints {
-        value: Some((
-            Bounded::Range {
-                start: Some(5),
-                end: Some(5),
-            },
-            false,
-        )),
-        size: None,
-    };
-
-    ghost consistent = { refl };
-}
-
-/// The limits of `LeavesGaps`.
-#[derive(Drop)]
-pub enum LeavesGapsLimits {}
-
-impl Limits for LeavesGapsLimits {
-    ghost use Rattle.std.specs.Prelude.{None, Some, false, negsuc, pos, refl};
-    ghost use Rattle.rasn_oer.specs.Bounded.{Range, Single};
-
-    ghost LIMITS = { record { value = Some (Range (Some (pos 1)) (Some (pos 200)), false); size = None } };
-
-    const LIMITS: Constraints = Constraints {
-        value: Some((
-            Bounded::Range {
-                start: Some(1),
-                end: Some(200),
-            },
-            false,
-        )),
-        size: None,
-    };
-
-    ghost consistent = { refl };
-}
-
-/// The limits of `LeavesCommon`.
-#[derive(Drop)]
-pub enum LeavesCommonLimits {}
-
-impl Limits for LeavesCommonLimits {
-    ghost use Rattle.std.specs.Prelude.{None, Some, false, negsuc, pos, refl};
-    ghost use Rattle.rasn_oer.specs.Bounded.{Range, Single};
-
-    ghost LIMITS = { record { value = Some (Range (Some (pos 50)) (Some (pos 100)), false); size = None } };
-
-    const LIMITS: Constraints = Constraints {
-        value: Some((
-            Bounded::Range {
-                start: Some(50),
-                end: Some(100),
-            },
-            false,
-        )),
-        size: None,
-    };
-
-    ghost consistent = { refl };
-}
-
-/// The limits of `LeavesLess`.
-#[derive(Drop)]
-pub enum LeavesLessLimits {}
-
-impl Limits for LeavesLessLimits {
-    ghost use Rattle.std.specs.Prelude.{None, Some, false, negsuc, pos, refl};
-    ghost use Rattle.rasn_oer.specs.Bounded.{Range, Single};
-
-    ghost LIMITS = { record { value = Some (Range (Some (pos 0)) (Some (pos 9)), false); size = None } };
-
-    const LIMITS: Constraints = Constraints {
-        value: Some((
-            Bounded::Range {
-                start: Some(0),
-                end: Some(9),
-            },
-            false,
-        )),
-        size: None,
-    };
-
-    ghost consistent = { refl };
-}
-
-/// The limits of `LeavesSizes`.
-#[derive(Drop)]
-pub enum LeavesSizesLimits {}
-
-impl Limits for LeavesSizesLimits {
-    ghost use Rattle.std.specs.Prelude.{None, Some, false, negsuc, pos, refl};
-    ghost use Rattle.rasn_oer.specs.Bounded.{Range, Single};
-
-    ghost LIMITS = { record { value = None; size = Some (Range (Some 1) (Some 3), false) } };
-
-    const LIMITS: Constraints = Constraints {
-        value: None,
-        size: Some((
-            Bounded::Range {
-                start: Some(1),
-                end: Some(3),
-            },
-            false,
-        )),
-    };
-
-    ghost consistent = { refl };
-}
-
-/// The limits of `LeavesLetters`.
-#[derive(Drop)]
-pub enum LeavesLettersLimits {}
-
-impl Limits for LeavesLettersLimits {
-    ghost use Rattle.std.specs.Prelude.{None, Some, false, negsuc, pos, refl};
-    ghost use Rattle.rasn_oer.specs.Bounded.{Range, Single};
-
-    ghost LIMITS = { record { value = None; size = Some (Single 2, false) } };
-
-    const LIMITS: Constraints = Constraints {
-        value: None,
-        size: Some((Bounded::Single(2), false)),
-    };
-
-    ghost consistent = { refl };
-}
-
-/// The limits of `LeavesLists`.
-#[derive(Drop)]
-pub enum LeavesListsLimits {}
-
-impl Limits for LeavesListsLimits {
-    ghost use Rattle.std.specs.Prelude.{None, Some, false, negsuc, pos, refl};
-    ghost use Rattle.rasn_oer.specs.Bounded.{Range, Single};
-
-    ghost LIMITS = { record { value = None; size = Some (Single 3, false) } };
-
-    const LIMITS: Constraints = Constraints {
-        value: None,
-        size: Some((Bounded::Single(3), false)),
-    };
-
-    ghost consistent = { refl };
-}
-
-/// `Leaves ::= SEQUENCE { none NULL, two INTEGER (0..256), wide INTEGER (-129..0), long INTEGER
+/// `Numbers ::= SEQUENCE { none NULL, two INTEGER (0..256), wide INTEGER (-129..0), long INTEGER
 /// (0..18446744073709551616), extensible INTEGER (0..7, ..., 9), down INTEGER (MIN..top),
-/// named Named (0..MAX), single INTEGER (5), gaps INTEGER (1..3 | 200), common INTEGER (0..300)
-/// (0..100 ^ 50..400), less INTEGER (0..9 EXCEPT 5), blob OCTET STRING (SIZE(1..9, ...)),
-/// sizes OCTET STRING (SIZE(1 | 3)), content OCTET STRING (CONTAINING Named), letters
-/// PrintableString (FROM("A".."Z") ^ SIZE(2)), text UTF8String (SIZE(0..5)), texts
-/// SEQUENCE (SIZE(1..4)) OF IA5String, lists SET OF SEQUENCE OF VisibleString (SIZE(3)), id
-/// OBJECT IDENTIFIER }`
-pub type Leaves = Sequence<LeavesComponents, 19, 0>;
+/// named Named (0..MAX) }`
+pub type Numbers = Sequence<NumbersComponents, 7, 0>;
 
-/// The components of `Leaves`.
+/// The components of `Numbers`.
 #[derive(Debug, PartialEq, Eq, Drop)]
-pub struct LeavesComponents {
+pub struct NumbersComponents {
     /// a comment within its line
     pub none: (),
-    pub two: Limited<u16, LeavesTwoLimits>,
-    pub wide: Limited<i16, LeavesWideLimits>,
-    pub long: Limited<Integer, LeavesLongLimits>,
+    pub two: Limited<u16, NumbersTwoLimits>,
+    pub wide: Limited<i16, NumbersWideLimits>,
+    pub long: Limited<Integer, NumbersLongLimits>,
     pub extensible: Integer,
-    pub down: Limited<Integer, LeavesDownLimits>,
-    pub named: Limited<u8, LeavesNamedLimits>,
-    pub single: Limited<u8, LeavesSingleLimits>,
-    pub gaps: Limited<u8, LeavesGapsLimits>,
-    pub common: Limited<u8, LeavesCommonLimits>,
-    pub less: Limited<u8, LeavesLessLimits>,
-    pub blob: Octets,
-    pub sizes: Limited<Octets, LeavesSizesLimits>,
-    pub content: Octets,
-    pub letters: Limited<PrintableText, LeavesLettersLimits>,
-    pub text: Utf8Text,
-    pub texts: ListOf<Ia5Text>,
-    pub lists: SetOf<ListOf<Limited<VisibleText, LeavesListsLimits>>>,
-    pub id: ObjectIdentifier,
+    pub down: Limited<Integer, NumbersDownLimits>,
+    pub named: Limited<u8, NumbersNamedLimits>,
 }
 
-type LeavesRow = Required<
+type NumbersRow = Required<
     Context<0>,
     (),
     Required<
         Context<1>,
-        Limited<u16, LeavesTwoLimits>,
+        Limited<u16, NumbersTwoLimits>,
         Required<
             Context<2>,
-            Limited<i16, LeavesWideLimits>,
+            Limited<i16, NumbersWideLimits>,
             Required<
                 Context<3>,
-                Limited<Integer, LeavesLongLimits>,
-                Required<Context<4>, Integer, LeavesFromDown>,
+                Limited<Integer, NumbersLongLimits>,
+                Required<Context<4>, Integer, NumbersFromDown>,
             >,
         >,
     >,
 >;
 
-/// The components of `Leaves` from `down` on.
-type LeavesFromDown = Required<
+/// The components of `Numbers` from `down` on.
+type NumbersFromDown = Required<
     Context<5>,
-    Limited<Integer, LeavesDownLimits>,
-    Required<
-        Context<6>,
-        Limited<u8, LeavesNamedLimits>,
-        Required<
-            Context<7>,
-            Limited<u8, LeavesSingleLimits>,
-            Required<
-                Context<8>,
-                Limited<u8, LeavesGapsLimits>,
-                Required<Context<9>, Limited<u8, LeavesCommonLimits>, LeavesFromLess>,
-            >,
-        >,
-    >,
+    Limited<Integer, NumbersDownLimits>,
+    Required<Context<6>, Limited<u8, NumbersNamedLimits>, End>,
 >;
 
-/// The components of `Leaves` from `less` on.
-type LeavesFromLess = Required<
-    Context<10>,
-    Limited<u8, LeavesLessLimits>,
-    Required<
-        Context<11>,
-        Octets,
-        Required<
-            Context<12>,
-            Limited<Octets, LeavesSizesLimits>,
-            Required<
-                Context<13>,
-                Octets,
-                Required<Context<14>, Limited<PrintableText, LeavesLettersLimits>, LeavesFromText>,
-            >,
-        >,
-    >,
->;
-
-/// The components of `Leaves` from `text` on.
-type LeavesFromText = Required<
-    Context<15>,
-    Utf8Text,
-    Required<
-        Context<16>,
-        ListOf<Ia5Text>,
-        Required<
-            Context<17>,
-            SetOf<ListOf<Limited<VisibleText, LeavesListsLimits>>>,
-            Required<Context<18>, ObjectIdentifier, End>,
-        >,
-    >,
->;
-
-impl Rowed for LeavesComponents {
+impl Rowed for NumbersComponents {
     ghost use Rattle.rasn_oer.specs.Values.{both};
 
-    type Values = <LeavesRow as Components>::Values;
+    type Values = <NumbersRow as Components>::Values;
 
-    ghost EXTENSIBLE = { ⟦<LeavesRow as Components>⟧.EXTENSIBLE };
+    ghost EXTENSIBLE = { ⟦<NumbersRow as Components>⟧.EXTENSIBLE };
 
     const EXTENSIBLE: bool = false;
 
-    ghost row_schema = { ⟦<LeavesRow as Components>⟧.schema };
+    ghost row_schema = { ⟦<NumbersRow as Components>⟧.schema };
 
-    ghost row_is_schema = { ⟦<LeavesRow as Components>⟧.is_schema };
+    ghost row_is_schema = { ⟦<NumbersRow as Components>⟧.is_schema };
 
-    ghost components = { λ v. both v.none (both v.two (both v.wide (both v.long (both v.extensible (both v.down (both v.named (both v.single (both v.gaps (both v.common (both v.less (both v.blob (both v.sizes (both v.content (both v.letters (both v.text (both v.texts (both v.lists (both v.id tt)))))))))))))))))) };
+    ghost components = { λ v. both v.none (both v.two (both v.wide (both v.long (both v.extensible (both v.down (both v.named tt)))))) };
 
     fn from_row(row: Self::Values) -> Self {
-        built![LeavesComponents from row:
+        built![NumbersComponents from row:
             none,
             two,
             wide,
             long,
             extensible,
             down,
-            named,
-            single,
-            gaps,
-            common,
-            less,
-            blob,
-            sizes,
-            content,
-            letters,
-            text,
-            texts,
-            lists,
-            id
+            named
         ]
     }
 }
 
-impl Takes for LeavesComponents {
-    ghost Refuses = { ⟦<LeavesRow as Reads>⟧.Refuses };
+impl Takes for NumbersComponents {
+    ghost Refuses = { ⟦<NumbersRow as Reads>⟧.Refuses };
 
     #[inline(always)]
     fn take(alloc: Global, decoder: &mut Decoder<'_>) -> Result<Self, DecodeError> {
-        read_row::<Self, LeavesRow>(alloc, decoder)
+        read_row::<Self, NumbersRow>(alloc, decoder)
     }
 }
 
-impl Tabled<19, 0> for LeavesComponents {
+impl Tabled<7, 0> for NumbersComponents {
     ghost use Rattle.std.specs.Prelude.{refl};
 
-    const FIELDS: Fields<19> = Fields {
+    const FIELDS: Fields<7> = Fields {
         fields: fields![
             0 Required Context 0 "none",
             1 Required Context 1 "two",
@@ -582,19 +351,7 @@ impl Tabled<19, 0> for LeavesComponents {
             3 Required Context 3 "long",
             4 Required Context 4 "extensible",
             5 Required Context 5 "down",
-            6 Required Context 6 "named",
-            7 Required Context 7 "single",
-            8 Required Context 8 "gaps",
-            9 Required Context 9 "common",
-            10 Required Context 10 "less",
-            11 Required Context 11 "blob",
-            12 Required Context 12 "sizes",
-            13 Required Context 13 "content",
-            14 Required Context 14 "letters",
-            15 Required Context 15 "text",
-            16 Required Context 16 "texts",
-            17 Required Context 17 "lists",
-            18 Required Context 18 "id"
+            6 Required Context 6 "named"
         ],
     };
 
@@ -617,21 +374,202 @@ impl Tabled<19, 0> for LeavesComponents {
             long,
             extensible,
             down,
-            named,
+            named
+        ];
+        NumbersRow::write(&view, encoder)
+    }
+
+    ghost counts = { (refl, refl) };
+}
+
+/// The limits of `RangesSingle`.
+#[derive(Drop)]
+pub enum RangesSingleLimits {}
+
+impl Limits for RangesSingleLimits {
+    ghost use Rattle.std.specs.Prelude.{None, Some, false, negsuc, pos, refl};
+    ghost use Rattle.rasn_oer.specs.Bounded.{Range, Single};
+
+    ghost LIMITS = { record { value = Some (Range (Some (pos 5)) (Some (pos 5)), false); size = None } };
+
+    const LIMITS: Constraints = Constraints {
+        value: Some((
+            Bounded::Range {
+                start: Some(5),
+                end: Some(5),
+            },
+            false,
+        )),
+        size: None,
+    };
+
+    ghost consistent = { refl };
+}
+
+/// The limits of `RangesGaps`.
+#[derive(Drop)]
+pub enum RangesGapsLimits {}
+
+impl Limits for RangesGapsLimits {
+    ghost use Rattle.std.specs.Prelude.{None, Some, false, negsuc, pos, refl};
+    ghost use Rattle.rasn_oer.specs.Bounded.{Range, Single};
+
+    ghost LIMITS = { record { value = Some (Range (Some (pos 1)) (Some (pos 200)), false); size = None } };
+
+    const LIMITS: Constraints = Constraints {
+        value: Some((
+            Bounded::Range {
+                start: Some(1),
+                end: Some(200),
+            },
+            false,
+        )),
+        size: None,
+    };
+
+    ghost consistent = { refl };
+}
+
+/// The limits of `RangesCommon`.
+#[derive(Drop)]
+pub enum RangesCommonLimits {}
+
+impl Limits for RangesCommonLimits {
+    ghost use Rattle.std.specs.Prelude.{None, Some, false, negsuc, pos, refl};
+    ghost use Rattle.rasn_oer.specs.Bounded.{Range, Single};
+
+    ghost LIMITS = { record { value = Some (Range (Some (pos 50)) (Some (pos 100)), false); size = None } };
+
+    const LIMITS: Constraints = Constraints {
+        value: Some((
+            Bounded::Range {
+                start: Some(50),
+                end: Some(100),
+            },
+            false,
+        )),
+        size: None,
+    };
+
+    ghost consistent = { refl };
+}
+
+/// The limits of `RangesLess`.
+#[derive(Drop)]
+pub enum RangesLessLimits {}
+
+impl Limits for RangesLessLimits {
+    ghost use Rattle.std.specs.Prelude.{None, Some, false, negsuc, pos, refl};
+    ghost use Rattle.rasn_oer.specs.Bounded.{Range, Single};
+
+    ghost LIMITS = { record { value = Some (Range (Some (pos 0)) (Some (pos 9)), false); size = None } };
+
+    const LIMITS: Constraints = Constraints {
+        value: Some((
+            Bounded::Range {
+                start: Some(0),
+                end: Some(9),
+            },
+            false,
+        )),
+        size: None,
+    };
+
+    ghost consistent = { refl };
+}
+
+/// `Ranges ::= SEQUENCE { single INTEGER (5), gaps INTEGER (1..3 | 200), common INTEGER (0..300)
+/// (0..100 ^ 50..400), less INTEGER (0..9 EXCEPT 5) }`
+pub type Ranges = Sequence<RangesComponents, 4, 0>;
+
+/// The components of `Ranges`.
+#[derive(Debug, PartialEq, Eq, Drop)]
+pub struct RangesComponents {
+    pub single: Limited<u8, RangesSingleLimits>,
+    pub gaps: Limited<u8, RangesGapsLimits>,
+    pub common: Limited<u8, RangesCommonLimits>,
+    pub less: Limited<u8, RangesLessLimits>,
+}
+
+type RangesRow = Required<
+    Context<0>,
+    Limited<u8, RangesSingleLimits>,
+    Required<
+        Context<1>,
+        Limited<u8, RangesGapsLimits>,
+        Required<
+            Context<2>,
+            Limited<u8, RangesCommonLimits>,
+            Required<Context<3>, Limited<u8, RangesLessLimits>, End>,
+        >,
+    >,
+>;
+
+impl Rowed for RangesComponents {
+    ghost use Rattle.rasn_oer.specs.Values.{both};
+
+    type Values = <RangesRow as Components>::Values;
+
+    ghost EXTENSIBLE = { ⟦<RangesRow as Components>⟧.EXTENSIBLE };
+
+    const EXTENSIBLE: bool = false;
+
+    ghost row_schema = { ⟦<RangesRow as Components>⟧.schema };
+
+    ghost row_is_schema = { ⟦<RangesRow as Components>⟧.is_schema };
+
+    ghost components = { λ v. both v.single (both v.gaps (both v.common (both v.less tt))) };
+
+    fn from_row(row: Self::Values) -> Self {
+        built![RangesComponents from row:
             single,
             gaps,
             common,
-            less,
-            blob,
-            sizes,
-            content,
-            letters,
-            text,
-            texts,
-            lists,
-            id
+            less
+        ]
+    }
+}
+
+impl Takes for RangesComponents {
+    ghost Refuses = { ⟦<RangesRow as Reads>⟧.Refuses };
+
+    #[inline(always)]
+    fn take(alloc: Global, decoder: &mut Decoder<'_>) -> Result<Self, DecodeError> {
+        read_row::<Self, RangesRow>(alloc, decoder)
+    }
+}
+
+impl Tabled<4, 0> for RangesComponents {
+    ghost use Rattle.std.specs.Prelude.{refl};
+
+    const FIELDS: Fields<4> = Fields {
+        fields: fields![
+            0 Required Context 0 "single",
+            1 Required Context 1 "gaps",
+            2 Required Context 2 "common",
+            3 Required Context 3 "less"
+        ],
+    };
+
+    const EXTENDED_FIELDS: Option<Fields<0>> = None;
+
+    fn root_fields() -> &'static [Field<'static>] {
+        Self::FIELDS.fields
+    }
+
+    fn addition_fields() -> &'static [Field<'static>] {
+        rows_of!(Self::EXTENDED_FIELDS)
+    }
+
+    #[inline(always)]
+    fn put(&self, encoder: &mut Encoder<'_>) -> Result<(), EncodeError> {
+        let view = views![self:
+            single,
+            gaps,
+            common,
+            less
         ];
-        LeavesRow::write(&view, encoder)
+        RangesRow::write(&view, encoder)
     }
 
     ghost counts = { (refl, refl) };
