@@ -406,6 +406,7 @@ THROUGH = {
     "decode_sequence": ("defopt", f"c0 {G} {G}"),
     "decode_choice_with": ("Link", f"80 {G} 81 80 01 02 80 ff"),
     "decode_sequence_of_with": ("Bush", f"{G} 01 01 01 ff 01 00"),
+    "decode_set_of_with": ("intset", f"01 02 {G} {G}"),
     "decode_optional_with": ("Node", f"80 {G} 00 01 05 ff 00"),
     "decode_boxed_with": ("Node", f"80 {G} 00 01 05 ff 00"),
     "decode_extension_addition_with": ("Chain", "80 00 02 07 80 02 00 ff"),

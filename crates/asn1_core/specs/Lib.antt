@@ -12,3 +12,4 @@ pub mod NextRow
 pub mod Tables
 pub mod Multisets
 pub mod MultisetLaws
+pub mod formers

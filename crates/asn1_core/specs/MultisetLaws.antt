@@ -1,9 +1,9 @@
--- Equality of multisets is an equivalence, where the equality of their items is one.
+-- Equality of multisets is an equivalence, where the equality of their items is one in part: an item may differ from itself.
 use Rattle.std.specs.Prelude.{◌≡◌, ◌+◌, Bool, true, false, cond, ◌&&◌, ◌==◌, ◌⊎◌, List, [], ◌∷◌, count_by, refl}
 use Rattle.std.specs.Bool.{Decides}
 use Rattle.std.specs.List.{list_all}
 use Rattle.std.specs.Cmp.Lexicographic.{pointwise}
-use Rattle.std.specs.Cmp.{IsEquivalence, IsPartialEquivalence, partial_equiv_from_equiv}
+use Rattle.std.specs.Cmp.{IsEquivalence, IsPartialEquivalence, partial_equiv_from_equiv, per_alike}
 use Rattle.std.proofs.Common.{sym, ◌∙◌, inl, inr}
 use Rattle.std.proofs.lemmas.List.Sums.{sum_by-cons}
 use Rattle.std.proofs.lemmas.Bool.Decides.{same_from_decides, Decides-like, Decides-eqb}
@@ -17,10 +17,10 @@ and-second : (x y : Bool) → (x && y) ≡ true → y ≡ true
 and-second true y e = e
 and-second false y e = cc
 
-module _ {T : Type 0} (eq : T → T → Bool) (o : IsEquivalence eq) where
+module _ {T : Type 0} (eq : T → T → Bool) (o : IsPartialEquivalence eq) where
   -- items that are equal are counted alike
   alike : (z x : T) → eq z x ≡ true → (ys : List T) → count_by (eq z) ys ≡ count_by (eq x) ys
-  alike z x e ys = λ i. count_by (λ y. o.congr z x y e i) ys
+  alike z x e ys = λ i. count_by (λ y. per_alike o z x y e i) ys
 
   -- where some is counted, one of the items equals it, and passes a test that all of them pass
   agreed : (test : T → Bool) (xs : List T) (z : T) → list_all test xs ≡ true → (count_by (eq z) xs ≡ 0) ⊎ ((x : T) × (eq z x ≡ true) × (test x ≡ true))
@@ -77,7 +77,7 @@ module _ {T : Type 0} (eq : T → T → Bool) (o : IsEquivalence eq) where
   pointwise-counts [] (y ∷ ys) h = cc
   pointwise-counts (x ∷ xs) [] h = cc
   pointwise-counts (x ∷ xs) (y ∷ ys) h = λ z.
-      let e = o.symm z x ∙ o.congr x y z (and-first (eq x y) (pointwise eq xs ys) h) ∙ o.symm y z in
+      let e = o.symm z x ∙ per_alike o x y z (and-first (eq x y) (pointwise eq xs ys) h) ∙ o.symm y z in
       let more = pointwise-counts xs ys (and-second (eq x y) (pointwise eq xs ys) h) z in
       sum_by-cons (λ y. cond (eq z y) 1 0) x xs ∙ (λ i. cond (e i) 1 0 + more i) ∙ sym (sum_by-cons (λ y. cond (eq z y) 1 0) y ys)
 

@@ -50,6 +50,6 @@ pub fn fixed_sizes()
 {}
 
 /// `==` of a `SetOf` is equality as multisets: whatever is counted stands in both as often.
-pub fn equal_sets<T: Eq>()
+pub fn equal_sets<T: PartialEq>()
     ensures { (xs ys : List T) → Decides (same_items T.eq xs ys) (AreSameItems T.eq xs ys) }
 {}

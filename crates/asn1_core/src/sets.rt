@@ -69,7 +69,7 @@ impl<T: Drop> SetOf<T> {
     }
 }
 
-impl<T: Eq> PartialEq for SetOf<T> {
+impl<T: PartialEq> PartialEq for SetOf<T> {
     ghost use Rattle.asn1_core.specs.Multisets.{same_items};
     ghost use Rattle.asn1_core.specs.MultisetLaws.{same_items-partial};
 
@@ -82,17 +82,17 @@ impl<T: Eq> PartialEq for SetOf<T> {
         own == others || counts_agree(own, others, own) && counts_agree(own, others, others)
     }
 
-    ghost laws = { same_items-partial T.eq T.Eq.laws };
+    ghost laws = { same_items-partial T.eq T.laws };
 }
 
 impl<T: Eq> Eq for SetOf<T> {
     ghost use Rattle.asn1_core.specs.MultisetLaws.{same_items-equivalence};
 
-    ghost laws = { same_items-equivalence T.eq T.Eq.laws };
+    ghost laws = { same_items-equivalence T.eq T.PartialEq.laws };
 }
 
 /// Whether each of the items equals as many of `own` as of `others`.
-fn counts_agree<T: Eq>(own: &[T], others: &[T], items: &[T]) -> bool
+fn counts_agree<T: PartialEq>(own: &[T], others: &[T], items: &[T]) -> bool
     ensures { result ≡ agree_on T.eq own.now others.now items.now }
 {
     items
@@ -101,7 +101,7 @@ fn counts_agree<T: Eq>(own: &[T], others: &[T], items: &[T]) -> bool
 }
 
 /// How many of the items equal this one.
-fn count_of<T: Eq>(item: &T, items: &[T]) -> usize
+fn count_of<T: PartialEq>(item: &T, items: &[T]) -> usize
     ensures { result ≡ count_by (T.eq item.now) items.now }
 {
     items.iter().filter(|other| *item == **other).count()

@@ -11,6 +11,7 @@ use Rattle.oer_read.proofs.AddedAlso.{adds_also}
 use Rattle.oer_read.proofs.AskedAlso.{asks_also}
 use Rattle.oer_read.proofs.ChoiceLaw.{choice_answers}
 use Rattle.oer_read.proofs.ListSteps.{list_answers}
+use Rattle.oer_read.proofs.UnorderedSteps.{unordered_answers}
 use Rattle.oer_read.specs.Additions.{Adds}
 use Rattle.oer_read.specs.Answers.{BoxAnswers}
 use Rattle.oer_read.specs.Choices.{ChoiceAnswers}
@@ -19,6 +20,7 @@ use Rattle.oer_read.specs.Law.{Promised}
 use Rattle.oer_read.specs.Lists.{ListAnswers}
 use Rattle.oer_read.specs.Scopes.{SequenceRefused, NotOpened, Stopped, NotClosed}
 use Rattle.oer_read.specs.State.{State}
+use Rattle.oer_read.specs.Unordered.{UnorderedAnswers}
 use Rattle.oer_rows.specs.Refusals.{RowRefused, Here, Behind, RowRan, RowAnswers}
 use Rattle.oer_rows.specs.Schema.{Schema}
 
@@ -102,9 +104,12 @@ module _ {K V : Type 0} (schema : Schema V) (extensible : Bool) (row : Refusing 
   abbrev pub of_row : {A : Type 0} → Answering K A
   of_row = record { Answered = λ P s r t. RowAnswers schema extensible (row.Refuses P) s r; also = λ P Q h s r t k. answers_also P Q h s r k }
 
--- ---- a list
+-- ---- lists: one whose order counts, and one whose doesn't
 abbrev pub of_list : {K A L : Type 0} → (L → List A) → Answering K A → Answering K L
 of_list items a = record { Answered = λ P s r t. ListAnswers (a.Answered P) s items r t; also = λ P Q h s r t k. list_answers (a.Answered P) (a.Answered Q) (a.also P Q h) s items r t k.read k.refused }
+
+abbrev pub of_set : {K A : Type 0} → Answering K A → Answering K (List A)
+of_set a = record { Answered = λ P s r t. UnorderedAnswers (a.Answered P) s r t; also = λ P Q h s r t k. unordered_answers (a.Answered P) (a.Answered Q) (a.also P Q h) s r t k.read k.refused }
 
 -- ---- alternatives
 pub alternative_also : {B : Type 0} (tag : Tag) (Did Also : Beside B) (Others More : Tag → State → DecodeError → Type 0) (g : Tag) (s : State) (e : DecodeError) → Follows Did Also → (Others g s e → More g s e) → AlternativeRefused tag Did Others g s e → AlternativeRefused tag Also More g s e

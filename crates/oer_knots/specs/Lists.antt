@@ -1,5 +1,5 @@
--- Lists of values that hold knots: the most that a knot in one of them weighs is `most`, as in a type's own size.
-use Rattle.std.specs.Prelude.{◌≡◌, ℕ, true, List, [], ◌∷◌, refl}
+-- Lists of values that hold knots, whether their order counts or not: the most that a knot in one of them weighs is `most`, as in a type's own size.
+use Rattle.std.specs.Prelude.{◌≡◌, ℕ, Bool, List, [], ◌∷◌, refl}
 use Rattle.std.proofs.Common.{ap, ◌∙◌}
 use denote.Param.Weighed.{most}
 use Rattle.oer_spec.specs.Spelled.{EachValue, trees_of, list_of, list_is, lists_alike}
@@ -7,11 +7,11 @@ use Rattle.oer_spec.specs.Tree.{Tree, Trees, ListOf, More}
 use Rattle.oer_rows.specs.Schema.{Typed}
 use Rattle.oer_knots.specs.Ties.{AgreeTo, agree_less, Ties, le_left, le_right}
 
-module _ {K A B : Type 0} (items : A → List B) (tied : Typed K → Typed B) (part : (K → ℕ) → B → ℕ) where
+module _ {K A B : Type 0} (ordered : Bool) (items : A → List B) (tied : Typed K → Typed B) (part : (K → ℕ) → B → ℕ) where
   abbrev pub list_tied : Typed K → Typed A
-  list_tied of = record { tree = λ v. list_of true (tied of).tree (items v); IsPart = λ v. EachValue (tied of).IsPart (items v) }
+  list_tied of = record { tree = λ v. list_of ordered (tied of).tree (items v); IsPart = λ v. EachValue (tied of).IsPart (items v) }
 
-module _ {K A B : Type 0} (items : A → List B) (tied : Typed K → Typed B) (part : (K → ℕ) → B → ℕ) (b : Ties tied part) where
+module _ {K A B : Type 0} (ordered : Bool) (items : A → List B) (tied : Typed K → Typed B) (part : (K → ℕ) → B → ℕ) (b : Ties tied part) where
   trees_agree : (size : K → ℕ) (of to : Typed K) (vs : List B) → AgreeTo size (most (part size) vs) of to → trees_of (tied of).tree vs ≡ trees_of (tied to).tree vs
   trees_agree size of to [] a = refl
   trees_agree size of to (v ∷ vs) a =
@@ -26,12 +26,12 @@ module _ {K A B : Type 0} (items : A → List B) (tied : Typed K → Typed B) (p
     each_agrees size of to vs (agree_less size _ _ of to (le_right (part size v) (most (part size) vs)) a) j,
   )
 
-  lists_agree : (size : K → ℕ) (of to : Typed K) (vs : List B) → AgreeTo size (most (part size) vs) of to → list_of true (tied of).tree vs ≡ list_of true (tied to).tree vs
+  lists_agree : (size : K → ℕ) (of to : Typed K) (vs : List B) → AgreeTo size (most (part size) vs) of to → list_of ordered (tied of).tree vs ≡ list_of ordered (tied to).tree vs
   unfolding list_of
-  lists_agree size of to vs a = ap (λ (ts : Trees). ListOf true ts) (trees_agree size of to vs a)
+  lists_agree size of to vs a = ap (λ (ts : Trees). ListOf ordered ts) (trees_agree size of to vs a)
 
-  pub list_ties : Ties (list_tied {K = K} items tied part) (λ size v. most (part size) (items v))
+  pub list_ties : Ties (list_tied {K = K} ordered items tied part) (λ size v. most (part size) (items v))
   list_ties = record {
-    is = λ of o. record { is = λ v i. list_is (tied of).tree (tied of).IsPart true (b.is of o).is (items v) i; like = λ v w i j. lists_alike (tied of).tree (tied of).IsPart true (b.is of o).like (items v) (items w) i j };
+    is = λ of o. record { is = λ v i. list_is (tied of).tree (tied of).IsPart ordered (b.is of o).is (items v) i; like = λ v w i j. lists_alike (tied of).tree (tied of).IsPart ordered (b.is of o).like (items v) (items w) i j };
     local = λ size of to v a. record { tree = lists_agree size of to (items v) a; part = each_agrees size of to (items v) a };
   }

@@ -14,6 +14,7 @@ mod rows;
 mod sequences;
 mod sets;
 mod ties;
+mod unordered;
 
 pub use additions::{KnotAdditions, OptionalAdditionKnot, ReadsKnotAdditions};
 pub use cells::{OptionalKnot, RequiredKnot};

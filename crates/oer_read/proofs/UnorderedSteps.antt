@@ -1,5 +1,6 @@
 -- Elements of an unordered list that were read in turn.
-use Rattle.std.proofs.Common.{◌≡◌, ℕ, suc, ◌+◌, true, cond, List, [], ◌∷◌, ◌++◌, length, Result, Ok, refl, sym, ap, ◌∙◌, subst, arith, append_assoc, length-append}
+use Rattle.std.proofs.Common.{◌≡◌, ℕ, suc, ◌+◌, true, cond, List, [], ◌∷◌, ◌++◌, length, Result, Ok, Err, refl, sym, ap, ◌∙◌, subst, arith, append_assoc, length-append}
+use Rattle.std.specs.Result.{IfOk, IfErr}
 use Rattle.asn1_core.specs.Octets.{Octets}
 use Rattle.asn1_core.specs.declared.error.DecodeError.{DecodeError}
 use Rattle.oer_spec.proofs.Skips.{is_nil}
@@ -8,7 +9,7 @@ use Rattle.oer_spec.specs.Orders.{octets_le, Ascends}
 use Rattle.oer_read.specs.Law.{IsRear}
 use Rattle.oer_read.specs.Lists.{lent_element, count_empty}
 use Rattle.oer_read.specs.State.{State}
-use Rattle.oer_read.specs.Unordered.{last_of, TookEach, SoFar, NextRead}
+use Rattle.oer_read.specs.Unordered.{last_of, TookEach, SoFar, NextRead, NextRefused, ElementRefused, TooManyEmpty, OutOfOrder, UnorderedRead, ElementsStopped, AtNext, NoMemory, UnorderedRefused, NotOpened, Stopped, UnorderedAnswers}
 use Rattle.oer_read.proofs.ListLaw.{count_is}
 
 -- ---- one element without octets more
@@ -66,3 +67,37 @@ module _ {A : Type 0} (Ran : State → Result A DecodeError → State → Type 0
       record { front = o ++ k.front; split = e.2 ∙ ap (λ (z : Octets). o ++ z) k.split ∙ sym (append_assoc o k.front q) }
   took_rear r [] (o ∷ os) q e = absurd e
   took_rear r (v ∷ vs) [] q e = absurd e
+
+-- ---- what a closure did, by what it promises of it
+module _ {A : Type 0} (Ran Says : State → Result A DecodeError → State → Type 0) (tells : (s : State) (r : Result A DecodeError) (t : State) → Ran s r t → Says s r t) (old : State) where
+  each_tells : (r : Octets) (vs : List A) (os : List Octets) (q : Octets) → TookEach Ran old r vs os q → TookEach Says old r vs os q
+  each_tells r [] [] q e = e
+  each_tells r (v ∷ vs) (o ∷ os) q e = (e.0, tells (lent_element old r) (Ok v) e.0 e.1, e.2, each_tells e.0.input vs os q e.3)
+  each_tells r [] (o ∷ os) q e = absurd e
+  each_tells r (v ∷ vs) [] q e = absurd e
+
+  so_far_tells : (r : Octets) (vs : List A) (os : List Octets) (q : Octets) → SoFar Ran old r vs os q → SoFar Says old r vs os q
+  so_far_tells r vs os q s = record { took = each_tells r vs os q s.took; few = s.few; ordered = s.ordered }
+
+  next_tells : (n : ℕ) (last q : Octets) (v : A) (o p : Octets) (m : ℕ) → NextRead Ran old n last q v o p m → NextRead Says old n last q v o p m
+  next_tells n last q v o p m k = record { after = k.after; ran = tells (lent_element old q) (Ok v) k.after k.ran; split = k.split; left = k.left; counted = k.counted; few = k.few; ordered = k.ordered }
+
+  next_refused_tells : (n : ℕ) (last q : Octets) (e : DecodeError) → NextRefused Ran old n last q e → NextRefused Says old n last q e
+  next_refused_tells n last q e (ElementRefused after bad) = ElementRefused after (tells (lent_element old q) (Err e) after bad)
+  next_refused_tells n last q e (TooManyEmpty v after good none full is) = TooManyEmpty v after (tells (lent_element old q) (Ok v) after good) none full is
+  next_refused_tells n last q e (OutOfOrder v after o good split few codec less is) = OutOfOrder v after o (tells (lent_element old q) (Ok v) after good) split few codec less is
+
+  read_tells : (vs : List A) (new : State) → UnorderedRead Ran old vs new → UnorderedRead Says old vs new
+  read_tells vs new k = record { rest = k.rest; opened = k.opened; elements = k.elements; end = k.end; so_far = so_far_tells k.rest vs k.elements k.end k.so_far; left = k.left; octets = k.octets }
+
+  stopped_tells : (n : ℕ) (rest : Octets) (e : DecodeError) → ElementsStopped Ran old n rest e → ElementsStopped Says old n rest e
+  stopped_tells n rest e (AtNext before os end more s bad) = AtNext before os end more (so_far_tells rest before os end s) (next_refused_tells (empties os) (last_of os) end e bad)
+  stopped_tells n rest e (NoMemory before os end v o left m more s good want) = NoMemory before os end v o left m more (so_far_tells rest before os end s) (next_tells (empties os) (last_of os) end v o left m good) want
+
+  refused_tells : (e : DecodeError) → UnorderedRefused Ran old e → UnorderedRefused Says old e
+  refused_tells e (NotOpened x c) = NotOpened x c
+  refused_tells e (Stopped n rest x s) = Stopped n rest x (stopped_tells n rest e s)
+
+  pub unordered_answers : (result : Result (List A) DecodeError) (new : State) → IfOk result (λ vs. UnorderedRead Ran old vs new) → IfErr result (λ e. UnorderedRefused Ran old e) → UnorderedAnswers Says old result new
+  unordered_answers (Ok vs) new k e = record { read = read_tells vs new k; refused = tt }
+  unordered_answers (Err x) new k e = record { read = tt; refused = refused_tells x e }

@@ -48,6 +48,21 @@ module _ {A : Type 0} (Ran : State → Result A DecodeError → State → Type 0
     OutOfOrder : (v : A) (after : State) (o : Octets) → Ran (lent_element old q) (Ok v) after → q ≡ o ++ after.input → n + empties (o ∷ []) ≤ 65536 → old.codec ≡ Coer → octets_le last o ≡ false
         → e ≡ record { kind = NotValidCanonicalEncoding; codec = old.codec } → NextRefused n last q e
 
+  -- What a list of n elements lends for one: a decoder of what fewer before it left.
+  pub record Lends (n : ℕ) (rest end : Octets) : Type 0 where
+    pub before : List A
+    pub elements : List Octets
+    pub so_far : SoFar rest before elements end
+    pub more : length before < n
+
+  -- the same, where the list is at the front
+  pub record UnorderedLends (end : Octets) : Type 0 where
+    pub quantity : ℕ
+    pub rest : Octets
+    pub opened : list_opened_at old ≡ Ok (quantity, rest)
+    pub lends : Lends quantity rest end
+    pub level : 0 < old.levels
+
   -- As many elements as stated were read, and what is left is what the last left.
   pub record UnorderedRead (vs : List A) (new : State) : Type 0 where
     pub rest : Octets

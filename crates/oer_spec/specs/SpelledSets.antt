@@ -1,7 +1,7 @@
 -- Lists whose order doesn't count are equal exactly where their trees are same.
 use Rattle.std.specs.Prelude.{◌≡◌, ℕ, ◌+◌, ◌≤◌, Bool, true, false, cond, List, [], ◌∷◌, count_by, refl}
 use Rattle.std.specs.Bool.{Decides}
-use Rattle.std.specs.Cmp.{IsEquivalence}
+use Rattle.std.specs.Cmp.{IsEquivalence, partial_equiv_from_equiv}
 use Rattle.std.proofs.Common.{ap, ap₂, sym, subst, ◌∙◌, inl, inr, arith}
 use Rattle.std.proofs.lemmas.List.Sums.{sum_by-cons}
 use Rattle.asn1_core.specs.Multisets.{same_items, AreSameItems}
@@ -114,5 +114,5 @@ module _ {A : Type 0} (tree : A → Tree) (IsValue : A → Type 0) (eq : A → A
   pub unordered_same : (xs ys : List A) → EachValue IsValue xs → EachValue IsValue ys → Decides (same_items eq xs ys) (Same (list_of false tree xs) (list_of false tree ys))
   unfolding list_of Rattle.oer_spec.specs.Same.Same
   unordered_same xs ys i j =
-      let d = same_items-decides eq o xs ys in
+      let d = same_items-decides eq (partial_equiv_from_equiv o) xs ys in
       (λ e. reordered xs ys i j (d.0 e), λ s. d.1 (counted xs ys i j s))

@@ -124,8 +124,8 @@ fn rank_of(definition: &Definition<'_>) -> Option<u8> {
         Body::Sequence(_) => Some(0),
         Body::Set(_) => Some(1),
         Body::Choice(_) => Some(2),
-        Body::SequenceOf(_) => Some(3),
-        Body::SetOf(_) | Body::Reference(_) | Body::Enumerated(_, _) => None,
+        Body::SequenceOf(_) | Body::SetOf(_) => Some(3),
+        Body::Reference(_) | Body::Enumerated(_, _) => None,
         Body::Simple(_) | Body::Integer(_) | Body::BitString(_) => None,
     }
 }

@@ -3,25 +3,9 @@
 use oergen_layouts::definitions::{Cycle, Definition, Part, Tie};
 use oergen_layouts::rows::{Position, Row};
 use oergen_layouts::scope::Scope;
-use oergen_parse::ast::{Body, Need, Type};
+use oergen_parse::ast::{Body, Need};
 use oergen_parse::refusal::Refusal;
 use std::alloc::Global;
-
-/// How many lists may stand inside one another.
-const MAX_LISTS: usize = 64;
-
-/// Whether one of the lists around a type is a SET OF.
-fn is_in_set_of(start: &Type) -> bool {
-    let mut of = start;
-    for _ in 0..MAX_LISTS {
-        match of.body.list() {
-            Some((element, false)) => of = element,
-            Some((_, true)) => return true,
-            None => return false,
-        }
-    }
-    false
-}
 
 /// Whether an addition that leads back into its cycle is printed: it and those in front of it are OPTIONAL, and none is in a group.
 fn is_printed_addition(definition: &Definition<'_>, row: Row<'_>) -> bool {
@@ -42,8 +26,8 @@ fn is_printed_addition(definition: &Definition<'_>, row: Row<'_>) -> bool {
     false
 }
 
-/// What can be read in the place of a component that leads back into its cycle; nothing where it is printed.
-fn unprinted_row(definition: &Definition<'_>, part: &Part<'_>) -> Option<&'static str> {
+/// What can be read in the place of a part that leads back into its cycle; nothing where it is printed.
+fn unprinted(definition: &Definition<'_>, part: &Part<'_>) -> Option<&'static str> {
     let Some(row) = part.row else {
         return None;
     };
@@ -57,19 +41,6 @@ fn unprinted_row(definition: &Definition<'_>, part: &Part<'_>) -> Option<&'stati
         )
     } else {
         None
-    }
-}
-
-/// What can be read in the place of a part that leads back into its cycle; nothing where it is printed.
-fn unprinted(definition: &Definition<'_>, part: &Part<'_>) -> Option<&'static str> {
-    let whole = match part.row {
-        Some(row) => row.of,
-        None => definition.of,
-    };
-    if is_in_set_of(whole) {
-        Some("a type that doesn't contain itself through a SET OF: others aren't printed yet")
-    } else {
-        unprinted_row(definition, part)
     }
 }
 

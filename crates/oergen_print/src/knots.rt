@@ -53,7 +53,7 @@ pub fn push_knot(alloc: Global, out: &mut Text, definition: &Definition<'_>) {
     let mut words = owner_words(alloc, "", definition.rust_name.as_str(), None);
     let (tag, is_choice) = match definition.of.body {
         Body::Choice(_) => ("EOC", IS_CHOICE),
-        Body::Set(_) => ("SET", ""),
+        Body::Set(_) | Body::SetOf(_) => ("SET", ""),
         _ => ("SEQUENCE", ""),
     };
     words.put("TAG", tag);

@@ -1,9 +1,14 @@
 //! Octets by hand from X.696, of types that contain themselves.
 
 use crate::own_types::agrees;
-use example_recursive::{BodyAlternatives, Envelope, EnvelopeComponents, Tree, TreeComponents};
+use asn1_core::DecodeErrorKind;
+use example_recursive::{
+    Bag, BodyAlternatives, Envelope, EnvelopeComponents, Group, GroupComponents, Tree, TreeComponents,
+};
 use oer_types::{Chain, ChainComponents, Node, NodeComponents};
+use rasn_oer::oer::de::DecoderOptions;
 use rasn_oer::prelude::*;
+use rasn_oer::{coer, oer};
 use std::alloc::Global;
 use std::test::Fail;
 
@@ -115,5 +120,116 @@ fn chains_are_written_and_read(rt: HostRuntime) -> Result<(), Fail> {
         0x80, 0xFF, 0x02, 0x07, 0x80, 0x08, 0x80, 0x00, 0x02, 0x07, 0x80, 0x02, 0x00, 0xFF,
     ];
     assert!(rt; agrees(alloc, &three, &octets)?);
+    Ok(())
+}
+
+fn group(number: u8, members: Vec<Bare<Group>>, guests: Option<SetOf<Bare<Group>>>) -> Group {
+    Group(Sequence(GroupComponents {
+        number,
+        members: SetOf::from_vec(members),
+        guests,
+    }))
+}
+
+/// A group of two groups, of which the first or the second stands first.
+fn pair(alloc: Global, is_turned: bool) -> Result<Group, Fail> {
+    let inner = group(4, Vec::new(alloc), None);
+    let outer = group(2, vec![in alloc; Bare(inner)]?, None);
+    let alone = group(2, Vec::new(alloc), None);
+    let mut members = Vec::new(alloc);
+    if is_turned {
+        members.push(Bare(outer))?;
+        members.push(Bare(alone))?;
+    } else {
+        members.push(Bare(alone))?;
+        members.push(Bare(outer))?;
+    }
+    Ok(group(1, members, None))
+}
+
+/// Why the octets aren't read within so many levels, if they aren't.
+fn why_unread<T: Decode>(
+    alloc: Global,
+    options: DecoderOptions,
+    octets: &[u8],
+) -> Option<DecodeErrorKind> {
+    match oer::decode_with_options::<T>(alloc, options, octets) {
+        Ok(_) => None,
+        Err(e) => Some(e.kind),
+    }
+}
+
+/// `pair`: no guests, 1, and two members: 2 without members, 2 with a member 4.
+const PAIR: &[u8] = &[
+    0x00, 0x01, 0x01, 0x02, 0x00, 0x02, 0x01, 0x00, 0x00, 0x02, 0x01, 0x01, 0x00, 0x04, 0x01, 0x00,
+];
+
+/// The same members the other way round.
+const TURNED_PAIR: &[u8] = &[
+    0x00, 0x01, 0x01, 0x02, 0x00, 0x02, 0x01, 0x01, 0x00, 0x04, 0x01, 0x00, 0x00, 0x02, 0x01, 0x00,
+];
+
+#[test]
+fn groups_are_written_and_read(rt: HostRuntime) -> Result<(), Fail> {
+    let alloc = rt.alloc();
+    let alone = group(5, Vec::new(alloc), None);
+    assert!(rt; agrees(alloc, &alone, &[0x00, 0x05, 0x01, 0x00])?);
+    let guest = vec![in alloc; Bare(alone)]?;
+    let hosts = group(6, Vec::new(alloc), Some(SetOf::from_vec(guest)));
+    let octets = [
+        0x80, 0x06, 0x01, 0x00, 0x01, 0x01, 0x00, 0x05, 0x01, 0x00,
+    ];
+    assert!(rt; agrees(alloc, &hosts, &octets)?);
+    assert!(rt; agrees(alloc, &pair(alloc, false)?, PAIR)?);
+    assert!(rt; agrees(alloc, &pair(alloc, true)?, PAIR)?);
+    Ok(())
+}
+
+#[test]
+fn groups_are_read_in_any_order_leniently(rt: HostRuntime) -> Result<(), Fail> {
+    let alloc = rt.alloc();
+    let lenient: Group = oer::decode(alloc, TURNED_PAIR)?;
+    assert!(rt; lenient == pair(alloc, false)?);
+    assert_eq!(rt; coer::encode(alloc, &lenient)?.as_slice(), PAIR);
+    assert!(rt;
+        why_unread::<Group>(alloc, DecoderOptions::coer(), TURNED_PAIR)
+            == Some(DecodeErrorKind::NotValidCanonicalEncoding)
+    );
+    Ok(())
+}
+
+#[test]
+fn groups_are_read_within_their_levels(rt: HostRuntime) -> Result<(), Fail> {
+    let alloc = rt.alloc();
+    let six = DecoderOptions::coer().with_depth(6).ok_or("six levels")?;
+    assert!(rt; why_unread::<Group>(alloc, six, PAIR).is_none());
+    let five = DecoderOptions::coer().with_depth(5).ok_or("five levels")?;
+    assert!(rt;
+        why_unread::<Group>(alloc, five, PAIR) == Some(DecodeErrorKind::ExceedsMaxParseDepth)
+    );
+    Ok(())
+}
+
+/// A bag of a bag of an empty one, and of an empty one.
+fn bags(alloc: Global) -> Result<Bag, Fail> {
+    let inner = Bag(SetOf::from_vec(vec![in alloc; Bare(Bag(SetOf::from_vec(Vec::new(alloc))))]?));
+    let mut both = Vec::new(alloc);
+    both.push(Bare(inner))?;
+    both.push(Bare(Bag(SetOf::from_vec(Vec::new(alloc)))))?;
+    Ok(Bag(SetOf::from_vec(both)))
+}
+
+#[test]
+fn bags_are_written_and_read(rt: HostRuntime) -> Result<(), Fail> {
+    let alloc = rt.alloc();
+    let whole = bags(alloc)?;
+    assert!(rt; agrees(alloc, &whole, &[0x01, 0x02, 0x01, 0x00, 0x01, 0x01, 0x01, 0x00])?);
+    let turned = [0x01, 0x02, 0x01, 0x01, 0x01, 0x00, 0x01, 0x00];
+    let lenient: Bag = oer::decode(alloc, &turned)?;
+    assert!(rt; lenient == whole);
+    assert!(rt;
+        why_unread::<Bag>(alloc, DecoderOptions::coer(), &turned)
+            == Some(DecodeErrorKind::NotValidCanonicalEncoding)
+    );
     Ok(())
 }

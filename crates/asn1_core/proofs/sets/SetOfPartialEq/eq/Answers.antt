@@ -9,4 +9,4 @@ returns-then-eq g c =
     let own = sym (c.as_slice-own.ensures.value ∙ c.self.view_is) in
     let others = sym (c.as_slice-others.ensures.value ∙ c.other.view_is) in
     let same = (λ i. pointwise eq (own i) (others i)) ∙ sym c.eq.ensures ∙ c.if-eq.true in
-    c.if-eq.true ∙ sym (pointwise-same_items eq g.met.T.Eq.laws c.args.self.now c.args.other.now same)
+    c.if-eq.true ∙ sym (pointwise-same_items eq g.met.T.PartialEq.laws c.args.self.now c.args.other.now same)
