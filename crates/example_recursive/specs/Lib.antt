@@ -2,3 +2,5 @@ pub mod NodeWeights
 pub mod EnvelopeWeights
 pub mod TreeWeights
 pub mod NestWeights
+pub mod GroupWeights
+pub mod BagWeights

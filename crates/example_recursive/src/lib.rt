@@ -3,12 +3,16 @@
 
 mod types_01;
 mod types_02;
+mod types_03;
 
 pub use types_01::{
     Body, BodyAlternatives, BodyContent, Envelope, EnvelopeComponents, EnvelopeContent, Node,
     NodeComponents, NodeContent, Serial,
 };
 pub use types_02::{
-    Forest, ForestContent, Nest, NestContent, Post, PostComponents, State, StateValues, Tree,
-    TreeComponents, TreeContent, Way, WayAlternatives,
+    Forest, ForestContent, Group, GroupComponents, GroupContent, Nest, NestContent, Tree,
+    TreeComponents, TreeContent,
+};
+pub use types_03::{
+    Bag, BagContent, Post, PostComponents, State, StateValues, Way, WayAlternatives,
 };

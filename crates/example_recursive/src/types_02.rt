@@ -3,10 +3,8 @@ ghost use Rattle.std.specs.Prelude.{OnOk, IfErr};
 ghost use Rattle.oer_write.specs.Written.{Encodes, Refused};
 ghost use Rattle.asn1_core.specs.declared.constraints.TheConstants.Constraints.{NONE};
 
-use crate::{Body, Envelope};
-use oer_kept::{KeptChoice, KeptEnumeration};
 use rasn_oer::prelude::*;
-use std::alloc::{AllocError, Global};
+use std::alloc::Global;
 
 /// `Forest ::= SEQUENCE OF Tree`
 pub type Forest = ForestContent<Tree>;
@@ -331,217 +329,216 @@ impl Decode for Nest {
     }
 }
 
-/// `State ::= ENUMERATED { sent, read, ..., lost }`
-pub type State = KeptEnumeration<StateValues>;
-
-/// The values of `State`.
-#[derive(Debug, Clone, Copy, PartialEq, Eq)]
-pub enum StateValues {
-    Sent = 0,
-    Read = 1,
-    Lost = 2,
-}
-
-impl Numbered for StateValues {
-    ghost use Rattle.std.specs.Prelude.{pos, negsuc, [], ◌∷◌, refl};
-    ghost use Rattle.example_recursive.specs.declared.types_02.StateValues.TheVariants.{Sent, Read, Lost};
-
-    ghost number = { elim [ Sent ↦ (pos 0) | Read ↦ (pos 1) | Lost ↦ (pos 2) ] };
-
-    ghost values = { Sent ∷ Read ∷ Lost ∷ [] };
-
-    ghost listed = { elim [ Sent ↦ (refl, refl) | Read ↦ (refl, refl) | Lost ↦ (refl, refl) ] };
-
-    fn number(self) -> isize {
-        self as isize
-    }
-
-    fn values() -> &'static [StateValues] {
-        &[StateValues::Sent, StateValues::Read, StateValues::Lost]
-    }
-}
-
-/// `Way ::= CHOICE { road NULL, air INTEGER (0..255), ..., sea State }`
-pub type Way = KeptChoice<WayAlternatives>;
-
-/// The alternatives of `Way`.
-#[derive(Debug, PartialEq, Eq, Drop)]
-pub enum WayAlternatives {
-    Road(()),
-    Air(u8),
-    Sea(State),
-}
-
-type WayRow = Alternative<Context<0>, (), Alternative<Context<1>, u8, Extensible<WayAdditions>>>;
-
-type WayAdditions = Alternative<Context<2>, State, End>;
-
-const WAY_ROOTS: &'static [Tag] = tags![Context 0, Context 1];
-
-const WAY_ADDITIONS: &'static [Tag] = tags![Context 2];
-
-impl Alternating for WayAlternatives {
-    ghost use Rattle.std.specs.Prelude.{refl};
-    ghost use Rattle.rasn_oer.specs.Alternative.{First, Rest};
-    ghost use Rattle.example_recursive.specs.declared.types_02.WayAlternatives.TheVariants.{Road, Air, Sea};
-
-    type Values = <WayRow as Alternatives>::Values;
-
-    ghost row_choices = { ⟦<WayRow as Alternatives>⟧.choices };
-
-    ghost row_are_choices = { ⟦<WayRow as Alternatives>⟧.are_choices };
-
-    ghost alternative = { elim [ Road held ↦ First held | Air held ↦ Rest (First held) | Sea held ↦ Rest (Rest (First held)) ] };
-
-    const VARIANTS: &'static [Tag] = WAY_ROOTS;
-
-    const EXTENDED_VARIANTS: Option<&'static [Tag]> = Some(WAY_ADDITIONS);
-
-    fn root_tags() -> &'static [Tag] {
-        Self::VARIANTS
-    }
-
-    fn addition_tags() -> Option<&'static [Tag]> {
-        Self::EXTENDED_VARIANTS
-    }
-
-    fn from_alternative(value: Self::Values) -> Self {
-        from_row!(value => WayAlternatives: Road, Air, Sea)
-    }
-
-    #[inline(always)]
-    fn put<E: Choice>(&self, encoder: &mut Encoder<'_>) -> Result<(), EncodeError> {
-        let view = to_row!(self => WayAlternatives: Road, Air, Sea);
-        WayRow::write_alternative::<E>(&view, encoder)
-    }
-
-    ghost apart = { refl };
-}
-
-impl TakesAlternative for WayAlternatives {
-    ghost Refuses = { ⟦<WayRow as ReadsAlternatives>⟧.Refuses };
-
-    fn take<D: Choice>(
-        alloc: Global,
-        decoder: &mut Decoder<'_>,
-        tag: Tag,
-    ) -> Result<Self, DecodeError> {
-        read_alternative::<Self, WayRow, D>(alloc, decoder, tag)
-    }
-}
-
-/// The default sent of `PostState`.
-pub struct PostStateDefault;
-
-impl DefaultValue<State> for PostStateDefault {
-    ghost use Rattle.example_recursive.specs.declared.types_02.StateValues.TheVariants.{Sent};
-    ghost use Rattle.std.specs.Prelude.{refl};
-    ghost use Rattle.oer_kept.specs.declared.enumerations.KeptEnumeration.TheVariants.{Known};
-
-    ghost value = { Known Sent };
-
-    fn value(_alloc: Global) -> Result<State, AllocError> {
-        Ok(KeptEnumeration::Known(StateValues::Sent))
-    }
-
-    fn is_value(other: &State) -> bool {
-        *other == KeptEnumeration::Known(StateValues::Sent)
-    }
-
-    ghost admitted = { (refl, refl) };
-}
-
-/// Beside a cycle. Newer versions may have other states and ways.
+/// A set of itself, in whatever order.
 ///
-/// `Post ::= SEQUENCE { letter Envelope, answer Body OPTIONAL, state State DEFAULT sent, way Way OPTIONAL
-/// }`
-pub type Post = Sequence<PostComponents, 4, 0>;
-
-/// The components of `Post`.
+/// `Group ::= SEQUENCE { number INTEGER (0..255), members SET OF Group, guests SET OF Group OPTIONAL }`
 #[derive(Debug, PartialEq, Eq, Drop)]
-pub struct PostComponents {
-    pub letter: Envelope,
-    pub answer: Option<Body>,
-    pub state: State,
-    pub way: Option<Way>,
+pub struct Group(pub GroupContent<Group>);
+
+/// What a `Group` holds.
+pub type GroupContent<K> = Sequence<GroupComponents<K>, 3, 0>;
+
+/// The components of `Group`.
+#[derive(Debug, PartialEq, Eq, Drop)]
+pub struct GroupComponents<K> {
+    pub number: u8,
+    pub members: SetOf<Bare<K>>,
+    pub guests: Option<SetOf<Bare<K>>>,
 }
 
-type PostRow = Required<
+type GroupRow<K> = Required<
     Context<0>,
-    Envelope,
-    Optional<
-        Context<1>,
-        Body,
-        Defaulted<Context<2>, State, PostStateDefault, Optional<Context<3>, Way, End>>,
-    >,
+    u8,
+    RequiredKnot<Context<1>, SetOf<Bare<K>>, OptionalKnot<Context<2>, SetOf<Bare<K>>, End>>,
 >;
 
-impl Rowed for PostComponents {
+impl<K> KnotRowed<K> for GroupComponents<K> {
     ghost use Rattle.rasn_oer.specs.Values.{both};
 
-    type Values = <PostRow as Components>::Values;
+    type KnotValues = <GroupRow<K> as KnotRow<K>>::Values;
 
-    ghost EXTENSIBLE = { ⟦<PostRow as Components>⟧.EXTENSIBLE };
+    ghost extended = { ⟦<GroupRow<K> as KnotRow<K>>⟧.EXTENSIBLE };
+
+    ghost knot_schema = { ⟦<GroupRow<K> as KnotRow<K>>⟧.schema };
+
+    ghost knot_weight = { ⟦<GroupRow<K> as KnotRow<K>>⟧.weight };
+
+    ghost knot_ties = { ⟦<GroupRow<K> as KnotRow<K>>⟧.ties };
+
+    ghost knot_components = { λ v. both v.number (both v.members (both v.guests tt)) };
+}
+
+impl<K: Encode> TakesKnot<K> for GroupComponents<K> {
+    ghost refusing = { ⟦<GroupRow<K> as ReadsKnot<K>>⟧.refusing };
+
+    fn take_knot<F: Fn(&mut Decoder<'_>) -> Result<K, DecodeError>>(
+        alloc: Global,
+        decoder: &mut Decoder<'_>,
+        knot: &F,
+    ) -> Result<Self, DecodeError> {
+        read_knot_row::<K, Self, GroupRow<K>, F>(alloc, decoder, knot)
+    }
+}
+
+impl<K: Encode> Rowed for GroupComponents<K> {
+    ghost use Rattle.rasn_oer.specs.Values.{both};
+
+    type Values = <GroupRow<K> as Components>::Values;
+
+    ghost EXTENSIBLE = { ⟦<GroupRow<K> as Components>⟧.EXTENSIBLE };
 
     const EXTENSIBLE: bool = false;
 
-    ghost row_schema = { ⟦<PostRow as Components>⟧.schema };
+    ghost row_schema = { ⟦<GroupRow<K> as Components>⟧.schema };
 
-    ghost row_is_schema = { ⟦<PostRow as Components>⟧.is_schema };
+    ghost row_is_schema = { ⟦<GroupRow<K> as Components>⟧.is_schema };
 
-    ghost components = { λ v. both v.letter (both v.answer (both v.state (both v.way tt))) };
+    ghost components = { λ v. both v.number (both v.members (both v.guests tt)) };
 
     fn from_row(row: Self::Values) -> Self {
-        built![PostComponents from row:
-            letter,
-            answer,
-            state,
-            way
+        built![GroupComponents from row:
+            number,
+            members,
+            guests
         ]
     }
 }
 
-impl Takes for PostComponents {
-    ghost Refuses = { ⟦<PostRow as Reads>⟧.Refuses };
+impl<K: Encode + Decode> Takes for GroupComponents<K> {
+    ghost Refuses = { ⟦<GroupRow<K> as Reads>⟧.Refuses };
 
     #[inline(always)]
     fn take(alloc: Global, decoder: &mut Decoder<'_>) -> Result<Self, DecodeError> {
-        read_row::<Self, PostRow>(alloc, decoder)
+        read_row::<Self, GroupRow<K>>(alloc, decoder)
     }
 }
 
-impl Tabled<4, 0> for PostComponents {
+const GROUP_COMPONENTS: &'static [Field<'static>] = fields![
+    0 Required Context 0 "number",
+    1 Required Context 1 "members",
+    2 Optional Context 2 "guests"
+];
+
+impl<K: Encode> Tabled<3, 0> for GroupComponents<K> {
     ghost use Rattle.std.specs.Prelude.{refl};
 
-    const FIELDS: Fields<4> = Fields {
-        fields: fields![
-            0 Required Context 0 "letter",
-            1 Optional Context 1 "answer",
-            2 Default Context 2 "state",
-            3 Optional Context 3 "way"
-        ],
+    const FIELDS: Fields<3> = Fields {
+        fields: GROUP_COMPONENTS,
     };
 
     const EXTENDED_FIELDS: Option<Fields<0>> = None;
 
     fn root_fields() -> &'static [Field<'static>] {
-        Self::FIELDS.fields
+        GROUP_COMPONENTS
     }
 
     fn addition_fields() -> &'static [Field<'static>] {
-        rows_of!(Self::EXTENDED_FIELDS)
+        &[]
     }
 
     #[inline(always)]
     fn put(&self, encoder: &mut Encoder<'_>) -> Result<(), EncodeError> {
         let view = views![self:
-            letter,
-            answer,
-            state,
-            way
+            number,
+            members,
+            guests
         ];
-        PostRow::write(&view, encoder)
+        GroupRow::<K>::write(&view, encoder)
     }
 
     ghost counts = { (refl, refl) };
+}
+
+impl AsnType for Group {
+    ghost use Rattle.std.specs.Prelude.{refl};
+    ghost use Rattle.asn1_core.specs.declared.tag.TheConstants.Tag.{SEQUENCE};
+    ghost use Rattle.asn1_core.specs.declared.constraints.TheConstants.Constraints.{NONE};
+
+    ghost TAG = { SEQUENCE };
+
+    const TAG: Tag = Tag::SEQUENCE;
+
+    ghost CONSTRAINTS = { NONE };
+
+    const CONSTRAINTS: Constraints = Constraints::NONE;
+
+    ghost consistent = { refl };
+}
+
+impl Spelled for Group {
+    ghost use Rattle.rasn_oer.specs.Knots.{knot_tree, IsKnot, knot_typed};
+    ghost use Rattle.example_recursive.specs.GroupWeights.{group_smaller};
+    ghost use Rattle.example_recursive.specs.declared.types_02.Group.{out-Group, size-Group};
+
+    ghost tree = { λ c v. knot_tree size-Group (λ v. (out-Group v).0) ⟦<GroupContent<Group> as HoldsKnot<Group>>⟧.tied v };
+
+    ghost IsValue = { IsKnot size-Group (λ v. (out-Group v).0) ⟦<GroupContent<Group> as HoldsKnot<Group>>⟧.tied };
+
+    ghost is_tree = { λ c k v i. (knot_typed size-Group (λ v. (out-Group v).0) ⟦<GroupContent<Group> as HoldsKnot<Group>>⟧.tied ⟦<GroupContent<Group> as HoldsKnot<Group>>⟧.weight (record { ties = ⟦<GroupContent<Group> as HoldsKnot<Group>>⟧.ties; smaller = group_smaller })).is v i };
+
+    ghost alike = { λ c k v w i j. (knot_typed size-Group (λ v. (out-Group v).0) ⟦<GroupContent<Group> as HoldsKnot<Group>>⟧.tied ⟦<GroupContent<Group> as HoldsKnot<Group>>⟧.weight (record { ties = ⟦<GroupContent<Group> as HoldsKnot<Group>>⟧.ties; smaller = group_smaller })).like v w i j };
+}
+
+impl Layered for Group {
+    ghost use Rattle.rasn_oer.specs.Knots.{knot, knot_layers, layer};
+    ghost use Rattle.example_recursive.specs.GroupWeights.{group_smaller};
+    ghost use Rattle.example_recursive.specs.declared.types_02.Group.{out-Group, size-Group};
+
+    ghost inner = { layer size-Group (λ v. (out-Group v).0) ⟦<GroupContent<Group> as HoldsKnot<Group>>⟧.tied (knot size-Group (λ v. (out-Group v).0) ⟦<GroupContent<Group> as HoldsKnot<Group>>⟧.tied) };
+
+    ghost layers = { knot_layers size-Group (λ v. (out-Group v).0) ⟦<GroupContent<Group> as HoldsKnot<Group>>⟧.tied ⟦<GroupContent<Group> as HoldsKnot<Group>>⟧.weight (record { ties = ⟦<GroupContent<Group> as HoldsKnot<Group>>⟧.ties; smaller = group_smaller }) };
+}
+
+/// Writes what a `Group` holds.
+fn encode_group<K: Encode>(
+    inner: &GroupContent<K>,
+    encoder: &mut Encoder<'_>,
+    tag: Tag,
+) -> Result<(), EncodeError>
+    ensures done { OnOk result (Encodes (⟦<GroupContent<K> as Spelled>⟧.tree NONE inner.now) encoder.old encoder.new) }
+    ensures value { OnOk result (⟦<GroupContent<K> as Spelled>⟧.IsValue inner.now) }
+    ensures refused { IfErr result (λ x. Refused (⟦<GroupContent<K> as Spelled>⟧.tree NONE inner.now) x encoder.old encoder.new) }
+{
+    inner.encode_with_tag(encoder, tag)
+}
+
+impl Encode for Group {
+    fn encode_with_tag_and_constraints(
+        &self,
+        encoder: &mut Encoder<'_>,
+        tag: Tag,
+        _constraints: Constraints,
+    ) -> Result<(), EncodeError> {
+        layer_of::<Group>(self);
+        encode_group::<Group>(&self.0, encoder, tag)
+    }
+}
+
+impl Knot<GroupContent<Group>> for Group {
+    ghost use Rattle.rasn_oer.specs.Knots.{knot_layered};
+    ghost use Rattle.example_recursive.specs.GroupWeights.{group_smaller};
+    ghost use Rattle.example_recursive.specs.declared.types_02.Group.{out-Group, size-Group};
+
+    ghost content = { λ v. (out-Group v).0 };
+
+    fn from_content(inner: GroupContent<Group>) -> Group {
+        Group(inner)
+    }
+
+    ghost layered = { knot_layered size-Group (λ v. (out-Group v).0) ⟦<GroupContent<Group> as HoldsKnot<Group>>⟧.tied ⟦<GroupContent<Group> as HoldsKnot<Group>>⟧.weight (record { ties = ⟦<GroupContent<Group> as HoldsKnot<Group>>⟧.ties; smaller = group_smaller }) };
+}
+
+impl Decode for Group {
+    ghost use Rattle.rasn_oer.specs.Answering.{KnotAnswers};
+
+    ghost Answered = { λ c s r t. KnotAnswers ⟦<Group as Knot<GroupContent<Group>>>⟧.content ⟦<GroupContent<Group> as DecodeKnot<Group>>⟧.answering s r t };
+
+    fn decode_with_tag_and_constraints(
+        alloc: Global,
+        decoder: &mut Decoder<'_>,
+        tag: Tag,
+        _constraints: Constraints,
+    ) -> Result<Group, DecodeError> {
+        decode_knotted::<GroupContent<Self>, Self>(alloc, decoder, tag)
+    }
 }

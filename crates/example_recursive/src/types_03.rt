@@ -1,0 +1,327 @@
+//! Types of ASN.1 modules, as oergen printed them.
+ghost use Rattle.std.specs.Prelude.{OnOk, IfErr};
+ghost use Rattle.oer_write.specs.Written.{Encodes, Refused};
+ghost use Rattle.asn1_core.specs.declared.constraints.TheConstants.Constraints.{NONE};
+
+use crate::{Body, Envelope};
+use oer_kept::{KeptChoice, KeptEnumeration};
+use rasn_oer::prelude::*;
+use std::alloc::{AllocError, Global};
+
+/// A set of itself, and no more.
+///
+/// `Bag ::= SET OF Bag`
+#[derive(Debug, PartialEq, Eq, Drop)]
+pub struct Bag(pub BagContent<Bag>);
+
+/// What a `Bag` holds.
+pub type BagContent<K> = SetOf<Bare<K>>;
+
+impl AsnType for Bag {
+    ghost use Rattle.std.specs.Prelude.{refl};
+    ghost use Rattle.asn1_core.specs.declared.tag.TheConstants.Tag.{SET};
+    ghost use Rattle.asn1_core.specs.declared.constraints.TheConstants.Constraints.{NONE};
+
+    ghost TAG = { SET };
+
+    const TAG: Tag = Tag::SET;
+
+    ghost CONSTRAINTS = { NONE };
+
+    const CONSTRAINTS: Constraints = Constraints::NONE;
+
+    ghost consistent = { refl };
+}
+
+impl Spelled for Bag {
+    ghost use Rattle.rasn_oer.specs.Knots.{knot_tree, IsKnot, knot_typed};
+    ghost use Rattle.example_recursive.specs.BagWeights.{bag_smaller};
+    ghost use Rattle.example_recursive.specs.declared.types_03.Bag.{out-Bag, size-Bag};
+
+    ghost tree = { λ c v. knot_tree size-Bag (λ v. (out-Bag v).0) ⟦<BagContent<Bag> as HoldsKnot<Bag>>⟧.tied v };
+
+    ghost IsValue = { IsKnot size-Bag (λ v. (out-Bag v).0) ⟦<BagContent<Bag> as HoldsKnot<Bag>>⟧.tied };
+
+    ghost is_tree = { λ c k v i. (knot_typed size-Bag (λ v. (out-Bag v).0) ⟦<BagContent<Bag> as HoldsKnot<Bag>>⟧.tied ⟦<BagContent<Bag> as HoldsKnot<Bag>>⟧.weight (record { ties = ⟦<BagContent<Bag> as HoldsKnot<Bag>>⟧.ties; smaller = bag_smaller })).is v i };
+
+    ghost alike = { λ c k v w i j. (knot_typed size-Bag (λ v. (out-Bag v).0) ⟦<BagContent<Bag> as HoldsKnot<Bag>>⟧.tied ⟦<BagContent<Bag> as HoldsKnot<Bag>>⟧.weight (record { ties = ⟦<BagContent<Bag> as HoldsKnot<Bag>>⟧.ties; smaller = bag_smaller })).like v w i j };
+}
+
+impl Layered for Bag {
+    ghost use Rattle.rasn_oer.specs.Knots.{knot, knot_layers, layer};
+    ghost use Rattle.example_recursive.specs.BagWeights.{bag_smaller};
+    ghost use Rattle.example_recursive.specs.declared.types_03.Bag.{out-Bag, size-Bag};
+
+    ghost inner = { layer size-Bag (λ v. (out-Bag v).0) ⟦<BagContent<Bag> as HoldsKnot<Bag>>⟧.tied (knot size-Bag (λ v. (out-Bag v).0) ⟦<BagContent<Bag> as HoldsKnot<Bag>>⟧.tied) };
+
+    ghost layers = { knot_layers size-Bag (λ v. (out-Bag v).0) ⟦<BagContent<Bag> as HoldsKnot<Bag>>⟧.tied ⟦<BagContent<Bag> as HoldsKnot<Bag>>⟧.weight (record { ties = ⟦<BagContent<Bag> as HoldsKnot<Bag>>⟧.ties; smaller = bag_smaller }) };
+}
+
+/// Writes what a `Bag` holds.
+fn encode_bag<K: Encode>(
+    inner: &BagContent<K>,
+    encoder: &mut Encoder<'_>,
+    tag: Tag,
+) -> Result<(), EncodeError>
+    ensures done { OnOk result (Encodes (⟦<BagContent<K> as Spelled>⟧.tree NONE inner.now) encoder.old encoder.new) }
+    ensures value { OnOk result (⟦<BagContent<K> as Spelled>⟧.IsValue inner.now) }
+    ensures refused { IfErr result (λ x. Refused (⟦<BagContent<K> as Spelled>⟧.tree NONE inner.now) x encoder.old encoder.new) }
+{
+    inner.encode_with_tag(encoder, tag)
+}
+
+impl Encode for Bag {
+    fn encode_with_tag_and_constraints(
+        &self,
+        encoder: &mut Encoder<'_>,
+        tag: Tag,
+        _constraints: Constraints,
+    ) -> Result<(), EncodeError> {
+        layer_of::<Bag>(self);
+        encode_bag::<Bag>(&self.0, encoder, tag)
+    }
+}
+
+impl Knot<BagContent<Bag>> for Bag {
+    ghost use Rattle.rasn_oer.specs.Knots.{knot_layered};
+    ghost use Rattle.example_recursive.specs.BagWeights.{bag_smaller};
+    ghost use Rattle.example_recursive.specs.declared.types_03.Bag.{out-Bag, size-Bag};
+
+    ghost content = { λ v. (out-Bag v).0 };
+
+    fn from_content(inner: BagContent<Bag>) -> Bag {
+        Bag(inner)
+    }
+
+    ghost layered = { knot_layered size-Bag (λ v. (out-Bag v).0) ⟦<BagContent<Bag> as HoldsKnot<Bag>>⟧.tied ⟦<BagContent<Bag> as HoldsKnot<Bag>>⟧.weight (record { ties = ⟦<BagContent<Bag> as HoldsKnot<Bag>>⟧.ties; smaller = bag_smaller }) };
+}
+
+impl Decode for Bag {
+    ghost use Rattle.rasn_oer.specs.Answering.{KnotAnswers};
+
+    ghost Answered = { λ c s r t. KnotAnswers ⟦<Bag as Knot<BagContent<Bag>>>⟧.content ⟦<BagContent<Bag> as DecodeKnot<Bag>>⟧.answering s r t };
+
+    fn decode_with_tag_and_constraints(
+        alloc: Global,
+        decoder: &mut Decoder<'_>,
+        tag: Tag,
+        _constraints: Constraints,
+    ) -> Result<Bag, DecodeError> {
+        decode_knotted::<BagContent<Self>, Self>(alloc, decoder, tag)
+    }
+}
+
+/// `State ::= ENUMERATED { sent, read, ..., lost }`
+pub type State = KeptEnumeration<StateValues>;
+
+/// The values of `State`.
+#[derive(Debug, Clone, Copy, PartialEq, Eq)]
+pub enum StateValues {
+    Sent = 0,
+    Read = 1,
+    Lost = 2,
+}
+
+impl Numbered for StateValues {
+    ghost use Rattle.std.specs.Prelude.{pos, negsuc, [], ◌∷◌, refl};
+    ghost use Rattle.example_recursive.specs.declared.types_03.StateValues.TheVariants.{Sent, Read, Lost};
+
+    ghost number = { elim [ Sent ↦ (pos 0) | Read ↦ (pos 1) | Lost ↦ (pos 2) ] };
+
+    ghost values = { Sent ∷ Read ∷ Lost ∷ [] };
+
+    ghost listed = { elim [ Sent ↦ (refl, refl) | Read ↦ (refl, refl) | Lost ↦ (refl, refl) ] };
+
+    fn number(self) -> isize {
+        self as isize
+    }
+
+    fn values() -> &'static [StateValues] {
+        &[StateValues::Sent, StateValues::Read, StateValues::Lost]
+    }
+}
+
+/// `Way ::= CHOICE { road NULL, air INTEGER (0..255), ..., sea State }`
+pub type Way = KeptChoice<WayAlternatives>;
+
+/// The alternatives of `Way`.
+#[derive(Debug, PartialEq, Eq, Drop)]
+pub enum WayAlternatives {
+    Road(()),
+    Air(u8),
+    Sea(State),
+}
+
+type WayRow = Alternative<Context<0>, (), Alternative<Context<1>, u8, Extensible<WayAdditions>>>;
+
+type WayAdditions = Alternative<Context<2>, State, End>;
+
+const WAY_ROOTS: &'static [Tag] = tags![Context 0, Context 1];
+
+const WAY_ADDITIONS: &'static [Tag] = tags![Context 2];
+
+impl Alternating for WayAlternatives {
+    ghost use Rattle.std.specs.Prelude.{refl};
+    ghost use Rattle.rasn_oer.specs.Alternative.{First, Rest};
+    ghost use Rattle.example_recursive.specs.declared.types_03.WayAlternatives.TheVariants.{Road, Air, Sea};
+
+    type Values = <WayRow as Alternatives>::Values;
+
+    ghost row_choices = { ⟦<WayRow as Alternatives>⟧.choices };
+
+    ghost row_are_choices = { ⟦<WayRow as Alternatives>⟧.are_choices };
+
+    ghost alternative = { elim [ Road held ↦ First held | Air held ↦ Rest (First held) | Sea held ↦ Rest (Rest (First held)) ] };
+
+    const VARIANTS: &'static [Tag] = WAY_ROOTS;
+
+    const EXTENDED_VARIANTS: Option<&'static [Tag]> = Some(WAY_ADDITIONS);
+
+    fn root_tags() -> &'static [Tag] {
+        Self::VARIANTS
+    }
+
+    fn addition_tags() -> Option<&'static [Tag]> {
+        Self::EXTENDED_VARIANTS
+    }
+
+    fn from_alternative(value: Self::Values) -> Self {
+        from_row!(value => WayAlternatives: Road, Air, Sea)
+    }
+
+    #[inline(always)]
+    fn put<E: Choice>(&self, encoder: &mut Encoder<'_>) -> Result<(), EncodeError> {
+        let view = to_row!(self => WayAlternatives: Road, Air, Sea);
+        WayRow::write_alternative::<E>(&view, encoder)
+    }
+
+    ghost apart = { refl };
+}
+
+impl TakesAlternative for WayAlternatives {
+    ghost Refuses = { ⟦<WayRow as ReadsAlternatives>⟧.Refuses };
+
+    fn take<D: Choice>(
+        alloc: Global,
+        decoder: &mut Decoder<'_>,
+        tag: Tag,
+    ) -> Result<Self, DecodeError> {
+        read_alternative::<Self, WayRow, D>(alloc, decoder, tag)
+    }
+}
+
+/// The default sent of `PostState`.
+pub struct PostStateDefault;
+
+impl DefaultValue<State> for PostStateDefault {
+    ghost use Rattle.example_recursive.specs.declared.types_03.StateValues.TheVariants.{Sent};
+    ghost use Rattle.std.specs.Prelude.{refl};
+    ghost use Rattle.oer_kept.specs.declared.enumerations.KeptEnumeration.TheVariants.{Known};
+
+    ghost value = { Known Sent };
+
+    fn value(_alloc: Global) -> Result<State, AllocError> {
+        Ok(KeptEnumeration::Known(StateValues::Sent))
+    }
+
+    fn is_value(other: &State) -> bool {
+        *other == KeptEnumeration::Known(StateValues::Sent)
+    }
+
+    ghost admitted = { (refl, refl) };
+}
+
+/// Beside a cycle. Newer versions may have other states and ways.
+///
+/// `Post ::= SEQUENCE { letter Envelope, answer Body OPTIONAL, state State DEFAULT sent, way Way OPTIONAL
+/// }`
+pub type Post = Sequence<PostComponents, 4, 0>;
+
+/// The components of `Post`.
+#[derive(Debug, PartialEq, Eq, Drop)]
+pub struct PostComponents {
+    pub letter: Envelope,
+    pub answer: Option<Body>,
+    pub state: State,
+    pub way: Option<Way>,
+}
+
+type PostRow = Required<
+    Context<0>,
+    Envelope,
+    Optional<
+        Context<1>,
+        Body,
+        Defaulted<Context<2>, State, PostStateDefault, Optional<Context<3>, Way, End>>,
+    >,
+>;
+
+impl Rowed for PostComponents {
+    ghost use Rattle.rasn_oer.specs.Values.{both};
+
+    type Values = <PostRow as Components>::Values;
+
+    ghost EXTENSIBLE = { ⟦<PostRow as Components>⟧.EXTENSIBLE };
+
+    const EXTENSIBLE: bool = false;
+
+    ghost row_schema = { ⟦<PostRow as Components>⟧.schema };
+
+    ghost row_is_schema = { ⟦<PostRow as Components>⟧.is_schema };
+
+    ghost components = { λ v. both v.letter (both v.answer (both v.state (both v.way tt))) };
+
+    fn from_row(row: Self::Values) -> Self {
+        built![PostComponents from row:
+            letter,
+            answer,
+            state,
+            way
+        ]
+    }
+}
+
+impl Takes for PostComponents {
+    ghost Refuses = { ⟦<PostRow as Reads>⟧.Refuses };
+
+    #[inline(always)]
+    fn take(alloc: Global, decoder: &mut Decoder<'_>) -> Result<Self, DecodeError> {
+        read_row::<Self, PostRow>(alloc, decoder)
+    }
+}
+
+impl Tabled<4, 0> for PostComponents {
+    ghost use Rattle.std.specs.Prelude.{refl};
+
+    const FIELDS: Fields<4> = Fields {
+        fields: fields![
+            0 Required Context 0 "letter",
+            1 Optional Context 1 "answer",
+            2 Default Context 2 "state",
+            3 Optional Context 3 "way"
+        ],
+    };
+
+    const EXTENDED_FIELDS: Option<Fields<0>> = None;
+
+    fn root_fields() -> &'static [Field<'static>] {
+        Self::FIELDS.fields
+    }
+
+    fn addition_fields() -> &'static [Field<'static>] {
+        rows_of!(Self::EXTENDED_FIELDS)
+    }
+
+    #[inline(always)]
+    fn put(&self, encoder: &mut Encoder<'_>) -> Result<(), EncodeError> {
+        let view = views![self:
+            letter,
+            answer,
+            state,
+            way
+        ];
+        PostRow::write(&view, encoder)
+    }
+
+    ghost counts = { (refl, refl) };
+}
