@@ -1,16 +1,15 @@
 -- Units as octets.
-use Rattle.std.proofs.Common.{◌≡◌, ℕ, ◌+◌, ◌*◌, ◌<◌, List, [], ◌∷◌, ◌++◌, length, take, get_or, ap, sym, ◌∙◌, arith, length-append, refl}
-use Rattle.std.specs.Int.{Width, w16, w32, to_be_bytes}
-use Rattle.std.proofs.lemmas.List.{take_more, flat_map_more}
+use Rattle.std.proofs.Common.{◌≡◌, ℕ, zero, suc, ◌+◌, ◌*◌, List, [], ◌∷◌, length, ap, ap₂, sym, ◌∙◌, length-append, refl}
+use Rattle.std.proofs.Math.Nat.{mul-zero, mul-suc, add_comm}
+use Rattle.std.specs.Int.{Width, to_be_bytes, byte_len, bytes_high_first}
 use Rattle.asn1_strings.specs.Characters.{units_octets}
 
-pub one_more_unit : (width : Width) (units : List ℕ) (i : ℕ) → i < length units → units_octets width (take i units) ++ to_be_bytes width (get_or units i 0) ≡ units_octets width (take (i + 1) units)
-one_more_unit width units i lt = flat_map_more (to_be_bytes width) [] (take i units) (get_or units i 0) ∙ ap (units_octets width) (sym (take_more units i 0 lt))
+octets_of_a_unit : (n unit : ℕ) → length (bytes_high_first n unit) ≡ n
+octets_of_a_unit zero unit = refl
+octets_of_a_unit (suc n) unit = ap suc (octets_of_a_unit n unit)
 
-pub two_octets_a_unit : (units : List ℕ) → length (units_octets w16 units) ≡ 2 * length units
-two_octets_a_unit [] = refl
-two_octets_a_unit (u ∷ us) = omega (arith, length-append (to_be_bytes w16 u) (units_octets w16 us), two_octets_a_unit us)
-
-pub four_octets_a_unit : (units : List ℕ) → length (units_octets w32 units) ≡ 4 * length units
-four_octets_a_unit [] = refl
-four_octets_a_unit (u ∷ us) = omega (arith, length-append (to_be_bytes w32 u) (units_octets w32 us), four_octets_a_unit us)
+pub octets_a_unit : (width : Width) (units : List ℕ) → length (units_octets width units) ≡ byte_len width * length units
+octets_a_unit width [] = sym (mul-zero (byte_len width))
+octets_a_unit width (u ∷ us) =
+    let n = byte_len width in
+    length-append (to_be_bytes width u) (units_octets width us) ∙ ap₂ ◌+◌ (octets_of_a_unit n u) (octets_a_unit width us) ∙ add_comm n (n * length us) ∙ sym (mul-suc n (length us))

@@ -1,11 +1,11 @@
 -- Bits up to the last that is set, and the 0 bits after it.
-use Rattle.std.proofs.Common.{◌≡◌, ℕ, zero, suc, ◌+◌, ◌-◌, ◌*◌, ◌/◌, ◌%◌, ◌^◌, ◌<◌, ◌≤◌, Bool, true, false, List, [], ◌∷◌, ◌++◌, length, take, drop, get_or, Some, refl, sym, ap, ap₂, ◌∙◌, arith}
+use Rattle.std.proofs.Common.{◌≡◌, ℕ, zero, suc, ◌-◌, ◌*◌, ◌/◌, ◌%◌, ◌^◌, ◌<◌, ◌≤◌, Bool, true, false, List, [], ◌∷◌, ◌++◌, length, take, drop, get_or, Some, refl, sym, ap, ap₂, ◌∙◌, arith}
 use Rattle.std.specs.Prelude.{slice_get}
 use Rattle.std.proofs.lemmas.Bool.{eq-eqb, ne_eqb}
 use Rattle.std.proofs.lemmas.List.{length-take-le, take-append-drop}
 use Rattle.asn1_core.specs.Octets.{Octets, AllFalse, is_odd, bits_of, octets_for, pack, pack_into}
 use Rattle.asn1_strings.specs.NamedBits.{with_bit, significant, without_zeros, IsNamed}
-use Rattle.asn1_strings.proofs.BitLists.{length-front, length-pack_into, bits_of-pack, get_in_bits}
+use Rattle.asn1_strings.proofs.BitLists.{length-pack_into, bits_of-pack, get_in_bits}
 use Rattle.asn1_strings.proofs.ZeroBits.{pack_false}
 
 with_bit_le : (x : Bool) (n : ℕ) → with_bit x n ≤ suc n

@@ -1,5 +1,5 @@
 -- 0 bits at the end change no octet.
-use Rattle.std.proofs.Common.{◌≡◌, ℕ, zero, suc, ◌+◌, ◌*◌, Bool, true, false, cond, List, [], ◌∷◌, ◌++◌, drop, get_or, refl, ap, ap₂, ◌∙◌}
+use Rattle.std.proofs.Common.{◌≡◌, ℕ, zero, suc, ◌+◌, ◌*◌, Bool, false, cond, List, [], ◌∷◌, ◌++◌, drop, get_or, refl, ap, ap₂, ◌∙◌}
 use Rattle.asn1_core.specs.Octets.{octet_of, pack_into, AllFalse}
 
 -- zero bits at the end change nothing

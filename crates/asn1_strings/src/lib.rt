@@ -2,14 +2,13 @@
 #![tactic(auto)]
 
 mod bits;
-mod bmp;
 mod characters;
 mod identifiers;
 pub mod laws;
 mod named_bits;
 mod octets;
 mod strings;
-mod universal;
+mod units;
 
 pub use bits::{BitString, significant_bits};
 pub use characters::{
