@@ -13,14 +13,13 @@ use std::alloc::Global;
 
 impl<K, B: HoldsKnot<K>> HoldsKnot<K> for ListOf<B> {
     ghost use denote.Param.Weighed.{most};
-    ghost use Rattle.std.specs.Prelude.{true};
     ghost use Rattle.oer_knots.specs.Lists.{list_tied, list_ties};
 
-    ghost tied = { list_tied true (λ vs. vs) B.tied B.weight };
+    ghost tied = { list_tied (λ vs. vs) B.tied B.weight };
 
     ghost weight = { λ size v. most (B.weight size) v };
 
-    ghost ties = { list_ties true (λ vs. vs) B.tied B.weight B.ties };
+    ghost ties = { list_ties (λ vs. vs) B.tied B.weight B.ties };
 }
 
 impl<K: Spelled, B: DecodeKnot<K>> DecodeKnot<K> for ListOf<B> {

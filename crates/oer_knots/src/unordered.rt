@@ -12,14 +12,13 @@ use std::alloc::Global;
 
 impl<K, B: HoldsKnot<K>> HoldsKnot<K> for SetOf<B> {
     ghost use denote.Param.Weighed.{most};
-    ghost use Rattle.std.specs.Prelude.{false};
-    ghost use Rattle.oer_knots.specs.Lists.{list_tied, list_ties};
+    ghost use Rattle.oer_knots.specs.Lists.{set_tied, set_ties};
 
-    ghost tied = { list_tied false (λ vs. vs) B.tied B.weight };
+    ghost tied = { set_tied (λ vs. vs) B.tied B.weight };
 
     ghost weight = { λ size v. most (B.weight size) v };
 
-    ghost ties = { list_ties false (λ vs. vs) B.tied B.weight B.ties };
+    ghost ties = { set_ties (λ vs. vs) B.tied B.weight B.ties };
 }
 
 impl<K: Spelled, B: DecodeKnot<K>> DecodeKnot<K> for SetOf<B> {

@@ -26,10 +26,10 @@ pub nest_smaller : (v : Nest) → nest_weight size-Nest (nest_content v) < size-
 nest_smaller v = grind (arith, size_is-Nest v)
 
 abbrev pub nest_tied : Typed Nest → Typed (ListOf (Bare Nest))
-nest_tied = list_tied true (λ vs. vs) (held_tied (λ h. h.0)) (held_weight (λ h. h.0))
+nest_tied = list_tied (λ vs. vs) (held_tied (λ h. h.0)) (held_weight (λ h. h.0))
 
 abbrev pub nest_knotted : Knotted size-Nest nest_content nest_tied nest_weight
-nest_knotted = record { ties = list_ties true (λ vs. vs) (held_tied (λ h. h.0)) (held_weight (λ h. h.0)) (held_ties (λ h. h.0)); smaller = nest_smaller }
+nest_knotted = record { ties = list_ties (λ vs. vs) (held_tied (λ h. h.0)) (held_weight (λ h. h.0)) (held_ties (λ h. h.0)); smaller = nest_smaller }
 
 abbrev pub nest_tree : Nest → Tree
 nest_tree = knot_tree size-Nest nest_content nest_tied
