@@ -178,8 +178,11 @@ impl Alternating for SignalAlternatives {
 
     #[inline(always)]
     fn put<E: Choice>(&self, encoder: &mut Encoder<'_>) -> Result<(), EncodeError> {
-        let view = to_row!(self => SignalAlternatives: Busy, Level, NewKey);
-        SignalRow::write_alternative::<E>(&view, encoder)
+        match self {
+            Self::Busy(held) => put_alternative::<E, _>(encoder, Context::<0>::tag(), held),
+            Self::Level(held) => put_alternative::<E, _>(encoder, Context::<1>::tag(), held),
+            Self::NewKey(held) => put_alternative::<E, _>(encoder, Context::<2>::tag(), held),
+        }
     }
 
     ghost apart = { refl };

@@ -290,8 +290,12 @@ impl Alternating for AreaAlternatives {
 
     #[inline(always)]
     fn put<E: Choice>(&self, encoder: &mut Encoder<'_>) -> Result<(), EncodeError> {
-        let view = to_row!(self => AreaAlternatives: Boxes, Corners, Names, Round);
-        AreaRow::write_alternative::<E>(&view, encoder)
+        match self {
+            Self::Boxes(held) => put_alternative::<E, _>(encoder, Context::<0>::tag(), held),
+            Self::Corners(held) => put_alternative::<E, _>(encoder, Context::<1>::tag(), held),
+            Self::Names(held) => put_alternative::<E, _>(encoder, Context::<2>::tag(), held),
+            Self::Round(held) => put_alternative::<E, _>(encoder, Context::<3>::tag(), held),
+        }
     }
 
     ghost apart = { refl };
@@ -473,8 +477,11 @@ impl Alternating for ColoursAlternatives {
 
     #[inline(always)]
     fn put<E: Choice>(&self, encoder: &mut Encoder<'_>) -> Result<(), EncodeError> {
-        let view = to_row!(self => ColoursAlternatives: One, Two, Three);
-        ColoursRow::write_alternative::<E>(&view, encoder)
+        match self {
+            Self::One(held) => put_alternative::<E, _>(encoder, Context::<1>::tag(), held),
+            Self::Two(held) => put_alternative::<E, _>(encoder, Universal::<7>::tag(), held),
+            Self::Three(held) => put_alternative::<E, _>(encoder, Universal::<2>::tag(), held),
+        }
     }
 
     ghost apart = { refl };

@@ -342,8 +342,13 @@ impl Alternating for ReplyAlternatives {
 
     #[inline(always)]
     fn put<E: Choice>(&self, encoder: &mut Encoder<'_>) -> Result<(), EncodeError> {
-        let view = to_row!(self => ReplyAlternatives: Plain, OtherOne, OtherTwo, Last, OtherMore);
-        ReplyRow::write_alternative::<E>(&view, encoder)
+        match self {
+            Self::Plain(held) => put_alternative::<E, _>(encoder, Context::<0>::tag(), held),
+            Self::OtherOne(held) => put_alternative::<E, _>(encoder, Context::<1>::tag(), held),
+            Self::OtherTwo(held) => put_alternative::<E, _>(encoder, Context::<2>::tag(), held),
+            Self::Last(held) => put_alternative::<E, _>(encoder, Context::<3>::tag(), held),
+            Self::OtherMore(held) => put_alternative::<E, _>(encoder, Context::<4>::tag(), held),
+        }
     }
 
     ghost apart = { refl };
@@ -406,8 +411,10 @@ impl Alternating for BothBAlternatives {
 
     #[inline(always)]
     fn put<E: Choice>(&self, encoder: &mut Encoder<'_>) -> Result<(), EncodeError> {
-        let view = to_row!(self => BothBAlternatives: C, D);
-        BothBRow::write_alternative::<E>(&view, encoder)
+        match self {
+            Self::C(held) => put_alternative::<E, _>(encoder, Context::<1>::tag(), held),
+            Self::D(held) => put_alternative::<E, _>(encoder, Context::<7>::tag(), held),
+        }
     }
 
     ghost apart = { refl };

@@ -284,9 +284,25 @@ impl Alternating for TitleAlternatives {
 
     #[inline(always)]
     fn put<E: Choice>(&self, encoder: &mut Encoder<'_>) -> Result<(), EncodeError> {
-        let view =
-            to_row!(self => TitleAlternatives: TeletexString, PrintableString, UniversalString, Utf8String, BmpString);
-        TitleRow::write_alternative::<E>(&view, encoder)
+        match self {
+            Self::TeletexString(held) => put_alternative::<E, _>(
+                encoder,
+                Context::<0>::tag(),
+                held,
+            ),
+            Self::PrintableString(held) => put_alternative::<E, _>(
+                encoder,
+                Context::<1>::tag(),
+                held,
+            ),
+            Self::UniversalString(held) => put_alternative::<E, _>(
+                encoder,
+                Context::<2>::tag(),
+                held,
+            ),
+            Self::Utf8String(held) => put_alternative::<E, _>(encoder, Context::<3>::tag(), held),
+            Self::BmpString(held) => put_alternative::<E, _>(encoder, Context::<4>::tag(), held),
+        }
     }
 
     ghost apart = { refl };

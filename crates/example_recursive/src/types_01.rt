@@ -332,8 +332,11 @@ impl<K: Encode> Alternating for BodyAlternatives<K> {
 
     #[inline(always)]
     fn put<E: Choice>(&self, encoder: &mut Encoder<'_>) -> Result<(), EncodeError> {
-        let view = to_row!(self => BodyAlternatives: Text, Inner, Count);
-        BodyRow::<K>::write_alternative::<E>(&view, encoder)
+        match self {
+            Self::Text(held) => put_alternative::<E, _>(encoder, Context::<0>::tag(), held),
+            Self::Inner(held) => put_alternative::<E, _>(encoder, Context::<1>::tag(), held),
+            Self::Count(held) => put_alternative::<E, _>(encoder, Context::<2>::tag(), held),
+        }
     }
 
     ghost apart = { refl };

@@ -191,8 +191,11 @@ impl Alternating for WayAlternatives {
 
     #[inline(always)]
     fn put<E: Choice>(&self, encoder: &mut Encoder<'_>) -> Result<(), EncodeError> {
-        let view = to_row!(self => WayAlternatives: Road, Air, Sea);
-        WayRow::write_alternative::<E>(&view, encoder)
+        match self {
+            Self::Road(held) => put_alternative::<E, _>(encoder, Context::<0>::tag(), held),
+            Self::Air(held) => put_alternative::<E, _>(encoder, Context::<1>::tag(), held),
+            Self::Sea(held) => put_alternative::<E, _>(encoder, Context::<2>::tag(), held),
+        }
     }
 
     ghost apart = { refl };

@@ -71,6 +71,19 @@ fn push_cases(out: &mut Text, cells: &[Cell]) {
     }
 }
 
+/// What writes each variant, a line each.
+fn push_puts(out: &mut Text, cells: &[Cell]) {
+    for cell in cells.iter() {
+        let (class, number) = cell.entry.as_str().split_once(' ').unwrap_or(("", ""));
+        out.push_all(&[
+            "            Self::",
+            cell.camel.as_str(),
+            "(held) => put_alternative::<E, _>",
+        ]);
+        out.push_all(&["(encoder, ", class, "::<", number, ">::tag(), held),\n"]);
+    }
+}
+
 /// What names the tags of the additions.
 fn push_addition_name(out: &mut Text, of: Chain<'_>) {
     if !of.is_extensible {
@@ -100,6 +113,7 @@ fn words_of(alloc: Global, doc: &str, of: Chain<'_>) -> Words {
     push_variants(words.begin("VARIANTS"), of.cells);
     push_names(words.begin("LIST"), of.cells, ", ", "");
     push_cases(words.begin("CASES"), of.cells);
+    push_puts(words.begin("PUTS"), of.cells);
     push_names(words.begin("WEIGHED"), of.cells, " | ", " held ↦ refl");
     push_table_name(words.begin("ROOTS"), of.owner, "ROOTS");
     push_addition_name(words.begin("ADDITIONS"), of);

@@ -20,7 +20,6 @@ fn is_free(line: &str) -> bool {
         || text.starts_with("ghost ")
         || text.starts_with("ensures ")
         || text.starts_with("tags!")
-        || text.starts_with("to_row!")
         || text.starts_with("from_row!")
 }
 
@@ -109,10 +108,17 @@ fn holder_of(line: &str) -> Option<(&str, &str, &'static str)> {
     }
 }
 
+/// A call that writes an alternative: what stands in front of its arguments, these, and the sign behind.
+fn call_of(line: &str) -> Option<(&str, &str, &'static str)> {
+    let at = line.find("(encoder, ")?;
+    let (front, rest) = line.split_at_checked(at)?;
+    let arguments = rest.strip_prefix("(")?.strip_suffix("),")?;
+    Some((front, arguments, ","))
+}
+
 /// Whether what stands behind a `=` goes to a line of its own.
 fn goes_below(value: &str) -> bool {
     value.starts_with("tags!")
-        || value.starts_with("to_row!")
         || value.starts_with('<') && !value.contains("<K>")
         || !value.contains(|c: char| c == '<' || c == '(')
 }
@@ -156,6 +162,9 @@ fn push_long(out: &mut Text, line: &str) {
         inside.push_times(" ", indent);
         inside.push(held);
         inside.push(",\n");
+        push_broken(out, front, ("(", ")"), &inside, end);
+    } else if let Some((front, arguments, end)) = call_of(line) {
+        push_arguments(&mut inside, arguments, indent);
         push_broken(out, front, ("(", ")"), &inside, end);
     } else if let Some((front, rest, end)) = halves_of(line) {
         out.push(front);

@@ -191,8 +191,8 @@ pub const CHOICE_IMPLS: &str = r#"impl@WRITES@ Alternating for @NAME@Alternative
 
     #[inline(always)]
     fn put<E: Choice>(&self, encoder: &mut Encoder<'_>) -> Result<(), EncodeError> {
-        let view = to_row!(self => @NAME@Alternatives: @LIST@);
-        @NAME@Row@TURBO@::write_alternative::<E>(&view, encoder)
+        match self {
+@PUTS@        }
     }
 
     ghost apart = { refl };
