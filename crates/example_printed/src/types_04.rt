@@ -80,82 +80,6 @@ impl Tabled<2, 0> for SpotComponents {
     ghost counts = { (refl, refl) };
 }
 
-/// `SEQUENCE { from Spot, to Spot }`
-pub type AreaBoxes = Sequence<AreaBoxesComponents, 2, 0>;
-
-/// The components of `AreaBoxes`.
-#[derive(Debug, PartialEq, Eq, Drop)]
-pub struct AreaBoxesComponents {
-    pub from: Spot,
-    pub to: Spot,
-}
-
-type AreaBoxesRow = Required<Context<0>, Spot, Required<Context<1>, Spot, End>>;
-
-impl Rowed for AreaBoxesComponents {
-    ghost use Rattle.rasn_oer.specs.Values.{both};
-
-    type Values = <AreaBoxesRow as Components>::Values;
-
-    ghost EXTENSIBLE = { ⟦<AreaBoxesRow as Components>⟧.EXTENSIBLE };
-
-    const EXTENSIBLE: bool = false;
-
-    ghost row_schema = { ⟦<AreaBoxesRow as Components>⟧.schema };
-
-    ghost row_is_schema = { ⟦<AreaBoxesRow as Components>⟧.is_schema };
-
-    ghost components = { λ v. both v.from (both v.to tt) };
-
-    fn from_row(row: Self::Values) -> Self {
-        built![AreaBoxesComponents from row:
-            from,
-            to
-        ]
-    }
-}
-
-impl Takes for AreaBoxesComponents {
-    ghost Refuses = { ⟦<AreaBoxesRow as Reads>⟧.Refuses };
-
-    #[inline(always)]
-    fn take(alloc: Global, decoder: &mut Decoder<'_>) -> Result<Self, DecodeError> {
-        read_row::<Self, AreaBoxesRow>(alloc, decoder)
-    }
-}
-
-impl Tabled<2, 0> for AreaBoxesComponents {
-    ghost use Rattle.std.specs.Prelude.{refl};
-
-    const FIELDS: Fields<2> = Fields {
-        fields: fields![
-            0 Required Context 0 "from",
-            1 Required Context 1 "to"
-        ],
-    };
-
-    const EXTENDED_FIELDS: Option<Fields<0>> = None;
-
-    fn root_fields() -> &'static [Field<'static>] {
-        Self::FIELDS.fields
-    }
-
-    fn addition_fields() -> &'static [Field<'static>] {
-        rows_of!(Self::EXTENDED_FIELDS)
-    }
-
-    #[inline(always)]
-    fn put(&self, encoder: &mut Encoder<'_>) -> Result<(), EncodeError> {
-        let view = views![self:
-            from,
-            to
-        ];
-        AreaBoxesRow::write(&view, encoder)
-    }
-
-    ghost counts = { (refl, refl) };
-}
-
 /// `SEQUENCE { middle Spot, radius INTEGER (0..65535) }`
 pub type AreaRound = Sequence<AreaRoundComponents, 2, 0>;
 
@@ -232,26 +156,102 @@ impl Tabled<2, 0> for AreaRoundComponents {
     ghost counts = { (refl, refl) };
 }
 
-/// `Area ::= CHOICE { boxes SEQUENCE OF SEQUENCE { from Spot, to Spot }, corners SEQUENCE (SIZE(3..MAX))
-/// OF Spot, names Names, round SEQUENCE { middle Spot, radius INTEGER (0..65535) }, ... }`
+/// `SEQUENCE { from Spot, to Spot }`
+pub type AreaBoxes = Sequence<AreaBoxesComponents, 2, 0>;
+
+/// The components of `AreaBoxes`.
+#[derive(Debug, PartialEq, Eq, Drop)]
+pub struct AreaBoxesComponents {
+    pub from: Spot,
+    pub to: Spot,
+}
+
+type AreaBoxesRow = Required<Context<0>, Spot, Required<Context<1>, Spot, End>>;
+
+impl Rowed for AreaBoxesComponents {
+    ghost use Rattle.rasn_oer.specs.Values.{both};
+
+    type Values = <AreaBoxesRow as Components>::Values;
+
+    ghost EXTENSIBLE = { ⟦<AreaBoxesRow as Components>⟧.EXTENSIBLE };
+
+    const EXTENSIBLE: bool = false;
+
+    ghost row_schema = { ⟦<AreaBoxesRow as Components>⟧.schema };
+
+    ghost row_is_schema = { ⟦<AreaBoxesRow as Components>⟧.is_schema };
+
+    ghost components = { λ v. both v.from (both v.to tt) };
+
+    fn from_row(row: Self::Values) -> Self {
+        built![AreaBoxesComponents from row:
+            from,
+            to
+        ]
+    }
+}
+
+impl Takes for AreaBoxesComponents {
+    ghost Refuses = { ⟦<AreaBoxesRow as Reads>⟧.Refuses };
+
+    #[inline(always)]
+    fn take(alloc: Global, decoder: &mut Decoder<'_>) -> Result<Self, DecodeError> {
+        read_row::<Self, AreaBoxesRow>(alloc, decoder)
+    }
+}
+
+impl Tabled<2, 0> for AreaBoxesComponents {
+    ghost use Rattle.std.specs.Prelude.{refl};
+
+    const FIELDS: Fields<2> = Fields {
+        fields: fields![
+            0 Required Context 0 "from",
+            1 Required Context 1 "to"
+        ],
+    };
+
+    const EXTENDED_FIELDS: Option<Fields<0>> = None;
+
+    fn root_fields() -> &'static [Field<'static>] {
+        Self::FIELDS.fields
+    }
+
+    fn addition_fields() -> &'static [Field<'static>] {
+        rows_of!(Self::EXTENDED_FIELDS)
+    }
+
+    #[inline(always)]
+    fn put(&self, encoder: &mut Encoder<'_>) -> Result<(), EncodeError> {
+        let view = views![self:
+            from,
+            to
+        ];
+        AreaBoxesRow::write(&view, encoder)
+    }
+
+    ghost counts = { (refl, refl) };
+}
+
+/// `Area ::= CHOICE { round SEQUENCE { middle Spot, radius INTEGER (0..65535) }, boxes SEQUENCE OF
+/// SEQUENCE { from Spot, to Spot }, corners SEQUENCE (SIZE(3..MAX)) OF Spot, names Names, ... }`
 pub type Area = OneOf<AreaAlternatives>;
 
 /// The alternatives of `Area`.
 #[derive(Debug, PartialEq, Eq, Drop)]
 pub enum AreaAlternatives {
+    Round(AreaRound),
     Boxes(ListOf<AreaBoxes>),
     Corners(ListOf<Spot>),
     Names(Names),
-    Round(AreaRound),
 }
 
 type AreaRow = Alternative<
     Context<0>,
-    ListOf<AreaBoxes>,
+    AreaRound,
     Alternative<
         Context<1>,
-        ListOf<Spot>,
-        Alternative<Context<2>, Names, Alternative<Context<3>, AreaRound, Extensible<End>>>,
+        ListOf<AreaBoxes>,
+        Alternative<Context<2>, ListOf<Spot>, Alternative<Context<3>, Names, Extensible<End>>>,
     >,
 >;
 
@@ -262,7 +262,7 @@ const AREA_ADDITIONS: &'static [Tag] = &[];
 impl Alternating for AreaAlternatives {
     ghost use Rattle.std.specs.Prelude.{refl};
     ghost use Rattle.rasn_oer.specs.Alternative.{First, Rest};
-    ghost use Rattle.example_printed.specs.declared.types_04.AreaAlternatives.TheVariants.{Boxes, Corners, Names, Round};
+    ghost use Rattle.example_printed.specs.declared.types_04.AreaAlternatives.TheVariants.{Round, Boxes, Corners, Names};
 
     type Values = <AreaRow as Alternatives>::Values;
 
@@ -270,7 +270,7 @@ impl Alternating for AreaAlternatives {
 
     ghost row_are_choices = { ⟦<AreaRow as Alternatives>⟧.are_choices };
 
-    ghost alternative = { elim [ Boxes held ↦ First held | Corners held ↦ Rest (First held) | Names held ↦ Rest (Rest (First held)) | Round held ↦ Rest (Rest (Rest (First held))) ] };
+    ghost alternative = { elim [ Round held ↦ First held | Boxes held ↦ Rest (First held) | Corners held ↦ Rest (Rest (First held)) | Names held ↦ Rest (Rest (Rest (First held))) ] };
 
     const VARIANTS: &'static [Tag] = AREA_ROOTS;
 
@@ -285,16 +285,16 @@ impl Alternating for AreaAlternatives {
     }
 
     fn from_alternative(value: Self::Values) -> Self {
-        from_row!(value => AreaAlternatives: Boxes, Corners, Names, Round)
+        from_row!(value => AreaAlternatives: Round, Boxes, Corners, Names)
     }
 
     #[inline(always)]
     fn put<E: Choice>(&self, encoder: &mut Encoder<'_>) -> Result<(), EncodeError> {
         match self {
-            Self::Boxes(held) => put_alternative::<E, _>(encoder, Context::<0>::tag(), held),
-            Self::Corners(held) => put_alternative::<E, _>(encoder, Context::<1>::tag(), held),
-            Self::Names(held) => put_alternative::<E, _>(encoder, Context::<2>::tag(), held),
-            Self::Round(held) => put_alternative::<E, _>(encoder, Context::<3>::tag(), held),
+            Self::Round(held) => put_alternative::<E, _>(encoder, Context::<0>::tag(), held),
+            Self::Boxes(held) => put_alternative::<E, _>(encoder, Context::<1>::tag(), held),
+            Self::Corners(held) => put_alternative::<E, _>(encoder, Context::<2>::tag(), held),
+            Self::Names(held) => put_alternative::<E, _>(encoder, Context::<3>::tag(), held),
         }
     }
 

@@ -4,3 +4,4 @@ pub mod TreeWeights
 pub mod NestWeights
 pub mod GroupWeights
 pub mod BagWeights
+pub mod FilterWeights

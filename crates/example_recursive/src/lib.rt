@@ -14,5 +14,6 @@ pub use types_02::{
     TreeComponents, TreeContent,
 };
 pub use types_03::{
-    Bag, BagContent, Post, PostComponents, State, StateValues, Way, WayAlternatives,
+    Bag, BagContent, Filter, FilterAlternatives, FilterContent, Post, PostComponents, State,
+    StateValues, Way, WayAlternatives,
 };

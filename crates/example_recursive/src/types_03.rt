@@ -111,6 +111,220 @@ impl Decode for Bag {
     }
 }
 
+/// Which entries are meant. Only a CHOICE cuts the cycle.
+///
+/// `Filter ::= CHOICE { and SET OF Filter, or SEQUENCE OF Filter, not Filter, present OCTET STRING }`
+#[derive(Debug, PartialEq, Eq, Drop)]
+pub struct Filter(pub FilterContent<Filter>);
+
+/// What a `Filter` holds.
+pub type FilterContent<K> = OneOf<FilterAlternatives<K>>;
+
+/// The alternatives of `Filter`.
+#[derive(Debug, PartialEq, Eq, Drop)]
+pub enum FilterAlternatives<K> {
+    And(SetOf<Bare<K>>),
+    Or(ListOf<Bare<K>>),
+    Not(Held<K>),
+    Present(Octets),
+}
+
+type FilterRow<K> = AlternativeKnot<
+    Context<0>,
+    SetOf<Bare<K>>,
+    AlternativeKnot<
+        Context<1>,
+        ListOf<Bare<K>>,
+        AlternativeKnot<Context<2>, Held<K>, Alternative<Context<3>, Octets, End>>,
+    >,
+>;
+
+const FILTER_ROOTS: &'static [Tag] = tags![Context 0, Context 1, Context 2, Context 3];
+
+impl<K> KnotAlternating<K> for FilterAlternatives<K> {
+    ghost use Rattle.std.specs.Prelude.{refl};
+    ghost use Rattle.rasn_oer.specs.Alternative.{First, Rest};
+    ghost use Rattle.example_recursive.specs.FilterWeights.{filter_weight};
+    ghost use Rattle.example_recursive.specs.declared.types_03.FilterAlternatives.TheVariants.{And, Or, Not, Present};
+
+    type KnotValues = <FilterRow<K> as KnotAlternatives<K>>::Values;
+
+    ghost knot_choices = { ⟦<FilterRow<K> as KnotAlternatives<K>>⟧.choices };
+
+    ghost knot_weight = { ⟦<FilterRow<K> as KnotAlternatives<K>>⟧.weight };
+
+    ghost knot_ties = { ⟦<FilterRow<K> as KnotAlternatives<K>>⟧.ties };
+
+    ghost knot_alternative = { elim [ And held ↦ First held | Or held ↦ Rest (First held) | Not held ↦ Rest (Rest (First held)) | Present held ↦ Rest (Rest (Rest (First held))) ] };
+
+    ghost variant_weight = { filter_weight };
+
+    ghost weighs = { λ size. elim [ And held ↦ refl | Or held ↦ refl | Not held ↦ refl | Present held ↦ refl ] };
+}
+
+impl<K: Encode> TakesKnotAlternative<K> for FilterAlternatives<K> {
+    ghost refusing = { ⟦<FilterRow<K> as ReadsKnotAlternatives<K>>⟧.refusing };
+
+    fn take_knot<D: Choice, F: Fn(&mut Decoder<'_>) -> Result<K, DecodeError>>(
+        alloc: Global,
+        decoder: &mut Decoder<'_>,
+        tag: Tag,
+        knot: &F,
+    ) -> Result<Self, DecodeError> {
+        read_knot_alternative::<K, Self, FilterRow<K>, D, F>(alloc, decoder, tag, knot)
+    }
+}
+
+impl<K: Encode> Alternating for FilterAlternatives<K> {
+    ghost use Rattle.std.specs.Prelude.{refl};
+    ghost use Rattle.rasn_oer.specs.Alternative.{First, Rest};
+    ghost use Rattle.example_recursive.specs.declared.types_03.FilterAlternatives.TheVariants.{And, Or, Not, Present};
+
+    type Values = <FilterRow<K> as Alternatives>::Values;
+
+    ghost row_choices = { ⟦<FilterRow<K> as Alternatives>⟧.choices };
+
+    ghost row_are_choices = { ⟦<FilterRow<K> as Alternatives>⟧.are_choices };
+
+    ghost alternative = { elim [ And held ↦ First held | Or held ↦ Rest (First held) | Not held ↦ Rest (Rest (First held)) | Present held ↦ Rest (Rest (Rest (First held))) ] };
+
+    const VARIANTS: &'static [Tag] = FILTER_ROOTS;
+
+    const EXTENDED_VARIANTS: Option<&'static [Tag]> = None;
+
+    fn root_tags() -> &'static [Tag] {
+        FILTER_ROOTS
+    }
+
+    fn addition_tags() -> Option<&'static [Tag]> {
+        None
+    }
+
+    fn from_alternative(value: Self::Values) -> Self {
+        from_row!(value => FilterAlternatives: And, Or, Not, Present)
+    }
+
+    #[inline(always)]
+    fn put<E: Choice>(&self, encoder: &mut Encoder<'_>) -> Result<(), EncodeError> {
+        match self {
+            Self::And(held) => put_alternative::<E, _>(encoder, Context::<0>::tag(), held),
+            Self::Or(held) => put_alternative::<E, _>(encoder, Context::<1>::tag(), held),
+            Self::Not(held) => put_alternative::<E, _>(encoder, Context::<2>::tag(), held),
+            Self::Present(held) => put_alternative::<E, _>(encoder, Context::<3>::tag(), held),
+        }
+    }
+
+    ghost apart = { refl };
+}
+
+impl<K: Encode + Decode> TakesAlternative for FilterAlternatives<K> {
+    ghost Refuses = { ⟦<FilterRow<K> as ReadsAlternatives>⟧.Refuses };
+
+    fn take<D: Choice>(
+        alloc: Global,
+        decoder: &mut Decoder<'_>,
+        tag: Tag,
+    ) -> Result<Self, DecodeError> {
+        read_alternative::<Self, FilterRow<K>, D>(alloc, decoder, tag)
+    }
+}
+
+impl AsnType for Filter {
+    ghost use Rattle.std.specs.Prelude.{refl};
+    ghost use Rattle.asn1_core.specs.declared.tag.TheConstants.Tag.{EOC};
+    ghost use Rattle.asn1_core.specs.declared.constraints.TheConstants.Constraints.{NONE};
+
+    ghost TAG = { EOC };
+
+    const TAG: Tag = Tag::EOC;
+
+    ghost CONSTRAINTS = { NONE };
+
+    const CONSTRAINTS: Constraints = Constraints::NONE;
+
+    ghost consistent = { refl };
+
+    const IS_CHOICE: bool = true;
+}
+
+impl Spelled for Filter {
+    ghost use Rattle.rasn_oer.specs.Knots.{knot_tree, IsKnot, knot_typed};
+    ghost use Rattle.example_recursive.specs.FilterWeights.{filter_smaller};
+    ghost use Rattle.example_recursive.specs.declared.types_03.Filter.{out-Filter, size-Filter};
+
+    ghost tree = { λ c v. knot_tree size-Filter (λ v. (out-Filter v).0) ⟦<FilterContent<Filter> as HoldsKnot<Filter>>⟧.tied v };
+
+    ghost IsValue = { IsKnot size-Filter (λ v. (out-Filter v).0) ⟦<FilterContent<Filter> as HoldsKnot<Filter>>⟧.tied };
+
+    ghost is_tree = { λ c k v i. (knot_typed size-Filter (λ v. (out-Filter v).0) ⟦<FilterContent<Filter> as HoldsKnot<Filter>>⟧.tied ⟦<FilterContent<Filter> as HoldsKnot<Filter>>⟧.weight (record { ties = ⟦<FilterContent<Filter> as HoldsKnot<Filter>>⟧.ties; smaller = filter_smaller })).is v i };
+
+    ghost alike = { λ c k v w i j. (knot_typed size-Filter (λ v. (out-Filter v).0) ⟦<FilterContent<Filter> as HoldsKnot<Filter>>⟧.tied ⟦<FilterContent<Filter> as HoldsKnot<Filter>>⟧.weight (record { ties = ⟦<FilterContent<Filter> as HoldsKnot<Filter>>⟧.ties; smaller = filter_smaller })).like v w i j };
+}
+
+impl Layered for Filter {
+    ghost use Rattle.rasn_oer.specs.Knots.{knot, knot_layers, layer};
+    ghost use Rattle.example_recursive.specs.FilterWeights.{filter_smaller};
+    ghost use Rattle.example_recursive.specs.declared.types_03.Filter.{out-Filter, size-Filter};
+
+    ghost inner = { layer size-Filter (λ v. (out-Filter v).0) ⟦<FilterContent<Filter> as HoldsKnot<Filter>>⟧.tied (knot size-Filter (λ v. (out-Filter v).0) ⟦<FilterContent<Filter> as HoldsKnot<Filter>>⟧.tied) };
+
+    ghost layers = { knot_layers size-Filter (λ v. (out-Filter v).0) ⟦<FilterContent<Filter> as HoldsKnot<Filter>>⟧.tied ⟦<FilterContent<Filter> as HoldsKnot<Filter>>⟧.weight (record { ties = ⟦<FilterContent<Filter> as HoldsKnot<Filter>>⟧.ties; smaller = filter_smaller }) };
+}
+
+/// Writes what a `Filter` holds.
+fn encode_filter<K: Encode>(
+    inner: &FilterContent<K>,
+    encoder: &mut Encoder<'_>,
+    tag: Tag,
+) -> Result<(), EncodeError>
+    ensures done { OnOk result (Encodes (⟦<FilterContent<K> as Spelled>⟧.tree NONE inner.now) encoder.old encoder.new) }
+    ensures value { OnOk result (⟦<FilterContent<K> as Spelled>⟧.IsValue inner.now) }
+    ensures refused { IfErr result (λ x. Refused (⟦<FilterContent<K> as Spelled>⟧.tree NONE inner.now) x encoder.old encoder.new) }
+{
+    inner.encode_with_tag(encoder, tag)
+}
+
+impl Encode for Filter {
+    fn encode_with_tag_and_constraints(
+        &self,
+        encoder: &mut Encoder<'_>,
+        tag: Tag,
+        _constraints: Constraints,
+    ) -> Result<(), EncodeError> {
+        layer_of::<Filter>(self);
+        encode_filter::<Filter>(&self.0, encoder, tag)
+    }
+}
+
+impl Knot<FilterContent<Filter>> for Filter {
+    ghost use Rattle.rasn_oer.specs.Knots.{knot_layered};
+    ghost use Rattle.example_recursive.specs.FilterWeights.{filter_smaller};
+    ghost use Rattle.example_recursive.specs.declared.types_03.Filter.{out-Filter, size-Filter};
+
+    ghost content = { λ v. (out-Filter v).0 };
+
+    fn from_content(inner: FilterContent<Filter>) -> Filter {
+        Filter(inner)
+    }
+
+    ghost layered = { knot_layered size-Filter (λ v. (out-Filter v).0) ⟦<FilterContent<Filter> as HoldsKnot<Filter>>⟧.tied ⟦<FilterContent<Filter> as HoldsKnot<Filter>>⟧.weight (record { ties = ⟦<FilterContent<Filter> as HoldsKnot<Filter>>⟧.ties; smaller = filter_smaller }) };
+}
+
+impl Decode for Filter {
+    ghost use Rattle.rasn_oer.specs.Answering.{KnotAnswers};
+
+    ghost Answered = { λ c s r t. KnotAnswers ⟦<Filter as Knot<FilterContent<Filter>>>⟧.content ⟦<FilterContent<Filter> as DecodeKnot<Filter>>⟧.answering s r t };
+
+    fn decode_with_tag_and_constraints(
+        alloc: Global,
+        decoder: &mut Decoder<'_>,
+        tag: Tag,
+        _constraints: Constraints,
+    ) -> Result<Filter, DecodeError> {
+        decode_knotted::<FilterContent<Self>, Self>(alloc, decoder, tag)
+    }
+}
+
 /// `State ::= ENUMERATED { sent, read, ..., lost }`
 pub type State = KeptEnumeration<StateValues>;
 

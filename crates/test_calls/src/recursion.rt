@@ -3,7 +3,8 @@
 use crate::own_types::agrees;
 use asn1_core::DecodeErrorKind;
 use example_recursive::{
-    Bag, BodyAlternatives, Envelope, EnvelopeComponents, Group, GroupComponents, Tree, TreeComponents,
+    Bag, BodyAlternatives, Envelope, EnvelopeComponents, Filter, FilterAlternatives, Group,
+    GroupComponents, Tree, TreeComponents,
 };
 use oer_types::{Chain, ChainComponents, Node, NodeComponents};
 use rasn_oer::oer::de::DecoderOptions;
@@ -176,9 +177,7 @@ fn groups_are_written_and_read(rt: HostRuntime) -> Result<(), Fail> {
     assert!(rt; agrees(alloc, &alone, &[0x00, 0x05, 0x01, 0x00])?);
     let guest = vec![in alloc; Bare(alone)]?;
     let hosts = group(6, Vec::new(alloc), Some(SetOf::from_vec(guest)));
-    let octets = [
-        0x80, 0x06, 0x01, 0x00, 0x01, 0x01, 0x00, 0x05, 0x01, 0x00,
-    ];
+    let octets = [0x80, 0x06, 0x01, 0x00, 0x01, 0x01, 0x00, 0x05, 0x01, 0x00];
     assert!(rt; agrees(alloc, &hosts, &octets)?);
     assert!(rt; agrees(alloc, &pair(alloc, false)?, PAIR)?);
     assert!(rt; agrees(alloc, &pair(alloc, true)?, PAIR)?);
@@ -223,12 +222,57 @@ fn bags(alloc: Global) -> Result<Bag, Fail> {
 fn bags_are_written_and_read(rt: HostRuntime) -> Result<(), Fail> {
     let alloc = rt.alloc();
     let whole = bags(alloc)?;
-    assert!(rt; agrees(alloc, &whole, &[0x01, 0x02, 0x01, 0x00, 0x01, 0x01, 0x01, 0x00])?);
+    assert!(rt;
+        agrees(
+            alloc,
+            &whole,
+            &[0x01, 0x02, 0x01, 0x00, 0x01, 0x01, 0x01, 0x00]
+        )?
+    );
     let turned = [0x01, 0x02, 0x01, 0x01, 0x01, 0x00, 0x01, 0x00];
     let lenient: Bag = oer::decode(alloc, &turned)?;
     assert!(rt; lenient == whole);
     assert!(rt;
         why_unread::<Bag>(alloc, DecoderOptions::coer(), &turned)
+            == Some(DecodeErrorKind::NotValidCanonicalEncoding)
+    );
+    Ok(())
+}
+
+fn filter(of: FilterAlternatives<Filter>) -> Filter {
+    Filter(OneOf(of))
+}
+
+/// What has something of that name.
+fn present(alloc: Global, name: &[u8]) -> Result<Filter, Fail> {
+    let name = Octets(OctetString::from_slice(alloc, name)?);
+    Ok(filter(FilterAlternatives::Present(name)))
+}
+
+/// What has an `a`, hasn't what is without a name, and meets one of no filters.
+fn all_of_three(alloc: Global) -> Result<Filter, Fail> {
+    let mut parts = Vec::new(alloc);
+    parts.push(Bare(present(alloc, b"a")?))?;
+    let nameless = Held(Box::new(alloc, present(alloc, b"")?)?);
+    parts.push(Bare(filter(FilterAlternatives::Not(nameless))))?;
+    parts.push(Bare(filter(FilterAlternatives::Or(ListOf(Vec::new(alloc))))))?;
+    Ok(filter(FilterAlternatives::And(SetOf::from_vec(parts))))
+}
+
+#[test]
+fn filters_are_written_and_read(rt: HostRuntime) -> Result<(), Fail> {
+    let alloc = rt.alloc();
+    let octets = [
+        0x80, 0x01, 0x03, 0x81, 0x01, 0x00, 0x82, 0x83, 0x00, 0x83, 0x01, 0x61,
+    ];
+    assert!(rt; agrees(alloc, &all_of_three(alloc)?, &octets)?);
+    let turned = [
+        0x80, 0x01, 0x03, 0x83, 0x01, 0x61, 0x82, 0x83, 0x00, 0x81, 0x01, 0x00,
+    ];
+    let lenient: Filter = oer::decode(alloc, &turned)?;
+    assert!(rt; lenient == all_of_three(alloc)?);
+    assert!(rt;
+        why_unread::<Filter>(alloc, DecoderOptions::coer(), &turned)
             == Some(DecodeErrorKind::NotValidCanonicalEncoding)
     );
     Ok(())
