@@ -1,6 +1,9 @@
 //! Values without parts (X.697).
+ghost use Rattle.asn1_core.specs.Texts.{unit_of};
+ghost use Rattle.oer_json.specs.Characters.{AreCharacters};
 ghost use Rattle.oer_json.specs.Readings.{Puts, boolean_in, null_in, number_in, reading_of_kind};
-ghost use Rattle.std.specs.Prelude.{Some};
+ghost use Rattle.oer_walk.specs.StringKinds.{rule_of};
+ghost use Rattle.std.specs.Prelude.{◌≡◌, ◌/◌, IfOk, Some};
 
 use crate::bits::{put_bits, put_fixed_bits, put_named_bits};
 use crate::hexadecimal::{hexadecimal, octets_in};
@@ -14,7 +17,7 @@ use asn1_strings::{
 };
 use asn1_times::{Date, GeneralizedTime, UtcTime};
 use oer_leaf_write::{write_bool, write_content, write_object_identifier};
-use oer_walk::Kind;
+use oer_walk::{Kind, StringKind};
 use std::alloc::Global;
 
 /// Appends a BOOLEAN.
@@ -63,13 +66,17 @@ struct Units {
     count: usize,
 }
 
-fn one_octet_each(octets: Vec<u8>) -> Units {
+fn one_octet_each(octets: Vec<u8>) -> Units
+    ensures { AreCharacters 1 octets.items result }
+{
     let count = octets.len();
     Units { octets, count }
 }
 
 /// Octets that have to be whole characters of an alphabet.
-fn characters<C: CharacterSet>(octets: Vec<u8>, name: &'static str) -> Result<Units, Fault> {
+fn characters<C: CharacterSet>(octets: Vec<u8>, name: &'static str) -> Result<Units, Fault>
+    ensures { IfOk result (λ units. AreCharacters (unit_of C.rule) octets.items units) }
+{
     if !RestrictedString::<C>::is_text(octets.as_slice()) {
         return Err(Fault::Misfit(Misfit::NotInAlphabet(name)));
     }
@@ -112,49 +119,78 @@ fn time(alloc: Global, text: &str, is_time: bool, form: &'static str) -> Result<
 }
 
 /// The octets of a text, by what the table says that they are.
-fn units_of(alloc: Global, text: &str, sort: u32) -> Result<Units, Fault> {
+fn units_of(alloc: Global, text: &str, kind: StringKind) -> Result<Units, Fault> {
     let octets = text.as_bytes();
-    match sort {
-        1 | 6..=8 => Ok(one_octet_each(Vec::from_slice(alloc, octets)?)),
-        2 => restricted::<NumericCharacters>(alloc, text, "NumericString"),
-        3 => restricted::<PrintableCharacters>(alloc, text, "PrintableString"),
-        4 => restricted::<VisibleCharacters>(alloc, text, "VisibleString"),
-        5 => restricted::<Ia5Characters>(alloc, text, "IA5String"),
-        9 => wide::<BmpCharacters>(alloc, text, "BMPString"),
-        10 => wide::<UniversalCharacters>(alloc, text, "UniversalString"),
-        21 => time(
+    match kind {
+        StringKind::Utf8String
+        | StringKind::GeneralString
+        | StringKind::GraphicString
+        | StringKind::TeletexString => Ok(one_octet_each(Vec::from_slice(alloc, octets)?)),
+        StringKind::NumericString => {
+            restricted::<NumericCharacters>(alloc, text, "NumericString")
+        }
+        StringKind::PrintableString => {
+            restricted::<PrintableCharacters>(alloc, text, "PrintableString")
+        }
+        StringKind::VisibleString => {
+            restricted::<VisibleCharacters>(alloc, text, "VisibleString")
+        }
+        StringKind::Ia5String => restricted::<Ia5Characters>(alloc, text, "IA5String"),
+        StringKind::BmpString => wide::<BmpCharacters>(alloc, text, "BMPString"),
+        StringKind::UniversalString => {
+            wide::<UniversalCharacters>(alloc, text, "UniversalString")
+        }
+        StringKind::UtcTime => time(
             alloc,
             text,
             UtcTime::from_text(octets).is_ok(),
             "YYMMDDhhmmssZ",
         ),
-        22 => time(
+        StringKind::GeneralizedTime => time(
             alloc,
             text,
             GeneralizedTime::from_text(octets).is_ok(),
             "YYYYMMDDhhmmssZ, or with a point and 1 to 9 digits before the Z",
         ),
-        23 => time(alloc, text, Date::from_text(octets).is_ok(), "YYYYMMDD"),
-        _ => Ok(one_octet_each(octets_in(alloc, text)?)),
+        StringKind::Date => time(alloc, text, Date::from_text(octets).is_ok(), "YYYYMMDD"),
+        StringKind::OctetString | StringKind::ObjectIdentifier | StringKind::Any => {
+            Ok(one_octet_each(octets_in(alloc, text)?))
+        }
     }
 }
 
 /// Octets that stand for characters, by what the table says that they are.
-fn characters_of(octets: Vec<u8>, sort: u32) -> Result<Units, Fault> {
-    match sort {
-        9 => characters::<BmpCharacters>(octets, "BMPString"),
-        10 => characters::<UniversalCharacters>(octets, "UniversalString"),
+fn characters_of(octets: Vec<u8>, kind: StringKind) -> Result<Units, Fault>
+    ensures { IfOk result (λ units. AreCharacters (unit_of (rule_of kind)) octets.items units) }
+{
+    match kind {
+        StringKind::BmpString => characters::<BmpCharacters>(octets, "BMPString"),
+        StringKind::UniversalString => {
+            characters::<UniversalCharacters>(octets, "UniversalString")
+        }
         _ => Ok(one_octet_each(octets)),
     }
 }
 
+/// Whether the characters of a type may be any octets.
+fn has_any_octets(kind: StringKind) -> bool {
+    matches!(
+        kind,
+        StringKind::GeneralString
+            | StringKind::GraphicString
+            | StringKind::TeletexString
+            | StringKind::BmpString
+            | StringKind::UniversalString
+    )
+}
+
 /// The octets of a string: a text; of a type whose characters may be any octets, also an object of `octets`, if they are no text.
-fn string(alloc: Global, json: &Json, sort: u32) -> Result<Units, Fault> {
+fn string(alloc: Global, json: &Json, kind: StringKind) -> Result<Units, Fault> {
     match json {
-        Json::Text(text) => units_of(alloc, text.as_str(), sort),
+        Json::Text(text) => units_of(alloc, text.as_str(), kind),
         Json::Members(members) => match members.as_slice() {
-            [(name, value)] if name.as_str() == "octets" && matches!(sort, 6..=10) => {
-                characters_of(hexadecimal(alloc, value)?, sort)
+            [(name, value)] if name.as_str() == "octets" && has_any_octets(kind) => {
+                characters_of(hexadecimal(alloc, value)?, kind)
             }
             _ => Err(wrong_sort("a text")),
         },
@@ -187,12 +223,10 @@ fn put_identifier(alloc: Global, json: &Json, out: &mut Vec<u8>) -> Result<(), F
 }
 
 /// How many characters so many octets are, by what the table says that they are.
-fn characters_in(octets: usize, sort: u32) -> usize {
-    match sort {
-        9 => octets / 2,
-        10 => octets / 4,
-        _ => octets,
-    }
+fn characters_in(octets: usize, kind: StringKind) -> usize
+    ensures { result ≡ octets / unit_of (rule_of kind) }
+{
+    octets / kind.octets_per_character()
 }
 
 /// Appends a string of so many octets, and no length.
@@ -203,11 +237,11 @@ fn put_fixed_string(
     json: &Json,
     out: &mut Vec<u8>,
 ) -> Result<(), Fault> {
-    let sort = tables.word_of(type_number, 1);
-    let string = string(alloc, json, sort)?;
+    let kind = tables.string_kind(type_number, 1);
+    let string = string(alloc, json, kind)?;
     let wanted = tables.word_of(type_number, 0);
     if string.octets.len() != wanted as usize {
-        let size = Some(characters_in(wanted as usize, sort) as i128);
+        let size = Some(characters_in(wanted as usize, kind) as i128);
         return Err(Fault::Misfit(Misfit::WrongSize {
             size: string.count,
             low: size,
@@ -225,11 +259,11 @@ fn put_string(
     json: &Json,
     out: &mut Vec<u8>,
 ) -> Result<(), Fault> {
-    let sort = tables.word_of(type_number, 0);
-    if sort == 20 {
+    let kind = tables.string_kind(type_number, 0);
+    if kind == StringKind::ObjectIdentifier {
         return put_identifier(alloc, json, out);
     }
-    let string = string(alloc, json, sort)?;
+    let string = string(alloc, json, kind)?;
     check_size(tables, type_number, string.count)?;
     Ok(write_content(string.octets.as_slice(), out)?)
 }

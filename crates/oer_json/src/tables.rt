@@ -1,11 +1,12 @@
 //! Tables of types with their names, as `oergen --table` writes them.
 ghost use Rattle.std.specs.Prelude.{◌≡◌};
+ghost use Rattle.oer_json.specs.Characters.{string_kind_of};
 ghost use Rattle.oer_json.specs.Readings.{allows, described, word_of, bounds_of};
 ghost use Rattle.oer_walk.specs.Kinds.{kind_numbered};
 ghost use Rattle.oer_walk.specs.Tables.{kind_of};
 
 use crate::json::Json;
-use oer_walk::{Kind, kind_in};
+use oer_walk::{Kind, StringKind, kind_in};
 use std::alloc::{AllocError, AllocFailed, Global};
 use thiserror::Error;
 
@@ -300,6 +301,13 @@ impl Tables {
     {
         self.described(type_number, index.saturating_add(1))
             .unwrap_or(0)
+    }
+
+    /// What a string's octets are, by the word with that index behind its kind; octets, where it says nothing.
+    pub fn string_kind(&self, type_number: u32, index: usize) -> StringKind
+        ensures { result ≡ string_kind_of self.now.words.items type_number index }
+    {
+        StringKind::of(self.word_of(type_number, index)).unwrap_or(StringKind::OctetString)
     }
 
     /// A word that counts parts of a type, which are no more than the table has words.

@@ -18,7 +18,7 @@ pub enum Kind {
     BitString,
     /// A BIT STRING behind a length, with named bits: 0 bits at its end carry no meaning (X.680, 22.7).
     NamedBitString,
-    /// Octets or characters, so many octets: `octets text`.
+    /// Octets or characters, so many octets: `octets text`, the second by [`StringKind`](crate::StringKind).
     FixedString,
     /// Octets or characters behind a length: `text`.
     String,
@@ -54,7 +54,7 @@ impl Kind {
     }
 
     /// The number that stands for this kind in a table, by which `of` finds it.
-    pub fn number(self) -> usize
+    pub fn number(self) -> u32
         ensures number { result ≡ kind_number self }
         ensures found { kind_numbered result ≡ Some self }
     {

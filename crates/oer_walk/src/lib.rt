@@ -4,10 +4,12 @@
 mod kinds;
 mod nodes;
 mod places;
+mod string_kinds;
 mod table;
 mod walks;
 
 pub use kinds::Kind;
 pub use nodes::Node;
+pub use string_kinds::StringKind;
 pub use table::kind_in;
 pub use walks::{Walked, walk};

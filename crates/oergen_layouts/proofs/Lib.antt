@@ -6,6 +6,7 @@ mod Distinct
 mod Giving
 mod Members
 mod OwnTags
+pub mod Packing
 mod Placing
 mod Tagging
 mod Walking

@@ -3,13 +3,11 @@ ghost use Rattle.std.specs.Prelude.{◌≡◌, false, true, int_le, IfOk, IfSome
 
 use crate::cells::variant_name;
 use crate::items::push_defined;
-use crate::literals::{
-    bits_of_literal, bits_of_names, octets_of_text, packed, push_array, push_list, push_written,
-};
+use crate::literals::{bits_of_names, octets_of_text, push_array, push_list, push_written};
 use crate::shapes::{drops_zeros, number_of_octets, simple_type, sizes_of};
 use crate::templates::DEFAULT;
 use crate::text::{Text, Words};
-use oergen_layouts::bits::{drop_zeros, fill_up};
+use oergen_layouts::bits::{drop_zeros, fill_up, literal_bits, packed};
 use oergen_layouts::definitions::Definition;
 use oergen_layouts::layouts::unit_of;
 use oergen_layouts::numbers::{Spot, names_of, number_of, settled};
@@ -175,7 +173,7 @@ fn written_bits<'m>(
     spot: Spot<'m>,
 ) -> Result<Vec<bool>, Refusal> {
     match spot.value {
-        Value::Literal(id) => Ok(bits_of_literal(scope, *id)?),
+        Value::Literal(id) => Ok(literal_bits(scope.alloc, scope.token(*id))?),
         Value::Names(_, bits) => bits_of_names(scope, spot.names, bits.as_slice()),
         Value::Negative(_) | Value::Reference(_) | Value::Braces(_) => {
             Err(scope.refused(row.name, PRINTED))
@@ -331,7 +329,7 @@ fn default_octets<'m>(
     if simple != Simple::OctetString {
         return octets_of_text(scope, simple, *id);
     }
-    let bits = bits_of_literal(scope, *id)?;
+    let bits = literal_bits(scope.alloc, scope.token(*id))?;
     Ok(packed(scope.alloc, bits.as_slice())?)
 }
 

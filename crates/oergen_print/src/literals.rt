@@ -6,41 +6,12 @@ use oergen_layouts::layouts::unit_of;
 use oergen_layouts::numbers::{Spot, named, number_of};
 use oergen_layouts::scope::Scope;
 use oergen_parse::ast::{Numbered, Simple, Value};
-use oergen_parse::lexer::{Kind, TokenId};
+use oergen_parse::lexer::TokenId;
 use oergen_parse::refusal::Refusal;
 use std::alloc::{AllocError, Global};
 
 /// The most bits that a default may have.
 const MAX_BITS: usize = 65536;
-
-/// The bits that a digit between quotes stands for, four of a hexadecimal one: nothing of what is no digit.
-fn push_digit(bits: &mut Vec<bool>, digit: char, is_hex: bool) -> Result<(), AllocError> {
-    let Some(number) = digit.to_digit(16) else {
-        return Ok(());
-    };
-    if is_hex {
-        bits.push(number / 8 % 2 == 1)?;
-        bits.push(number / 4 % 2 == 1)?;
-        bits.push(number / 2 % 2 == 1)?;
-    }
-    bits.push(number % 2 == 1)?;
-    Ok(())
-}
-
-/// The bits of a literal between quotes, `'0101'B` or `'0AF'H`; of another token none.
-pub fn bits_of_literal(scope: Scope<'_, '_>, id: TokenId) -> Result<Vec<bool>, AllocError> {
-    let mut bits = Vec::new(scope.alloc);
-    let token = scope.token(id);
-    let is_hex = token.kind == Kind::Hex;
-    let inside = match token.text.rsplit_once('\'') {
-        Some((front, _)) => front,
-        None => "",
-    };
-    for digit in inside.chars() {
-        push_digit(&mut bits, digit, is_hex)?;
-    }
-    Ok(bits)
-}
 
 /// The number of a named bit.
 fn bit_number<'m>(
@@ -73,28 +44,6 @@ pub fn bits_of_names<'m>(
         }
     }
     Ok(bits)
-}
-
-/// Bits in whole octets, filled up with zero bits.
-pub fn packed(alloc: Global, bits: &[bool]) -> Result<Vec<u8>, AllocError> {
-    let mut octets = Vec::new(alloc);
-    let mut octet = 0u8;
-    let mut weight = 128u8;
-    for bit in bits.iter() {
-        if *bit {
-            octet = octet.saturating_add(weight);
-        }
-        weight /= 2;
-        if weight == 0 {
-            octets.push(octet)?;
-            octet = 0;
-            weight = 128;
-        }
-    }
-    if weight != 128 {
-        octets.push(octet)?;
-    }
-    Ok(octets)
 }
 
 /// Whether a type's text may have the character (X.680, clause 41), and the library has octets for it: ASCII where X.680 would have

@@ -14,6 +14,9 @@ use Rattle.oergen_parse.specs.declared.ast.Simple.{Simple}
 use Rattle.oergen_parse.specs.declared.ast.Simple.TheVariants.{Boolean, Null, OctetString, ObjectIdentifier, Utf8String, NumericString, PrintableString, VisibleString, Ia5String, GeneralString, GraphicString, TeletexString, BmpString, UniversalString, UtcTime, GeneralizedTime, Date, Any}
 use Rattle.oer_walk.specs.Kinds.{kind_number}
 use Rattle.oer_walk.specs.declared.kinds.Kind.TheVariants.{Boolean as BooleanKind, Null as NullKind, FixedInteger, Integer, FixedBitString, BitString, FixedString, String, NamedBitString, Sequence, Choice}
+use Rattle.oer_walk.specs.StringKinds.{string_kind_number}
+use Rattle.oer_walk.specs.declared.string_kinds.StringKind.{StringKind}
+use Rattle.oer_walk.specs.declared.string_kinds.StringKind.TheVariants as kinds
 use Rattle.oergen_tables.specs.declared.rows.Field.{Field}
 
 -- a number that is a word of a table: below the one that stands for nothing
@@ -48,25 +51,29 @@ string_words text unit (Some size) = kind_number FixedString ∷ unsigned_abs (s
 string_words text unit None = kind_number String ∷ text ∷ []
 
 -- what octets are
+abbrev pub string_kind : Simple → StringKind
+string_kind Boolean = kinds.OctetString
+string_kind Null = kinds.OctetString
+string_kind OctetString = kinds.OctetString
+string_kind Utf8String = kinds.Utf8String
+string_kind NumericString = kinds.NumericString
+string_kind PrintableString = kinds.PrintableString
+string_kind VisibleString = kinds.VisibleString
+string_kind Ia5String = kinds.Ia5String
+string_kind GeneralString = kinds.GeneralString
+string_kind GraphicString = kinds.GraphicString
+string_kind TeletexString = kinds.TeletexString
+string_kind BmpString = kinds.BmpString
+string_kind UniversalString = kinds.UniversalString
+string_kind ObjectIdentifier = kinds.ObjectIdentifier
+string_kind UtcTime = kinds.UtcTime
+string_kind GeneralizedTime = kinds.GeneralizedTime
+string_kind Date = kinds.Date
+string_kind Any = kinds.Any
+
+-- the number of that
 abbrev pub text_number : Simple → ℕ
-text_number Boolean = 0
-text_number Null = 0
-text_number OctetString = 0
-text_number Utf8String = 1
-text_number NumericString = 2
-text_number PrintableString = 3
-text_number VisibleString = 4
-text_number Ia5String = 5
-text_number GeneralString = 6
-text_number GraphicString = 7
-text_number TeletexString = 8
-text_number BmpString = 9
-text_number UniversalString = 10
-text_number ObjectIdentifier = 20
-text_number UtcTime = 21
-text_number GeneralizedTime = 22
-text_number Date = 23
-text_number Any = 24
+text_number simple = string_kind_number (string_kind simple)
 
 -- a type whose size isn't seen
 abbrev pub sizeless_words : Simple → List ℕ

@@ -164,7 +164,11 @@ impl<'m, 'a, 'd> Builder<'m, 'a, 'd> {
                 break;
             };
             let inner = self.element_number(part, element)?;
-            let words = vec![in self.alloc(); Kind::List.number(), usize::from(is_set), inner]?;
+            let words = vec![in self.alloc();
+                Kind::List.number() as usize,
+                usize::from(is_set),
+                inner,
+            ]?;
             let form = Form::of(self.alloc(), words);
             self.set_form(own, form);
             own = inner;

@@ -1,14 +1,17 @@
 //! The values of defaults in JSON (X.697).
+ghost use Rattle.std.specs.Prelude.{◌≡◌, IfOk, string_bytes};
+ghost use Rattle.asn1_core.specs.Octets.{pack};
+ghost use Rattle.hex.specs.Hex.{encode_upper};
 
 use crate::leaves::named_number;
-use oergen_layouts::bits::{drop_zeros, fill_up};
+use oergen_layouts::bits::{drop_zeros, fill_up, literal_bits, packed};
 use oergen_layouts::numbers::{Spot, named, names_of, settled};
 use oergen_layouts::rows::Row;
 use oergen_layouts::scope::Scope;
 use oergen_layouts::values::{default_of, has_parts};
 use oergen_layouts::visible::{Limits, Purpose, limits_of};
 use oergen_parse::ast::{Body, Need, Numbered, Simple, Type, Value};
-use oergen_parse::lexer::{Kind, Token, TokenId};
+use oergen_parse::lexer::TokenId;
 use oergen_parse::refusal::Refusal;
 use std::alloc::{AllocError, Global};
 
@@ -57,34 +60,6 @@ fn small(alloc: Global, text: &str) -> Result<String, AllocError> {
     text.chars().map(|c| c.to_ascii_lowercase()).collect(alloc)
 }
 
-/// Puts the bits that a digit stands for, four of a hexadecimal one; none of what is no digit.
-fn push_digit(bits: &mut Vec<bool>, digit: char, is_hex: bool) -> Result<(), AllocError> {
-    let Some(number) = digit.to_digit(16) else {
-        return Ok(());
-    };
-    if is_hex {
-        bits.push(number / 8 % 2 == 1)?;
-        bits.push(number / 4 % 2 == 1)?;
-        bits.push(number / 2 % 2 == 1)?;
-    }
-    bits.push(number % 2 == 1)?;
-    Ok(())
-}
-
-/// The bits of a literal between quotes, `'0101'B` or `'0AF'H`.
-fn literal_bits(alloc: Global, token: Token<'_>) -> Result<Vec<bool>, AllocError> {
-    let mut bits = Vec::new(alloc);
-    let is_hex = token.kind == Kind::Hex;
-    let inside = match token.text.rsplit_once('\'') {
-        Some((front, _)) => front,
-        None => "",
-    };
-    for digit in inside.chars() {
-        push_digit(&mut bits, digit, is_hex)?;
-    }
-    Ok(bits)
-}
-
 /// The numbers of named bits.
 fn bit_numbers<'m>(
     scope: Scope<'m, '_>,
@@ -122,27 +97,11 @@ fn numbered_bits(alloc: Global, numbers: &[i128]) -> Result<Option<Vec<bool>>, A
     Ok(Some(bits))
 }
 
-/// The octet of at most eight bits, the highest first.
-fn octet_of(bits: &[bool]) -> u8 {
-    let mut octet = 0u8;
-    let mut weight = 128u8;
-    for bit in bits.iter() {
-        if *bit {
-            octet = octet.saturating_add(weight);
-        }
-        weight /= 2;
-    }
-    octet
-}
-
 /// Bits in whole octets, filled up with zero bits, in hexadecimal.
-fn digits_of(alloc: Global, bits: &[bool]) -> Result<String, AllocError> {
-    let mut digits = String::new(alloc);
-    for eight in bits.chunks(8) {
-        let octet = octet_of(eight);
-        digits.push_str(format!(in alloc; "{octet:02X}")?.as_str())?;
-    }
-    Ok(digits)
+fn digits_of(alloc: Global, bits: &[bool]) -> Result<String, AllocError>
+    ensures { IfOk result (λ digits. string_bytes digits ≡ encode_upper (pack bits.now)) }
+{
+    hex::encode_upper(alloc, packed(alloc, bits)?)
 }
 
 /// The bits of a BIT STRING's default as they are written, of named ones up to the last; nothing of more than a default has.

@@ -4,13 +4,14 @@ ghost use Rattle.std.specs.List.{All, AllZip, filter_map};
 ghost use Rattle.oergen_layouts.specs.Enumerations.{AreAllowed, AreNumbersOf, IsDigits, number_behind};
 ghost use Rattle.oergen_parse.specs.declared.ast.Body.{Body};
 ghost use Rattle.oergen_parse.specs.declared.refusal.Refusal.TheVariants.{OutOfMemory};
-ghost use Rattle.oergen_tables.specs.Forms.{AreLeafWords, IsWord, bits_words, fixed_size, integer_words, sizeless_words, string_words, text_number};
+ghost use Rattle.oergen_tables.specs.Forms.{AreLeafWords, IsWord, bits_words, fixed_size, integer_words, sizeless_words, string_kind, string_words};
 ghost use Rattle.oer_walk.specs.Kinds.{kind_number};
+ghost use Rattle.oer_walk.specs.StringKinds.{string_kind_number};
 ghost use Rattle.oergen_tables.specs.Names.{IsNamed, IsReadable, shown, value_of};
 ghost use Rattle.oer_walk.specs.declared.kinds.Kind.TheVariants.{Enumerated};
 
 use crate::forms::{Form, ValueName};
-use oer_walk::Kind;
+use oer_walk::{Kind, StringKind};
 use oergen_layouts::layouts::unit_of;
 use oergen_layouts::numbers::{Spot, enumerated_numbers, names_of, number_of};
 use oergen_layouts::scope::Scope;
@@ -61,27 +62,27 @@ fn simple_name(simple: Simple) -> &'static str {
     }
 }
 
-/// The number that says what octets behind a length are, or as many as a type always has; 0 of other types.
-fn text_number(simple: Simple) -> usize
-    ensures { result ≡ text_number simple }
+/// What octets behind a length are, or as many as a type always has; octets of other types.
+fn string_kind(simple: Simple) -> StringKind
+    ensures { result ≡ string_kind simple }
 {
     match simple {
-        Simple::Boolean | Simple::Null | Simple::OctetString => 0,
-        Simple::Utf8String => 1,
-        Simple::NumericString => 2,
-        Simple::PrintableString => 3,
-        Simple::VisibleString => 4,
-        Simple::Ia5String => 5,
-        Simple::GeneralString => 6,
-        Simple::GraphicString => 7,
-        Simple::TeletexString => 8,
-        Simple::BmpString => 9,
-        Simple::UniversalString => 10,
-        Simple::ObjectIdentifier => 20,
-        Simple::UtcTime => 21,
-        Simple::GeneralizedTime => 22,
-        Simple::Date => 23,
-        Simple::Any => 24,
+        Simple::Boolean | Simple::Null | Simple::OctetString => StringKind::OctetString,
+        Simple::Utf8String => StringKind::Utf8String,
+        Simple::NumericString => StringKind::NumericString,
+        Simple::PrintableString => StringKind::PrintableString,
+        Simple::VisibleString => StringKind::VisibleString,
+        Simple::Ia5String => StringKind::Ia5String,
+        Simple::GeneralString => StringKind::GeneralString,
+        Simple::GraphicString => StringKind::GraphicString,
+        Simple::TeletexString => StringKind::TeletexString,
+        Simple::BmpString => StringKind::BmpString,
+        Simple::UniversalString => StringKind::UniversalString,
+        Simple::ObjectIdentifier => StringKind::ObjectIdentifier,
+        Simple::UtcTime => StringKind::UtcTime,
+        Simple::GeneralizedTime => StringKind::GeneralizedTime,
+        Simple::Date => StringKind::Date,
+        Simple::Any => StringKind::Any,
     }
 }
 
@@ -115,11 +116,11 @@ fn integer_form(alloc: Global, limits: Limits) -> Result<Form, AllocError>
     let (octets, is_signed) = limits.width();
     let words = match octets {
         Some(octets) => vec![in alloc;
-            Kind::FixedInteger.number(),
+            Kind::FixedInteger.number() as usize,
             usize::from(octets),
             usize::from(is_signed),
         ]?,
-        None => vec![in alloc; Kind::Integer.number(), usize::from(is_signed)]?,
+        None => vec![in alloc; Kind::Integer.number() as usize, usize::from(is_signed)]?,
     };
     Ok(Form {
         range: limits,
@@ -141,11 +142,11 @@ fn bits_form(
 {
     let words = match fixed_size(limits) {
         Some(bits) => vec![in scope.alloc;
-            Kind::FixedBitString.number(),
+            Kind::FixedBitString.number() as usize,
             size_word(scope, of, bits)?,
         ]?,
-        None if is_named => vec![in scope.alloc; Kind::NamedBitString.number()]?,
-        None => vec![in scope.alloc; Kind::BitString.number()]?,
+        None if is_named => vec![in scope.alloc; Kind::NamedBitString.number() as usize]?,
+        None => vec![in scope.alloc; Kind::BitString.number() as usize]?,
     };
     Ok(Form {
         size: limits,
@@ -157,21 +158,22 @@ fn bits_form(
 fn string_form(
     scope: Scope<'_, '_>,
     of: &Type,
-    text: usize,
+    kind: StringKind,
     unit: i128,
     limits: Limits,
 ) -> Result<Form, Refusal>
-    ensures words { IfOk result (λ form. form.words.items ≡ string_words text unit (fixed_size limits)) }
+    ensures words { IfOk result (λ form. form.words.items ≡ string_words (string_kind_number kind) unit (fixed_size limits)) }
     ensures limits { IfOk result (λ form. (form.range ≡ UNLIMITED) × (form.size ≡ limits)) }
     ensures fits { OnOk result (IfSome (fixed_size limits) (λ size. IsWord (size *ℤ unit))) }
     ensures refused { IfSome (fixed_size limits) (λ size. IsWord (size *ℤ unit)) → IfErr result (λ e. e ≡ OutOfMemory) }
 {
+    let text = kind.number() as usize;
     let words = match fixed_size(limits) {
         Some(size) => {
             let octets = size_word(scope, of, size.saturating_mul(unit))?;
-            vec![in scope.alloc; Kind::FixedString.number(), octets, text]?
+            vec![in scope.alloc; Kind::FixedString.number() as usize, octets, text]?
         }
-        None => vec![in scope.alloc; Kind::String.number(), text]?,
+        None => vec![in scope.alloc; Kind::String.number() as usize, text]?,
     };
     Ok(Form {
         size: limits,
@@ -184,9 +186,12 @@ fn sizeless_form(alloc: Global, simple: Simple) -> Result<Form, AllocError>
     ensures { IfOk result (λ form. form.words.items ≡ sizeless_words simple) }
 {
     let words = match simple {
-        Simple::Boolean => vec![in alloc; Kind::Boolean.number()]?,
-        Simple::Null => vec![in alloc; Kind::Null.number()]?,
-        other => vec![in alloc; Kind::String.number(), text_number(other)]?,
+        Simple::Boolean => vec![in alloc; Kind::Boolean.number() as usize]?,
+        Simple::Null => vec![in alloc; Kind::Null.number() as usize]?,
+        other => vec![in alloc;
+            Kind::String.number() as usize,
+            string_kind(other).number() as usize,
+        ]?,
     };
     Ok(Form::of(alloc, words))
 }
@@ -238,7 +243,7 @@ pub fn enumerated_form<'m>(
 {
     let mut form = Form::of(
         scope.alloc,
-        vec![in scope.alloc; Kind::Enumerated.number()]?,
+        vec![in scope.alloc; Kind::Enumerated.number() as usize]?,
     );
     for (name, number) in enumerated_numbers(scope, items, root)?.iter() {
         let number = *number;
@@ -280,7 +285,7 @@ fn base_form<'m>(
         Body::Simple(simple) => match unit_of(*simple) {
             Some(unit) => {
                 let limits = limits_of(scope, chain, &[], Purpose::Size)?;
-                string_form(scope, of, text_number(*simple), unit, limits)
+                string_form(scope, of, string_kind(*simple), unit, limits)
             }
             None => Ok(sizeless_form(scope.alloc, *simple)?),
         },

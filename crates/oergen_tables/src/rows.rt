@@ -82,7 +82,7 @@ pub fn sequence_form(
 {
     let additions = fields.len().saturating_sub(roots);
     let words = vec![in alloc;
-        Kind::Sequence.number(),
+        Kind::Sequence.number() as usize,
         usize::from(is_extensible),
         roots,
         additions,
@@ -130,7 +130,7 @@ pub fn choice_form(alloc: Global, is_extensible: bool, fields: &[Field]) -> Resu
         .count();
     let additions = fields.len().saturating_sub(roots);
     let mut words = vec![in alloc;
-        Kind::Choice.number(),
+        Kind::Choice.number() as usize,
         usize::from(is_extensible),
         roots,
         additions,

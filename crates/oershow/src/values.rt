@@ -2,7 +2,7 @@
 
 use anyhow::Result;
 use oer_json::Tables;
-use oer_walk::{Kind, Node};
+use oer_walk::{Kind, Node, StringKind};
 use std::alloc::Global;
 
 /// What a part is that has no parts.
@@ -178,27 +178,30 @@ fn wide_text(alloc: Global, octets: &[u8], unit: usize) -> Result<Option<String>
 }
 
 /// Octets, as what the table says that they are.
-fn octets_leaf(alloc: Global, octets: &[u8], text: u32) -> Result<Leaf> {
-    match text {
-        1..=8 | 21..=23 => match std::str::from_utf8(octets) {
-            Ok(text) => Ok(Leaf::Text(String::from_str(alloc, text)?)),
-            Err(_) => Ok(Leaf::NoText(hex_of(alloc, octets)?)),
-        },
-        9 | 10 => match wide_text(alloc, octets, if text == 9 { 2 } else { 4 })? {
-            Some(text) => Ok(Leaf::Text(text)),
-            None => Ok(Leaf::NoText(hex_of(alloc, octets)?)),
-        },
-        20 => match identifier_of(alloc, octets)? {
+fn octets_leaf(alloc: Global, octets: &[u8], kind: StringKind) -> Result<Leaf> {
+    match kind {
+        StringKind::BmpString | StringKind::UniversalString => {
+            match wide_text(alloc, octets, kind.octets_per_character())? {
+                Some(text) => Ok(Leaf::Text(text)),
+                None => Ok(Leaf::NoText(hex_of(alloc, octets)?)),
+            }
+        }
+        StringKind::ObjectIdentifier => match identifier_of(alloc, octets)? {
             Some(text) => Ok(Leaf::Identifier(text)),
             None => Ok(Leaf::Hex(hex_of(alloc, octets)?)),
         },
-        _ => Ok(Leaf::Hex(hex_of(alloc, octets)?)),
+        StringKind::OctetString | StringKind::Any => Ok(Leaf::Hex(hex_of(alloc, octets)?)),
+        _ => match std::str::from_utf8(octets) {
+            Ok(text) => Ok(Leaf::Text(String::from_str(alloc, text)?)),
+            Err(_) => Ok(Leaf::NoText(hex_of(alloc, octets)?)),
+        },
     }
 }
 
 /// What a part is, by its content.
 pub fn leaf_of(alloc: Global, tables: &Tables, node: Node, octets: &[u8]) -> Result<Leaf> {
     let word = |index: usize| tables.word_of(node.type_number, index);
+    let string_kind = |index: usize| tables.string_kind(node.type_number, index);
     match Kind::of(node.kind) {
         Some(Kind::Boolean) => Ok(Leaf::Truth(octets.first().copied().unwrap_or(0) != 0)),
         Some(Kind::Null) => Ok(Leaf::Nothing),
@@ -211,8 +214,8 @@ pub fn leaf_of(alloc: Global, tables: &Tables, node: Node, octets: &[u8]) -> Res
             Ok(Leaf::FixedBits(word(0) as usize, digits, names))
         }
         Some(Kind::BitString | Kind::NamedBitString) => { bits_leaf(alloc, tables, node, octets) }
-        Some(Kind::FixedString) => octets_leaf(alloc, octets, word(1)),
-        Some(Kind::String) => octets_leaf(alloc, octets, word(0)),
+        Some(Kind::FixedString) => octets_leaf(alloc, octets, string_kind(1)),
+        Some(Kind::String) => octets_leaf(alloc, octets, string_kind(0)),
         _ => Ok(Leaf::Hex(hex_of(alloc, octets)?)),
     }
 }
