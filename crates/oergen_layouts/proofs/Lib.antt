@@ -6,7 +6,9 @@ mod Distinct
 mod Giving
 mod Members
 mod OwnTags
+mod Placeable
 mod Placing
+mod Refusing
 mod Tagging
 mod Walking
 mod Writing
