@@ -432,7 +432,8 @@ fn unused_of(
     Ok(unused)
 }
 
-/// Puts what is found for a definition. Refused where that is a refusal; with `keeps_faults` the definition keeps it, but for want of memory.
+/// Puts what is found for a definition. Refused where that is a refusal; with `keeps_faults` the definition keeps it, but for want of
+/// memory.
 fn put_found<'m>(
     alloc: Global,
     definition: &mut Definition<'m>,
