@@ -17,13 +17,10 @@ use Rattle.asn1_core.specs.Tags.{same_tag, tag_le}
 use Rattle.asn1_core.specs.declared.tag.Class.{Class}
 use denote.Ref.{Bor}
 use Rattle.asn1_core.specs.declared.tag.Tag.{Tag}
-use Rattle.oergen_layouts.specs.Untagged.{HaveOwnPartTags, IsLeastOf, Unnamed, alternatives, first_target, in_place, is_name_of, part_tag, parts_behind, past_names, root_tag, root_tags, type_behind, unnamed, unnamed_with}
+use Rattle.oergen_layouts.specs.Untagged.{HaveOwnPartTags, IsLeastOf, Unnamed, alternatives, first_target, in_place, is_name_of, part_tag, parts_behind, past_names, root_tag, root_tags, row_tag, type_behind, unnamed, unnamed_with}
 use Rattle.oergen_layouts.specs.declared.definitions.Definition.{Definition}
 use Rattle.oergen_layouts.specs.declared.definitions.Part.{Part}
 use Rattle.oergen_layouts.specs.declared.rows.Row.{Row}
-
-abbrev row_tag : Option Row → Option Tag
-row_tag row = elim row [ None ↦ None | Some row ↦ row.tag ]
 
 kept_row : (row : Option Row) → option_map (λ (it : Row). record it { tag = row_tag row }) row ≡ row
 kept_row None = refl

@@ -7,7 +7,9 @@ mod Giving
 mod Members
 mod OwnTags
 pub mod Packing
+mod Placeable
 mod Placing
+mod Refusing
 mod Tagging
 mod Walking
 mod Writing

@@ -6,25 +6,25 @@ use Rattle.oergen_parse.specs.declared.ast.Body.TheVariants.{outs-Choice, outs-S
 use Rattle.oergen_parse.specs.declared.ast.Component.{Component}
 use Rattle.oergen_parse.specs.declared.ast.Member.{Member}
 use Rattle.oergen_parse.specs.declared.ast.Type.{«Type»}
-use Rattle.oergen_layouts.specs.Tags.{AreMembers, has_members}
+use Rattle.oergen_layouts.specs.Tags.{AreMembers, has_members, members_in}
 
-abbrev pub listed : Body-F Body Member Component «Type» → Option (List Member)
+abbrev listed : Body-F Body Member Component «Type» → Option (List Member)
 listed (Choice all) = Some all.items
 listed (Sequence all) = Some all.items
 listed (Set all) = Some all.items
 listed _ = None
 
-pub has_listed : (body : Body) (members : List Member) → AreMembers body members → listed (out-Body body) ≡ Some members
-has_listed body members are = elim are.stand_in [
-  | inl e ↦ ap (λ (it : Body). listed (out-Body it)) e ∙ (ap listed (outs-Choice are.all) ∙ ap (λ (it : List Member). Some it) (sym are.are_all))
+pub has_members_in : (body : Body) (members : List Member) → AreMembers body members → members_in body ≡ Some members
+has_members_in body members are = elim are.stand_in [
+  | inl e ↦ ap members_in e ∙ (ap listed (outs-Choice are.all) ∙ ap (λ (it : List Member). Some it) (sym are.are_all))
   | inr rest ↦ elim rest [
-    | inl e ↦ ap (λ (it : Body). listed (out-Body it)) e ∙ (ap listed (outs-Sequence are.all) ∙ ap (λ (it : List Member). Some it) (sym are.are_all))
-    | inr e ↦ ap (λ (it : Body). listed (out-Body it)) e ∙ (ap listed (outs-Set are.all) ∙ ap (λ (it : List Member). Some it) (sym are.are_all))
+    | inl e ↦ ap members_in e ∙ (ap listed (outs-Sequence are.all) ∙ ap (λ (it : List Member). Some it) (sym are.are_all))
+    | inr e ↦ ap members_in e ∙ (ap listed (outs-Set are.all) ∙ ap (λ (it : List Member). Some it) (sym are.are_all))
   ]
 ]
 
 pub same_members : (body : Body) (members others : List Member) → AreMembers body members → AreMembers body others → members ≡ others
-same_members body members others are those = let one = has_listed body members are in let other = has_listed body others those in cc
+same_members body members others are those = let one = has_members_in body members are in let other = has_members_in body others those in cc
 
 pub have_members : (body : Body) (members : List Member) → AreMembers body members → has_members body ≡ true
 have_members body members are = elim are.stand_in [

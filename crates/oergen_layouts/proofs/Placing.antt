@@ -1,11 +1,11 @@
 -- What stands in a SET for its components, and what definitions come to in the end.
-use Rattle.std.proofs.Common.{◌≡◌, ◌∙◌, ℕ, ◌+◌, ◌<◌, ◌≤◌, Bool, true, false, cond, Option, Some, is_some, List, [], ◌∷◌, ◌++◌, append-nil, length, take, drop, get_or, map, set, MatchOption, refl, sym, subst, ap, arith}
+use Rattle.std.proofs.Common.{◌≡◌, ◌≢◌, ◌∙◌, ℕ, ◌+◌, ◌<◌, ◌≤◌, Bool, true, false, cond, Option, Some, None, is_some, List, [], ◌∷◌, ◌++◌, append-nil, length, take, drop, get_or, map, set, MatchOption, refl, sym, subst, ap, arith}
 use Rattle.std.proofs.Math.ListN.{drop_of_length-le}
 use Rattle.std.proofs.Math.Seq.{drop-append_seam}
 use Rattle.std.proofs.lemmas.List.{drop-map, drop_more, length-map, take_more}
 use Rattle.std.specs.List.{AllZip, cons_option, filter_map}
 use Rattle.asn1_core.specs.declared.tag.Tag.{Tag}
-use Rattle.oergen_layouts.specs.Untagged.{Found, IsLeastOf, IsRootInSet, Unnamed, all_taken_up, in_place, is_put, marked, part_tag, root_tag, root_tags, tags_in_root, taken_up, unnamed, unnamed_with, used_of}
+use Rattle.oergen_layouts.specs.Untagged.{Found, IsCountable, IsLeastOf, IsPlaceable, IsRootInSet, Unnamed, all_taken_up, in_place, is_put, marked, part_tag, root_tag, root_tags, tags_in_root, taken_up, unnamed, unnamed_with, used_of}
 use Rattle.oergen_layouts.specs.declared.definitions.Definition.{Definition}
 use Rattle.oergen_layouts.specs.declared.definitions.Part.{Part}
 use Rattle.oergen_layouts.specs.declared.rows.Row.{Row}
@@ -22,19 +22,48 @@ behind old new more e =
     ∙ (ap (drop (length old)) e
     ∙ (ap (λ (it : ℕ). drop it (map unnamed old ++ more)) (sym (length-map old unnamed)) ∙ drop-append_seam (map unnamed old) more))
 
+root_tags_of : (all : List Definition) (part : Part) (row : Row) (old new : List Part) → map unnamed new ≡ map unnamed old ++ in_place 64 all part row → root_tags (drop (length old) new) ≡ tags_in_root (in_place 64 all part row)
+root_tags_of all part row old new placed = root_tags_unnamed (drop (length old) new) ∙ ap tags_in_root (behind old new (in_place 64 all part row) placed)
+
 -- a root component with the tag that it counts by
 pub root_in_set : (all : List Definition) (part made : Part) (row : Row) (old new : List Part) (tag : Option Tag) → part.row ≡ Some row → map unnamed new ≡ map unnamed old ++ in_place 64 all part row
     → MatchOption row.tag (IsLeastOf (root_tags (drop (length old) new)) tag) (λ own. tag ≡ Some own) → is_some tag ≡ true → unnamed made ≡ unnamed_with part tag → IsRootInSet all part row made
 root_in_set all part made row old new tag has placed counts some same =
     let own : part_tag made ≡ tag = has_tag made part row tag same has in
-    let roots : root_tags (drop (length old) new) ≡ tags_in_root (in_place 64 all part row) =
-    root_tags_unnamed (drop (length old) new) ∙ ap tags_in_root (behind old new (in_place 64 all part row) placed) in
+    let roots = root_tags_of all part row old new placed in
     let of_these = subst (λ (it : List Tag). MatchOption row.tag (IsLeastOf it tag) (λ own. tag ≡ Some own)) roots counts in
     record {
       is_same = same ∙ ap (unnamed_with part) (sym own);
       has_tag = ap is_some own ∙ some;
       counts = subst (λ (it : Option Tag). MatchOption row.tag (IsLeastOf (tags_in_root (in_place 64 all part row)) it) (λ own. it ≡ Some own)) (sym own) of_these;
     }
+
+abbrev Counts : Option Tag → List Tag → Option Tag → Type 0
+Counts own tags tag = MatchOption own (IsLeastOf tags tag) (λ it. tag ≡ Some it)
+
+without_tag : (own tag : Option Tag) (tags : List Tag) → is_some tag ≡ false → Counts own tags tag → (own ≡ None) × (tags ≡ [])
+without_tag None None tags none is = (refl, is)
+without_tag None (Some tag) tags none is = absurd cc
+without_tag (Some own) tag tags none is = absurd cc
+
+least_is_there : (own tag : Option Tag) (tags : List Tag) → own ≡ None → is_some tag ≡ true → Counts own tags tag → tags ≢ []
+least_is_there None None tags e some is empty = absurd cc
+least_is_there None (Some tag) tags e some is empty = let within = is.0.1 in absurd (omega (arith, within, ap length empty))
+least_is_there (Some own) tag tags e some is empty = absurd cc
+
+-- by what `counted_tag` finds: a component that a SET can count, and one that it can't
+pub is_countable : (all : List Definition) (part : Part) (row : Row) (old new : List Part) (tag : Option Tag) → map unnamed new ≡ map unnamed old ++ in_place 64 all part row → Counts row.tag (root_tags (drop (length old) new)) tag → is_some tag ≡ true
+    → IsPlaceable 64 all part row → IsCountable all part row
+is_countable all part row old new tag placed counts some placeable = record {
+  is_placeable = placeable;
+  has_root = λ none empty. least_is_there row.tag tag (root_tags (drop (length old) new)) none some counts (root_tags_of all part row old new placed ∙ empty);
+}
+
+pub not_countable : (all : List Definition) (part : Part) (row : Row) (old new : List Part) (tag : Option Tag) → map unnamed new ≡ map unnamed old ++ in_place 64 all part row → Counts row.tag (root_tags (drop (length old) new)) tag → is_some tag ≡ false
+    → IsCountable all part row → ⊥
+not_countable all part row old new tag placed counts none can =
+    let without = without_tag row.tag tag (root_tags (drop (length old) new)) none counts in
+    can.has_root without.0 (sym (root_tags_of all part row old new placed) ∙ without.1)
 
 -- a step of a loop that puts one more for each
 pub zip_step : {A B : Type 0} (R : A → B → Type 0) (xs : List A) (ys next : List B) (at : ℕ) (x : A) (y : B) → at < length xs → x ≡ get_or xs at x → AllZip R (take at xs) ys → R x y → next ≡ ys ++ y ∷ [] → AllZip R (take (at + 1) xs) next

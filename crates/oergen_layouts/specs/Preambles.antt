@@ -7,7 +7,7 @@ use Rattle.oergen_parse.specs.declared.ast.Member.{Member}
 use Rattle.oergen_parse.specs.declared.ast.Member.TheVariants.{Mark}
 use Rattle.oergen_parse.specs.declared.ast.Need.{Need}
 use Rattle.oergen_parse.specs.declared.ast.Need.TheVariants.{Required, Optional, Default}
-use Rattle.oergen_layouts.specs.Tags.{AreMembers, has_members}
+use Rattle.oergen_layouts.specs.Tags.{members_in}
 use Rattle.oergen_layouts.specs.declared.definitions.Part.{Part}
 use Rattle.oergen_layouts.specs.declared.rows.Position.{Position}
 use Rattle.oergen_layouts.specs.declared.rows.Position.TheVariants.{Root, Addition, Group}
@@ -17,9 +17,8 @@ is_mark (Mark _) = true
 is_mark _ = false
 
 -- whether a type has an extension mark: a SEQUENCE, a SET or a CHOICE may have one
-pub record SaysMark (body : Body) (says : Bool) : Type 0 where
-  pub among : (members : List Member) → AreMembers body members → says ≡ list_any is_mark members
-  pub of_others : has_members body ≡ false → says ≡ false
+abbrev pub has_mark : Body → Bool
+has_mark body = elim (members_in body) [ None ↦ false | Some members ↦ list_any is_mark members ]
 
 -- whether a component has one, by where it stands and by its need
 abbrev pub needs_bit : Position → Need → Bool

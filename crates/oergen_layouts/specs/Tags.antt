@@ -1,9 +1,10 @@
 -- Tags under AUTOMATIC TAGS (X.680, 25.7 to 25.9 and 29.5): those of the root's components are [0], [1] and so on, as they are written,
 -- and those of the additions go on behind them.
-use Rattle.std.specs.Prelude.{◌≡◌, ℕ, ◌+◌, ◌<◌, ◌^◌, ◌⊎◌, Bool, true, false, cond, List, [], ◌∷◌, length, count_by, Some, Vec}
+use Rattle.std.specs.Prelude.{◌≡◌, ℕ, ◌+◌, ◌<◌, ◌^◌, ◌⊎◌, Bool, true, false, cond, List, [], ◌∷◌, length, count_by, Option, Some, None, Vec}
 use Rattle.std.specs.List.{All}
 use Rattle.std.specs.Global.{Global}
-use Rattle.oergen_parse.specs.declared.ast.Body.{Body}
+use Rattle.oergen_parse.specs.declared.ast.Body.{Body, Body-F, out-Body}
+use Rattle.oergen_parse.specs.declared.ast.Body.TheOpen.{Sequence as open_sequence, Set as open_set, Choice as open_choice}
 use Rattle.oergen_parse.specs.declared.ast.Body.TheVariants.{Sequence, Set, Choice, Sequence', Set', Choice'}
 use Rattle.oergen_parse.specs.declared.ast.Component.{Component}
 use Rattle.oergen_parse.specs.declared.ast.Member.{Member}
@@ -40,6 +41,10 @@ pub record IsAutomatic (rows : List Row) : Type 0 where
 pub record AreAutomatic (modules : List Module) : Type 0 where
   pub is_any : 0 < length modules
   pub each_is : All (λ one. one.tagging ≡ Automatic) modules
+
+-- the members of a SEQUENCE, a SET or a CHOICE; none of another
+abbrev pub members_in : Body → Option (List Member)
+members_in body = elim (out-Body body) [ open_choice all ↦ Some all.items | open_sequence all ↦ Some all.items | open_set all ↦ Some all.items | _ ↦ None ]
 
 -- the members of a SEQUENCE, a SET or a CHOICE
 pub record AreMembers (body : Body) (members : List Member) : Type 0 where

@@ -1,15 +1,16 @@
 -- CHOICEs without a tag. In a CHOICE (X.680, 31, and X.696, 20) no octet of them is written but those of the alternative, so their
 -- alternatives stand in their place. In a SET (X.696, 18) they count by the least tag of their root alternatives.
-use Rattle.std.specs.Prelude.{◌≡◌, ◌≢◌, ℕ, zero, suc, ◌+◌, ◌++◌, Bool, true, false, cond, not, ◌&&◌, Option, Some, None, is_some, MatchOption, MatchResult, Result, Ok, IfOk, IfSome, List, [], ◌∷◌, length, map, replicate, set, slice_get}
+use Rattle.std.specs.Prelude.{◌≡◌, ◌≢◌, ⊤, ℕ, zero, suc, ◌+◌, ◌++◌, Bool, true, false, cond, not, ◌&&◌, ◌||◌, Option, Some, None, is_some, MatchOption, MatchResult, Result, Ok, Err, IfOk, IfSome, List, [], ◌∷◌, length, map, replicate, set, slice_get}
 use Rattle.std.specs.List.{All, AllPairs, AllZip, Contains, filter_map, flat_map, list_any, zip}
-use Rattle.std.specs.Option.{option_map, unwrap_or}
+use Rattle.std.specs.Option.{option_map, option_or, unwrap_or}
 use Rattle.asn1_core.specs.Tags.{tag_le}
 use Rattle.asn1_core.specs.declared.tag.Tag.{Tag}
 use Rattle.oergen_parse.specs.declared.ast.Body.{Body}
 use Rattle.oergen_parse.specs.declared.ast.Body.TheVariants.{Reference}
 use Rattle.oergen_parse.specs.declared.ast.Type.{«Type»}
 use Rattle.oergen_parse.specs.declared.refusal.Refusal.{Refusal}
-use Rattle.oergen_layouts.specs.Preambles.{SaysMark}
+use Rattle.oergen_parse.specs.declared.refusal.Refusal.TheVariants.{OutOfMemory}
+use Rattle.oergen_layouts.specs.Preambles.{has_mark}
 use Rattle.oergen_layouts.specs.Rows.{is_choice, is_set}
 use Rattle.oergen_layouts.specs.Tags.{is_root}
 use Rattle.oergen_layouts.specs.declared.definitions.Definition.{Definition}
@@ -23,8 +24,11 @@ abbrev pub FindsTag : {X : Type 0} → (X → Option Tag) → List X → Option 
 FindsTag tag_in all tag found = MatchOption found (All (λ one. tag_in one ≢ tag) all) (λ one. Contains all one × (tag_in one ≡ tag))
 
 -- the tag of a component or an alternative
+abbrev pub row_tag : Option Row → Option Tag
+row_tag row = elim row [ None ↦ None | Some row ↦ row.tag ]
+
 abbrev pub part_tag : Part → Option Tag
-part_tag part = elim part.row [ None ↦ None | Some row ↦ row.tag ]
+part_tag part = row_tag part.row
 
 -- a component or an alternative that has none
 abbrev pub lacks_tag : Part → Bool
@@ -75,6 +79,41 @@ alternatives (suc levels) all parts = flat_map (λ part. elim part.row [
 abbrev pub in_place : ℕ → List Definition → Part → Row → List Unnamed
 in_place levels all part row = elim row.tag [ Some _ ↦ unnamed part ∷ [] | None ↦ alternatives levels all (parts_behind all part) ]
 
+-- whether a CHOICE is extensible, by a mark of its own or of a choice in the place of an alternative, where so many levels of these are read
+abbrev pub extends : ℕ → List Definition → Definition → Bool
+extends zero all choice = false
+extends (suc levels) all choice = has_mark choice.of.now.body || list_any (λ part. elim part.row [
+  | None ↦ false
+  | Some row ↦ elim row.tag [ Some _ ↦ false | None ↦ elim (type_behind all part) [ None ↦ false | Some one ↦ extends levels all one ] ]
+]) choice.parts.items
+
+-- whether what stands in the place of one alternative makes its CHOICE extensible
+abbrev pub extends_by : ℕ → List Definition → Part → Row → Bool
+extends_by levels all part row = elim row.tag [ Some _ ↦ false | None ↦ elim (type_behind all part) [ None ↦ false | Some one ↦ extends levels all one ] ]
+
+-- A type without a tag that others can be put in the place of: it stands in the root, and is a CHOICE that can be resolved itself. An open
+-- type isn't, nor is a choice behind an extension mark.
+pub record IsUntaggedChoice (all : List Definition) (part : Part) (row : Row) : Type 0 where
+  pub in_root : is_root row ≡ true
+  pub of_choice : MatchOption (type_behind all part) ⊥ (λ one. (is_choice one.of.now.body ≡ true) × (one.fault ≡ None))
+
+-- Alternatives that can be put in the place of choices without a tag, where so many levels of these are read: there are some, and each has a
+-- tag, or is such a choice, whose alternatives can be put in its place.
+unfoldable pub ArePlaceable : ℕ → List Definition → List Part → Type 0
+ArePlaceable zero all parts = ⊥
+ArePlaceable (suc levels) all parts = (alternatives (suc levels) all parts ≢ []) × All (λ part. MatchOption part.row ⊤ (λ row. MatchOption row.tag (IsUntaggedChoice all part row × ArePlaceable levels all (parts_behind all part)) (λ _. ⊤))) parts
+
+-- one that can: it has a tag, or is such a choice
+abbrev pub IsPlaceable : ℕ → List Definition → Part → Row → Type 0
+IsPlaceable levels all part row = MatchOption row.tag (IsUntaggedChoice all part row × ArePlaceable levels all (parts_behind all part)) (λ _. ⊤)
+
+abbrev pub tag_in : Unnamed → Option Tag
+tag_in part = row_tag part.0
+
+-- no two of them have one tag (X.680, 27.3 and 29.3)
+abbrev pub HaveApartTags : List Unnamed → Type 0
+HaveApartTags parts = AllPairs (λ a b. tag_in a ≢ tag_in b) parts
+
 -- each has a tag that no other has
 pub record HaveOwnPartTags (parts : List Part) : Type 0 where
   pub each_has : All (λ part. is_some (part_tag part) ≡ true) parts
@@ -115,6 +154,15 @@ IsInSet all part made = MatchOption (root_row part.row) (unnamed made ≡ unname
 abbrev pub root_place : List Definition → Part → List Unnamed
 root_place all part = elim (root_row part.row) [ None ↦ [] | Some row ↦ in_place 64 all part row ]
 
+-- a root component that a SET can count by a tag (X.696, 18): its own, or that of a root alternative in its place
+pub record IsCountable (all : List Definition) (part : Part) (row : Row) : Type 0 where
+  pub is_placeable : IsPlaceable 64 all part row
+  pub has_root : row.tag ≡ None → tags_in_root (in_place 64 all part row) ≢ []
+
+-- a component that a SET can have: of the root such a one
+abbrev pub CanBeInSet : List Definition → Part → Type 0
+CanBeInSet all part = MatchOption (root_row part.row) ⊤ (IsCountable all part)
+
 -- What a SET has for each component, in their order. Those of its root, and the alternatives of choices in their place, differ in their tags.
 pub record AreInSet (all : List Definition) (parts made : List Part) : Type 0 where
   pub each : AllZip (IsInSet all) parts made
@@ -130,6 +178,11 @@ pub record ArePlaced (all : List Definition) (one : Definition) (made : List Par
   pub in_set : is_set one.of.now.body ≡ true → list_any lacks_tag one.parts.items ≡ true → AreInSet all one.parts.items made
   pub others : is_choice one.of.now.body ≡ false → is_set one.of.now.body ≡ false → made ≡ one.parts.items
 
+-- What a CHOICE and a SET with a part without a tag need to be resolved.
+pub record IsResolvable (all : List Definition) (one : Definition) : Type 0 where
+  pub choice : is_choice one.of.now.body ≡ true → list_any lacks_tag one.parts.items ≡ true → ArePlaceable 64 all one.parts.items × HaveApartTags (alternatives 64 all one.parts.items)
+  pub in_set : is_set one.of.now.body ≡ true → list_any lacks_tag one.parts.items ≡ true → All (CanBeInSet all) one.parts.items × HaveApartTags (flat_map (root_place all) one.parts.items)
+
 -- what is found for a definition: nothing where its parts stay
 abbrev pub Found : Type 0
 Found = Result (Option Flat) Refusal
@@ -138,16 +191,34 @@ abbrev pub parts_with : Definition → Option Flat → List Part
 parts_with one None = one.parts.items
 parts_with one (Some flat) = flat.parts.items
 
+-- whether a definition is extensible in whose place something is put: a CHOICE by those in it too
+abbrev pub extends_with : List Definition → Definition → Bool
+extends_with all one = cond (is_choice one.of.now.body) (extends 64 all one) (has_mark one.of.now.body)
+
+-- what is found, and what is refused: what can't be resolved; what can only for want of memory
 pub record IsFound (all : List Definition) (one : Definition) (found : Found) : Type 0 where
   pub stays : list_any lacks_tag one.parts.items ≡ false → found ≡ Ok None
   pub placed : IfOk found (λ it. ArePlaced all one (parts_with one it))
-  pub in_set : is_set one.of.now.body ≡ true → IfOk found (λ it. IfSome it (λ flat. SaysMark one.of.now.body flat.is_extensible))
+  pub extends : IfOk found (λ it. IfSome it (λ flat. flat.is_extensible ≡ extends_with all one))
+  pub refused : MatchResult found (λ _. IsResolvable all one) (λ why. IsResolvable all one → why ≡ OutOfMemory)
 
 -- a definition with what is found for it: no parts, and why, where it can't be resolved
 pub record IsSettled (one : Definition) (found : Found) (now : Definition) : Type 0 where
   pub is_same : (now.rust_name ≡ one.rust_name) × (now.module ≡ one.module) × (now.of ≡ one.of)
   pub has : MatchResult found (λ it. (now.parts.items ≡ parts_with one it) × (now.fault ≡ one.fault)) (λ why. (now.parts.items ≡ []) × (now.fault ≡ Some why))
-  pub extends : MatchResult found (λ it. MatchOption it (SaysMark one.of.now.body now.is_extensible) (λ flat. now.is_extensible ≡ flat.is_extensible)) (λ why. SaysMark one.of.now.body now.is_extensible)
+  pub extends : MatchResult found (λ it. MatchOption it (now.is_extensible ≡ has_mark one.of.now.body) (λ flat. now.is_extensible ≡ flat.is_extensible)) (λ why. now.is_extensible ≡ has_mark one.of.now.body)
+
+-- What refuses all where a definition is refused: that refusal. Where faults are kept, only want of memory.
+abbrev pub refusal_in : Bool → Found → Option Refusal
+refusal_in keeps_faults (Ok _) = None
+refusal_in false (Err why) = Some why
+refusal_in true (Err OutOfMemory) = Some OutOfMemory
+refusal_in true (Err _) = None
+
+-- the first of these
+abbrev pub first_refusal : Bool → List Found → Option Refusal
+first_refusal keeps_faults [] = None
+first_refusal keeps_faults (it ∷ found) = option_or (refusal_in keeps_faults it) (first_refusal keeps_faults found)
 
 -- the place of a CHOICE without a tag that is written in an alternative
 abbrev pub taken_up : Part → Option ℕ
@@ -193,10 +264,11 @@ pub record IsAtPlaces (places : List (Option ℕ)) (one now : Definition) : Type
   pub parts : now.parts.items ≡ map (at_place places) one.parts.items
 
 -- Definitions in the end, by those that are written: what is found for each is put, and those that stand only in the place of a choice are
--- left out.
-pub record AreResolved (written kept : List Definition) : Type 0 where
+-- left out. None is refused, but for those whose faults are kept.
+pub record AreResolved (keeps_faults : Bool) (written kept : List Definition) : Type 0 where
   pub found : List Found
   pub are_found : AllZip (IsFound written) written found
+  pub none_refused : first_refusal keeps_faults found ≡ None
   pub settled : List Definition
   pub are_settled : AllZip (λ both now. IsSettled both.0 both.1 now) (zip written found) settled
   pub unused : List Bool

@@ -267,8 +267,8 @@ fn resolved<'m>(
     parts_of(scope, pending, parent, of)
 }
 
-/// All definitions as they are written: first the assignments, then the types inside them. Refused at the first that can't be resolved; with `keeps_faults`
-/// that one says why.
+/// All definitions as they are written: first the assignments, then the types inside them. Refused at the first that can't be resolved;
+/// with `keeps_faults` that one says why.
 pub fn definitions<'m>(
     scope: Scope<'m, '_>,
     keeps_faults: bool,

@@ -1,7 +1,8 @@
 //! How a type lies in octets, in words: which constraint gives which width, and where a length stands (X.696, clauses 9 to 29).
 ghost use Rattle.std.specs.Prelude.{◌≡◌};
 ghost use Rattle.std.specs.List.{list_any};
-ghost use Rattle.oergen_layouts.specs.Preambles.{SaysMark, has_bit, is_mark, octets_of_preamble};
+ghost use Rattle.oergen_layouts.specs.Preambles.{has_bit, has_mark, is_mark, octets_of_preamble};
+ghost use Rattle.oergen_layouts.specs.Widths.{unit_of};
 
 use crate::definitions::Part;
 use crate::numbers::names_of;
@@ -26,7 +27,7 @@ fn has_mark(members: &[Member]) -> bool
 
 /// Whether a type has an extension mark.
 pub fn is_extensible<'m>(of: &'m Type) -> bool
-    ensures { SaysMark of.now.body result }
+    ensures { result ≡ has_mark of.now.body }
 {
     match members_of(of) {
         Some(members) => has_mark(members),
@@ -188,7 +189,9 @@ fn string_text(
 
 /// The octets of a unit that sizes count; none where no size is seen: for a type without sizes, and for a string whose characters
 /// aren't each of one number of octets, which is always behind a length (X.696, 27).
-pub fn unit_of(simple: Simple) -> Option<i128> {
+pub fn unit_of(simple: Simple) -> Option<i128>
+    ensures { result ≡ unit_of simple }
+{
     match simple {
         Simple::Boolean | Simple::Null | Simple::ObjectIdentifier | Simple::Any => None,
         Simple::UtcTime | Simple::GeneralizedTime | Simple::Date => None,

@@ -1,10 +1,11 @@
 //! The components of a SEQUENCE or a SET, and the alternatives of a CHOICE: each with its place and its tag.
 ghost use Rattle.std.specs.Prelude.{◌≡◌, ◌≢◌, ◌<◌, ◌-◌, ◌^◌, ◌⊎◌, List, [], Ok, None, true, false, cond, is_some, IfErr, IfOk, IfSome, IsOkAnd, MatchOption, MatchResult, OnErr, OnOk, map, length};
 ghost use Rattle.std.specs.List.{All, filter};
+ghost use Rattle.std.specs.Option.{option_map};
 ghost use Rattle.oergen_parse.specs.declared.ast.Member.{Member};
 ghost use Rattle.oergen_parse.specs.declared.refusal.Refusal.TheVariants.{OutOfMemory};
 ghost use Rattle.oergen_layouts.specs.Rows.{AreRowsOf, HaveComponents, HaveOwnTags, HaveTagsFor, components_of, is_choice, is_own, is_required, is_set, passed, placed, position_in};
-ghost use Rattle.oergen_layouts.specs.Tags.{AreAutomatic, AreMembers, HasUntagged, IsAutomatic, IsUntagged, automatic_tags, has_members, is_root, with_tag};
+ghost use Rattle.oergen_layouts.specs.Tags.{AreAutomatic, AreMembers, HasUntagged, IsAutomatic, IsUntagged, automatic_tags, has_members, is_root, members_in, with_tag};
 ghost use Rattle.oergen_layouts.specs.Untagged.{FindsTag};
 
 use crate::numbers::{Spot, number_of};
@@ -88,7 +89,8 @@ impl Walk {
 
 /// The members of a SEQUENCE, a SET or a CHOICE.
 pub fn members_of<'m>(of: &'m Type) -> Option<&'m [Member]>
-    ensures { MatchOption result ((members : List Member) → ¬ AreMembers of.now.body members) (λ members. AreMembers of.now.body members.now) }
+    ensures are { MatchOption result ((members : List Member) → ¬ AreMembers of.now.body members) (λ members. AreMembers of.now.body members.now) }
+    ensures all { members_in of.now.body ≡ option_map (λ members. members.now) result }
 {
     match &of.body {
         Body::Choice(members) | Body::Sequence(members) | Body::Set(members) => {
@@ -512,8 +514,8 @@ fn choice_or_set<'m>(of: &'m Type) -> Option<&'m [Member]>
     }
 }
 
-/// The alternatives of a CHOICE, or the components of a SET, of which one is a CHOICE without a tag: that one has none. Nothing where none is,
-/// and of another type.
+/// The alternatives of a CHOICE, or the components of a SET, of which one is a CHOICE without a tag: that one has none. Nothing where none
+/// is, and of another type.
 pub fn untagged_rows<'m>(
     scope: Scope<'m, '_>,
     of: &'m Type,

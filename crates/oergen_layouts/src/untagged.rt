@@ -1,13 +1,12 @@
 //! CHOICEs without a tag in a CHOICE (X.680, 31, and X.696, 20): no octet of the outer one is written, so their alternatives stand in its
 //! place. In a SET (X.696, 18) they count by the least tag of their root alternatives.
-ghost use Rattle.std.specs.Prelude.{◌≡◌, ◌≢◌, ◌++◌, ◌∷◌, [], true, false, Bool, List, Some, None, Ok, IfErr, IfOk, IfSome, OnOk, MatchOption, map, length, drop, replicate};
-ghost use Rattle.std.specs.List.{All, AllZip, cons_option, filter_map, list_any, zip};
+ghost use Rattle.std.specs.Prelude.{◌≡◌, ◌≢◌, ◌++◌, ◌∷◌, ◌||◌, ◌⊎◌, [], true, false, Bool, List, Some, None, Ok, IfErr, IfOk, IfSome, OnOk, MatchOption, MatchResult, map, length, drop, replicate};
+ghost use Rattle.std.specs.List.{All, AllZip, cons_option, filter_map, flat_map, list_any, zip};
 ghost use Rattle.std.specs.Option.{option_map};
 ghost use Rattle.oergen_parse.specs.declared.refusal.Refusal.TheVariants.{OutOfMemory};
-ghost use Rattle.oergen_layouts.specs.Preambles.{SaysMark};
-ghost use Rattle.oergen_layouts.specs.Rows.{is_set};
+ghost use Rattle.oergen_layouts.specs.Preambles.{has_mark};
 ghost use Rattle.oergen_layouts.specs.declared.definitions.Definition.{Definition};
-ghost use Rattle.oergen_layouts.specs.Untagged.{AreInSet, AreResolved, ArePlaced, FindsTag, HaveOwnPartTags, IsAtPlaces, IsFound, IsInSet, IsLeastOf, IsRootInSet, IsSettled, all_taken_up, alternatives, in_place, is_put, lacks_tag, marked, new_place, part_tag, parts_with, places_from, root_place, root_row, root_tag, root_tags, taken_up, type_behind, unnamed, unnamed_with, used_of};
+ghost use Rattle.oergen_layouts.specs.Untagged.{AreInSet, ArePlaceable, ArePlaced, AreResolved, CanBeInSet, FindsTag, HaveApartTags, HaveOwnPartTags, IsAtPlaces, IsCountable, IsFound, IsInSet, IsLeastOf, IsPlaceable, IsResolvable, IsRootInSet, IsSettled, IsUntaggedChoice, all_taken_up, alternatives, extends, extends_by, extends_with, first_refusal, in_place, is_put, lacks_tag, marked, new_place, part_tag, parts_with, places_from, refusal_in, root_place, root_row, root_tag, root_tags, taken_up, type_behind, unnamed, unnamed_with, used_of};
 
 use crate::definitions::{Definition, Part, definitions};
 use crate::layouts::is_extensible;
@@ -119,7 +118,8 @@ fn choice_of<'m, 'd>(
     part: &Part<'m>,
     row: Row<'m>,
 ) -> Result<&'d Definition<'m>, Refusal>
-    ensures { IfOk result (λ choice. type_behind all.now part.now ≡ Some choice.now) }
+    ensures found { IfOk result (λ choice. type_behind all.now part.now ≡ Some choice.now) }
+    ensures refused { MatchResult result (λ _. IsUntaggedChoice all.now part.now row.entry) (λ _. ¬ IsUntaggedChoice all.now part.now row.entry) }
 {
     match type_of(all, part) {
         Some(choice) if choice.fault.is_some() => {
@@ -153,6 +153,9 @@ fn push_part<'m>(
 ) -> Result<(), Refusal>
     ensures in_place { part.now.row ≡ Some row.entry → OnOk result (map unnamed flat.new.parts.items ≡ map unnamed flat.old.parts.items ++ in_place levels all.now part.now row.entry) }
     ensures tags { part.now.row ≡ Some row.entry → HaveOwnPartTags flat.old.parts.items → OnOk result (HaveOwnPartTags flat.new.parts.items) }
+    ensures extends { part.now.row ≡ Some row.entry → OnOk result (flat.new.is_extensible ≡ (flat.old.is_extensible || extends_by levels all.now part.now row.entry)) }
+    ensures placeable { OnOk result (IsPlaceable levels all.now part.now row.entry) }
+    ensures refused { part.now.row ≡ Some row.entry → IsPlaceable levels all.now part.now row.entry → HaveApartTags (map unnamed flat.old.parts.items ++ in_place levels all.now part.now row.entry) → IfErr result (λ e. e ≡ OutOfMemory) }
 {
     if row.tag.is_some() {
         let name = part.name.clone()?;
@@ -183,6 +186,9 @@ fn flat_choice<'m>(
 ) -> Result<Flat<'m>, Refusal>
     ensures alternatives { IfOk result (λ flat. map unnamed flat.parts.items ≡ alternatives levels all.now choice.now.parts.items) }
     ensures tags { IfOk result (λ flat. HaveOwnPartTags flat.parts.items) }
+    ensures extends { IfOk result (λ flat. flat.is_extensible ≡ extends levels all.now choice.now) }
+    ensures placeable { OnOk result (ArePlaceable levels all.now choice.now.parts.items) }
+    ensures refused { ArePlaceable levels all.now choice.now.parts.items → HaveApartTags (alternatives levels all.now choice.now.parts.items) → IfErr result (λ e. e ≡ OutOfMemory) }
 {
     let Some(levels) = levels.checked_sub(1) else {
         return Err(scope.refused(
@@ -262,6 +268,8 @@ fn set_part<'m>(
     ensures made { part.now.row ≡ Some row.entry → IfOk result (λ made. IsRootInSet all.now part.now row.entry made) }
     ensures place { part.now.row ≡ Some row.entry → OnOk result (map unnamed taken.new.parts.items ≡ map unnamed taken.old.parts.items ++ in_place 64 all.now part.now row.entry) }
     ensures tags { part.now.row ≡ Some row.entry → HaveOwnPartTags taken.old.parts.items → OnOk result (HaveOwnPartTags taken.new.parts.items) }
+    ensures countable { part.now.row ≡ Some row.entry → OnOk result (IsCountable all.now part.now row.entry) }
+    ensures refused { part.now.row ≡ Some row.entry → IsCountable all.now part.now row.entry → HaveApartTags (map unnamed taken.old.parts.items ++ in_place 64 all.now part.now row.entry) → IfErr result (λ e. e ≡ OutOfMemory) }
 {
     let before = taken.parts.len();
     push_part(scope, all, taken, part, row, MAX_UNTAGGED)?;
@@ -292,6 +300,8 @@ fn in_set<'m>(
     ensures made { IfOk result (λ made. IsInSet all.now part.now made) }
     ensures place { OnOk result (map unnamed taken.new.parts.items ≡ map unnamed taken.old.parts.items ++ root_place all.now part.now) }
     ensures tags { HaveOwnPartTags taken.old.parts.items → OnOk result (HaveOwnPartTags taken.new.parts.items) }
+    ensures countable { OnOk result (CanBeInSet all.now part.now) }
+    ensures refused { CanBeInSet all.now part.now → HaveApartTags (map unnamed taken.old.parts.items ++ root_place all.now part.now) → IfErr result (λ e. e ≡ OutOfMemory) }
 {
     match root_of(part) {
         Some(row) => set_part(scope, all, taken, part, row),
@@ -306,7 +316,9 @@ fn flat_set<'m>(
     set: &Definition<'m>,
 ) -> Result<Flat<'m>, Refusal>
     ensures parts { IfOk result (λ flat. AreInSet all.now set.now.parts.items flat.parts.items) }
-    ensures extends { IfOk result (λ flat. SaysMark set.now.of.now.body flat.is_extensible) }
+    ensures extends { IfOk result (λ flat. flat.is_extensible ≡ has_mark set.now.of.now.body) }
+    ensures countable { OnOk result (All (CanBeInSet all.now) set.now.parts.items) }
+    ensures refused { All (CanBeInSet all.now) set.now.parts.items → HaveApartTags (flat_map (root_place all.now) set.now.parts.items) → IfErr result (λ e. e ≡ OutOfMemory) }
 {
     let mut parts = Vec::new(scope.alloc);
     let mut taken = Flat {
@@ -329,8 +341,9 @@ fn flat_of<'m>(
     definition: &Definition<'m>,
 ) -> Result<Option<Flat<'m>>, Refusal>
     ensures stays { list_any lacks_tag definition.now.parts.items ≡ false → result ≡ Ok None }
-    ensures in_set { is_set definition.now.of.now.body ≡ true → IfOk result (λ found. IfSome found (λ flat. SaysMark definition.now.of.now.body flat.is_extensible)) }
+    ensures extends { IfOk result (λ found. IfSome found (λ flat. flat.is_extensible ≡ extends_with all.now definition.now)) }
     ensures placed { IfOk result (λ found. ArePlaced all.now definition.now (parts_with definition.now found)) }
+    ensures refused { MatchResult result (λ _. IsResolvable all.now definition.now) (λ e. IsResolvable all.now definition.now → e ≡ OutOfMemory) }
 {
     match &definition.of.body {
         Body::Choice(_) if has_untagged(definition) => {
@@ -419,14 +432,16 @@ fn unused_of(
     Ok(unused)
 }
 
-/// Puts what is found for a definition. With `keeps_faults` it says why it can't be resolved.
+/// Puts what is found for a definition. Refused where that is a refusal; with `keeps_faults` the definition keeps it, but for want of
+/// memory.
 fn put_found<'m>(
     alloc: Global,
     definition: &mut Definition<'m>,
     found: Result<Option<Flat<'m>>, Refusal>,
     keeps_faults: bool,
 ) -> Result<(), Refusal>
-    ensures { OnOk result (IsSettled definition.old found.entry definition.new) }
+    ensures settled { OnOk result (IsSettled definition.old found.entry definition.new) }
+    ensures refused { MatchResult result (λ _. refusal_in keeps_faults found.entry ≡ None) (λ e. refusal_in keeps_faults found.entry ≡ Some e) }
 {
     definition.is_extensible = is_extensible(definition.of);
     match found {
@@ -444,14 +459,15 @@ fn put_found<'m>(
     Ok(())
 }
 
-/// Definitions with what is found for each.
+/// Definitions with what is found for each. Refused at the first that is refused; with `keeps_faults` for want of memory alone.
 fn settled<'m>(
     alloc: Global,
     all: Vec<Definition<'m>>,
     found: Vec<Result<Option<Flat<'m>>, Refusal>>,
     keeps_faults: bool,
 ) -> Result<Vec<Definition<'m>>, Refusal>
-    ensures { IfOk result (λ settled. AllZip (λ both now. IsSettled both.0 both.1 now) (zip all.entry.items found.entry.items) settled.items) }
+    ensures settled { IfOk result (λ settled. AllZip (λ both now. IsSettled both.0 both.1 now) (zip all.entry.items found.entry.items) settled.items) }
+    ensures refused { length all.entry.items ≡ length found.entry.items → MatchResult result (λ _. first_refusal keeps_faults found.entry.items ≡ None) (λ e. (e ≡ OutOfMemory) ⊎ (first_refusal keeps_faults found.entry.items ≡ Some e)) }
 {
     let mut settled = Vec::new(alloc);
     for (mut definition, one) in all.into_iter().zip(found) {
@@ -532,7 +548,8 @@ fn resolved<'m>(
     written: Vec<Definition<'m>>,
     keeps_faults: bool,
 ) -> Result<Vec<Definition<'m>>, Refusal>
-    ensures { IfOk result (λ kept. AreResolved written.entry.items kept.items) }
+    ensures kept { IfOk result (λ kept. AreResolved keeps_faults written.entry.items kept.items) }
+    ensures refused { (keeps_faults ≡ true) ⊎ All (IsResolvable written.entry.items) written.entry.items → IfErr result (λ e. e ≡ OutOfMemory) }
 {
     let alloc = scope.alloc;
     let found = all_flat(scope, written.as_slice())?;

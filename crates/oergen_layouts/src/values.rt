@@ -39,8 +39,8 @@ pub fn default_of<'m>(
     }
 }
 
-/// Whether a default has parts: one of a SEQUENCE, a SET, a CHOICE, an OBJECT IDENTIFIER or an open type, or of a list that isn't empty. These
-/// are listed as they are written.
+/// Whether a default has parts: one of a SEQUENCE, a SET, a CHOICE, an OBJECT IDENTIFIER or an open type, or of a list that isn't empty.
+/// These are listed as they are written.
 pub fn has_parts<'m>(
     scope: Scope<'m, '_>,
     row: Row<'m>,
