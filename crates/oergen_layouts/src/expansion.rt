@@ -1,13 +1,15 @@
 //! Puts the text that they stand for in the place of types with parameters (X.683), of fields of classes of information objects (X.681),
-//! of value sets (X.680, 16.6), and of EXTERNAL and ObjectDescriptor. Classes, sets of objects and assignments with parameters are left out: no octet depends on them.
+//! of value sets (X.680, 16.6), of EXTERNAL, ObjectDescriptor, EMBEDDED PDV and CHARACTER STRING, and of macros (X.208). Classes, sets of objects and assignments with parameters are left out: no octet depends on them.
 
 use crate::classes::{BuiltIn, FieldType, field_type, push_declared};
 use crate::cuts::{
     bracketed, inside, is_at, is_name, name_length, parts_of, push_copied, push_word, range,
 };
+use crate::macros::{is_type_behind, type_of_values};
 use crate::objects::value_of;
 use crate::parameters::{Given, Parameter, dummy_at, governor_of, push_elements, push_given};
 use crate::scope::{Scope, all_tokens};
+use crate::unrestricted::{Identification, behind_tags, identification_of, is_unrestricted};
 use oergen_parse::lexer::{Kind, Token};
 use oergen_parse::modules::read_tree;
 use oergen_parse::reader::Reader;
@@ -36,6 +38,10 @@ struct Source<'m, 'a> {
     scope: Scope<'m, 'a>,
     assignments: &'m [Assignment],
     built_in: &'m BuiltIn<'a>,
+    /// The names of macros.
+    macros: &'m [&'a str],
+    /// Whether EMBEDDED PDV or CHARACTER STRING is written somewhere.
+    has_unrestricted: bool,
 }
 
 /// Where what is assigned begins: behind the `::=`.
@@ -85,6 +91,27 @@ fn assignments_of(scope: Scope<'_, '_>) -> Result<Vec<Assignment>, AllocError> {
         push_assignments(scope, module, one.first.index, &mut all)?;
     }
     Ok(all)
+}
+
+/// The names of the macros among assignments.
+fn macros_of<'a>(
+    scope: Scope<'_, 'a>,
+    assignments: &[Assignment],
+) -> Result<Vec<&'a str>, AllocError> {
+    let mut names = Vec::new(scope.alloc);
+    for one in assignments.iter() {
+        if let Some(name) = scope.tokens.get(one.start) {
+            if is_at(scope.tokens, one.start.saturating_add(1), "MACRO") {
+                names.push(name.text)?;
+            }
+        }
+    }
+    Ok(names)
+}
+
+/// Whether EMBEDDED PDV or CHARACTER STRING is written somewhere.
+fn has_unrestricted(tokens: &[Token<'_>]) -> bool {
+    (0..tokens.len()).any(|at| is_unrestricted(range(tokens, at, tokens.len())))
 }
 
 impl<'m, 'a> Source<'m, 'a> {
@@ -359,6 +386,67 @@ impl<'m, 'a> Source<'m, 'a> {
         Ok(bracketed(actual).saturating_add(named))
     }
 
+    /// Whether the name in front is one of EMBEDDED PDV or CHARACTER STRING, past other names and tags.
+    fn names_unrestricted(&self, tokens: &[Token<'a>]) -> bool {
+        let Some(assigned) = self.assigned(tokens) else {
+            return false;
+        };
+        let mut body = behind_tags(assigned);
+        for _ in 0..MAX_PARAMETERIZED {
+            if is_unrestricted(body) {
+                return true;
+            }
+            match self.assigned(body) {
+                Some(next) if name_length(body) != 0 => body = behind_tags(next),
+                Some(_) | None => break,
+            }
+        }
+        false
+    }
+
+    /// What the name in front stands for: a macro's type of values where it is a type behind `front`, or one of EMBEDDED PDV or CHARACTER
+    /// STRING whose identification constraints behind the name limit.
+    fn named(&self, front: &[Token<'a>], tokens: &[Token<'a>]) -> Option<&'m [Token<'a>]> {
+        let length = name_length(tokens);
+        let name = tokens.get(length.checked_sub(1)?)?.text;
+        if self.macros.iter().any(|other| *other == name) && is_type_behind(front) {
+            return type_of_values(self.assigned(tokens)?);
+        }
+        let constraints = range(tokens, length, tokens.len());
+        let is_limited = self.has_unrestricted
+            && identification_of(constraints) != Identification::Any
+            && self.names_unrestricted(tokens);
+        if is_limited {
+            self.assigned(tokens)
+        } else {
+            None
+        }
+    }
+
+    /// Puts what an EMBEDDED PDV or a CHARACTER STRING in front stands for behind others, at the place of its first word, or else what `named`
+    /// says of the name in front. Answers how many tokens that is; 0 where it is none of these.
+    fn push_named(
+        &self,
+        out: &mut Vec<Token<'a>>,
+        tokens: &[Token<'a>],
+        first: Token<'a>,
+    ) -> Result<usize, AllocError> {
+        if !is_unrestricted(tokens) {
+            let Some(meant) = self.named(out.as_slice(), tokens) else {
+                return Ok(0);
+            };
+            push_copied(out, meant, first.copy)?;
+            return Ok(name_length(tokens));
+        }
+        let is_fixed = match identification_of(range(tokens, 2, tokens.len())) {
+            Identification::Any => false,
+            Identification::Fixed => true,
+            Identification::Other => return Ok(0),
+        };
+        self.built_in.push_unrestricted(out, first, is_fixed)?;
+        Ok(2)
+    }
+
     /// Puts what the first of the tokens stand for behind others, as a copying of that number. Answers how many they are; 0 where they stand
     /// for themselves.
     fn push_meant(
@@ -387,8 +475,11 @@ impl<'m, 'a> Source<'m, 'a> {
         } else if is_at(tokens, 1, "::=") {
             Ok(0)
         } else {
-            let is_meant = self.built_in.push_type(out, Token { copy, ..*first })?;
-            Ok(usize::from(is_meant))
+            let first = Token { copy, ..*first };
+            if self.built_in.push_type(out, first)? {
+                return Ok(1);
+            }
+            self.push_named(out, tokens, first)
         }
     }
 
@@ -453,10 +544,13 @@ fn given_for<'t, 'a>(
 fn expanded<'a>(scope: Scope<'_, 'a>) -> Result<Vec<Token<'a>>, Refusal> {
     let assignments = assignments_of(scope)?;
     let built_in = BuiltIn::new(scope.alloc)?;
+    let macros = macros_of(scope, assignments.as_slice())?;
     let source = Source {
         scope,
         assignments: assignments.as_slice(),
         built_in: &built_in,
+        macros: macros.as_slice(),
+        has_unrestricted: has_unrestricted(scope.tokens),
     };
     let mut tokens = source.plain_tokens()?;
     let mut copies = 0usize;
