@@ -40,8 +40,8 @@ struct Source<'m, 'a> {
     built_in: &'m BuiltIn<'a>,
     /// The names of macros.
     macros: &'m [&'a str],
-    /// Whether EMBEDDED PDV or CHARACTER STRING is written somewhere.
-    has_unrestricted: bool,
+    /// Whether EMBEDDED PDV and CHARACTER STRING are replaced: once all else is, since constraints on their names say what they stand for.
+    is_last: bool,
 }
 
 /// Where what is assigned begins: behind the `::=`.
@@ -409,15 +409,17 @@ impl<'m, 'a> Source<'m, 'a> {
     fn named(&self, front: &[Token<'a>], tokens: &[Token<'a>]) -> Option<&'m [Token<'a>]> {
         let length = name_length(tokens);
         let name = tokens.get(length.checked_sub(1)?)?.text;
-        if self.macros.iter().any(|other| *other == name) && is_type_behind(front) {
-            return type_of_values(self.assigned(tokens)?);
-        }
         let constraints = range(tokens, length, tokens.len());
-        let is_limited = self.has_unrestricted
-            && identification_of(constraints) != Identification::Any
-            && self.names_unrestricted(tokens);
-        if is_limited {
-            self.assigned(tokens)
+        let is_limited = self.is_last && identification_of(constraints) != Identification::Any;
+        let is_macro = self.macros.iter().any(|other| *other == name) && is_type_behind(front);
+        if !is_limited && !is_macro {
+            return None;
+        }
+        let assigned = self.assigned(tokens)?;
+        if is_macro && is_at(assigned, 0, "BEGIN") {
+            type_of_values(assigned)
+        } else if is_limited && self.names_unrestricted(tokens) {
+            Some(assigned)
         } else {
             None
         }
@@ -439,6 +441,7 @@ impl<'m, 'a> Source<'m, 'a> {
             return Ok(name_length(tokens));
         }
         let is_fixed = match identification_of(range(tokens, 2, tokens.len())) {
+            _ if !self.is_last => return Ok(0),
             Identification::Any => false,
             Identification::Fixed => true,
             Identification::Other => return Ok(0),
@@ -540,8 +543,12 @@ fn given_for<'t, 'a>(
     None
 }
 
-/// The tokens of modules, with what they stand for.
-fn expanded<'a>(scope: Scope<'_, 'a>) -> Result<Vec<Token<'a>>, Refusal> {
+/// The tokens of modules, with what they stand for. `copies` counts how often one does; `is_last` is what `Source` says of it.
+fn expanded<'a>(
+    scope: Scope<'_, 'a>,
+    is_last: bool,
+    copies: &mut usize,
+) -> Result<Vec<Token<'a>>, Refusal> {
     let assignments = assignments_of(scope)?;
     let built_in = BuiltIn::new(scope.alloc)?;
     let macros = macros_of(scope, assignments.as_slice())?;
@@ -550,31 +557,47 @@ fn expanded<'a>(scope: Scope<'_, 'a>) -> Result<Vec<Token<'a>>, Refusal> {
         assignments: assignments.as_slice(),
         built_in: &built_in,
         macros: macros.as_slice(),
-        has_unrestricted: has_unrestricted(scope.tokens),
+        is_last,
     };
     let mut tokens = source.plain_tokens()?;
-    let mut copies = 0usize;
     for _ in 0..MAX_PARAMETERIZED {
-        let before = copies;
-        tokens = source.replaced(tokens.as_slice(), &mut copies)?;
-        if copies == before {
+        let before = *copies;
+        tokens = source.replaced(tokens.as_slice(), copies)?;
+        if *copies == before {
             break;
         }
     }
     Ok(tokens)
 }
 
-/// The tokens of the files' texts, with what types with parameters, fields of classes and value sets stand for. What can't be put in its
-/// place is left, and refused where it is read.
-pub fn tokens_of<'a>(alloc: Global, texts: &[&'a str]) -> Result<Vec<Token<'a>>, Refusal> {
-    let tokens = all_tokens(alloc, texts)?;
+/// The tokens of files with what they stand for, as far as they can be read as modules.
+fn expand<'a>(
+    alloc: Global,
+    tokens: Vec<Token<'a>>,
+    is_last: bool,
+    copies: &mut usize,
+) -> Result<Vec<Token<'a>>, Refusal> {
     match read_tree(alloc, tokens.as_slice(), true) {
-        Ok(tree) => expanded(Scope {
-            alloc,
-            modules: tree.modules(),
-            tokens: tokens.as_slice(),
-        }),
+        Ok(tree) => {
+            let scope = Scope {
+                alloc,
+                modules: tree.modules(),
+                tokens: tokens.as_slice(),
+            };
+            expanded(scope, is_last, copies)
+        }
         Err(Refusal::OutOfMemory) => Err(Refusal::OutOfMemory),
         Err(Refusal::At { .. }) => Ok(tokens),
     }
+}
+
+/// The tokens of the files' texts, with what types with parameters, fields of classes and value sets stand for. What can't be put in its
+/// place is left, and refused where it is read.
+pub fn tokens_of<'a>(alloc: Global, texts: &[&'a str]) -> Result<Vec<Token<'a>>, Refusal> {
+    let mut copies = 0usize;
+    let tokens = expand(alloc, all_tokens(alloc, texts)?, false, &mut copies)?;
+    if has_unrestricted(tokens.as_slice()) {
+        return expand(alloc, tokens, true, &mut copies);
+    }
+    Ok(tokens)
 }
