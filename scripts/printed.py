@@ -156,6 +156,11 @@ Named ::= SEQUENCE { name IA5String DEFAULT "a\tb" }"""
 SIZED = " ".join(sequences(1) + ["T ::= SEQUENCE { %s } C ::= CHOICE { a T, b NULL, c T }" % ", ".join(f"s{at} S0" for at in range(20))])
 OPEN = """C ::= CHOICE { a NULL, ..., b BOOLEAN } D ::= CHOICE { a NULL } E ::= ENUMERATED { one, ... } F ::= ENUMERATED { one }
 S ::= SEQUENCE { e E DEFAULT one, f F DEFAULT one } R ::= CHOICE { a SEQUENCE OF R, ... }"""
+# a macro's name as a type, a CHARACTER STRING of fixed identification, names of numbers with capital letters
+OLDER = """OP MACRO ::= BEGIN TYPE NOTATION ::= empty VALUE NOTATION ::= value (VALUE INTEGER) END
+A ::= SEQUENCE { code OP, text CHARACTER STRING (WITH COMPONENTS { identification (WITH COMPONENTS { fixed PRESENT }) }),
+version Version DEFAULT V1, kind Kind DEFAULT V1 } Version ::= INTEGER { V0(0), V1(1) } (0..7) Kind ::= ENUMERATED { V0, V1 }
+Bits ::= BIT STRING { High(7) }"""
 LINES = (
     (
         ("--keep-unknown",),
@@ -193,6 +198,19 @@ LINES = (
             "/// `Name ::= IA5String (PATTERN \"a b\")`",
             "/// The default \"a b\" of `NamedName`.",
             "pub mod values;",
+        ),
+    ),
+    (
+        (),
+        OLDER,
+        (
+            "    pub code: Integer,",
+            "    pub string_value: Octets,",
+            "pub const VERSION_V1: u8 = 1;",
+            "pub const BITS_HIGH: usize = 7;",
+            "    V1 = 1,",
+            "        Ok(1)",
+            "        Ok(Enumeration(KindValues::V1))",
         ),
     ),
     ((), SIZED, ("    A(Held<T>),", "    B(()),", "    C(Held<T>),", "    pub s0: S0,")),

@@ -2,7 +2,7 @@
 
 NAMED_BITS = "BIT STRING { a(0), b(9) }"
 STRINGS = ("IA5String", "PrintableString", "VisibleString", "NumericString", "BMPString", "UniversalString", "UTF8String", "OCTET STRING", "BIT STRING", NAMED_BITS)
-PLAIN = ("BOOLEAN", "NULL", "OBJECT IDENTIFIER", "UTCTime", "GeneralizedTime", "DATE", "GeneralString", "ANY", "EXTERNAL", "ObjectDescriptor")
+PLAIN = ("BOOLEAN", "NULL", "OBJECT IDENTIFIER", "UTCTime", "GeneralizedTime", "DATE", "GeneralString", "ANY", "EXTERNAL", "ObjectDescriptor", "EMBEDDED PDV", "CHARACTER STRING")
 BOUNDS = (0, 1, 2, 5, 127, 128, 255, 256, 32767, 32768, 65535, 65536, 2**31 - 1, 2**31, 2**32 - 1, 2**32, 2**63 - 1, 2**63, 2**64 - 1, 2**64)
 
 

@@ -32,12 +32,19 @@ NAMES = ("NAME", "FIELD", "INSTANCE OF")
 CLASSES = """TYPE-IDENTIFIER ::= CLASS { &id OBJECT IDENTIFIER UNIQUE, &Type }
 ABSTRACT-SYNTAX ::= CLASS { &id OBJECT IDENTIFIER, &Type, &property BIT STRING { handles-invalid-encodings(0) } DEFAULT {} }"""
 
-# types that stand for others, where tags are explicit (X.680, 48; X.691, 28)
+# what an EMBEDDED PDV and a CHARACTER STRING begin with, with the tags that X.680 gives it automatically (36.5 and 44.5)
+IDENTIFICATION = """identification [0] CHOICE { syntaxes [0] SEQUENCE { abstract [0] OBJECT IDENTIFIER, transfer [1] OBJECT IDENTIFIER },
+    syntax [1] OBJECT IDENTIFIER, presentation-context-id [2] INTEGER, context-negotiation [3] SEQUENCE { presentation-context-id [0] INTEGER,
+    transfer-syntax [1] OBJECT IDENTIFIER }, transfer-syntax [4] OBJECT IDENTIFIER, fixed [5] NULL }"""
+
+# types that stand for others, where tags are explicit (X.680, 48; X.691, 28; of the last two the data-value-descriptor is left out)
 ASSOCIATED = {
     "ObjectDescriptor": "[UNIVERSAL 7] IMPLICIT GraphicString",
     "EXTERNAL": """[UNIVERSAL 8] IMPLICIT SEQUENCE { direct-reference OBJECT IDENTIFIER OPTIONAL, indirect-reference INTEGER OPTIONAL,
         data-value-descriptor [UNIVERSAL 7] IMPLICIT GraphicString OPTIONAL, encoding CHOICE { single-ASN1-type [0] ANY,
         octet-aligned [1] IMPLICIT OCTET STRING, arbitrary [2] IMPLICIT BIT STRING } }""",
+    "EMBEDDED PDV": f"[UNIVERSAL 11] IMPLICIT SEQUENCE {{ {IDENTIFICATION}, data-value [2] OCTET STRING }}",
+    "CHARACTER STRING": f"[UNIVERSAL 29] IMPLICIT SEQUENCE {{ {IDENTIFICATION}, string-value [2] OCTET STRING }}",
 }
 
 
@@ -255,7 +262,7 @@ class Parser:
 
     def body(self):
         word = self.next()
-        if word in ("OCTET", "BIT", "OBJECT"):
+        if word in ("OCTET", "BIT", "OBJECT", "EMBEDDED", "CHARACTER"):
             word += " " + self.next()
         word = OTHER_NAMES.get(word, word)
         if word in ("INTEGER", "BIT STRING"):

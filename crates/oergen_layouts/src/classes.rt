@@ -1,6 +1,7 @@
 //! Classes of information objects (X.681): the types of their fields. And types that stand for others.
 
 use crate::cuts::{is_at, name_length, parts_of, range};
+use crate::unrestricted::{CHARACTERS, EMBEDDED, IDENTIFICATION};
 use oergen_parse::lexer::{Kind, Token, tokens};
 use oergen_parse::refusal::Refusal;
 use std::alloc::{AllocError, Global};
@@ -29,6 +30,23 @@ octet-aligned [1] IMPLICIT OCTET STRING, arbitrary [2] IMPLICIT BIT STRING } }";
 /// What `ObjectDescriptor` stands for (X.680, 48).
 const DESCRIPTOR: &str = "[UNIVERSAL 7] IMPLICIT GraphicString";
 
+/// What stands for EMBEDDED PDV or CHARACTER STRING: in front of the identification, and behind it.
+#[derive(Drop)]
+struct Around<'a> {
+    front: Vec<Token<'a>>,
+    back: Vec<Token<'a>>,
+}
+
+impl<'a> Around<'a> {
+    /// The tokens of both texts.
+    fn new(alloc: Global, texts: (&'static str, &'static str)) -> Result<Around<'a>, Refusal> {
+        Ok(Around {
+            front: tokens(alloc, NO_FILE, texts.0)?,
+            back: tokens(alloc, NO_FILE, texts.1)?,
+        })
+    }
+}
+
 /// What needs no assignment. Each has the end of its text behind it.
 #[derive(Drop)]
 pub struct BuiltIn<'a> {
@@ -37,6 +55,9 @@ pub struct BuiltIn<'a> {
     instance: Vec<Token<'a>>,
     external: Vec<Token<'a>>,
     descriptor: Vec<Token<'a>>,
+    identification: Vec<Token<'a>>,
+    embedded: Around<'a>,
+    characters: Around<'a>,
 }
 
 impl<'a> BuiltIn<'a> {
@@ -48,6 +69,9 @@ impl<'a> BuiltIn<'a> {
             instance: tokens(alloc, NO_FILE, INSTANCE)?,
             external: tokens(alloc, NO_FILE, EXTERNAL)?,
             descriptor: tokens(alloc, NO_FILE, DESCRIPTOR)?,
+            identification: tokens(alloc, NO_FILE, IDENTIFICATION)?,
+            embedded: Around::new(alloc, EMBEDDED)?,
+            characters: Around::new(alloc, CHARACTERS)?,
         })
     }
 
@@ -69,6 +93,26 @@ impl<'a> BuiltIn<'a> {
         };
         push_at(out, meant, at)?;
         Ok(true)
+    }
+
+    /// Puts what EMBEDDED PDV or CHARACTER STRING stands for behind others, at the place of its first word; without the identification
+    /// where that is fixed.
+    pub fn push_unrestricted(
+        &self,
+        out: &mut Vec<Token<'a>>,
+        at: Token<'a>,
+        is_fixed: bool,
+    ) -> Result<(), AllocError> {
+        let around = if at.text == "EMBEDDED" {
+            &self.embedded
+        } else {
+            &self.characters
+        };
+        push_at(out, around.front.as_slice(), at)?;
+        if !is_fixed {
+            push_at(out, self.identification.as_slice(), at)?;
+        }
+        push_at(out, around.back.as_slice(), at)
     }
 
     /// Puts what `INSTANCE OF` a class stands for behind others, at the place of a token. The class's name stands in front of `class`.

@@ -1,14 +1,16 @@
 //! Puts the text that they stand for in the place of types with parameters (X.683), of fields of classes of information objects (X.681),
-//! of value sets (X.680, 16.6), and of EXTERNAL and ObjectDescriptor. Classes, sets of objects and assignments with parameters are left
-//! out: no octet depends on them.
+//! of value sets (X.680, 16.6), of EXTERNAL, ObjectDescriptor, EMBEDDED PDV and CHARACTER STRING, and of macros (X.208). Classes, sets of
+//! objects and assignments with parameters are left out: no octet depends on them.
 
 use crate::classes::{BuiltIn, FieldType, field_type, push_declared};
 use crate::cuts::{
     bracketed, inside, is_at, is_name, name_length, parts_of, push_copied, push_word, range,
 };
+use crate::macros::{is_type_behind, type_of_values};
 use crate::objects::value_of;
 use crate::parameters::{Given, Parameter, dummy_at, governor_of, push_elements, push_given};
 use crate::scope::{Scope, all_tokens};
+use crate::unrestricted::{Identification, behind_tags, identification_of, is_unrestricted};
 use oergen_parse::lexer::{Kind, Token};
 use oergen_parse::modules::read_tree;
 use oergen_parse::reader::Reader;
@@ -37,6 +39,10 @@ struct Source<'m, 'a> {
     scope: Scope<'m, 'a>,
     assignments: &'m [Assignment],
     built_in: &'m BuiltIn<'a>,
+    /// The names of macros.
+    macros: &'m [&'a str],
+    /// Whether EMBEDDED PDV and CHARACTER STRING are replaced: once all else is, since constraints on their names say what they stand for.
+    is_last: bool,
 }
 
 /// Where what is assigned begins: behind the `::=`.
@@ -86,6 +92,27 @@ fn assignments_of(scope: Scope<'_, '_>) -> Result<Vec<Assignment>, AllocError> {
         push_assignments(scope, module, one.first.index, &mut all)?;
     }
     Ok(all)
+}
+
+/// The names of the macros among assignments.
+fn macros_of<'a>(
+    scope: Scope<'_, 'a>,
+    assignments: &[Assignment],
+) -> Result<Vec<&'a str>, AllocError> {
+    let mut names = Vec::new(scope.alloc);
+    for one in assignments.iter() {
+        if let Some(name) = scope.tokens.get(one.start) {
+            if is_at(scope.tokens, one.start.saturating_add(1), "MACRO") {
+                names.push(name.text)?;
+            }
+        }
+    }
+    Ok(names)
+}
+
+/// Whether EMBEDDED PDV or CHARACTER STRING is written somewhere.
+fn has_unrestricted(tokens: &[Token<'_>]) -> bool {
+    (0..tokens.len()).any(|at| is_unrestricted(range(tokens, at, tokens.len())))
 }
 
 impl<'m, 'a> Source<'m, 'a> {
@@ -360,6 +387,70 @@ impl<'m, 'a> Source<'m, 'a> {
         Ok(bracketed(actual).saturating_add(named))
     }
 
+    /// Whether the name in front is one of EMBEDDED PDV or CHARACTER STRING, past other names and tags.
+    fn names_unrestricted(&self, tokens: &[Token<'a>]) -> bool {
+        let Some(assigned) = self.assigned(tokens) else {
+            return false;
+        };
+        let mut body = behind_tags(assigned);
+        for _ in 0..MAX_PARAMETERIZED {
+            if is_unrestricted(body) {
+                return true;
+            }
+            match self.assigned(body) {
+                Some(next) if name_length(body) != 0 => body = behind_tags(next),
+                Some(_) | None => break,
+            }
+        }
+        false
+    }
+
+    /// What the name in front stands for: a macro's type of values where it is a type behind `front`, or one of EMBEDDED PDV or CHARACTER
+    /// STRING whose identification constraints behind the name limit.
+    fn named(&self, front: &[Token<'a>], tokens: &[Token<'a>]) -> Option<&'m [Token<'a>]> {
+        let length = name_length(tokens);
+        let name = tokens.get(length.checked_sub(1)?)?.text;
+        let constraints = range(tokens, length, tokens.len());
+        let is_limited = self.is_last && identification_of(constraints) != Identification::Any;
+        let is_macro = self.macros.iter().any(|other| *other == name) && is_type_behind(front);
+        if !is_limited && !is_macro {
+            return None;
+        }
+        let assigned = self.assigned(tokens)?;
+        if is_macro && is_at(assigned, 0, "BEGIN") {
+            type_of_values(assigned)
+        } else if is_limited && self.names_unrestricted(tokens) {
+            Some(assigned)
+        } else {
+            None
+        }
+    }
+
+    /// Puts what an EMBEDDED PDV or a CHARACTER STRING in front stands for behind others, at the place of its first word, or else what `named`
+    /// says of the name in front. Answers how many tokens that is; 0 where it is none of these.
+    fn push_named(
+        &self,
+        out: &mut Vec<Token<'a>>,
+        tokens: &[Token<'a>],
+        first: Token<'a>,
+    ) -> Result<usize, AllocError> {
+        if !is_unrestricted(tokens) {
+            let Some(meant) = self.named(out.as_slice(), tokens) else {
+                return Ok(0);
+            };
+            push_copied(out, meant, first.copy)?;
+            return Ok(name_length(tokens));
+        }
+        let is_fixed = match identification_of(range(tokens, 2, tokens.len())) {
+            _ if !self.is_last => return Ok(0),
+            Identification::Any => false,
+            Identification::Fixed => true,
+            Identification::Other => return Ok(0),
+        };
+        self.built_in.push_unrestricted(out, first, is_fixed)?;
+        Ok(2)
+    }
+
     /// Puts what the first of the tokens stand for behind others, as a copying of that number. Answers how many they are; 0 where they stand
     /// for themselves.
     fn push_meant(
@@ -388,8 +479,11 @@ impl<'m, 'a> Source<'m, 'a> {
         } else if is_at(tokens, 1, "::=") {
             Ok(0)
         } else {
-            let is_meant = self.built_in.push_type(out, Token { copy, ..*first })?;
-            Ok(usize::from(is_meant))
+            let first = Token { copy, ..*first };
+            if self.built_in.push_type(out, first)? {
+                return Ok(1);
+            }
+            self.push_named(out, tokens, first)
         }
     }
 
@@ -450,38 +544,61 @@ fn given_for<'t, 'a>(
     None
 }
 
-/// The tokens of modules, with what they stand for.
-fn expanded<'a>(scope: Scope<'_, 'a>) -> Result<Vec<Token<'a>>, Refusal> {
+/// The tokens of modules, with what they stand for. `copies` counts how often one does; `is_last` is what `Source` says of it.
+fn expanded<'a>(
+    scope: Scope<'_, 'a>,
+    is_last: bool,
+    copies: &mut usize,
+) -> Result<Vec<Token<'a>>, Refusal> {
     let assignments = assignments_of(scope)?;
     let built_in = BuiltIn::new(scope.alloc)?;
+    let macros = macros_of(scope, assignments.as_slice())?;
     let source = Source {
         scope,
         assignments: assignments.as_slice(),
         built_in: &built_in,
+        macros: macros.as_slice(),
+        is_last,
     };
     let mut tokens = source.plain_tokens()?;
-    let mut copies = 0usize;
     for _ in 0..MAX_PARAMETERIZED {
-        let before = copies;
-        tokens = source.replaced(tokens.as_slice(), &mut copies)?;
-        if copies == before {
+        let before = *copies;
+        tokens = source.replaced(tokens.as_slice(), copies)?;
+        if *copies == before {
             break;
         }
     }
     Ok(tokens)
 }
 
-/// The tokens of the files' texts, with what types with parameters, fields of classes and value sets stand for. What can't be put in its
-/// place is left, and refused where it is read.
-pub fn tokens_of<'a>(alloc: Global, texts: &[&'a str]) -> Result<Vec<Token<'a>>, Refusal> {
-    let tokens = all_tokens(alloc, texts)?;
+/// The tokens of files with what they stand for, as far as they can be read as modules.
+fn expand<'a>(
+    alloc: Global,
+    tokens: Vec<Token<'a>>,
+    is_last: bool,
+    copies: &mut usize,
+) -> Result<Vec<Token<'a>>, Refusal> {
     match read_tree(alloc, tokens.as_slice(), true) {
-        Ok(tree) => expanded(Scope {
-            alloc,
-            modules: tree.modules(),
-            tokens: tokens.as_slice(),
-        }),
+        Ok(tree) => {
+            let scope = Scope {
+                alloc,
+                modules: tree.modules(),
+                tokens: tokens.as_slice(),
+            };
+            expanded(scope, is_last, copies)
+        }
         Err(Refusal::OutOfMemory) => Err(Refusal::OutOfMemory),
         Err(Refusal::At { .. }) => Ok(tokens),
     }
+}
+
+/// The tokens of the files' texts, with what types with parameters, fields of classes and value sets stand for. What can't be put in its
+/// place is left, and refused where it is read.
+pub fn tokens_of<'a>(alloc: Global, texts: &[&'a str]) -> Result<Vec<Token<'a>>, Refusal> {
+    let mut copies = 0usize;
+    let tokens = expand(alloc, all_tokens(alloc, texts)?, false, &mut copies)?;
+    if has_unrestricted(tokens.as_slice()) {
+        return expand(alloc, tokens, true, &mut copies);
+    }
+    Ok(tokens)
 }

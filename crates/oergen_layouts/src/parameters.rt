@@ -77,6 +77,19 @@ fn lists_identifiers(front: &[Token<'_>]) -> bool {
         )
 }
 
+/// Whether what stands between the braces that are open behind tokens are names of numbers, of bits or of enumerated values: also one with a
+/// capital letter is no dummy there.
+fn lists_numbers(front: &[Token<'_>]) -> bool {
+    let Some(open) = opener_of(front) else {
+        return false;
+    };
+    match range(front, 0, open).last() {
+        Some(word) => is_at(front, open, "{")
+            && matches!(word.text, "ENUMERATED" | "INTEGER" | "STRING"),
+        None => false,
+    }
+}
+
 /// Whether the word behind tokens is an identifier, and no name of a value (X.680, 12.3): only names are replaced (X.683, 8).
 fn is_identifier(front: &[Token<'_>]) -> bool {
     let Some(before) = front.last() else {
@@ -111,7 +124,9 @@ pub fn dummy_at<'t, 'a>(
     let token = body.get(at)?;
     for one in parameters.iter() {
         if one.dummy.kind == token.kind && one.dummy.text == token.text {
-            let is_name = token.kind == Kind::Name || !is_identifier(range(body, 0, at));
+            let front = range(body, 0, at);
+            let is_name = token.kind == Kind::Name && !lists_numbers(front)
+                || token.kind == Kind::Word && !is_identifier(front);
             return if is_name && is_whole(body, at) {
                 Some(*one)
             } else {

@@ -8,7 +8,7 @@ pub fn instead_of(word: &str) -> &'static str {
         "TIME" | "TIME-OF-DAY" | "DATE-TIME" | "DURATION" =>
             "OCTET STRING for its octets, as docs/COMPILER.md says",
         "EMBEDDED" | "CHARACTER" =>
-            "the SEQUENCE that X.680 associates with it, as docs/COMPILER.md says",
+            "EMBEDDED PDV or CHARACTER STRING with constraints that docs/COMPILER.md lists",
         "CLASS" | "TYPE-IDENTIFIER" | "ABSTRACT-SYNTAX" => "a type, as a field of that class",
         "INSTANCE" => "INSTANCE OF a class that is assigned or imported",
         _ => "a type that docs/COMPILER.md lists",

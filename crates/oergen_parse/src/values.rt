@@ -5,6 +5,7 @@ use crate::lengths::choices_length;
 use crate::lexer::{Kind, TokenId};
 use crate::reader::Reader;
 use crate::refusal::Refusal;
+use crate::words::is_reserved;
 
 const VALUE: &str =
     "a number, a string, TRUE, FALSE, NULL, a value's name, or names between braces";
@@ -44,7 +45,7 @@ pub fn read_any_value(reader: &mut Reader<'_>) -> Result<Value, Refusal> {
 /// The value of a DEFAULT, of the component of that name.
 pub fn read_default(reader: &mut Reader<'_>, name: &str) -> Result<Value, Refusal> {
     let start = *reader;
-    let value = read_any_value(reader)?;
+    let value = read_default_value(reader)?;
     if !reader.is(":") && !reader.is(".") && !reader.is("{") {
         return Ok(value);
     }
@@ -52,6 +53,25 @@ pub fn read_default(reader: &mut Reader<'_>, name: &str) -> Result<Value, Refusa
         "a default of '{name}' that is a value without fields of objects or parameters"
     )?;
     Err(start.refused(reads.as_str()))
+}
+
+/// Whether the next token is the name of a number, a bit or an enumerated value: also one with a capital letter, which X.680 (12.3) doesn't
+/// have, but no word that it keeps.
+fn is_identifier(reader: &Reader<'_>) -> bool {
+    let first = reader.peek();
+    first.kind == Kind::Word || first.kind == Kind::Name && !is_reserved(first.text)
+}
+
+/// The value behind DEFAULT; what begins with a capital letter, and is no value of another module and of no type, is a name of a number.
+fn read_default_value(reader: &mut Reader<'_>) -> Result<Value, Refusal> {
+    let is_of_type = choices_length(reader.rest()) != 0;
+    if is_of_type || !is_identifier(reader) || matches!(reader.second().text, "." | "{") {
+        return read_any_value(reader);
+    }
+    Ok(Value::Reference(Reference {
+        module: None,
+        name: reader.next(),
+    }))
 }
 
 /// `TRUE`, `FALSE`, `NULL`, or a value of another module.
@@ -90,7 +110,7 @@ fn read_names(reader: &mut Reader<'_>) -> Result<Option<Vec<TokenId>>, Refusal> 
         return Ok(Some(names));
     }
     for _ in 0..reader.left() {
-        if reader.peek().kind != Kind::Word {
+        if !is_identifier(reader) {
             return Ok(None);
         }
         names.push(reader.next())?;
@@ -139,7 +159,10 @@ fn read_named_number(reader: &mut Reader<'_>) -> Result<Numbered, Refusal> {
 
 /// A name, and its number between parentheses where there is one.
 fn read_numbered(reader: &mut Reader<'_>) -> Result<Numbered, Refusal> {
-    let name = reader.takes(Kind::Word, "a name that begins with a small letter")?;
+    if !is_identifier(reader) {
+        return Err(reader.refused("a name that begins with a small letter"));
+    }
+    let name = reader.next();
     let mut number = None;
     if reader.eats("(") {
         number = Some(read_value(reader)?);
