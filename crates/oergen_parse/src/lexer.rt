@@ -188,14 +188,26 @@ fn text_length(rest: &str) -> Option<usize> {
     }
 }
 
-/// The octets of `'..'B` or `'..'H` (X.680, 12.10 and 12.12); nothing where it doesn't end so.
+/// Whether a text has only binary digits and white space.
+fn is_binary(text: &str) -> bool {
+    text.chars()
+        .all(|c| c == '0' || c == '1' || c.is_whitespace())
+}
+
+/// Whether a text has only hexadecimal digits and white space.
+fn is_hexadecimal(text: &str) -> bool {
+    text.chars()
+        .all(|c| c.is_ascii_hexdigit() || c.is_whitespace())
+}
+
+/// The octets of `'..'B` or `'..'H` (X.680, 12.10 and 12.12); nothing where it doesn't end so, or has other digits.
 fn digits_length(rest: &str) -> Option<(Kind, usize)> {
     let (_, inner) = rest.split_once('\'')?;
     let (digits, after) = inner.split_once('\'')?;
     let length = digits.len().saturating_add(3);
-    if after.starts_with('B') {
+    if after.starts_with('B') && is_binary(digits) {
         Some((Kind::Bits, length))
-    } else if after.starts_with('H') {
+    } else if after.starts_with('H') && is_hexadecimal(digits) {
         Some((Kind::Hex, length))
     } else {
         None
@@ -266,7 +278,7 @@ impl<'a> Cursor<'a> {
                 alloc,
                 place,
                 "a character that begins no token",
-                "names, numbers, signs, and strings that end",
+                "names, numbers, signs, and strings that end and have their digits",
             ));
         };
         let text = self.take(length);
