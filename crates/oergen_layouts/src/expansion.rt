@@ -1,5 +1,6 @@
 //! Puts the text that they stand for in the place of types with parameters (X.683), of fields of classes of information objects (X.681),
-//! of value sets (X.680, 16.6), of EXTERNAL, ObjectDescriptor, EMBEDDED PDV and CHARACTER STRING, and of macros (X.208). Classes, sets of objects and assignments with parameters are left out: no octet depends on them.
+//! of value sets (X.680, 16.6), of EXTERNAL, ObjectDescriptor, EMBEDDED PDV and CHARACTER STRING, and of macros (X.208). Classes, sets
+//! of objects and assignments with parameters are left out: no octet depends on them.
 
 use crate::classes::{BuiltIn, FieldType, field_type, push_declared};
 use crate::cuts::{
