@@ -5,17 +5,21 @@ use crate::chains::{Chain, push_row};
 use crate::kept::choice_holder;
 use crate::knot_templates::KNOT_ALTERNATING;
 use crate::knots::{knot_name, owner_words};
-use crate::templates::{CHOICE, CHOICE_IMPLS};
+use crate::templates::{CHOICE, CHOICE_IMPLS, PUT_ANSWER};
 use crate::text::{Text, Words};
 use oergen_layouts::definitions::Definition;
 use oergen_layouts::rows::Position;
 use oergen_layouts::scope::Scope;
+use oergen_parse::ast::Body;
 use oergen_parse::refusal::Refusal;
 use std::alloc::Global;
 use std::collections::BTreeMap;
 
 /// How many alternatives a printed CHOICE has at most.
-const MAX_ALTERNATIVES: usize = 16;
+const MAX_ALTERNATIVES: usize = 24;
+
+/// Of how many the prover finds itself how `put` writes them: the tenth it doesn't.
+const MAX_FOUND: usize = 9;
 
 /// Appends the name of the table of a CHOICE's tags.
 pub fn push_table_name(out: &mut Text, owner: &str, part: &str) {
@@ -185,7 +189,7 @@ pub fn push_choice<'m>(
     if definition.parts.is_empty() || definition.parts.len() > MAX_ALTERNATIVES {
         return Err(scope.refused(
             definition.of.first,
-            "a CHOICE of 1 to 16 alternatives: others aren't printed yet",
+            "a CHOICE of 1 to 24 alternatives: others aren't printed yet",
         ));
     }
     let mut cells = Vec::new(alloc);
@@ -203,4 +207,20 @@ pub fn push_choice<'m>(
     };
     push_alternatives(alloc, out, doc, of);
     Ok(())
+}
+
+/// What the prover is told of `put` of a wide CHOICE: how each further variant is written. Nothing of another type.
+pub fn answers_of(alloc: Global, definition: &Definition<'_>) -> Text {
+    let mut out = Text::new(alloc);
+    if !matches!(definition.of.body, Body::Choice(_)) {
+        return out;
+    }
+    for part in definition.parts.iter().skip(MAX_FOUND) {
+        let name = alternative_name(alloc, part.name.as_str());
+        let mut words = Words::new(alloc);
+        words.put("VARIANT", name.as_str());
+        out.fill(PUT_ANSWER, &words);
+        out.heed(&name);
+    }
+    out
 }

@@ -2,7 +2,7 @@
 
 use crate::constants::constants_of;
 use crate::kept::{KEPT_LIBRARY, keep_unknown, use_kept};
-use crate::knot_files::{has_knots, push_cycle_files, push_definition_names};
+use crate::knot_files::{has_knots, push_definition_names, push_proof_files};
 use crate::knot_templates::KNOT_USES;
 use crate::outputs::{File, push_placed};
 use crate::printer::{LeftOut, Outcome, Printed, free_names, print_types};
@@ -388,7 +388,7 @@ fn crate_files(
     for section in all.iter() {
         files.push(section_file(alloc, types, &homes, section)?)?;
         let place = (section.library.as_str(), section.module.as_str());
-        push_cycle_files(alloc, &mut files, types_of(types, section), place)?;
+        push_proof_files(alloc, &mut files, types_of(types, section), place)?;
         if section.module.as_str() == FIRST_MODULE {
             push_root_files(
                 alloc,

@@ -1,4 +1,4 @@
-//! The files beside a crate's types that contain themselves: definitions, and proofs.
+//! The files beside a crate's types: definitions and proofs of those that contain themselves, and answers of wide CHOICEs.
 
 use crate::knot_templates::ANSWERS;
 use crate::knots::owner_words;
@@ -50,8 +50,27 @@ fn proof_file(alloc: Global, place: (&str, &str), knot: &Knot) -> Result<File, A
     File::at(alloc, &path, text.end()?)
 }
 
-/// Puts the files of the cycles among the types of a module behind others.
-pub fn push_cycle_files(
+/// The file of the answers of what writes a CHOICE.
+fn answers_file(alloc: Global, place: (&str, &str), choice: &Printed) -> Result<File, AllocError> {
+    let (library, module) = place;
+    let name = choice.name.as_str();
+    let front = ["use Rattle.", library, ".proofs.", module, ".", name];
+    let mut text = Text::of(alloc, &front);
+    text.push("AlternativesAlternating.put.Goals as goal\n");
+    text.push_text(&choice.answers);
+    let path = [
+        library,
+        "/proofs/",
+        module,
+        "/",
+        name,
+        "AlternativesAlternating/put/Answers.antt",
+    ];
+    File::at(alloc, &path, text.end()?)
+}
+
+/// Puts the files of definitions and proofs of the types of a module behind others.
+pub fn push_proof_files(
     alloc: Global,
     files: &mut Vec<File>,
     types: &[Printed],
@@ -60,6 +79,9 @@ pub fn push_cycle_files(
     let mut uses = Text::new(alloc);
     let mut lines = Text::new(alloc);
     for one in types.iter() {
+        if !one.answers.is_empty() || !one.answers.is_whole() {
+            files.push(answers_file(alloc, place, one)?)?;
+        }
         uses.push_text(&one.weights.uses);
         lines.push_text(&one.weights.lines);
         if let Some(knot) = &one.knot {

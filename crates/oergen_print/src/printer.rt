@@ -1,7 +1,7 @@
 //! All types in order of use, each printed or left out.
 ghost use Rattle.std.specs.Prelude.{◌≡◌, ◌+◌, [], Err, false, IfOk, length};
 
-use crate::choices::push_choice;
+use crate::choices::{answers_of, push_choice};
 use crate::cycles::{again, require_cycle, run_of};
 use crate::depths::{Depth, depths_of, require_depth};
 use crate::enumerations::push_enumerated;
@@ -57,6 +57,8 @@ pub struct Printed {
     pub weights: Weights,
     /// What they have of it as their knot, which is the last of its cycle.
     pub knot: Option<Knot>,
+    /// The answers of what writes a CHOICE, where the prover asks for them.
+    pub answers: Text,
 }
 
 /// A type that was left out, and why.
@@ -362,6 +364,7 @@ fn print_one<'m>(
         is_joined: false,
         weights: weights_of(scope, all, definition)?,
         knot: knot_of(scope.alloc, all, definition)?,
+        answers: answers_of(scope.alloc, definition),
     })
 }
 
