@@ -113,7 +113,11 @@ impl<'input> Decoder<'input> {
 
     /// Reads one element on the decoder that the list lends, and makes that ready to be lent again.
     #[inline(always)]
-    pub(crate) fn read_element<D, F>(&self, lent: &mut Decoder<'input>, f: &F) -> Result<D, DecodeError>
+    pub(crate) fn read_element<D, F>(
+        &self,
+        lent: &mut Decoder<'input>,
+        f: &F,
+    ) -> Result<D, DecodeError>
     where
         F: Fn(&mut Decoder<'_>) -> Result<D, DecodeError>,
         requires level { 0 < self.now.levels }
