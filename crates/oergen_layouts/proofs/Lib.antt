@@ -1,6 +1,7 @@
 -- The lemmas that proofs use.
 mod Allowed
 mod Alternatives
+mod Defining
 mod Digits
 mod Distinct
 mod Giving

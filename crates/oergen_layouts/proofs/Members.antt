@@ -1,6 +1,6 @@
 -- A type has the members of one list alone.
 use Rattle.std.proofs.Common.{◌≡◌, true, Option, Some, None, List, sym, ap, ◌∙◌, inl, inr}
-use Rattle.oergen_parse.specs.declared.ast.Body.{Body, Body-F, out-Body}
+use Rattle.oergen_parse.specs.declared.ast.Body.{Body, Body-F}
 use Rattle.oergen_parse.specs.declared.ast.Body.TheOpen.{Choice, Sequence, Set}
 use Rattle.oergen_parse.specs.declared.ast.Body.TheVariants.{outs-Choice, outs-Sequence, outs-Set}
 use Rattle.oergen_parse.specs.declared.ast.Component.{Component}

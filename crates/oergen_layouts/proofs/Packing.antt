@@ -1,5 +1,5 @@
 -- Bits are packed octet by octet.
-use Rattle.std.proofs.Common.{◌≡◌, ℕ, zero, suc, ◌<◌, Bool, List, [], ◌∷◌, ◌++◌, length, drop, refl, ap, ap₂, sym, ◌∙◌, arith, append_assoc, length-drop}
+use Rattle.std.proofs.Common.{◌≡◌, ℕ, suc, ◌<◌, Bool, List, [], ◌∷◌, ◌++◌, length, drop, refl, ap, ap₂, sym, ◌∙◌, arith, append_assoc, length-drop}
 use Rattle.asn1_core.specs.Octets.{Octets, octet_of, pack_into, octets_for, pack}
 
 pub pack_more : (b : List Bool) → 0 < length b → pack b ≡ octet_of b ∷ pack (drop 8 b)

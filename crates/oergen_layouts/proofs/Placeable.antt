@@ -7,7 +7,7 @@ use Rattle.std.specs.List.{All, flat_map, list_any}
 use Rattle.std.specs.Prelude.{⊤}
 use Rattle.asn1_core.specs.declared.tag.Tag.{Tag}
 use Rattle.oergen_layouts.specs.Preambles.{has_mark}
-use Rattle.oergen_layouts.specs.Untagged.{ArePlaceable, HaveApartTags, HaveOwnPartTags, IsPlaceable, IsUntaggedChoice, Unnamed, alternatives, extends, extends_by, in_place, part_tag, parts_behind, row_tag, tag_in, type_behind, unnamed, unnamed_with}
+use Rattle.oergen_layouts.specs.Untagged.{ArePlaceable, HaveApartTags, HaveOwnPartTags, IsPlaceable, IsUntaggedChoice, Unnamed, alternatives, extends, extends_by, in_place, part_tag, parts_behind, row_tag, type_behind, unnamed, unnamed_with}
 use Rattle.oergen_layouts.specs.declared.definitions.Definition.{Definition}
 use Rattle.oergen_layouts.specs.declared.definitions.Part.{Part}
 use Rattle.oergen_layouts.specs.declared.rows.Row.{Row}

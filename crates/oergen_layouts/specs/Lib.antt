@@ -1,5 +1,6 @@
 -- The definitions that contracts cite.
 pub mod Bits
+pub mod Definitions
 pub mod Enumerations
 pub mod Numbers
 pub mod Preambles

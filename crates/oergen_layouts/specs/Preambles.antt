@@ -1,6 +1,6 @@
 -- The preamble of a SEQUENCE or a SET (X.696, 16.2): a bit for the extension mark, where there is one, and one for each component of the
 -- root that is OPTIONAL or has a default, filled up to whole octets.
-use Rattle.std.specs.Prelude.{◌≡◌, ℕ, ◌+◌, ◌/◌, Bool, true, false, cond, List, count_by, Some, None}
+use Rattle.std.specs.Prelude.{ℕ, ◌+◌, ◌/◌, Bool, true, false, cond, List, count_by, Some, None}
 use Rattle.std.specs.List.{list_any}
 use Rattle.oergen_parse.specs.declared.ast.Body.{Body}
 use Rattle.oergen_parse.specs.declared.ast.Member.{Member}

@@ -3,7 +3,7 @@
 use Rattle.std.specs.Prelude.{◌≡◌, ℕ, ◌+◌, ◌<◌, ◌^◌, ◌⊎◌, Bool, true, false, cond, List, [], ◌∷◌, length, count_by, Option, Some, None, Vec}
 use Rattle.std.specs.List.{All}
 use Rattle.std.specs.Global.{Global}
-use Rattle.oergen_parse.specs.declared.ast.Body.{Body, Body-F, out-Body}
+use Rattle.oergen_parse.specs.declared.ast.Body.{Body, out-Body}
 use Rattle.oergen_parse.specs.declared.ast.Body.TheOpen.{Sequence as open_sequence, Set as open_set, Choice as open_choice}
 use Rattle.oergen_parse.specs.declared.ast.Body.TheVariants.{Sequence, Set, Choice, Sequence', Set', Choice'}
 use Rattle.oergen_parse.specs.declared.ast.Component.{Component}

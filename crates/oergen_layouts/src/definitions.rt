@@ -1,4 +1,11 @@
 //! The Rust types that modules give: one for each assignment, and one for each type with parts that is written inside another.
+ghost use Rattle.std.specs.Prelude.{◌≡◌, ◌++◌, ◌<◌, ◌≤◌, ◌^◌, ◌&&◌, ◌||◌, ◌⊎◌, IfErr, IfOk, List, MatchResult, None, OnOk, [], false, true, is_some, length, map, nat_lt, take};
+ghost use Rattle.std.specs.List.{flat_map};
+ghost use Rattle.oergen_parse.specs.declared.ast.Member.{Member};
+ghost use Rattle.oergen_parse.specs.declared.refusal.Refusal.TheVariants.{OutOfMemory};
+ghost use Rattle.oergen_layouts.specs.Rows.{AreRowsOf};
+ghost use Rattle.oergen_layouts.specs.Tags.{AreMembers, has_members};
+ghost use Rattle.oergen_layouts.specs.Definitions.{AreDefined, AreParts, HasMany, IsDefined, LeadsTo, assigned, assigned_by, defined, has_parts, inside, inside_by, peeled, waits};
 
 use crate::names::{component_name, push_type_name, type_name};
 use crate::rows::{Row, rows_of, untagged_rows};
@@ -83,8 +90,23 @@ struct Pending<'m> {
     of: &'m Type,
 }
 
+impl<'m> Pending<'m> {
+    fn copied(&self) -> Result<Pending<'m>, AllocError>
+        ensures { IfOk result (λ one. waits one ≡ waits self.now) }
+    {
+        Ok(Pending {
+            rust_name: self.rust_name.clone()?,
+            named: self.named,
+            module: self.module,
+            of: self.of,
+        })
+    }
+}
+
 /// A type without the lists around it, and how many these are.
-fn peeled<'m>(start: &'m Type) -> (usize, &'m Type) {
+fn peeled<'m>(start: &'m Type) -> (usize, &'m Type)
+    ensures { peeled 64 start.now ≡ (result.0, result.1.now) }
+{
     let mut of = start;
     let mut lists = 0usize;
     for _ in 0..MAX_LISTS {
@@ -98,12 +120,21 @@ fn peeled<'m>(start: &'m Type) -> (usize, &'m Type) {
 }
 
 /// Whether a type needs a Rust type of its own.
-fn has_parts(of: &Type) -> bool {
+fn has_parts(of: &Type) -> bool
+    ensures { result ≡ has_parts of.now.body }
+{
     match &of.body {
         Body::Sequence(_) | Body::Set(_) | Body::Choice(_) | Body::Enumerated(_, _) => true,
         Body::Simple(_) | Body::Integer(_) | Body::BitString(_) | Body::Reference(_) => false,
         Body::SequenceOf(_) | Body::SetOf(_) => false,
     }
+}
+
+/// Whether a part's type is written inside the type that has the part, and needs a Rust type of its own.
+fn is_inside(inner: &Type, lists: usize, row: Option<Row<'_>>) -> bool
+    ensures { result ≡ (has_parts inner.now.body && (nat_lt 0 lists || is_some row.entry)) }
+{
+    has_parts(inner) && (lists != 0 || row.is_some())
 }
 
 /// A part, by the type where it is written. A type with parts inside it gets the name of the type around it and its own.
@@ -113,7 +144,13 @@ fn make_part<'m>(
     parent: (&str, usize),
     row: Option<Row<'m>>,
     whole: &'m Type,
-) -> Result<Part<'m>, Refusal> {
+) -> Result<Part<'m>, Refusal>
+    ensures keeps { take (length pending.old.items) pending.new.items ≡ pending.old.items }
+    ensures row { IfOk result (λ part. part.row ≡ row.entry) }
+    ensures waits { IfOk result (λ part. map waits pending.new.items ≡ map waits pending.old.items ++ inside_by parent.entry.1 part) }
+    ensures peeled { IfOk result (λ part. peeled 64 whole.now ≡ (part.lists, part.inner.now)) }
+    ensures leads { length (assigned scope.entry.modules.now) < 2 ^ 64 → IfOk result (λ part. LeadsTo (length (assigned scope.entry.modules.now)) (map waits pending.new.items) parent.entry.1 part) }
+{
     let (lists, inner) = peeled(whole);
     let name = match row {
         Some(row) => scope.text(row.name),
@@ -123,7 +160,7 @@ fn make_part<'m>(
     let mut target = None;
     if let Body::Reference(reference) = &inner.body {
         target = Some(scope.find_type(*reference)?.index);
-    } else if has_parts(inner) && (lists != 0 || row.is_some()) {
+    } else if is_inside(inner, lists, row) {
         let (parent, module) = parent;
         let mut own = String::from_str(scope.alloc, parent)?;
         push_type_name(&mut own, name)?;
@@ -147,29 +184,44 @@ fn make_part<'m>(
     })
 }
 
+/// The components or alternatives of a type; none of another.
+fn rows_in<'m>(scope: Scope<'m, '_>, of: &'m Type) -> Result<Vec<Row<'m>>, Refusal>
+    ensures rows { IfOk result (λ rows. (members : List Member) → AreMembers of.now.body members → AreRowsOf members rows.items) }
+    ensures others { has_members of.now.body ≡ false → IfOk result (λ rows. rows.items ≡ []) }
+{
+    match untagged_rows(scope, of)? {
+        Some(rows) => Ok(rows),
+        None => rows_of(scope, of),
+    }
+}
+
 /// What a type has: its components or alternatives, or the type itself.
 fn parts_of<'m>(
     scope: Scope<'m, '_>,
     pending: &mut Vec<Pending<'m>>,
     parent: (&str, usize),
     of: &'m Type,
-) -> Result<Vec<Part<'m>>, Refusal> {
-    let rows = match untagged_rows(scope, of)? {
-        Some(rows) => rows,
-        None => rows_of(scope, of)?,
-    };
+) -> Result<Vec<Part<'m>>, Refusal>
+    ensures keeps { take (length pending.old.items) pending.new.items ≡ pending.old.items }
+    ensures waits { IfOk result (λ parts. map waits pending.new.items ≡ map waits pending.old.items ++ flat_map (inside_by parent.entry.1) parts.items) }
+    ensures parts { length (assigned scope.entry.modules.now) < 2 ^ 64 → IfOk result (λ parts. AreParts (length (assigned scope.entry.modules.now)) (map waits pending.new.items) parent.entry.1 of.now parts.items) }
+{
     let mut parts = Vec::new(scope.alloc);
+    if !has_parts(of) {
+        parts.push(make_part(scope, pending, parent, None, of)?)?;
+        return Ok(parts);
+    }
+    let rows = rows_in(scope, of)?;
     for row in rows.iter() {
         parts.push(make_part(scope, pending, parent, Some(*row), row.of)?)?;
-    }
-    if rows.is_empty() && !has_parts(of) {
-        parts.push(make_part(scope, pending, parent, None, of)?)?;
     }
     Ok(parts)
 }
 
 /// The assignments of all modules, in the order of their text.
-fn assignments<'m>(scope: Scope<'m, '_>) -> Result<Vec<Pending<'m>>, Refusal> {
+fn assignments<'m>(scope: Scope<'m, '_>) -> Result<Vec<Pending<'m>>, Refusal>
+    ensures { MatchResult result (λ all. map waits all.items ≡ assigned scope.entry.modules.now) (λ e. e ≡ OutOfMemory) }
+{
     let mut all = Vec::new(scope.alloc);
     for (module, one) in scope.modules.iter().enumerate() {
         push_assignments(scope, module, one.types.as_slice(), &mut all)?;
@@ -183,7 +235,9 @@ fn push_assignments<'m>(
     module: usize,
     types: &'m [TypeAssignment],
     all: &mut Vec<Pending<'m>>,
-) -> Result<(), Refusal> {
+) -> Result<(), Refusal>
+    ensures { MatchResult result (λ _. map waits all.new.items ≡ map waits all.old.items ++ assigned_by «module» types.now) (λ e. e ≡ OutOfMemory) }
+{
     for one in types.iter() {
         all.push(Pending {
             rust_name: type_name(scope.alloc, scope.text(one.name))?,
@@ -212,7 +266,9 @@ fn homes_of(
 }
 
 /// Puts the module's name and `_` in front of the names that several modules have: ASN.1 has no such names.
-fn part_names(scope: Scope<'_, '_>, all: &mut Vec<Pending<'_>>) -> Result<(), AllocError> {
+fn part_names(scope: Scope<'_, '_>, all: &mut Vec<Pending<'_>>) -> Result<(), AllocError>
+    ensures { OnOk result (map waits all.new.items ≡ map waits all.old.items) }
+{
     let homes = homes_of(scope.alloc, all.as_slice())?;
     for one in all.iter_mut() {
         if homes.get(one.rust_name.as_str()).copied() == Some(None) {
@@ -260,19 +316,79 @@ fn resolved<'m>(
     parent: (&str, usize),
     of: &'m Type,
     named: (usize, Option<TokenId>),
-) -> Result<Vec<Part<'m>>, Refusal> {
+) -> Result<Vec<Part<'m>>, Refusal>
+    ensures waits { IfOk result (λ parts. map waits pending.new.items ≡ map waits pending.old.items ++ flat_map (inside_by parent.entry.1) parts.items) }
+    ensures parts { length (assigned scope.entry.modules.now) < 2 ^ 64 → IfOk result (λ parts. AreParts (length (assigned scope.entry.modules.now)) (map waits pending.new.items) parent.entry.1 of.now parts.items) }
+    ensures keeps { take (length pending.old.items) pending.new.items ≡ pending.old.items }
+{
     if let (at, Some(name)) = named {
         require_one(scope, at, name)?;
     }
     parts_of(scope, pending, parent, of)
 }
 
+/// The definition of a type at its place among those that wait, and puts the types inside it behind these. Refused where it can't be
+/// resolved; with `keeps_faults` it says why.
+fn define<'m>(
+    scope: Scope<'m, '_>,
+    pending: &mut Vec<Pending<'m>>,
+    names: &mut BTreeMap<String, usize>,
+    at: usize,
+    next: Pending<'m>,
+    keeps_faults: bool,
+) -> Result<Definition<'m>, Refusal>
+    ensures keeps { take (length pending.old.items) pending.new.items ≡ pending.old.items }
+    ensures same { IfOk result (λ one. defined one ≡ waits next.entry) }
+    ensures waits { IfOk result (λ one. map waits pending.new.items ≡ map waits pending.old.items ++ inside one) }
+    ensures parts { length (assigned scope.entry.modules.now) < 2 ^ 64 → IfOk result (λ one. IsDefined (length (assigned scope.entry.modules.now)) (map waits pending.new.items) one) }
+    ensures none { keeps_faults ≡ false → IfOk result (λ one. one.fault ≡ None) }
+    ensures refused { keeps_faults ≡ true → IfErr result (λ e. e ≡ OutOfMemory) }
+{
+    let (module, of) = (next.module, next.of);
+    let wanted = next.rust_name;
+    let free = free_name(scope.alloc, names, wanted.as_str())?;
+    let count = pending.len();
+    let parent = (free.as_str(), module);
+    let made = resolved(scope, pending, parent, of, (at, next.named));
+    let (rust_name, parts, fault) = match made {
+        Ok(parts) => (free, parts, None),
+        Err(why) if keeps_faults && !matches!(why, Refusal::OutOfMemory) => {
+            pending.truncate(count);
+            (wanted, Vec::new(scope.alloc), Some(why))
+        }
+        Err(why) => return Err(why),
+    };
+    Ok(Definition {
+        rust_name,
+        module,
+        of,
+        parts,
+        is_extensible: false,
+        cycle: None,
+        keeps_unknown: false,
+        fault,
+    })
+}
+
+/// Refuses types behind the first so many.
+fn require_all(scope: Scope<'_, '_>, pending: &[Pending<'_>], count: usize) -> Result<(), Refusal>
+    ensures { MatchResult result (λ _. length pending.now ≤ count) (λ _. count < length pending.now) }
+{
+    match pending.get(count) {
+        Some(next) => Err(scope.refused(next.of.first, "at most a million types")),
+        None => Ok(()),
+    }
+}
+
 /// All definitions as they are written: first the assignments, then the types inside them. Refused at the first that can't be resolved;
-/// with `keeps_faults` that one says why.
+/// with `keeps_faults` that one says why. Refused too where there are more than a million types.
 pub fn definitions<'m>(
     scope: Scope<'m, '_>,
     keeps_faults: bool,
-) -> Result<Vec<Definition<'m>>, Refusal> {
+) -> Result<Vec<Definition<'m>>, Refusal>
+    ensures are { IfOk result (λ all. AreDefined keeps_faults scope.entry.modules.now all.items) }
+    ensures refused { keeps_faults ≡ true → IfErr result (λ e. (e ≡ OutOfMemory) ⊎ HasMany scope.entry.modules.now) }
+{
     let mut pending = assignments(scope)?;
     part_names(scope, &mut pending)?;
     let mut names = BTreeMap::new(scope.alloc);
@@ -281,30 +397,9 @@ pub fn definitions<'m>(
         let Some(next) = pending.get(at) else {
             break;
         };
-        let (module, of, named) = (next.module, next.of, next.named);
-        let wanted = next.rust_name.clone()?;
-        let free = free_name(scope.alloc, &mut names, wanted.as_str())?;
-        let count = pending.len();
-        let parent = (free.as_str(), module);
-        let made = resolved(scope, &mut pending, parent, of, (at, named));
-        let (rust_name, parts, fault) = match made {
-            Ok(parts) => (free, parts, None),
-            Err(why) if keeps_faults && !matches!(why, Refusal::OutOfMemory) => {
-                pending.truncate(count);
-                (wanted, Vec::new(scope.alloc), Some(why))
-            }
-            Err(why) => return Err(why),
-        };
-        all.push(Definition {
-            rust_name,
-            module,
-            of,
-            parts,
-            is_extensible: false,
-            cycle: None,
-            keeps_unknown: false,
-            fault,
-        })?;
+        let next = next.copied()?;
+        all.push(define(scope, &mut pending, &mut names, at, next, keeps_faults)?)?;
     }
+    require_all(scope, pending.as_slice(), all.len())?;
     Ok(all)
 }

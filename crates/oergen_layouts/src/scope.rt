@@ -1,6 +1,7 @@
 //! Finds what a name stands for: in its module, and in the modules that this one imports from (X.680, clause 13).
-ghost use Rattle.std.specs.Prelude.{◌≡◌, ◌<◌, IfSome, length};
+ghost use Rattle.std.specs.Prelude.{◌≡◌, ◌<◌, ◌^◌, IfOk, IfSome, MatchOption, length, take};
 ghost use Rattle.std.specs.List.{slice_get};
+ghost use Rattle.oergen_layouts.specs.Definitions.{assigned};
 ghost use Rattle.oergen_layouts.specs.Tags.{AreAutomatic};
 
 use oergen_parse::ast::{Body, Module, Reference, Tagging, Type, ValueAssignment};
@@ -197,9 +198,11 @@ impl<'m, 'a> Scope<'m, 'a> {
     }
 
     /// How many types are assigned in the modules in front of one.
-    fn types_before(&self, module: usize) -> usize {
+    fn types_before(&self, module: usize) -> usize
+        ensures { length (assigned self.now.modules.now) < 2 ^ 64 → result ≡ length (assigned (take «module» self.now.modules.now)) }
+    {
         let mut count = 0usize;
-        for one in self.modules.iter().take(module) {
+        for one in self.modules.get(..module).unwrap_or(self.modules).iter() {
             count = count.saturating_add(one.types.len());
         }
         count
@@ -232,7 +235,9 @@ impl<'m, 'a> Scope<'m, 'a> {
     }
 
     /// The type of a name.
-    pub fn find_type(&self, reference: Reference) -> Result<Found<'m>, Refusal> {
+    pub fn find_type(&self, reference: Reference) -> Result<Found<'m>, Refusal>
+        ensures { length (assigned self.now.modules.now) < 2 ^ 64 → IfOk result (λ found. MatchOption (slice_get (assigned self.now.modules.now) found.index) ⊥ (λ one. one.1 ≡ found.of.now)) }
+    {
         let home = self.home_of(reference)?;
         let name = self.text(reference.name);
         let mut index = self.types_before(home);

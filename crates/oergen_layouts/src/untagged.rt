@@ -4,6 +4,7 @@ ghost use Rattle.std.specs.Prelude.{◌≡◌, ◌≢◌, ◌++◌, ◌∷◌, �
 ghost use Rattle.std.specs.List.{All, AllZip, cons_option, filter_map, flat_map, list_any, zip};
 ghost use Rattle.std.specs.Option.{option_map};
 ghost use Rattle.oergen_parse.specs.declared.refusal.Refusal.TheVariants.{OutOfMemory};
+ghost use Rattle.oergen_layouts.specs.Definitions.{AreDefined, AreDefinitionsOf, HasMany};
 ghost use Rattle.oergen_layouts.specs.Preambles.{has_mark};
 ghost use Rattle.oergen_layouts.specs.declared.definitions.Definition.{Definition};
 ghost use Rattle.oergen_layouts.specs.Untagged.{AreInSet, ArePlaceable, ArePlaced, AreResolved, CanBeInSet, FindsTag, HaveApartTags, HaveOwnPartTags, IsAtPlaces, IsCountable, IsFound, IsInSet, IsLeastOf, IsPlaceable, IsResolvable, IsRootInSet, IsSettled, IsUntaggedChoice, all_taken_up, alternatives, extends, extends_by, extends_with, first_refusal, in_place, is_put, lacks_tag, marked, new_place, part_tag, parts_with, places_from, refusal_in, root_place, root_row, root_tag, root_tags, taken_up, type_behind, unnamed, unnamed_with, used_of};
@@ -563,6 +564,9 @@ fn resolved<'m>(
 pub fn all_definitions<'m>(
     scope: Scope<'m, '_>,
     keeps_faults: bool,
-) -> Result<Vec<Definition<'m>>, Refusal> {
+) -> Result<Vec<Definition<'m>>, Refusal>
+    ensures kept { IfOk result (λ kept. AreDefinitionsOf keeps_faults scope.entry.modules.now kept.items) }
+    ensures refused { keeps_faults ≡ true → IfErr result (λ e. (e ≡ OutOfMemory) ⊎ HasMany scope.entry.modules.now) }
+{
     resolved(scope, definitions(scope, keeps_faults)?, keeps_faults)
 }

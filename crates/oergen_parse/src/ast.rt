@@ -1,5 +1,7 @@
 //! What a module says, as it is written (X.680). A tree names its tokens by their numbers, and borrows nothing: what is said of a
 //! reference to it stays short, however large the tree's types are.
+ghost use Rattle.std.specs.Prelude.{◌≡◌, MatchOption, None, Some};
+ghost use Rattle.oergen_parse.specs.Lists.{list_in};
 
 use crate::lexer::TokenId;
 use crate::refusal::Refusal;
@@ -101,7 +103,9 @@ pub enum Body {
 
 impl Body {
     /// The type of a list's elements, and whether it is a SET OF; nothing of another type.
-    pub fn list(&self) -> Option<(&Type, bool)> {
+    pub fn list(&self) -> Option<(&Type, bool)>
+        ensures { MatchOption result (list_in self.now ≡ None) (λ it. list_in self.now ≡ Some (it.0.now, it.1)) }
+    {
         match self {
             Body::SequenceOf(element) => Some((&**element, false)),
             Body::SetOf(element) => Some((&**element, true)),

@@ -8,7 +8,7 @@ use Rattle.oergen_parse.specs.declared.refusal.Refusal.TheVariants.{OutOfMemory}
 use Rattle.oergen_layouts.specs.Untagged.{ArePlaceable, HaveApartTags, HaveOwnPartTags, Unnamed, alternatives, in_place, part_tag, unnamed, unnamed_with}
 use Rattle.oergen_layouts.specs.declared.definitions.Part.{Part}
 use Rattle.oergen_layouts.proofs.Alternatives.{alternatives_more, alternatives_same, both_ok, has_tag, in_place_behind, own_more, tag_there, unnamed_more, unnamed_own}
-use Rattle.oergen_layouts.proofs.Placeable.{IsPlaceableIn, alternatives_apart, apart_at, apart_back, extends_is, extends_more, extends_same, last_apart, none_deep, own_apart, placeable_behind, placeable_each, placeable_made, placeable_none, placeable_of, placeable_row, placeable_some}
+use Rattle.oergen_layouts.proofs.Placeable.{IsPlaceableIn, alternatives_apart, apart_at, apart_back, extends_more, extends_same, last_apart, none_deep, own_apart, placeable_behind, placeable_each, placeable_made, placeable_none, placeable_of, placeable_row, placeable_some}
 use Rattle.oergen_layouts.proofs.untagged.+untagged.Goals as goal
 use Rattle.oergen_layouts.proofs.untagged.+untagged.Goals.{flat_choice-in-Some-row+in_ok-push_part, flat_choice-in_default-row}
 

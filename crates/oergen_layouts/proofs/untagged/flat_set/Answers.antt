@@ -1,8 +1,8 @@
-use Rattle.std.proofs.Common.{◌≡◌, ◌∙◌, ◌++◌, List, ap, map, rules, sym, subst}
+use Rattle.std.proofs.Common.{◌≡◌, ◌∙◌, ◌++◌, List, ap, rules, sym, subst}
 use Rattle.std.proofs.lemmas.List.Elements.{All-more}
 use Rattle.std.specs.List.{All, flat_map}
 use Rattle.oergen_parse.specs.declared.refusal.Refusal.TheVariants.{OutOfMemory}
-use Rattle.oergen_layouts.specs.Untagged.{CanBeInSet, HaveApartTags, IsInSet, Unnamed, root_place, unnamed}
+use Rattle.oergen_layouts.specs.Untagged.{CanBeInSet, HaveApartTags, IsInSet, Unnamed, root_place}
 use Rattle.oergen_layouts.specs.declared.definitions.Part.{Part}
 use Rattle.oergen_layouts.proofs.Alternatives.{parts_more}
 use Rattle.oergen_layouts.proofs.Placeable.{apart_next}

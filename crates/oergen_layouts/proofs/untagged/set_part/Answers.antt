@@ -1,6 +1,5 @@
-use Rattle.std.proofs.Common.{◌≡◌, ◌++◌, List, map, length, arith}
+use Rattle.std.proofs.Common.{◌≡◌, length, arith}
 use Rattle.std.proofs.lemmas.Grind.{common_steps}
-use Rattle.oergen_layouts.specs.Untagged.{unnamed}
 use Rattle.oergen_layouts.proofs.Placing.{is_countable, not_countable, root_in_set}
 use Rattle.oergen_layouts.proofs.untagged.set_part.Goals as goal
 
