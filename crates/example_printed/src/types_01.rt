@@ -421,7 +421,63 @@ type RowRow = Defaulted<
 >;
 
 /// The components of `Row` from `r_type` on.
-type RowFromType = Defaulted<Context<5>, Integer, RowTypeDefault, Extensible<RowAdditions>>;
+pub struct RowFromType;
+
+type RowFromTypeRow = Defaulted<Context<5>, Integer, RowTypeDefault, Extensible<RowAdditions>>;
+
+impl Components for RowFromType {
+    type Values = <RowFromTypeRow as Components>::Values;
+
+    ghost EXTENSIBLE = { ⟦<RowFromTypeRow as Components>⟧.EXTENSIBLE };
+
+    const EXTENSIBLE: bool = true;
+
+    ghost schema = { ⟦<RowFromTypeRow as Components>⟧.schema };
+
+    ghost is_schema = { ⟦<RowFromTypeRow as Components>⟧.is_schema };
+}
+
+impl Slotted for RowFromType {
+    type Slots = <RowFromTypeRow as Slotted>::Slots;
+
+    ghost filled = { ⟦<RowFromTypeRow as Slotted>⟧.filled };
+
+    ghost filled_once = { ⟦<RowFromTypeRow as Slotted>⟧.filled_once };
+
+    #[inline(always)]
+    fn empty() -> Self::Slots {
+        RowFromTypeRow::empty()
+    }
+
+    #[inline(always)]
+    fn taken(slots: Self::Slots) -> Self::Values {
+        RowFromTypeRow::taken(slots)
+    }
+}
+
+impl Reads for RowFromType {
+    ghost Refuses = { ⟦<RowFromTypeRow as Reads>⟧.Refuses };
+
+    #[inline(always)]
+    fn read(
+        alloc: Global,
+        decoder: &mut Decoder<'_>,
+        slots: &mut Self::Slots,
+    ) -> Result<(), DecodeError> {
+        <RowFromTypeRow as Reads>::read(alloc, decoder, slots)
+    }
+}
+
+impl<'v> Views<'v> for RowFromType {
+    type View = <RowFromTypeRow as Views<'v>>::View;
+
+    ghost seen = { ⟦<RowFromTypeRow as Views<'v>>⟧.seen };
+
+    #[inline(always)]
+    fn write(view: &Self::View, encoder: &mut Encoder<'_>) -> Result<(), EncodeError> {
+        RowFromTypeRow::write(view, encoder)
+    }
+}
 
 type RowAdditions = OptionalAddition<
     Context<6>,

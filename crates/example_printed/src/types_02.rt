@@ -258,7 +258,9 @@ type LetterHeadRow = Required<
 >;
 
 /// The components of `LetterHead` from `plain` on.
-type LetterHeadFromPlain = Required<
+pub struct LetterHeadFromPlain;
+
+type LetterHeadFromPlainRow = Required<
     Context<5>,
     PrintableText,
     Required<
@@ -276,8 +278,118 @@ type LetterHeadFromPlain = Required<
     >,
 >;
 
+impl Components for LetterHeadFromPlain {
+    type Values = <LetterHeadFromPlainRow as Components>::Values;
+
+    ghost EXTENSIBLE = { ⟦<LetterHeadFromPlainRow as Components>⟧.EXTENSIBLE };
+
+    const EXTENSIBLE: bool = false;
+
+    ghost schema = { ⟦<LetterHeadFromPlainRow as Components>⟧.schema };
+
+    ghost is_schema = { ⟦<LetterHeadFromPlainRow as Components>⟧.is_schema };
+}
+
+impl Slotted for LetterHeadFromPlain {
+    type Slots = <LetterHeadFromPlainRow as Slotted>::Slots;
+
+    ghost filled = { ⟦<LetterHeadFromPlainRow as Slotted>⟧.filled };
+
+    ghost filled_once = { ⟦<LetterHeadFromPlainRow as Slotted>⟧.filled_once };
+
+    #[inline(always)]
+    fn empty() -> Self::Slots {
+        LetterHeadFromPlainRow::empty()
+    }
+
+    #[inline(always)]
+    fn taken(slots: Self::Slots) -> Self::Values {
+        LetterHeadFromPlainRow::taken(slots)
+    }
+}
+
+impl Reads for LetterHeadFromPlain {
+    ghost Refuses = { ⟦<LetterHeadFromPlainRow as Reads>⟧.Refuses };
+
+    #[inline(always)]
+    fn read(
+        alloc: Global,
+        decoder: &mut Decoder<'_>,
+        slots: &mut Self::Slots,
+    ) -> Result<(), DecodeError> {
+        <LetterHeadFromPlainRow as Reads>::read(alloc, decoder, slots)
+    }
+}
+
+impl<'v> Views<'v> for LetterHeadFromPlain {
+    type View = <LetterHeadFromPlainRow as Views<'v>>::View;
+
+    ghost seen = { ⟦<LetterHeadFromPlainRow as Views<'v>>⟧.seen };
+
+    #[inline(always)]
+    fn write(view: &Self::View, encoder: &mut Encoder<'_>) -> Result<(), EncodeError> {
+        LetterHeadFromPlainRow::write(view, encoder)
+    }
+}
+
 /// The components of `LetterHead` from `wide` on.
-type LetterHeadFromWide = Required<Context<10>, Limited<BmpText, LetterHeadWideLimits>, End>;
+pub struct LetterHeadFromWide;
+
+type LetterHeadFromWideRow = Required<Context<10>, Limited<BmpText, LetterHeadWideLimits>, End>;
+
+impl Components for LetterHeadFromWide {
+    type Values = <LetterHeadFromWideRow as Components>::Values;
+
+    ghost EXTENSIBLE = { ⟦<LetterHeadFromWideRow as Components>⟧.EXTENSIBLE };
+
+    const EXTENSIBLE: bool = false;
+
+    ghost schema = { ⟦<LetterHeadFromWideRow as Components>⟧.schema };
+
+    ghost is_schema = { ⟦<LetterHeadFromWideRow as Components>⟧.is_schema };
+}
+
+impl Slotted for LetterHeadFromWide {
+    type Slots = <LetterHeadFromWideRow as Slotted>::Slots;
+
+    ghost filled = { ⟦<LetterHeadFromWideRow as Slotted>⟧.filled };
+
+    ghost filled_once = { ⟦<LetterHeadFromWideRow as Slotted>⟧.filled_once };
+
+    #[inline(always)]
+    fn empty() -> Self::Slots {
+        LetterHeadFromWideRow::empty()
+    }
+
+    #[inline(always)]
+    fn taken(slots: Self::Slots) -> Self::Values {
+        LetterHeadFromWideRow::taken(slots)
+    }
+}
+
+impl Reads for LetterHeadFromWide {
+    ghost Refuses = { ⟦<LetterHeadFromWideRow as Reads>⟧.Refuses };
+
+    #[inline(always)]
+    fn read(
+        alloc: Global,
+        decoder: &mut Decoder<'_>,
+        slots: &mut Self::Slots,
+    ) -> Result<(), DecodeError> {
+        <LetterHeadFromWideRow as Reads>::read(alloc, decoder, slots)
+    }
+}
+
+impl<'v> Views<'v> for LetterHeadFromWide {
+    type View = <LetterHeadFromWideRow as Views<'v>>::View;
+
+    ghost seen = { ⟦<LetterHeadFromWideRow as Views<'v>>⟧.seen };
+
+    #[inline(always)]
+    fn write(view: &Self::View, encoder: &mut Encoder<'_>) -> Result<(), EncodeError> {
+        LetterHeadFromWideRow::write(view, encoder)
+    }
+}
 
 impl Rowed for LetterHeadComponents {
     ghost use Rattle.rasn_oer.specs.Values.{both};

@@ -240,7 +240,63 @@ type PermitRow = Defaulted<
 >;
 
 /// The components of `Permit` from `nothing` on.
-type PermitFromNothing = Defaulted<Context<5>, (), IsNull, Extensible<PermitAdditions>>;
+pub struct PermitFromNothing;
+
+type PermitFromNothingRow = Defaulted<Context<5>, (), IsNull, Extensible<PermitAdditions>>;
+
+impl Components for PermitFromNothing {
+    type Values = <PermitFromNothingRow as Components>::Values;
+
+    ghost EXTENSIBLE = { ⟦<PermitFromNothingRow as Components>⟧.EXTENSIBLE };
+
+    const EXTENSIBLE: bool = true;
+
+    ghost schema = { ⟦<PermitFromNothingRow as Components>⟧.schema };
+
+    ghost is_schema = { ⟦<PermitFromNothingRow as Components>⟧.is_schema };
+}
+
+impl Slotted for PermitFromNothing {
+    type Slots = <PermitFromNothingRow as Slotted>::Slots;
+
+    ghost filled = { ⟦<PermitFromNothingRow as Slotted>⟧.filled };
+
+    ghost filled_once = { ⟦<PermitFromNothingRow as Slotted>⟧.filled_once };
+
+    #[inline(always)]
+    fn empty() -> Self::Slots {
+        PermitFromNothingRow::empty()
+    }
+
+    #[inline(always)]
+    fn taken(slots: Self::Slots) -> Self::Values {
+        PermitFromNothingRow::taken(slots)
+    }
+}
+
+impl Reads for PermitFromNothing {
+    ghost Refuses = { ⟦<PermitFromNothingRow as Reads>⟧.Refuses };
+
+    #[inline(always)]
+    fn read(
+        alloc: Global,
+        decoder: &mut Decoder<'_>,
+        slots: &mut Self::Slots,
+    ) -> Result<(), DecodeError> {
+        <PermitFromNothingRow as Reads>::read(alloc, decoder, slots)
+    }
+}
+
+impl<'v> Views<'v> for PermitFromNothing {
+    type View = <PermitFromNothingRow as Views<'v>>::View;
+
+    ghost seen = { ⟦<PermitFromNothingRow as Views<'v>>⟧.seen };
+
+    #[inline(always)]
+    fn write(view: &Self::View, encoder: &mut Encoder<'_>) -> Result<(), EncodeError> {
+        PermitFromNothingRow::write(view, encoder)
+    }
+}
 
 type PermitAdditions = DefaultedAddition<
     Context<6>,
@@ -656,12 +712,68 @@ type LabelsRow = Defaulted<
 >;
 
 /// The components of `Labels` from `graphic` on.
-type LabelsFromGraphic = Defaulted<
+pub struct LabelsFromGraphic;
+
+type LabelsFromGraphicRow = Defaulted<
     Context<5>,
     GraphicText,
     LabelsGraphicDefault,
     Defaulted<Context<6>, TeletexText, LabelsTeletexDefault, End>,
 >;
+
+impl Components for LabelsFromGraphic {
+    type Values = <LabelsFromGraphicRow as Components>::Values;
+
+    ghost EXTENSIBLE = { ⟦<LabelsFromGraphicRow as Components>⟧.EXTENSIBLE };
+
+    const EXTENSIBLE: bool = false;
+
+    ghost schema = { ⟦<LabelsFromGraphicRow as Components>⟧.schema };
+
+    ghost is_schema = { ⟦<LabelsFromGraphicRow as Components>⟧.is_schema };
+}
+
+impl Slotted for LabelsFromGraphic {
+    type Slots = <LabelsFromGraphicRow as Slotted>::Slots;
+
+    ghost filled = { ⟦<LabelsFromGraphicRow as Slotted>⟧.filled };
+
+    ghost filled_once = { ⟦<LabelsFromGraphicRow as Slotted>⟧.filled_once };
+
+    #[inline(always)]
+    fn empty() -> Self::Slots {
+        LabelsFromGraphicRow::empty()
+    }
+
+    #[inline(always)]
+    fn taken(slots: Self::Slots) -> Self::Values {
+        LabelsFromGraphicRow::taken(slots)
+    }
+}
+
+impl Reads for LabelsFromGraphic {
+    ghost Refuses = { ⟦<LabelsFromGraphicRow as Reads>⟧.Refuses };
+
+    #[inline(always)]
+    fn read(
+        alloc: Global,
+        decoder: &mut Decoder<'_>,
+        slots: &mut Self::Slots,
+    ) -> Result<(), DecodeError> {
+        <LabelsFromGraphicRow as Reads>::read(alloc, decoder, slots)
+    }
+}
+
+impl<'v> Views<'v> for LabelsFromGraphic {
+    type View = <LabelsFromGraphicRow as Views<'v>>::View;
+
+    ghost seen = { ⟦<LabelsFromGraphicRow as Views<'v>>⟧.seen };
+
+    #[inline(always)]
+    fn write(view: &Self::View, encoder: &mut Encoder<'_>) -> Result<(), EncodeError> {
+        LabelsFromGraphicRow::write(view, encoder)
+    }
+}
 
 impl Rowed for LabelsComponents {
     ghost use Rattle.rasn_oer.specs.Values.{both};

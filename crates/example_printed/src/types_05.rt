@@ -54,7 +54,63 @@ type TakenRow = Required<
 >;
 
 /// The components of `Taken` from `own` on.
-type TakenFromOwn = Required<Context<5>, (), Extensible<TakenAdditions>>;
+pub struct TakenFromOwn;
+
+type TakenFromOwnRow = Required<Context<5>, (), Extensible<TakenAdditions>>;
+
+impl Components for TakenFromOwn {
+    type Values = <TakenFromOwnRow as Components>::Values;
+
+    ghost EXTENSIBLE = { ⟦<TakenFromOwnRow as Components>⟧.EXTENSIBLE };
+
+    const EXTENSIBLE: bool = true;
+
+    ghost schema = { ⟦<TakenFromOwnRow as Components>⟧.schema };
+
+    ghost is_schema = { ⟦<TakenFromOwnRow as Components>⟧.is_schema };
+}
+
+impl Slotted for TakenFromOwn {
+    type Slots = <TakenFromOwnRow as Slotted>::Slots;
+
+    ghost filled = { ⟦<TakenFromOwnRow as Slotted>⟧.filled };
+
+    ghost filled_once = { ⟦<TakenFromOwnRow as Slotted>⟧.filled_once };
+
+    #[inline(always)]
+    fn empty() -> Self::Slots {
+        TakenFromOwnRow::empty()
+    }
+
+    #[inline(always)]
+    fn taken(slots: Self::Slots) -> Self::Values {
+        TakenFromOwnRow::taken(slots)
+    }
+}
+
+impl Reads for TakenFromOwn {
+    ghost Refuses = { ⟦<TakenFromOwnRow as Reads>⟧.Refuses };
+
+    #[inline(always)]
+    fn read(
+        alloc: Global,
+        decoder: &mut Decoder<'_>,
+        slots: &mut Self::Slots,
+    ) -> Result<(), DecodeError> {
+        <TakenFromOwnRow as Reads>::read(alloc, decoder, slots)
+    }
+}
+
+impl<'v> Views<'v> for TakenFromOwn {
+    type View = <TakenFromOwnRow as Views<'v>>::View;
+
+    ghost seen = { ⟦<TakenFromOwnRow as Views<'v>>⟧.seen };
+
+    #[inline(always)]
+    fn write(view: &Self::View, encoder: &mut Encoder<'_>) -> Result<(), EncodeError> {
+        TakenFromOwnRow::write(view, encoder)
+    }
+}
 
 type TakenAdditions = OptionalAddition<Context<6>, Level, End>;
 
@@ -297,11 +353,67 @@ type NumbersRow = Required<
 >;
 
 /// The components of `Numbers` from `down` on.
-type NumbersFromDown = Required<
+pub struct NumbersFromDown;
+
+type NumbersFromDownRow = Required<
     Context<5>,
     Limited<Integer, NumbersDownLimits>,
     Required<Context<6>, Limited<u8, NumbersNamedLimits>, End>,
 >;
+
+impl Components for NumbersFromDown {
+    type Values = <NumbersFromDownRow as Components>::Values;
+
+    ghost EXTENSIBLE = { ⟦<NumbersFromDownRow as Components>⟧.EXTENSIBLE };
+
+    const EXTENSIBLE: bool = false;
+
+    ghost schema = { ⟦<NumbersFromDownRow as Components>⟧.schema };
+
+    ghost is_schema = { ⟦<NumbersFromDownRow as Components>⟧.is_schema };
+}
+
+impl Slotted for NumbersFromDown {
+    type Slots = <NumbersFromDownRow as Slotted>::Slots;
+
+    ghost filled = { ⟦<NumbersFromDownRow as Slotted>⟧.filled };
+
+    ghost filled_once = { ⟦<NumbersFromDownRow as Slotted>⟧.filled_once };
+
+    #[inline(always)]
+    fn empty() -> Self::Slots {
+        NumbersFromDownRow::empty()
+    }
+
+    #[inline(always)]
+    fn taken(slots: Self::Slots) -> Self::Values {
+        NumbersFromDownRow::taken(slots)
+    }
+}
+
+impl Reads for NumbersFromDown {
+    ghost Refuses = { ⟦<NumbersFromDownRow as Reads>⟧.Refuses };
+
+    #[inline(always)]
+    fn read(
+        alloc: Global,
+        decoder: &mut Decoder<'_>,
+        slots: &mut Self::Slots,
+    ) -> Result<(), DecodeError> {
+        <NumbersFromDownRow as Reads>::read(alloc, decoder, slots)
+    }
+}
+
+impl<'v> Views<'v> for NumbersFromDown {
+    type View = <NumbersFromDownRow as Views<'v>>::View;
+
+    ghost seen = { ⟦<NumbersFromDownRow as Views<'v>>⟧.seen };
+
+    #[inline(always)]
+    fn write(view: &Self::View, encoder: &mut Encoder<'_>) -> Result<(), EncodeError> {
+        NumbersFromDownRow::write(view, encoder)
+    }
+}
 
 impl Rowed for NumbersComponents {
     ghost use Rattle.rasn_oer.specs.Values.{both};

@@ -196,11 +196,67 @@ type LeavesRow = Required<
 >;
 
 /// The components of `Leaves` from `lists` on.
-type LeavesFromLists = Required<
+pub struct LeavesFromLists;
+
+type LeavesFromListsRow = Required<
     Context<5>,
     SetOf<ListOf<Limited<VisibleText, LeavesListsLimits>>>,
     Required<Context<6>, ObjectIdentifier, End>,
 >;
+
+impl Components for LeavesFromLists {
+    type Values = <LeavesFromListsRow as Components>::Values;
+
+    ghost EXTENSIBLE = { ⟦<LeavesFromListsRow as Components>⟧.EXTENSIBLE };
+
+    const EXTENSIBLE: bool = false;
+
+    ghost schema = { ⟦<LeavesFromListsRow as Components>⟧.schema };
+
+    ghost is_schema = { ⟦<LeavesFromListsRow as Components>⟧.is_schema };
+}
+
+impl Slotted for LeavesFromLists {
+    type Slots = <LeavesFromListsRow as Slotted>::Slots;
+
+    ghost filled = { ⟦<LeavesFromListsRow as Slotted>⟧.filled };
+
+    ghost filled_once = { ⟦<LeavesFromListsRow as Slotted>⟧.filled_once };
+
+    #[inline(always)]
+    fn empty() -> Self::Slots {
+        LeavesFromListsRow::empty()
+    }
+
+    #[inline(always)]
+    fn taken(slots: Self::Slots) -> Self::Values {
+        LeavesFromListsRow::taken(slots)
+    }
+}
+
+impl Reads for LeavesFromLists {
+    ghost Refuses = { ⟦<LeavesFromListsRow as Reads>⟧.Refuses };
+
+    #[inline(always)]
+    fn read(
+        alloc: Global,
+        decoder: &mut Decoder<'_>,
+        slots: &mut Self::Slots,
+    ) -> Result<(), DecodeError> {
+        <LeavesFromListsRow as Reads>::read(alloc, decoder, slots)
+    }
+}
+
+impl<'v> Views<'v> for LeavesFromLists {
+    type View = <LeavesFromListsRow as Views<'v>>::View;
+
+    ghost seen = { ⟦<LeavesFromListsRow as Views<'v>>⟧.seen };
+
+    #[inline(always)]
+    fn write(view: &Self::View, encoder: &mut Encoder<'_>) -> Result<(), EncodeError> {
+        LeavesFromListsRow::write(view, encoder)
+    }
+}
 
 impl Rowed for LeavesComponents {
     ghost use Rattle.rasn_oer.specs.Values.{both};

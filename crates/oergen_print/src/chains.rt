@@ -1,7 +1,8 @@
-//! The row of a type, as aliases of few cells each.
+//! The row of a type, in pieces of few cells each.
 
 use crate::cells::Cell;
-use crate::text::Text;
+use crate::templates::{PIECE, PIECE_IMPLS};
+use crate::text::{Text, Words};
 use std::alloc::Global;
 
 /// How many cells stand in an alias: a longer one is indented too far to be read.
@@ -161,6 +162,23 @@ fn name_in(alloc: Global, of: Chain<'_>, span: Span, at: usize, otherwise: &Text
     name
 }
 
+/// Whether the pieces of a span behind the first are types of their own: those of a root's components, but in a cycle.
+fn has_pieces(of: Chain<'_>, span: Span) -> bool {
+    !of.is_choice && of.knot.is_none() && span.to <= of.root_count
+}
+
+/// Prints a piece of a row as a type, with the alias of its own cells.
+fn push_piece(out: &mut Text, of: Chain<'_>, name: &Text, cells: &[Cell], end: &Text) {
+    let alloc = out.alloc();
+    let mut words = Words::new(alloc);
+    words.put("NAME", name.as_str());
+    words.put("EXT", if of.is_extensible { "true" } else { "false" });
+    out.fill(PIECE, &words);
+    let row = Text::of(alloc, &[name.as_str(), "Row"]);
+    push_alias(alloc, out, &row, cells, end);
+    out.fill(PIECE_IMPLS, &words);
+}
+
 /// Prints cells in aliases of few, of which the first is named, with `end` behind the last cell.
 fn push_aliases(out: &mut Text, of: Chain<'_>, span: Span, first: &Text, end: &Text) {
     let alloc = out.alloc();
@@ -175,7 +193,11 @@ fn push_aliases(out: &mut Text, of: Chain<'_>, span: Span, first: &Text, end: &T
         if number != 0 {
             push_doc(out, of, part);
         }
-        push_alias(alloc, out, &own, part, &end);
+        if number != 0 && has_pieces(of, span) {
+            push_piece(out, of, &own, part, &end);
+        } else {
+            push_alias(alloc, out, &own, part, &end);
+        }
     }
 }
 

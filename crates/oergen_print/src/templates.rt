@@ -46,6 +46,68 @@ impl@READS@ Takes for @NAME@Components@K@ {
 
 "#;
 
+/// A piece of a row behind its first one: a type of its own, since the check of a row takes the longer the more its text says at once.
+pub const PIECE: &str = r#"pub struct @NAME@;
+
+"#;
+
+/// What a piece is by the row of its components.
+pub const PIECE_IMPLS: &str = r#"impl Components for @NAME@ {
+    type Values = <@NAME@Row as Components>::Values;
+
+    ghost EXTENSIBLE = { ⟦<@NAME@Row as Components>⟧.EXTENSIBLE };
+
+    const EXTENSIBLE: bool = @EXT@;
+
+    ghost schema = { ⟦<@NAME@Row as Components>⟧.schema };
+
+    ghost is_schema = { ⟦<@NAME@Row as Components>⟧.is_schema };
+}
+
+impl Slotted for @NAME@ {
+    type Slots = <@NAME@Row as Slotted>::Slots;
+
+    ghost filled = { ⟦<@NAME@Row as Slotted>⟧.filled };
+
+    ghost filled_once = { ⟦<@NAME@Row as Slotted>⟧.filled_once };
+
+    #[inline(always)]
+    fn empty() -> Self::Slots {
+        @NAME@Row::empty()
+    }
+
+    #[inline(always)]
+    fn taken(slots: Self::Slots) -> Self::Values {
+        @NAME@Row::taken(slots)
+    }
+}
+
+impl Reads for @NAME@ {
+    ghost Refuses = { ⟦<@NAME@Row as Reads>⟧.Refuses };
+
+    #[inline(always)]
+    fn read(
+        alloc: Global,
+        decoder: &mut Decoder<'_>,
+        slots: &mut Self::Slots,
+    ) -> Result<(), DecodeError> {
+        <@NAME@Row as Reads>::read(alloc, decoder, slots)
+    }
+}
+
+impl<'v> Views<'v> for @NAME@ {
+    type View = <@NAME@Row as Views<'v>>::View;
+
+    ghost seen = { ⟦<@NAME@Row as Views<'v>>⟧.seen };
+
+    #[inline(always)]
+    fn write(view: &Self::View, encoder: &mut Encoder<'_>) -> Result<(), EncodeError> {
+        @NAME@Row::write(view, encoder)
+    }
+}
+
+"#;
+
 /// The tables of components, and how they are written. Those of what holds knots are constants of the module, since no constant of a
 /// generic impl is known to the check.
 pub const TABLES: &str = r#"@CONSTANTS@impl@WRITES@ Tabled<@RC@, @EC@> for @NAME@Components@K@ {

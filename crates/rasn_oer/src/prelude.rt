@@ -132,6 +132,7 @@ pub use oer_rows::Rowed;
 pub use oer_rows::Schemed;
 pub use oer_rows::Sequence;
 pub use oer_rows::Set;
+pub use oer_rows::Slotted;
 pub use oer_rows::Tabled;
 pub use oer_rows::Takes;
 pub use oer_rows::TeletexText;
