@@ -85,11 +85,12 @@ class Printed:
         return self.shape(self.aliases[name]) if name in self.aliases else (name,)
 
     def cells(self, name):
-        """The cells of a row, and those of its additions; none where it has no mark."""
+        """The cells of a row, and those of its additions; none where it has no mark. A piece is a struct or an alias."""
         found, (cell, inside) = [], self.aliases.get(name, (name, []))
         while cell not in ("End", "Extensible"):
-            if cell in self.aliases:
-                cell, inside = self.aliases[cell]
+            piece = next((it for it in (cell, f"{cell}Row") if it in self.aliases), None)
+            if piece:
+                cell, inside = self.aliases[piece]
                 continue
             at = 2 if cell in ("AdditionGroup",) else 0
             tag = inside[at][0] + "".join(number for number, _ in inside[at][1])
