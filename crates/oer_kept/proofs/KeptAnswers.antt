@@ -10,7 +10,7 @@ use Rattle.oer_spec.specs.Reading.{tag_at}
 use Rattle.oer_spec.specs.Spelled.{IsTextOf, unsized_text}
 use Rattle.oer_spec.specs.Tree.{Tree}
 use Rattle.oer_read.proofs.Alternatives.{alternative_made, alternative_refused, alternative_law}
-use Rattle.oer_read.proofs.ChoiceLaw.{AreChosen, choice_law}
+use Rattle.oer_read.proofs.ChoiceLaw.{AreChosen, choice_answers, choice_law}
 use Rattle.oer_read.specs.Choices.{Chosen, chosen_at, lent_alternative, ChoiceRead, ChoiceRefused, NotChosen, Stopped, LeftOver, ChoiceAnswers}
 use Rattle.oer_read.specs.Law.{Decodes, Promised}
 use Rattle.oer_read.specs.State.{State}
@@ -18,7 +18,7 @@ use Rattle.oer_rows.specs.declared.held_octets.OpenOctets.{OpenOctets}
 use Rattle.oer_choices.specs.Choosing.{Choices, AreChoices, IsOneOf}
 use Rattle.oer_choices.specs.declared.choices.OneOf.{OneOf}
 use Rattle.oer_kept.proofs.KeptReading.{chosen_known, newer_chosen, newer_found, none_found}
-use Rattle.oer_kept.specs.KeptTags.{known_isn't_newer, is_other, roots_of, newer_at, kept_tag, kept_child, chosen_tree, IsKeptOne, known_child, other_child, tag_isn't_other, chosen_is, chosen_small, OctetsRefused, KeptPromise, KeptAnswers}
+use Rattle.oer_kept.specs.KeptTags.{known_isn't_newer, is_other, roots_of, newer_at, kept_tag, kept_child, chosen_tree, IsKeptOne, known_child, other_child, tag_isn't_other, chosen_is, chosen_small, OctetsRefused, KeptRefused, KeptPromise, KeptAnswers, never}
 use Rattle.oer_kept.specs.Unknown.{holds_of_both}
 use Rattle.oer_kept.specs.declared.choices.KeptChoice.{KeptChoice}
 use Rattle.oer_kept.specs.declared.choices.KeptChoice.TheVariants.{Known, Other}
@@ -148,3 +148,12 @@ module _ {A : Type 0} (c : Choices A) (k : AreChoices c) (Refuses : Tag → Stat
   kept_choice_law old result new a u =
       choice_law (chosen_tree c) (IsKeptOne c) (roots_of c) c.additions c.is_extensible (kept_tag c) (kept_child c) are_chosen (KeptPromise c Refuses)
       (λ g s r t p. alternative_law (kept_child c) (IsKeptOne c) (kept_tag c) g s r t p.law) old result new a.read a.refused u
+
+-- where none of its own was refused, whatever they are refused by
+module _ {A : Type 0} (c : Choices A) (Refuses : Tag → State → DecodeError → Type 0) where
+  refused_too : (g : Tag) (s : State) (r : Result (KeptChoice A) DecodeError) → IfErr r (λ e. KeptRefused c never g s e) → IfErr r (λ e. KeptRefused c Refuses g s e)
+  refused_too g s (Ok w) k = tt
+  refused_too g s (Err e) k = ((λ n. absurd (k.0 n)), k.1)
+
+  pub whatever_refused : (s : State) (r : Result (KeptChoice A) DecodeError) (t : State) → KeptAnswers c never s r t → KeptAnswers c Refuses s r t
+  whatever_refused s r t k = choice_answers (KeptPromise c never) (KeptPromise c Refuses) (λ g s r t d. record { law = d.law; answered = refused_too g s r d.answered }) (roots_of c) c.additions c.is_extensible s r t k.read k.refused

@@ -213,6 +213,10 @@ OctetsRefused s e = (IsForMemory e → ⊥) → octet_string_at None s.codec s.i
 abbrev pub KeptRefused : {A : Type 0} → Choices A → (Tag → State → DecodeError → Type 0) → Tag → State → DecodeError → Type 0
 KeptRefused c Refuses g s e = (is_other c g ≡ false → Refuses g s e) × (is_other c g ≡ true → OctetsRefused s e)
 
+-- no alternative that the type knows was refused
+abbrev pub never : Tag → State → DecodeError → Type 0
+never g s e = ⊥
+
 -- what is promised of reading an alternative
 abbrev pub KeptPromise : {A : Type 0} → Choices A → (Tag → State → DecodeError → Type 0) → Tag → State → Result (KeptChoice A) DecodeError → State → Type 0
 KeptPromise c Refuses g s r t = Promised (kept_child c) (λ w. IsKeptOne c w × (kept_tag c w ≡ g)) (λ s r t. IfErr r (λ e. KeptRefused c Refuses g s e)) s r t

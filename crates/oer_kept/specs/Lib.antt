@@ -2,3 +2,4 @@
 pub mod KeptNumbers
 pub mod Unknown
 pub mod KeptTags
+pub mod KeptKnots

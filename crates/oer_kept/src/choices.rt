@@ -3,7 +3,7 @@ ghost use Rattle.std.specs.Prelude.{◌≡◌, ◌≤◌, ◌-◌, Some, None, O
 ghost use Rattle.std.specs.Option.{option_map};
 ghost use Rattle.asn1_core.specs.Texts.{AnyOctets};
 ghost use Rattle.oer_choices.specs.Choosing.{through};
-ghost use Rattle.oer_kept.specs.KeptTags.{is_newer, newer_at, chosen_tree, IsKeptOne, KeptAnswers};
+ghost use Rattle.oer_kept.specs.KeptTags.{is_newer, newer_at, chosen_tree, IsKeptOne, KeptAnswers, never};
 ghost use Rattle.oer_kept.specs.declared.choices.KeptChoice.TheVariants.{Other};
 ghost use Rattle.oer_read.specs.Choices.{lent_alternative};
 ghost use Rattle.oer_spec.specs.Spelled.{text};
@@ -140,7 +140,9 @@ impl<T: Alternating> Encode for KeptChoice<T> {
 }
 
 /// The newer tag at the front and what stands behind it, where a level is left.
-fn newer_tag<'input, T: Alternating>(decoder: &Decoder<'input>) -> Option<(Tag, &'input [u8])>
+pub(crate) fn newer_tag<'input, T: Alternating>(
+    decoder: &Decoder<'input>,
+) -> Option<(Tag, &'input [u8])>
     ensures { option_map (λ x. (x.0, x.1.now)) result ≡ newer_at T.row_choices.roots T.row_choices.additions T.row_choices.is_extensible decoder.now }
 {
     if decoder.levels() == 0 {
@@ -163,14 +165,14 @@ fn behind<'input>(decoder: &Decoder<'input>, rest: &'input [u8]) -> Decoder<'inp
 /// Reads the octets behind a newer tag as an open type.
 ///
 /// Refused as `Decoder::decode_any` refuses.
-fn read_other<'input, T: TakesAlternative>(
+pub(crate) fn read_other<'input, T: Alternating>(
     alloc: Global,
     decoder: &mut Decoder<'input>,
     tag: Tag,
     rest: &'input [u8],
 ) -> Result<KeptChoice<T>, DecodeError>
     requires { newer_at T.row_choices.roots T.row_choices.additions T.row_choices.is_extensible decoder.old ≡ Some (tag, rest.now) }
-    ensures answers { KeptAnswers (through T.alternative T.row_choices) T.Refuses decoder.old result decoder.new }
+    ensures answers { KeptAnswers (through T.alternative T.row_choices) never decoder.old result decoder.new }
     ensures unchanged { OnErr result (decoder.new ≡ decoder.old) }
 {
     let _input = octets(decoder);

@@ -3,6 +3,7 @@
 
 mod choices;
 mod enumerations;
+mod knots;
 
 pub use choices::KeptChoice;
 pub use enumerations::KeptEnumeration;

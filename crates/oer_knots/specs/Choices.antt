@@ -21,6 +21,7 @@ pub record AgreeChoice {R : Type 0} (c d : Choices R) (v : R) : Type 0 where
 pub record TiesChoice {K R : Type 0} (choices : Typed K → Choices R) (weight : (K → ℕ) → R → ℕ) : Type 1 where
   pub is : (of : Typed K) → IsTyped of → AreChoices (choices of)
   pub tags : (of to : Typed K) → ((choices of).roots ≡ (choices to).roots) × ((choices of).additions ≡ (choices to).additions)
+  pub mark : (of to : Typed K) → (choices of).is_extensible ≡ (choices to).is_extensible
   pub local : (size : K → ℕ) (of to : Typed K) (v : R) → AgreeTo size (weight size v) of to → AgreeChoice (choices of) (choices to) v
 
 -- the most that a knot weighs in a value of the first alternative, or of the others
@@ -31,7 +32,7 @@ either_weight first rest (Rest r) = rest r
 -- ---- no alternative
 module _ {K R : Type 0} where
   pub no_choice_ties : TiesChoice {K = K} {R = R} (λ of. no_choice) (λ size v. 0)
-  no_choice_ties = record { is = λ of i. no_choice_is; tags = λ of to. (refl, refl); local = λ size of to v a. record { roots = refl; additions = refl; tag = refl; child = refl; part = λ i. i } }
+  no_choice_ties = record { is = λ of i. no_choice_is; tags = λ of to. (refl, refl); mark = λ of to. refl; local = λ size of to v a. record { roots = refl; additions = refl; tag = refl; child = refl; part = λ i. i } }
 
 -- ---- an alternative without knots
 module _ {K B R : Type 0} (tag : Tag) (b : Typed B) (choices : Typed K → Choices R) (weight : (K → ℕ) → R → ℕ) (t : TiesChoice choices weight) where
@@ -43,7 +44,7 @@ module _ {K B R : Type 0} (tag : Tag) (b : Typed B) (choices : Typed K → Choic
   alternative_agrees size of to (Rest r) a = let h = t.local size of to r a in record { roots = ap (λ (gs : List Tag). tag ∷ gs) h.roots; additions = h.additions; tag = h.tag; child = h.child; part = h.part }
 
   pub alternative_ties : IsTyped b → TiesChoice (λ of. one_of tag b (choices of)) alternative_weight
-  alternative_ties i = record { is = λ of o. one_of_is tag b (choices of) i (t.is of o); tags = λ of to. (ap (λ (gs : List Tag). tag ∷ gs) (t.tags of to).0, (t.tags of to).1); local = alternative_agrees }
+  alternative_ties i = record { is = λ of o. one_of_is tag b (choices of) i (t.is of o); tags = λ of to. (ap (λ (gs : List Tag). tag ∷ gs) (t.tags of to).0, (t.tags of to).1); mark = t.mark; local = alternative_agrees }
 
 -- ---- an alternative with knots
 module _ {K B R : Type 0} (tag : Tag) (tied : Typed K → Typed B) (part : (K → ℕ) → B → ℕ) (choices : Typed K → Choices R) (weight : (K → ℕ) → R → ℕ) (b : Ties tied part) (t : TiesChoice choices weight) where
@@ -55,7 +56,7 @@ module _ {K B R : Type 0} (tag : Tag) (tied : Typed K → Typed B) (part : (K �
   knots_agree size of to (Rest r) a = let h = t.local size of to r a in record { roots = ap (λ (gs : List Tag). tag ∷ gs) h.roots; additions = h.additions; tag = h.tag; child = h.child; part = h.part }
 
   pub knot_ties : TiesChoice (λ of. one_of tag (tied of) (choices of)) knot_weight
-  knot_ties = record { is = λ of o. one_of_is tag (tied of) (choices of) (b.is of o) (t.is of o); tags = λ of to. (ap (λ (gs : List Tag). tag ∷ gs) (t.tags of to).0, (t.tags of to).1); local = knots_agree }
+  knot_ties = record { is = λ of o. one_of_is tag (tied of) (choices of) (b.is of o) (t.is of o); tags = λ of to. (ap (λ (gs : List Tag). tag ∷ gs) (t.tags of to).0, (t.tags of to).1); mark = t.mark; local = knots_agree }
 
 -- ---- alternatives as additions
 module _ {K R : Type 0} (choices : Typed K → Choices R) (weight : (K → ℕ) → R → ℕ) (t : TiesChoice choices weight) where
@@ -66,6 +67,7 @@ module _ {K R : Type 0} (choices : Typed K → Choices R) (weight : (K → ℕ) 
   adding_ties = record {
     is = λ of o. adding_is (choices of) (t.is of o);
     tags = λ of to. (refl, both_same _ _ _ _ (t.tags of to).0 (t.tags of to).1);
+    mark = λ of to. refl;
     local = λ size of to v a. let h = t.local size of to v a in record { roots = refl; additions = both_same _ _ _ _ h.roots h.additions; tag = h.tag; child = h.child; part = h.part };
   }
 
