@@ -172,7 +172,7 @@ LINES = (
             "pub type F = Enumeration<FValues>;",
             "        Ok(KeptEnumeration::Known(EValues::One))",
             "        Ok(Enumeration(FValues::One))",
-            "pub type RContent<K> = OneOf<RAlternatives<K>>;",
+            "pub type RContent<K> = KeptChoice<RAlternatives<K>>;",
             "made: rasn_oer oer_write asn1_core oer_kept",
         ),
     ),

@@ -8,6 +8,8 @@ mod types_04;
 mod types_05;
 mod types_06;
 mod types_07;
+mod types_08;
+mod types_09;
 pub mod values;
 
 pub use types_01::{
@@ -15,22 +17,23 @@ pub use types_01::{
     RowComponents, RowGroup1, RowGroup1Components, RowInner, RowInnerComponents,
 };
 pub use types_02::{
-    Bag, BagComponents, Letter, LetterComponents, LetterGroup1, LetterGroup1Components, LetterHead,
-    LetterHeadComponents, Signal, SignalAlternatives,
+    Bag, BagComponents, LetterHead, LetterHeadComponents, Signal, SignalAlternatives,
 };
 pub use types_03::{
-    Folder, FolderComponents, Labels, LabelsComponents, Permit, PermitComponents, Rights,
+    Letter, LetterComponents, LetterGroup1, LetterGroup1Components, Permit, PermitComponents,
+    Rights,
 };
-pub use types_04::{
+pub use types_04::{Folder, FolderComponents, Labels, LabelsComponents, Spot, SpotComponents};
+pub use types_05::{
     Area, AreaAlternatives, AreaBoxes, AreaBoxesComponents, AreaRound, AreaRoundComponents,
-    Colours, ColoursAlternatives, Level, Named, Plain, PlainComponents, Spot, SpotComponents, Then,
-    ThenComponents,
+    Colours, ColoursAlternatives, Level, Named, Plain, PlainComponents, Then, ThenComponents,
 };
-pub use types_05::{Numbers, NumbersComponents, Ranges, RangesComponents, Taken, TakenComponents};
-pub use types_06::{
-    Both, BothB, BothBAlternatives, BothComponents, Leaves, LeavesComponents, Reply,
-    ReplyAlternatives, Strings, StringsComponents,
-};
+pub use types_06::{Numbers, NumbersComponents, Taken, TakenComponents};
 pub use types_07::{
-    Card, CardComponents, Marks, Person, PersonComponents, Title, TitleAlternatives,
+    Leaves, LeavesComponents, Ranges, RangesComponents, Strings, StringsComponents,
 };
+pub use types_08::{
+    Both, BothB, BothBAlternatives, BothComponents, Card, CardComponents, Marks, Reply,
+    ReplyAlternatives, Title, TitleAlternatives,
+};
+pub use types_09::{Person, PersonComponents};

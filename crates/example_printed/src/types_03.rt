@@ -1,8 +1,198 @@
 //! Types of ASN.1 modules, as oergen printed them.
 
-use crate::{Colour, ColourValues, Name, Names};
+use crate::{Colour, ColourValues, LetterHead, Name};
 use rasn_oer::prelude::*;
 use std::alloc::{AllocError, Global};
+
+/// The limits of `LetterGroup1Stamp`.
+#[derive(Drop)]
+pub enum LetterGroup1StampLimits {}
+
+impl Limits for LetterGroup1StampLimits {
+    ghost use Rattle.std.specs.Prelude.{None, Some, false, negsuc, pos, refl};
+    ghost use Rattle.rasn_oer.specs.Bounded.{Range, Single};
+
+    ghost LIMITS = { record { value = None; size = Some (Single 2, false) } };
+
+    const LIMITS: Constraints = Constraints {
+        value: None,
+        size: Some((Bounded::Single(2), false)),
+    };
+
+    ghost consistent = { refl };
+}
+
+/// The addition group 1 of `Letter`.
+pub type LetterGroup1 = Sequence<LetterGroup1Components, 2, 0>;
+
+/// The components of `LetterGroup1`.
+#[derive(Debug, PartialEq, Eq, Drop)]
+pub struct LetterGroup1Components {
+    pub stamp: Limited<Octets, LetterGroup1StampLimits>,
+    pub note: Option<Utf8Text>,
+}
+
+type LetterGroup1Row = Required<
+    Context<2>,
+    Limited<Octets, LetterGroup1StampLimits>,
+    Optional<Context<3>, Utf8Text, End>,
+>;
+
+impl Rowed for LetterGroup1Components {
+    ghost use Rattle.rasn_oer.specs.Values.{both};
+
+    type Values = <LetterGroup1Row as Components>::Values;
+
+    ghost EXTENSIBLE = { ⟦<LetterGroup1Row as Components>⟧.EXTENSIBLE };
+
+    const EXTENSIBLE: bool = false;
+
+    ghost row_schema = { ⟦<LetterGroup1Row as Components>⟧.schema };
+
+    ghost row_is_schema = { ⟦<LetterGroup1Row as Components>⟧.is_schema };
+
+    ghost components = { λ v. both v.stamp (both v.note tt) };
+
+    fn from_row(row: Self::Values) -> Self {
+        built![LetterGroup1Components from row:
+            stamp,
+            note
+        ]
+    }
+}
+
+impl Takes for LetterGroup1Components {
+    ghost Refuses = { ⟦<LetterGroup1Row as Reads>⟧.Refuses };
+
+    #[inline(always)]
+    fn take(alloc: Global, decoder: &mut Decoder<'_>) -> Result<Self, DecodeError> {
+        read_row::<Self, LetterGroup1Row>(alloc, decoder)
+    }
+}
+
+impl Tabled<2, 0> for LetterGroup1Components {
+    ghost use Rattle.std.specs.Prelude.{refl};
+
+    const FIELDS: Fields<2> = Fields {
+        fields: fields![
+            0 Required Context 2 "stamp",
+            1 Optional Context 3 "note"
+        ],
+    };
+
+    const EXTENDED_FIELDS: Option<Fields<0>> = None;
+
+    fn root_fields() -> &'static [Field<'static>] {
+        Self::FIELDS.fields
+    }
+
+    fn addition_fields() -> &'static [Field<'static>] {
+        rows_of!(Self::EXTENDED_FIELDS)
+    }
+
+    #[inline(always)]
+    fn put(&self, encoder: &mut Encoder<'_>) -> Result<(), EncodeError> {
+        let view = views![self:
+            stamp,
+            note
+        ];
+        LetterGroup1Row::write(&view, encoder)
+    }
+
+    ghost counts = { (refl, refl) };
+}
+
+/// `Letter ::= SEQUENCE { head SEQUENCE { from Name, key Key OPTIONAL, signal Signal, open ANY, digits
+/// NumericString, plain PrintableString, seen VisibleString, general GeneralString, graphic
+/// GraphicString, teletex TeletexString, wide BMPString (SIZE(2)) }, body OCTET STRING, ..., [[
+/// stamp OCTET STRING (SIZE(2)), note UTF8String OPTIONAL ]] }`
+pub type Letter = Sequence<LetterComponents, 2, 1>;
+
+/// The components of `Letter`.
+#[derive(Debug, PartialEq, Eq, Drop)]
+pub struct LetterComponents {
+    pub head: LetterHead,
+    pub body: Octets,
+    pub group_1: Option<LetterGroup1>,
+}
+
+type LetterRow = Required<
+    Context<0>,
+    LetterHead,
+    Required<Context<1>, Octets, Extensible<LetterAdditions>>,
+>;
+
+type LetterAdditions = AdditionGroup<2, 0, LetterGroup1, End>;
+
+impl Rowed for LetterComponents {
+    ghost use Rattle.rasn_oer.specs.Values.{both};
+
+    type Values = <LetterRow as Components>::Values;
+
+    ghost EXTENSIBLE = { ⟦<LetterRow as Components>⟧.EXTENSIBLE };
+
+    const EXTENSIBLE: bool = true;
+
+    ghost row_schema = { ⟦<LetterRow as Components>⟧.schema };
+
+    ghost row_is_schema = { ⟦<LetterRow as Components>⟧.is_schema };
+
+    ghost components = { λ v. both v.head (both v.body (both v.group_1 tt)) };
+
+    fn from_row(row: Self::Values) -> Self {
+        built![LetterComponents from row:
+            head,
+            body,
+            group_1
+        ]
+    }
+}
+
+impl Takes for LetterComponents {
+    ghost Refuses = { ⟦<LetterRow as Reads>⟧.Refuses };
+
+    #[inline(always)]
+    fn take(alloc: Global, decoder: &mut Decoder<'_>) -> Result<Self, DecodeError> {
+        read_row::<Self, LetterRow>(alloc, decoder)
+    }
+}
+
+impl Tabled<2, 1> for LetterComponents {
+    ghost use Rattle.std.specs.Prelude.{refl};
+
+    const FIELDS: Fields<2> = Fields {
+        fields: fields![
+            0 Required Context 0 "head",
+            1 Required Context 1 "body"
+        ],
+    };
+
+    const EXTENDED_FIELDS: Option<Fields<1>> = Some(Fields {
+        fields: fields![
+            0 Optional Universal 16 "group 1"
+        ],
+    });
+
+    fn root_fields() -> &'static [Field<'static>] {
+        Self::FIELDS.fields
+    }
+
+    fn addition_fields() -> &'static [Field<'static>] {
+        rows_of!(Self::EXTENDED_FIELDS)
+    }
+
+    #[inline(always)]
+    fn put(&self, encoder: &mut Encoder<'_>) -> Result<(), EncodeError> {
+        let view = views![self:
+            head,
+            body,
+            group_1
+        ];
+        LetterRow::write(&view, encoder)
+    }
+
+    ghost counts = { (refl, refl) };
+}
 
 /// `Rights ::= BIT STRING { read(0), write(1) } (SIZE(8))`
 pub type Rights = Limited<BitString, RightsLimits>;
@@ -385,470 +575,6 @@ impl Tabled<6, 2> for PermitComponents {
             more
         ];
         PermitRow::write(&view, encoder)
-    }
-
-    ghost counts = { (refl, refl) };
-}
-
-/// `Folder ::= SEQUENCE { names Names DEFAULT { }, numbers SET (SIZE(0..9)) OF INTEGER DEFAULT { },
-/// ..., more Names DEFAULT none }`
-pub type Folder = Sequence<FolderComponents, 2, 1>;
-
-/// The components of `Folder`.
-#[derive(Debug, PartialEq, Eq, Drop)]
-pub struct FolderComponents {
-    pub names: Names,
-    pub numbers: SetOf<Integer>,
-    pub more: Names,
-}
-
-type FolderRow = Defaulted<
-    Context<0>,
-    Names,
-    IsEmptyList,
-    Defaulted<Context<1>, SetOf<Integer>, IsEmptyList, Extensible<FolderAdditions>>,
->;
-
-type FolderAdditions = DefaultedAddition<Context<2>, Names, IsEmptyList, End>;
-
-impl Rowed for FolderComponents {
-    ghost use Rattle.rasn_oer.specs.Values.{both};
-
-    type Values = <FolderRow as Components>::Values;
-
-    ghost EXTENSIBLE = { ⟦<FolderRow as Components>⟧.EXTENSIBLE };
-
-    const EXTENSIBLE: bool = true;
-
-    ghost row_schema = { ⟦<FolderRow as Components>⟧.schema };
-
-    ghost row_is_schema = { ⟦<FolderRow as Components>⟧.is_schema };
-
-    ghost components = { λ v. both v.names (both v.numbers (both v.more tt)) };
-
-    fn from_row(row: Self::Values) -> Self {
-        built![FolderComponents from row:
-            names,
-            numbers,
-            more
-        ]
-    }
-}
-
-impl Takes for FolderComponents {
-    ghost Refuses = { ⟦<FolderRow as Reads>⟧.Refuses };
-
-    #[inline(always)]
-    fn take(alloc: Global, decoder: &mut Decoder<'_>) -> Result<Self, DecodeError> {
-        read_row::<Self, FolderRow>(alloc, decoder)
-    }
-}
-
-impl Tabled<2, 1> for FolderComponents {
-    ghost use Rattle.std.specs.Prelude.{refl};
-
-    const FIELDS: Fields<2> = Fields {
-        fields: fields![
-            0 Default Context 0 "names",
-            1 Default Context 1 "numbers"
-        ],
-    };
-
-    const EXTENDED_FIELDS: Option<Fields<1>> = Some(Fields {
-        fields: fields![
-            0 Default Context 2 "more"
-        ],
-    });
-
-    fn root_fields() -> &'static [Field<'static>] {
-        Self::FIELDS.fields
-    }
-
-    fn addition_fields() -> &'static [Field<'static>] {
-        rows_of!(Self::EXTENDED_FIELDS)
-    }
-
-    #[inline(always)]
-    fn put(&self, encoder: &mut Encoder<'_>) -> Result<(), EncodeError> {
-        let view = views![self:
-            names,
-            numbers,
-            more
-        ];
-        FolderRow::write(&view, encoder)
-    }
-
-    ghost counts = { (refl, refl) };
-}
-
-/// The default "h""é" of `LabelsTitle`.
-pub struct LabelsTitleDefault;
-
-impl DefaultValue<Utf8Text> for LabelsTitleDefault {
-    ghost use Rattle.std.specs.Prelude.{◌∷◌, [], refl};
-    ghost use Rattle.rasn_oer.specs.Literals.{written, spelled};
-    ghost use Rattle.rasn_oer.specs.Texts as texts;
-
-    ghost value = { (104 ∷ 34 ∷ 195 ∷ 169 ∷ []) };
-
-    fn value(alloc: Global) -> Result<Utf8Text, AllocError> {
-        let octets: [u8; 4] = [0x68, 0x22, 0xC3, 0xA9];
-        utf8_from(alloc, &octets)
-    }
-
-    fn is_value(other: &Utf8Text) -> bool {
-        let octets: [u8; 4] = [0x68, 0x22, 0xC3, 0xA9];
-        other.0.as_bytes() == octets.as_slice()
-    }
-
-    ghost admitted = { written texts.Utf8 (104 ∷ 34 ∷ 195 ∷ 169 ∷ []) refl (spelled (104 ∷ 34 ∷ 195 ∷ 169 ∷ []) refl) };
-}
-
-/// The limits of `LabelsDigits`.
-#[derive(Drop)]
-pub enum LabelsDigitsLimits {}
-
-impl Limits for LabelsDigitsLimits {
-    ghost use Rattle.std.specs.Prelude.{None, Some, false, negsuc, pos, refl};
-    ghost use Rattle.rasn_oer.specs.Bounded.{Range, Single};
-
-    ghost LIMITS = { record { value = None; size = Some (Range (Some 1) (Some 4), false) } };
-
-    const LIMITS: Constraints = Constraints {
-        value: None,
-        size: Some((
-            Bounded::Range {
-                start: Some(1),
-                end: Some(4),
-            },
-            false,
-        )),
-    };
-
-    ghost consistent = { refl };
-}
-
-/// The default "0 1" of `LabelsDigits`.
-pub struct LabelsDigitsDefault;
-
-impl DefaultValue<NumericText> for LabelsDigitsDefault {
-    ghost use Rattle.std.specs.Prelude.{◌∷◌, [], refl};
-    ghost use Rattle.rasn_oer.specs.Literals.{written};
-    ghost use Rattle.rasn_oer.specs.Texts as texts;
-
-    ghost value = { record { 0 = (48 ∷ 32 ∷ 49 ∷ []) } };
-
-    fn value(alloc: Global) -> Result<NumericText, AllocError> {
-        let octets: [u8; 3] = [0x30, 0x20, 0x31];
-        let content = NumericString::from_text(alloc, &octets)?;
-        Ok(NumericText(content))
-    }
-
-    fn is_value(other: &NumericText) -> bool {
-        let octets: [u8; 3] = [0x30, 0x20, 0x31];
-        other.0.as_bytes() == octets.as_slice()
-    }
-
-    ghost admitted = { written texts.Numeric (48 ∷ 32 ∷ 49 ∷ []) refl refl };
-}
-
-/// The default "A." of `LabelsPlain`.
-pub struct LabelsPlainDefault;
-
-impl DefaultValue<PrintableText> for LabelsPlainDefault {
-    ghost use Rattle.std.specs.Prelude.{◌∷◌, [], refl};
-    ghost use Rattle.rasn_oer.specs.Literals.{written};
-    ghost use Rattle.rasn_oer.specs.Texts as texts;
-
-    ghost value = { record { 0 = (65 ∷ 46 ∷ []) } };
-
-    fn value(alloc: Global) -> Result<PrintableText, AllocError> {
-        let octets: [u8; 2] = [0x41, 0x2E];
-        let content = PrintableString::from_text(alloc, &octets)?;
-        Ok(PrintableText(content))
-    }
-
-    fn is_value(other: &PrintableText) -> bool {
-        let octets: [u8; 2] = [0x41, 0x2E];
-        other.0.as_bytes() == octets.as_slice()
-    }
-
-    ghost admitted = { written texts.Printable (65 ∷ 46 ∷ []) refl refl };
-}
-
-/// The default "~" of `LabelsSeen`.
-pub struct LabelsSeenDefault;
-
-impl DefaultValue<VisibleText> for LabelsSeenDefault {
-    ghost use Rattle.std.specs.Prelude.{◌∷◌, [], refl};
-    ghost use Rattle.rasn_oer.specs.Literals.{written};
-    ghost use Rattle.rasn_oer.specs.Texts as texts;
-
-    ghost value = { record { 0 = (126 ∷ []) } };
-
-    fn value(alloc: Global) -> Result<VisibleText, AllocError> {
-        let octets: [u8; 1] = [0x7E];
-        let content = VisibleString::from_text(alloc, &octets)?;
-        Ok(VisibleText(content))
-    }
-
-    fn is_value(other: &VisibleText) -> bool {
-        let octets: [u8; 1] = [0x7E];
-        other.0.as_bytes() == octets.as_slice()
-    }
-
-    ghost admitted = { written texts.Visible (126 ∷ []) refl refl };
-}
-
-/// The default "" of `LabelsGeneral`.
-pub struct LabelsGeneralDefault;
-
-impl DefaultValue<GeneralText> for LabelsGeneralDefault {
-    ghost use Rattle.std.specs.Prelude.{◌∷◌, [], refl};
-    ghost use Rattle.rasn_oer.specs.Literals.{written};
-    ghost use Rattle.rasn_oer.specs.Texts as texts;
-
-    ghost value = { record { 0 = ([]) } };
-
-    fn value(alloc: Global) -> Result<GeneralText, AllocError> {
-        let octets: [u8; 0] = [];
-        let content = GeneralString::from_text(alloc, &octets)?;
-        Ok(GeneralText(content))
-    }
-
-    fn is_value(other: &GeneralText) -> bool {
-        let octets: [u8; 0] = [];
-        other.0.as_bytes() == octets.as_slice()
-    }
-
-    ghost admitted = { written texts.General ([]) refl tt };
-}
-
-/// The default "g" of `LabelsGraphic`.
-pub struct LabelsGraphicDefault;
-
-impl DefaultValue<GraphicText> for LabelsGraphicDefault {
-    ghost use Rattle.std.specs.Prelude.{◌∷◌, [], refl};
-    ghost use Rattle.rasn_oer.specs.Literals.{written};
-    ghost use Rattle.rasn_oer.specs.Texts as texts;
-
-    ghost value = { record { 0 = (103 ∷ []) } };
-
-    fn value(alloc: Global) -> Result<GraphicText, AllocError> {
-        let octets: [u8; 1] = [0x67];
-        let content = GraphicString::from_text(alloc, &octets)?;
-        Ok(GraphicText(content))
-    }
-
-    fn is_value(other: &GraphicText) -> bool {
-        let octets: [u8; 1] = [0x67];
-        other.0.as_bytes() == octets.as_slice()
-    }
-
-    ghost admitted = { written texts.Graphic (103 ∷ []) refl tt };
-}
-
-/// The default "t" of `LabelsTeletex`.
-pub struct LabelsTeletexDefault;
-
-impl DefaultValue<TeletexText> for LabelsTeletexDefault {
-    ghost use Rattle.std.specs.Prelude.{◌∷◌, [], refl};
-    ghost use Rattle.rasn_oer.specs.Literals.{written};
-    ghost use Rattle.rasn_oer.specs.Texts as texts;
-
-    ghost value = { record { 0 = (116 ∷ []) } };
-
-    fn value(alloc: Global) -> Result<TeletexText, AllocError> {
-        let octets: [u8; 1] = [0x74];
-        let content = TeletexString::from_text(alloc, &octets)?;
-        Ok(TeletexText(content))
-    }
-
-    fn is_value(other: &TeletexText) -> bool {
-        let octets: [u8; 1] = [0x74];
-        other.0.as_bytes() == octets.as_slice()
-    }
-
-    ghost admitted = { written texts.Teletex (116 ∷ []) refl tt };
-}
-
-/// `Labels ::= SEQUENCE { title UTF8String DEFAULT "h""é", digits NumericString (SIZE(1..4))
-/// DEFAULT "0 1", plain PrintableString DEFAULT "A.", seen VisibleString DEFAULT "~", general
-/// GeneralString DEFAULT "", graphic GraphicString DEFAULT "g", teletex TeletexString DEFAULT "t" }`
-pub type Labels = Sequence<LabelsComponents, 7, 0>;
-
-/// The components of `Labels`.
-#[derive(Debug, PartialEq, Eq, Drop)]
-pub struct LabelsComponents {
-    pub title: Utf8Text,
-    pub digits: Limited<NumericText, LabelsDigitsLimits>,
-    pub plain: PrintableText,
-    pub seen: VisibleText,
-    pub general: GeneralText,
-    pub graphic: GraphicText,
-    pub teletex: TeletexText,
-}
-
-type LabelsRow = Defaulted<
-    Context<0>,
-    Utf8Text,
-    LabelsTitleDefault,
-    Defaulted<
-        Context<1>,
-        Limited<NumericText, LabelsDigitsLimits>,
-        Within<LabelsDigitsDefault>,
-        Defaulted<
-            Context<2>,
-            PrintableText,
-            LabelsPlainDefault,
-            Defaulted<
-                Context<3>,
-                VisibleText,
-                LabelsSeenDefault,
-                Defaulted<Context<4>, GeneralText, LabelsGeneralDefault, LabelsFromGraphic>,
-            >,
-        >,
-    >,
->;
-
-/// The components of `Labels` from `graphic` on.
-pub struct LabelsFromGraphic;
-
-type LabelsFromGraphicRow = Defaulted<
-    Context<5>,
-    GraphicText,
-    LabelsGraphicDefault,
-    Defaulted<Context<6>, TeletexText, LabelsTeletexDefault, End>,
->;
-
-impl Components for LabelsFromGraphic {
-    type Values = <LabelsFromGraphicRow as Components>::Values;
-
-    ghost EXTENSIBLE = { ⟦<LabelsFromGraphicRow as Components>⟧.EXTENSIBLE };
-
-    const EXTENSIBLE: bool = false;
-
-    ghost schema = { ⟦<LabelsFromGraphicRow as Components>⟧.schema };
-
-    ghost is_schema = { ⟦<LabelsFromGraphicRow as Components>⟧.is_schema };
-}
-
-impl Slotted for LabelsFromGraphic {
-    type Slots = <LabelsFromGraphicRow as Slotted>::Slots;
-
-    ghost filled = { ⟦<LabelsFromGraphicRow as Slotted>⟧.filled };
-
-    ghost filled_once = { ⟦<LabelsFromGraphicRow as Slotted>⟧.filled_once };
-
-    #[inline(always)]
-    fn empty() -> Self::Slots {
-        LabelsFromGraphicRow::empty()
-    }
-
-    #[inline(always)]
-    fn taken(slots: Self::Slots) -> Self::Values {
-        LabelsFromGraphicRow::taken(slots)
-    }
-}
-
-impl Reads for LabelsFromGraphic {
-    ghost Refuses = { ⟦<LabelsFromGraphicRow as Reads>⟧.Refuses };
-
-    #[inline(always)]
-    fn read(
-        alloc: Global,
-        decoder: &mut Decoder<'_>,
-        slots: &mut Self::Slots,
-    ) -> Result<(), DecodeError> {
-        <LabelsFromGraphicRow as Reads>::read(alloc, decoder, slots)
-    }
-}
-
-impl<'v> Views<'v> for LabelsFromGraphic {
-    type View = <LabelsFromGraphicRow as Views<'v>>::View;
-
-    ghost seen = { ⟦<LabelsFromGraphicRow as Views<'v>>⟧.seen };
-
-    #[inline(always)]
-    fn write(view: &Self::View, encoder: &mut Encoder<'_>) -> Result<(), EncodeError> {
-        LabelsFromGraphicRow::write(view, encoder)
-    }
-}
-
-impl Rowed for LabelsComponents {
-    ghost use Rattle.rasn_oer.specs.Values.{both};
-
-    type Values = <LabelsRow as Components>::Values;
-
-    ghost EXTENSIBLE = { ⟦<LabelsRow as Components>⟧.EXTENSIBLE };
-
-    const EXTENSIBLE: bool = false;
-
-    ghost row_schema = { ⟦<LabelsRow as Components>⟧.schema };
-
-    ghost row_is_schema = { ⟦<LabelsRow as Components>⟧.is_schema };
-
-    ghost components = { λ v. both v.title (both v.digits (both v.plain (both v.seen (both v.general (both v.graphic (both v.teletex tt)))))) };
-
-    fn from_row(row: Self::Values) -> Self {
-        built![LabelsComponents from row:
-            title,
-            digits,
-            plain,
-            seen,
-            general,
-            graphic,
-            teletex
-        ]
-    }
-}
-
-impl Takes for LabelsComponents {
-    ghost Refuses = { ⟦<LabelsRow as Reads>⟧.Refuses };
-
-    #[inline(always)]
-    fn take(alloc: Global, decoder: &mut Decoder<'_>) -> Result<Self, DecodeError> {
-        read_row::<Self, LabelsRow>(alloc, decoder)
-    }
-}
-
-impl Tabled<7, 0> for LabelsComponents {
-    ghost use Rattle.std.specs.Prelude.{refl};
-
-    const FIELDS: Fields<7> = Fields {
-        fields: fields![
-            0 Default Context 0 "title",
-            1 Default Context 1 "digits",
-            2 Default Context 2 "plain",
-            3 Default Context 3 "seen",
-            4 Default Context 4 "general",
-            5 Default Context 5 "graphic",
-            6 Default Context 6 "teletex"
-        ],
-    };
-
-    const EXTENDED_FIELDS: Option<Fields<0>> = None;
-
-    fn root_fields() -> &'static [Field<'static>] {
-        Self::FIELDS.fields
-    }
-
-    fn addition_fields() -> &'static [Field<'static>] {
-        rows_of!(Self::EXTENDED_FIELDS)
-    }
-
-    #[inline(always)]
-    fn put(&self, encoder: &mut Encoder<'_>) -> Result<(), EncodeError> {
-        let view = views![self:
-            title,
-            digits,
-            plain,
-            seen,
-            general,
-            graphic,
-            teletex
-        ];
-        LabelsRow::write(&view, encoder)
     }
 
     ghost counts = { (refl, refl) };

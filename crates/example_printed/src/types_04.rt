@@ -2,7 +2,471 @@
 
 use crate::Names;
 use rasn_oer::prelude::*;
-use std::alloc::Global;
+use std::alloc::{AllocError, Global};
+
+/// `Folder ::= SEQUENCE { names Names DEFAULT { }, numbers SET (SIZE(0..9)) OF INTEGER DEFAULT { },
+/// ..., more Names DEFAULT none }`
+pub type Folder = Sequence<FolderComponents, 2, 1>;
+
+/// The components of `Folder`.
+#[derive(Debug, PartialEq, Eq, Drop)]
+pub struct FolderComponents {
+    pub names: Names,
+    pub numbers: SetOf<Integer>,
+    pub more: Names,
+}
+
+type FolderRow = Defaulted<
+    Context<0>,
+    Names,
+    IsEmptyList,
+    Defaulted<Context<1>, SetOf<Integer>, IsEmptyList, Extensible<FolderAdditions>>,
+>;
+
+type FolderAdditions = DefaultedAddition<Context<2>, Names, IsEmptyList, End>;
+
+impl Rowed for FolderComponents {
+    ghost use Rattle.rasn_oer.specs.Values.{both};
+
+    type Values = <FolderRow as Components>::Values;
+
+    ghost EXTENSIBLE = { ⟦<FolderRow as Components>⟧.EXTENSIBLE };
+
+    const EXTENSIBLE: bool = true;
+
+    ghost row_schema = { ⟦<FolderRow as Components>⟧.schema };
+
+    ghost row_is_schema = { ⟦<FolderRow as Components>⟧.is_schema };
+
+    ghost components = { λ v. both v.names (both v.numbers (both v.more tt)) };
+
+    fn from_row(row: Self::Values) -> Self {
+        built![FolderComponents from row:
+            names,
+            numbers,
+            more
+        ]
+    }
+}
+
+impl Takes for FolderComponents {
+    ghost Refuses = { ⟦<FolderRow as Reads>⟧.Refuses };
+
+    #[inline(always)]
+    fn take(alloc: Global, decoder: &mut Decoder<'_>) -> Result<Self, DecodeError> {
+        read_row::<Self, FolderRow>(alloc, decoder)
+    }
+}
+
+impl Tabled<2, 1> for FolderComponents {
+    ghost use Rattle.std.specs.Prelude.{refl};
+
+    const FIELDS: Fields<2> = Fields {
+        fields: fields![
+            0 Default Context 0 "names",
+            1 Default Context 1 "numbers"
+        ],
+    };
+
+    const EXTENDED_FIELDS: Option<Fields<1>> = Some(Fields {
+        fields: fields![
+            0 Default Context 2 "more"
+        ],
+    });
+
+    fn root_fields() -> &'static [Field<'static>] {
+        Self::FIELDS.fields
+    }
+
+    fn addition_fields() -> &'static [Field<'static>] {
+        rows_of!(Self::EXTENDED_FIELDS)
+    }
+
+    #[inline(always)]
+    fn put(&self, encoder: &mut Encoder<'_>) -> Result<(), EncodeError> {
+        let view = views![self:
+            names,
+            numbers,
+            more
+        ];
+        FolderRow::write(&view, encoder)
+    }
+
+    ghost counts = { (refl, refl) };
+}
+
+/// The default "h""é" of `LabelsTitle`.
+pub struct LabelsTitleDefault;
+
+impl DefaultValue<Utf8Text> for LabelsTitleDefault {
+    ghost use Rattle.std.specs.Prelude.{◌∷◌, [], refl};
+    ghost use Rattle.rasn_oer.specs.Literals.{written, spelled};
+    ghost use Rattle.rasn_oer.specs.Texts as texts;
+
+    ghost value = { (104 ∷ 34 ∷ 195 ∷ 169 ∷ []) };
+
+    fn value(alloc: Global) -> Result<Utf8Text, AllocError> {
+        let octets: [u8; 4] = [0x68, 0x22, 0xC3, 0xA9];
+        utf8_from(alloc, &octets)
+    }
+
+    fn is_value(other: &Utf8Text) -> bool {
+        let octets: [u8; 4] = [0x68, 0x22, 0xC3, 0xA9];
+        other.0.as_bytes() == octets.as_slice()
+    }
+
+    ghost admitted = { written texts.Utf8 (104 ∷ 34 ∷ 195 ∷ 169 ∷ []) refl (spelled (104 ∷ 34 ∷ 195 ∷ 169 ∷ []) refl) };
+}
+
+/// The limits of `LabelsDigits`.
+#[derive(Drop)]
+pub enum LabelsDigitsLimits {}
+
+impl Limits for LabelsDigitsLimits {
+    ghost use Rattle.std.specs.Prelude.{None, Some, false, negsuc, pos, refl};
+    ghost use Rattle.rasn_oer.specs.Bounded.{Range, Single};
+
+    ghost LIMITS = { record { value = None; size = Some (Range (Some 1) (Some 4), false) } };
+
+    const LIMITS: Constraints = Constraints {
+        value: None,
+        size: Some((
+            Bounded::Range {
+                start: Some(1),
+                end: Some(4),
+            },
+            false,
+        )),
+    };
+
+    ghost consistent = { refl };
+}
+
+/// The default "0 1" of `LabelsDigits`.
+pub struct LabelsDigitsDefault;
+
+impl DefaultValue<NumericText> for LabelsDigitsDefault {
+    ghost use Rattle.std.specs.Prelude.{◌∷◌, [], refl};
+    ghost use Rattle.rasn_oer.specs.Literals.{written};
+    ghost use Rattle.rasn_oer.specs.Texts as texts;
+
+    ghost value = { record { 0 = (48 ∷ 32 ∷ 49 ∷ []) } };
+
+    fn value(alloc: Global) -> Result<NumericText, AllocError> {
+        let octets: [u8; 3] = [0x30, 0x20, 0x31];
+        let content = NumericString::from_text(alloc, &octets)?;
+        Ok(NumericText(content))
+    }
+
+    fn is_value(other: &NumericText) -> bool {
+        let octets: [u8; 3] = [0x30, 0x20, 0x31];
+        other.0.as_bytes() == octets.as_slice()
+    }
+
+    ghost admitted = { written texts.Numeric (48 ∷ 32 ∷ 49 ∷ []) refl refl };
+}
+
+/// The default "A." of `LabelsPlain`.
+pub struct LabelsPlainDefault;
+
+impl DefaultValue<PrintableText> for LabelsPlainDefault {
+    ghost use Rattle.std.specs.Prelude.{◌∷◌, [], refl};
+    ghost use Rattle.rasn_oer.specs.Literals.{written};
+    ghost use Rattle.rasn_oer.specs.Texts as texts;
+
+    ghost value = { record { 0 = (65 ∷ 46 ∷ []) } };
+
+    fn value(alloc: Global) -> Result<PrintableText, AllocError> {
+        let octets: [u8; 2] = [0x41, 0x2E];
+        let content = PrintableString::from_text(alloc, &octets)?;
+        Ok(PrintableText(content))
+    }
+
+    fn is_value(other: &PrintableText) -> bool {
+        let octets: [u8; 2] = [0x41, 0x2E];
+        other.0.as_bytes() == octets.as_slice()
+    }
+
+    ghost admitted = { written texts.Printable (65 ∷ 46 ∷ []) refl refl };
+}
+
+/// The default "~" of `LabelsSeen`.
+pub struct LabelsSeenDefault;
+
+impl DefaultValue<VisibleText> for LabelsSeenDefault {
+    ghost use Rattle.std.specs.Prelude.{◌∷◌, [], refl};
+    ghost use Rattle.rasn_oer.specs.Literals.{written};
+    ghost use Rattle.rasn_oer.specs.Texts as texts;
+
+    ghost value = { record { 0 = (126 ∷ []) } };
+
+    fn value(alloc: Global) -> Result<VisibleText, AllocError> {
+        let octets: [u8; 1] = [0x7E];
+        let content = VisibleString::from_text(alloc, &octets)?;
+        Ok(VisibleText(content))
+    }
+
+    fn is_value(other: &VisibleText) -> bool {
+        let octets: [u8; 1] = [0x7E];
+        other.0.as_bytes() == octets.as_slice()
+    }
+
+    ghost admitted = { written texts.Visible (126 ∷ []) refl refl };
+}
+
+/// The default "" of `LabelsGeneral`.
+pub struct LabelsGeneralDefault;
+
+impl DefaultValue<GeneralText> for LabelsGeneralDefault {
+    ghost use Rattle.std.specs.Prelude.{◌∷◌, [], refl};
+    ghost use Rattle.rasn_oer.specs.Literals.{written};
+    ghost use Rattle.rasn_oer.specs.Texts as texts;
+
+    ghost value = { record { 0 = ([]) } };
+
+    fn value(alloc: Global) -> Result<GeneralText, AllocError> {
+        let octets: [u8; 0] = [];
+        let content = GeneralString::from_text(alloc, &octets)?;
+        Ok(GeneralText(content))
+    }
+
+    fn is_value(other: &GeneralText) -> bool {
+        let octets: [u8; 0] = [];
+        other.0.as_bytes() == octets.as_slice()
+    }
+
+    ghost admitted = { written texts.General ([]) refl tt };
+}
+
+/// The default "g" of `LabelsGraphic`.
+pub struct LabelsGraphicDefault;
+
+impl DefaultValue<GraphicText> for LabelsGraphicDefault {
+    ghost use Rattle.std.specs.Prelude.{◌∷◌, [], refl};
+    ghost use Rattle.rasn_oer.specs.Literals.{written};
+    ghost use Rattle.rasn_oer.specs.Texts as texts;
+
+    ghost value = { record { 0 = (103 ∷ []) } };
+
+    fn value(alloc: Global) -> Result<GraphicText, AllocError> {
+        let octets: [u8; 1] = [0x67];
+        let content = GraphicString::from_text(alloc, &octets)?;
+        Ok(GraphicText(content))
+    }
+
+    fn is_value(other: &GraphicText) -> bool {
+        let octets: [u8; 1] = [0x67];
+        other.0.as_bytes() == octets.as_slice()
+    }
+
+    ghost admitted = { written texts.Graphic (103 ∷ []) refl tt };
+}
+
+/// The default "t" of `LabelsTeletex`.
+pub struct LabelsTeletexDefault;
+
+impl DefaultValue<TeletexText> for LabelsTeletexDefault {
+    ghost use Rattle.std.specs.Prelude.{◌∷◌, [], refl};
+    ghost use Rattle.rasn_oer.specs.Literals.{written};
+    ghost use Rattle.rasn_oer.specs.Texts as texts;
+
+    ghost value = { record { 0 = (116 ∷ []) } };
+
+    fn value(alloc: Global) -> Result<TeletexText, AllocError> {
+        let octets: [u8; 1] = [0x74];
+        let content = TeletexString::from_text(alloc, &octets)?;
+        Ok(TeletexText(content))
+    }
+
+    fn is_value(other: &TeletexText) -> bool {
+        let octets: [u8; 1] = [0x74];
+        other.0.as_bytes() == octets.as_slice()
+    }
+
+    ghost admitted = { written texts.Teletex (116 ∷ []) refl tt };
+}
+
+/// `Labels ::= SEQUENCE { title UTF8String DEFAULT "h""é", digits NumericString (SIZE(1..4))
+/// DEFAULT "0 1", plain PrintableString DEFAULT "A.", seen VisibleString DEFAULT "~", general
+/// GeneralString DEFAULT "", graphic GraphicString DEFAULT "g", teletex TeletexString DEFAULT "t" }`
+pub type Labels = Sequence<LabelsComponents, 7, 0>;
+
+/// The components of `Labels`.
+#[derive(Debug, PartialEq, Eq, Drop)]
+pub struct LabelsComponents {
+    pub title: Utf8Text,
+    pub digits: Limited<NumericText, LabelsDigitsLimits>,
+    pub plain: PrintableText,
+    pub seen: VisibleText,
+    pub general: GeneralText,
+    pub graphic: GraphicText,
+    pub teletex: TeletexText,
+}
+
+type LabelsRow = Defaulted<
+    Context<0>,
+    Utf8Text,
+    LabelsTitleDefault,
+    Defaulted<
+        Context<1>,
+        Limited<NumericText, LabelsDigitsLimits>,
+        Within<LabelsDigitsDefault>,
+        Defaulted<
+            Context<2>,
+            PrintableText,
+            LabelsPlainDefault,
+            Defaulted<
+                Context<3>,
+                VisibleText,
+                LabelsSeenDefault,
+                Defaulted<Context<4>, GeneralText, LabelsGeneralDefault, LabelsFromGraphic>,
+            >,
+        >,
+    >,
+>;
+
+/// The components of `Labels` from `graphic` on.
+pub struct LabelsFromGraphic;
+
+type LabelsFromGraphicRow = Defaulted<
+    Context<5>,
+    GraphicText,
+    LabelsGraphicDefault,
+    Defaulted<Context<6>, TeletexText, LabelsTeletexDefault, End>,
+>;
+
+impl Components for LabelsFromGraphic {
+    type Values = <LabelsFromGraphicRow as Components>::Values;
+
+    ghost EXTENSIBLE = { ⟦<LabelsFromGraphicRow as Components>⟧.EXTENSIBLE };
+
+    const EXTENSIBLE: bool = false;
+
+    ghost schema = { ⟦<LabelsFromGraphicRow as Components>⟧.schema };
+
+    ghost is_schema = { ⟦<LabelsFromGraphicRow as Components>⟧.is_schema };
+}
+
+impl Slotted for LabelsFromGraphic {
+    type Slots = <LabelsFromGraphicRow as Slotted>::Slots;
+
+    ghost filled = { ⟦<LabelsFromGraphicRow as Slotted>⟧.filled };
+
+    ghost filled_once = { ⟦<LabelsFromGraphicRow as Slotted>⟧.filled_once };
+
+    #[inline(always)]
+    fn empty() -> Self::Slots {
+        LabelsFromGraphicRow::empty()
+    }
+
+    #[inline(always)]
+    fn taken(slots: Self::Slots) -> Self::Values {
+        LabelsFromGraphicRow::taken(slots)
+    }
+}
+
+impl Reads for LabelsFromGraphic {
+    ghost Refuses = { ⟦<LabelsFromGraphicRow as Reads>⟧.Refuses };
+
+    #[inline(always)]
+    fn read(
+        alloc: Global,
+        decoder: &mut Decoder<'_>,
+        slots: &mut Self::Slots,
+    ) -> Result<(), DecodeError> {
+        <LabelsFromGraphicRow as Reads>::read(alloc, decoder, slots)
+    }
+}
+
+impl<'v> Views<'v> for LabelsFromGraphic {
+    type View = <LabelsFromGraphicRow as Views<'v>>::View;
+
+    ghost seen = { ⟦<LabelsFromGraphicRow as Views<'v>>⟧.seen };
+
+    #[inline(always)]
+    fn write(view: &Self::View, encoder: &mut Encoder<'_>) -> Result<(), EncodeError> {
+        LabelsFromGraphicRow::write(view, encoder)
+    }
+}
+
+impl Rowed for LabelsComponents {
+    ghost use Rattle.rasn_oer.specs.Values.{both};
+
+    type Values = <LabelsRow as Components>::Values;
+
+    ghost EXTENSIBLE = { ⟦<LabelsRow as Components>⟧.EXTENSIBLE };
+
+    const EXTENSIBLE: bool = false;
+
+    ghost row_schema = { ⟦<LabelsRow as Components>⟧.schema };
+
+    ghost row_is_schema = { ⟦<LabelsRow as Components>⟧.is_schema };
+
+    ghost components = { λ v. both v.title (both v.digits (both v.plain (both v.seen (both v.general (both v.graphic (both v.teletex tt)))))) };
+
+    fn from_row(row: Self::Values) -> Self {
+        built![LabelsComponents from row:
+            title,
+            digits,
+            plain,
+            seen,
+            general,
+            graphic,
+            teletex
+        ]
+    }
+}
+
+impl Takes for LabelsComponents {
+    ghost Refuses = { ⟦<LabelsRow as Reads>⟧.Refuses };
+
+    #[inline(always)]
+    fn take(alloc: Global, decoder: &mut Decoder<'_>) -> Result<Self, DecodeError> {
+        read_row::<Self, LabelsRow>(alloc, decoder)
+    }
+}
+
+impl Tabled<7, 0> for LabelsComponents {
+    ghost use Rattle.std.specs.Prelude.{refl};
+
+    const FIELDS: Fields<7> = Fields {
+        fields: fields![
+            0 Default Context 0 "title",
+            1 Default Context 1 "digits",
+            2 Default Context 2 "plain",
+            3 Default Context 3 "seen",
+            4 Default Context 4 "general",
+            5 Default Context 5 "graphic",
+            6 Default Context 6 "teletex"
+        ],
+    };
+
+    const EXTENDED_FIELDS: Option<Fields<0>> = None;
+
+    fn root_fields() -> &'static [Field<'static>] {
+        Self::FIELDS.fields
+    }
+
+    fn addition_fields() -> &'static [Field<'static>] {
+        rows_of!(Self::EXTENDED_FIELDS)
+    }
+
+    #[inline(always)]
+    fn put(&self, encoder: &mut Encoder<'_>) -> Result<(), EncodeError> {
+        let view = views![self:
+            title,
+            digits,
+            plain,
+            seen,
+            general,
+            graphic,
+            teletex
+        ];
+        LabelsRow::write(&view, encoder)
+    }
+
+    ghost counts = { (refl, refl) };
+}
 
 /// `Spot ::= SEQUENCE { x INTEGER (0..255), y INTEGER (0..255) }`
 pub type Spot = Sequence<SpotComponents, 2, 0>;
@@ -75,509 +539,6 @@ impl Tabled<2, 0> for SpotComponents {
             y
         ];
         SpotRow::write(&view, encoder)
-    }
-
-    ghost counts = { (refl, refl) };
-}
-
-/// `SEQUENCE { middle Spot, radius INTEGER (0..65535) }`
-pub type AreaRound = Sequence<AreaRoundComponents, 2, 0>;
-
-/// The components of `AreaRound`.
-#[derive(Debug, PartialEq, Eq, Drop)]
-pub struct AreaRoundComponents {
-    pub middle: Spot,
-    pub radius: u16,
-}
-
-type AreaRoundRow = Required<Context<0>, Spot, Required<Context<1>, u16, End>>;
-
-impl Rowed for AreaRoundComponents {
-    ghost use Rattle.rasn_oer.specs.Values.{both};
-
-    type Values = <AreaRoundRow as Components>::Values;
-
-    ghost EXTENSIBLE = { ⟦<AreaRoundRow as Components>⟧.EXTENSIBLE };
-
-    const EXTENSIBLE: bool = false;
-
-    ghost row_schema = { ⟦<AreaRoundRow as Components>⟧.schema };
-
-    ghost row_is_schema = { ⟦<AreaRoundRow as Components>⟧.is_schema };
-
-    ghost components = { λ v. both v.middle (both v.radius tt) };
-
-    fn from_row(row: Self::Values) -> Self {
-        built![AreaRoundComponents from row:
-            middle,
-            radius
-        ]
-    }
-}
-
-impl Takes for AreaRoundComponents {
-    ghost Refuses = { ⟦<AreaRoundRow as Reads>⟧.Refuses };
-
-    #[inline(always)]
-    fn take(alloc: Global, decoder: &mut Decoder<'_>) -> Result<Self, DecodeError> {
-        read_row::<Self, AreaRoundRow>(alloc, decoder)
-    }
-}
-
-impl Tabled<2, 0> for AreaRoundComponents {
-    ghost use Rattle.std.specs.Prelude.{refl};
-
-    const FIELDS: Fields<2> = Fields {
-        fields: fields![
-            0 Required Context 0 "middle",
-            1 Required Context 1 "radius"
-        ],
-    };
-
-    const EXTENDED_FIELDS: Option<Fields<0>> = None;
-
-    fn root_fields() -> &'static [Field<'static>] {
-        Self::FIELDS.fields
-    }
-
-    fn addition_fields() -> &'static [Field<'static>] {
-        rows_of!(Self::EXTENDED_FIELDS)
-    }
-
-    #[inline(always)]
-    fn put(&self, encoder: &mut Encoder<'_>) -> Result<(), EncodeError> {
-        let view = views![self:
-            middle,
-            radius
-        ];
-        AreaRoundRow::write(&view, encoder)
-    }
-
-    ghost counts = { (refl, refl) };
-}
-
-/// `SEQUENCE { from Spot, to Spot }`
-pub type AreaBoxes = Sequence<AreaBoxesComponents, 2, 0>;
-
-/// The components of `AreaBoxes`.
-#[derive(Debug, PartialEq, Eq, Drop)]
-pub struct AreaBoxesComponents {
-    pub from: Spot,
-    pub to: Spot,
-}
-
-type AreaBoxesRow = Required<Context<0>, Spot, Required<Context<1>, Spot, End>>;
-
-impl Rowed for AreaBoxesComponents {
-    ghost use Rattle.rasn_oer.specs.Values.{both};
-
-    type Values = <AreaBoxesRow as Components>::Values;
-
-    ghost EXTENSIBLE = { ⟦<AreaBoxesRow as Components>⟧.EXTENSIBLE };
-
-    const EXTENSIBLE: bool = false;
-
-    ghost row_schema = { ⟦<AreaBoxesRow as Components>⟧.schema };
-
-    ghost row_is_schema = { ⟦<AreaBoxesRow as Components>⟧.is_schema };
-
-    ghost components = { λ v. both v.from (both v.to tt) };
-
-    fn from_row(row: Self::Values) -> Self {
-        built![AreaBoxesComponents from row:
-            from,
-            to
-        ]
-    }
-}
-
-impl Takes for AreaBoxesComponents {
-    ghost Refuses = { ⟦<AreaBoxesRow as Reads>⟧.Refuses };
-
-    #[inline(always)]
-    fn take(alloc: Global, decoder: &mut Decoder<'_>) -> Result<Self, DecodeError> {
-        read_row::<Self, AreaBoxesRow>(alloc, decoder)
-    }
-}
-
-impl Tabled<2, 0> for AreaBoxesComponents {
-    ghost use Rattle.std.specs.Prelude.{refl};
-
-    const FIELDS: Fields<2> = Fields {
-        fields: fields![
-            0 Required Context 0 "from",
-            1 Required Context 1 "to"
-        ],
-    };
-
-    const EXTENDED_FIELDS: Option<Fields<0>> = None;
-
-    fn root_fields() -> &'static [Field<'static>] {
-        Self::FIELDS.fields
-    }
-
-    fn addition_fields() -> &'static [Field<'static>] {
-        rows_of!(Self::EXTENDED_FIELDS)
-    }
-
-    #[inline(always)]
-    fn put(&self, encoder: &mut Encoder<'_>) -> Result<(), EncodeError> {
-        let view = views![self:
-            from,
-            to
-        ];
-        AreaBoxesRow::write(&view, encoder)
-    }
-
-    ghost counts = { (refl, refl) };
-}
-
-/// `Area ::= CHOICE { round SEQUENCE { middle Spot, radius INTEGER (0..65535) }, boxes SEQUENCE OF
-/// SEQUENCE { from Spot, to Spot }, corners SEQUENCE (SIZE(3..MAX)) OF Spot, names Names, ... }`
-pub type Area = OneOf<AreaAlternatives>;
-
-/// The alternatives of `Area`.
-#[derive(Debug, PartialEq, Eq, Drop)]
-pub enum AreaAlternatives {
-    Round(AreaRound),
-    Boxes(ListOf<AreaBoxes>),
-    Corners(ListOf<Spot>),
-    Names(Names),
-}
-
-type AreaRow = Alternative<
-    Context<0>,
-    AreaRound,
-    Alternative<
-        Context<1>,
-        ListOf<AreaBoxes>,
-        Alternative<Context<2>, ListOf<Spot>, Alternative<Context<3>, Names, Extensible<End>>>,
-    >,
->;
-
-const AREA_ROOTS: &'static [Tag] = tags![Context 0, Context 1, Context 2, Context 3];
-
-const AREA_ADDITIONS: &'static [Tag] = &[];
-
-impl Alternating for AreaAlternatives {
-    ghost use Rattle.std.specs.Prelude.{refl};
-    ghost use Rattle.rasn_oer.specs.Alternative.{First, Rest};
-    ghost use Rattle.example_printed.specs.declared.types_04.AreaAlternatives.TheVariants.{Round, Boxes, Corners, Names};
-
-    type Values = <AreaRow as Alternatives>::Values;
-
-    ghost row_choices = { ⟦<AreaRow as Alternatives>⟧.choices };
-
-    ghost row_are_choices = { ⟦<AreaRow as Alternatives>⟧.are_choices };
-
-    ghost alternative = { elim [ Round held ↦ First held | Boxes held ↦ Rest (First held) | Corners held ↦ Rest (Rest (First held)) | Names held ↦ Rest (Rest (Rest (First held))) ] };
-
-    const VARIANTS: &'static [Tag] = AREA_ROOTS;
-
-    const EXTENDED_VARIANTS: Option<&'static [Tag]> = Some(AREA_ADDITIONS);
-
-    fn root_tags() -> &'static [Tag] {
-        Self::VARIANTS
-    }
-
-    fn addition_tags() -> Option<&'static [Tag]> {
-        Self::EXTENDED_VARIANTS
-    }
-
-    fn from_alternative(value: Self::Values) -> Self {
-        from_row!(value => AreaAlternatives: Round, Boxes, Corners, Names)
-    }
-
-    #[inline(always)]
-    fn put<E: Choice>(&self, encoder: &mut Encoder<'_>) -> Result<(), EncodeError> {
-        match self {
-            Self::Round(held) => put_alternative::<E, _>(encoder, Context::<0>::tag(), held),
-            Self::Boxes(held) => put_alternative::<E, _>(encoder, Context::<1>::tag(), held),
-            Self::Corners(held) => put_alternative::<E, _>(encoder, Context::<2>::tag(), held),
-            Self::Names(held) => put_alternative::<E, _>(encoder, Context::<3>::tag(), held),
-        }
-    }
-
-    ghost apart = { refl };
-}
-
-impl TakesAlternative for AreaAlternatives {
-    ghost Refuses = { ⟦<AreaRow as ReadsAlternatives>⟧.Refuses };
-
-    fn take<D: Choice>(
-        alloc: Global,
-        decoder: &mut Decoder<'_>,
-        tag: Tag,
-    ) -> Result<Self, DecodeError> {
-        read_alternative::<Self, AreaRow, D>(alloc, decoder, tag)
-    }
-}
-
-/// `Named ::= INTEGER { low(-3), high(3) } (low..high)`
-pub type Named = Limited<i8, NamedLimits>;
-
-/// The limits of `Named`.
-#[derive(Drop)]
-pub enum NamedLimits {}
-
-impl Limits for NamedLimits {
-    ghost use Rattle.std.specs.Prelude.{None, Some, false, negsuc, pos, refl};
-    ghost use Rattle.rasn_oer.specs.Bounded.{Range, Single};
-
-    ghost LIMITS = { record { value = Some (Range (Some (negsuc 2)) (Some (pos 3)), false); size = None } };
-
-    const LIMITS: Constraints = Constraints {
-        value: Some((
-            Bounded::Range {
-                start: Some(-3),
-                end: Some(3),
-            },
-            false,
-        )),
-        size: None,
-    };
-
-    ghost consistent = { refl };
-}
-
-/// `Then ::= SEQUENCE { at UTCTime, on GeneralizedTime, day DATE }`
-pub type Then = Sequence<ThenComponents, 3, 0>;
-
-/// The components of `Then`.
-#[derive(Debug, PartialEq, Eq, Drop)]
-pub struct ThenComponents {
-    pub at: UtcTime,
-    pub on: GeneralizedTime,
-    pub day: Date,
-}
-
-type ThenRow = Required<
-    Context<0>,
-    UtcTime,
-    Required<Context<1>, GeneralizedTime, Required<Context<2>, Date, End>>,
->;
-
-impl Rowed for ThenComponents {
-    ghost use Rattle.rasn_oer.specs.Values.{both};
-
-    type Values = <ThenRow as Components>::Values;
-
-    ghost EXTENSIBLE = { ⟦<ThenRow as Components>⟧.EXTENSIBLE };
-
-    const EXTENSIBLE: bool = false;
-
-    ghost row_schema = { ⟦<ThenRow as Components>⟧.schema };
-
-    ghost row_is_schema = { ⟦<ThenRow as Components>⟧.is_schema };
-
-    ghost components = { λ v. both v.at (both v.on (both v.day tt)) };
-
-    fn from_row(row: Self::Values) -> Self {
-        built![ThenComponents from row:
-            at,
-            on,
-            day
-        ]
-    }
-}
-
-impl Takes for ThenComponents {
-    ghost Refuses = { ⟦<ThenRow as Reads>⟧.Refuses };
-
-    #[inline(always)]
-    fn take(alloc: Global, decoder: &mut Decoder<'_>) -> Result<Self, DecodeError> {
-        read_row::<Self, ThenRow>(alloc, decoder)
-    }
-}
-
-impl Tabled<3, 0> for ThenComponents {
-    ghost use Rattle.std.specs.Prelude.{refl};
-
-    const FIELDS: Fields<3> = Fields {
-        fields: fields![
-            0 Required Context 0 "at",
-            1 Required Context 1 "on",
-            2 Required Context 2 "day"
-        ],
-    };
-
-    const EXTENDED_FIELDS: Option<Fields<0>> = None;
-
-    fn root_fields() -> &'static [Field<'static>] {
-        Self::FIELDS.fields
-    }
-
-    fn addition_fields() -> &'static [Field<'static>] {
-        rows_of!(Self::EXTENDED_FIELDS)
-    }
-
-    #[inline(always)]
-    fn put(&self, encoder: &mut Encoder<'_>) -> Result<(), EncodeError> {
-        let view = views![self:
-            at,
-            on,
-            day
-        ];
-        ThenRow::write(&view, encoder)
-    }
-
-    ghost counts = { (refl, refl) };
-}
-
-/// `Level ::= [PRIVATE 2] EXPLICIT INTEGER (0..top)`
-pub type Level = u16;
-
-/// `Colours ::= CHOICE { one [1] NULL, two [UNIVERSAL 7] NULL, three INTEGER }`
-pub type Colours = OneOf<ColoursAlternatives>;
-
-/// The alternatives of `Colours`.
-#[derive(Debug, PartialEq, Eq, Drop)]
-pub enum ColoursAlternatives {
-    One(()),
-    Two(()),
-    Three(Integer),
-}
-
-type ColoursRow = Alternative<
-    Context<1>,
-    (),
-    Alternative<Universal<7>, (), Alternative<Universal<2>, Integer, End>>,
->;
-
-const COLOURS_ROOTS: &'static [Tag] = tags![Context 1, Universal 7, Universal 2];
-
-impl Alternating for ColoursAlternatives {
-    ghost use Rattle.std.specs.Prelude.{refl};
-    ghost use Rattle.rasn_oer.specs.Alternative.{First, Rest};
-    ghost use Rattle.example_printed.specs.declared.types_04.ColoursAlternatives.TheVariants.{One, Two, Three};
-
-    type Values = <ColoursRow as Alternatives>::Values;
-
-    ghost row_choices = { ⟦<ColoursRow as Alternatives>⟧.choices };
-
-    ghost row_are_choices = { ⟦<ColoursRow as Alternatives>⟧.are_choices };
-
-    ghost alternative = { elim [ One held ↦ First held | Two held ↦ Rest (First held) | Three held ↦ Rest (Rest (First held)) ] };
-
-    const VARIANTS: &'static [Tag] = COLOURS_ROOTS;
-
-    const EXTENDED_VARIANTS: Option<&'static [Tag]> = None;
-
-    fn root_tags() -> &'static [Tag] {
-        Self::VARIANTS
-    }
-
-    fn addition_tags() -> Option<&'static [Tag]> {
-        Self::EXTENDED_VARIANTS
-    }
-
-    fn from_alternative(value: Self::Values) -> Self {
-        from_row!(value => ColoursAlternatives: One, Two, Three)
-    }
-
-    #[inline(always)]
-    fn put<E: Choice>(&self, encoder: &mut Encoder<'_>) -> Result<(), EncodeError> {
-        match self {
-            Self::One(held) => put_alternative::<E, _>(encoder, Context::<1>::tag(), held),
-            Self::Two(held) => put_alternative::<E, _>(encoder, Universal::<7>::tag(), held),
-            Self::Three(held) => put_alternative::<E, _>(encoder, Universal::<2>::tag(), held),
-        }
-    }
-
-    ghost apart = { refl };
-}
-
-impl TakesAlternative for ColoursAlternatives {
-    ghost Refuses = { ⟦<ColoursRow as ReadsAlternatives>⟧.Refuses };
-
-    fn take<D: Choice>(
-        alloc: Global,
-        decoder: &mut Decoder<'_>,
-        tag: Tag,
-    ) -> Result<Self, DecodeError> {
-        read_alternative::<Self, ColoursRow, D>(alloc, decoder, tag)
-    }
-}
-
-/// `Plain ::= SEQUENCE { a BOOLEAN, l Levels.Level, c Colours OPTIONAL }`
-pub type Plain = Sequence<PlainComponents, 3, 0>;
-
-/// The components of `Plain`.
-#[derive(Debug, PartialEq, Eq, Drop)]
-pub struct PlainComponents {
-    pub a: bool,
-    pub l: Level,
-    pub c: Option<Colours>,
-}
-
-type PlainRow = Required<
-    Universal<1>,
-    bool,
-    Required<Private<2>, Level, Optional<Universal<0>, Colours, End>>,
->;
-
-impl Rowed for PlainComponents {
-    ghost use Rattle.rasn_oer.specs.Values.{both};
-
-    type Values = <PlainRow as Components>::Values;
-
-    ghost EXTENSIBLE = { ⟦<PlainRow as Components>⟧.EXTENSIBLE };
-
-    const EXTENSIBLE: bool = false;
-
-    ghost row_schema = { ⟦<PlainRow as Components>⟧.schema };
-
-    ghost row_is_schema = { ⟦<PlainRow as Components>⟧.is_schema };
-
-    ghost components = { λ v. both v.a (both v.l (both v.c tt)) };
-
-    fn from_row(row: Self::Values) -> Self {
-        built![PlainComponents from row:
-            a,
-            l,
-            c
-        ]
-    }
-}
-
-impl Takes for PlainComponents {
-    ghost Refuses = { ⟦<PlainRow as Reads>⟧.Refuses };
-
-    #[inline(always)]
-    fn take(alloc: Global, decoder: &mut Decoder<'_>) -> Result<Self, DecodeError> {
-        read_row::<Self, PlainRow>(alloc, decoder)
-    }
-}
-
-impl Tabled<3, 0> for PlainComponents {
-    ghost use Rattle.std.specs.Prelude.{refl};
-
-    const FIELDS: Fields<3> = Fields {
-        fields: fields![
-            0 Required Universal 1 "a",
-            1 Required Private 2 "l",
-            2 Optional Universal 0 "c"
-        ],
-    };
-
-    const EXTENDED_FIELDS: Option<Fields<0>> = None;
-
-    fn root_fields() -> &'static [Field<'static>] {
-        Self::FIELDS.fields
-    }
-
-    fn addition_fields() -> &'static [Field<'static>] {
-        rows_of!(Self::EXTENDED_FIELDS)
-    }
-
-    #[inline(always)]
-    fn put(&self, encoder: &mut Encoder<'_>) -> Result<(), EncodeError> {
-        let view = views![self:
-            a,
-            l,
-            c
-        ];
-        PlainRow::write(&view, encoder)
     }
 
     ghost counts = { (refl, refl) };

@@ -1,175 +1,64 @@
 //! Types of ASN.1 modules, as oergen printed them.
 
-use crate::{Level, Plain};
+use crate::{Names, Spot};
 use rasn_oer::prelude::*;
-use std::alloc::{AllocError, Global};
+use std::alloc::Global;
 
-/// The default 3 of `TakenPart`.
-pub struct TakenPartDefault;
+/// `SEQUENCE { middle Spot, radius INTEGER (0..65535) }`
+pub type AreaRound = Sequence<AreaRoundComponents, 2, 0>;
 
-impl DefaultValue<u16> for TakenPartDefault {
-    ghost use Rattle.std.specs.Prelude.{negsuc, pos, refl};
-
-    ghost value = { 3 };
-
-    fn value(_alloc: Global) -> Result<u16, AllocError> {
-        Ok(3)
-    }
-
-    fn is_value(other: &u16) -> bool {
-        *other == 3
-    }
-
-    ghost admitted = { refl };
-}
-
-/// `Taken ::= SEQUENCE { COMPONENTS OF Then, part INTEGER (0..top) DEFAULT three, plain Plain OPTIONAL,
-/// ..., level Level OPTIONAL, ..., own NULL } (WITH COMPONENTS { ..., plain PRESENT })`
-pub type Taken = Sequence<TakenComponents, 6, 1>;
-
-/// The components of `Taken`.
+/// The components of `AreaRound`.
 #[derive(Debug, PartialEq, Eq, Drop)]
-pub struct TakenComponents {
-    pub at: UtcTime,
-    pub on: GeneralizedTime,
-    pub day: Date,
-    pub part: u16,
-    pub plain: Option<Plain>,
-    pub own: (),
-    pub level: Option<Level>,
+pub struct AreaRoundComponents {
+    pub middle: Spot,
+    pub radius: u16,
 }
 
-type TakenRow = Required<
-    Context<0>,
-    UtcTime,
-    Required<
-        Context<1>,
-        GeneralizedTime,
-        Required<
-            Context<2>,
-            Date,
-            Defaulted<Context<3>, u16, TakenPartDefault, Optional<Context<4>, Plain, TakenFromOwn>>,
-        >,
-    >,
->;
+type AreaRoundRow = Required<Context<0>, Spot, Required<Context<1>, u16, End>>;
 
-/// The components of `Taken` from `own` on.
-pub struct TakenFromOwn;
-
-type TakenFromOwnRow = Required<Context<5>, (), Extensible<TakenAdditions>>;
-
-impl Components for TakenFromOwn {
-    type Values = <TakenFromOwnRow as Components>::Values;
-
-    ghost EXTENSIBLE = { ⟦<TakenFromOwnRow as Components>⟧.EXTENSIBLE };
-
-    const EXTENSIBLE: bool = true;
-
-    ghost schema = { ⟦<TakenFromOwnRow as Components>⟧.schema };
-
-    ghost is_schema = { ⟦<TakenFromOwnRow as Components>⟧.is_schema };
-}
-
-impl Slotted for TakenFromOwn {
-    type Slots = <TakenFromOwnRow as Slotted>::Slots;
-
-    ghost filled = { ⟦<TakenFromOwnRow as Slotted>⟧.filled };
-
-    ghost filled_once = { ⟦<TakenFromOwnRow as Slotted>⟧.filled_once };
-
-    #[inline(always)]
-    fn empty() -> Self::Slots {
-        TakenFromOwnRow::empty()
-    }
-
-    #[inline(always)]
-    fn taken(slots: Self::Slots) -> Self::Values {
-        TakenFromOwnRow::taken(slots)
-    }
-}
-
-impl Reads for TakenFromOwn {
-    ghost Refuses = { ⟦<TakenFromOwnRow as Reads>⟧.Refuses };
-
-    #[inline(always)]
-    fn read(
-        alloc: Global,
-        decoder: &mut Decoder<'_>,
-        slots: &mut Self::Slots,
-    ) -> Result<(), DecodeError> {
-        <TakenFromOwnRow as Reads>::read(alloc, decoder, slots)
-    }
-}
-
-impl<'v> Views<'v> for TakenFromOwn {
-    type View = <TakenFromOwnRow as Views<'v>>::View;
-
-    ghost seen = { ⟦<TakenFromOwnRow as Views<'v>>⟧.seen };
-
-    #[inline(always)]
-    fn write(view: &Self::View, encoder: &mut Encoder<'_>) -> Result<(), EncodeError> {
-        TakenFromOwnRow::write(view, encoder)
-    }
-}
-
-type TakenAdditions = OptionalAddition<Context<6>, Level, End>;
-
-impl Rowed for TakenComponents {
+impl Rowed for AreaRoundComponents {
     ghost use Rattle.rasn_oer.specs.Values.{both};
 
-    type Values = <TakenRow as Components>::Values;
+    type Values = <AreaRoundRow as Components>::Values;
 
-    ghost EXTENSIBLE = { ⟦<TakenRow as Components>⟧.EXTENSIBLE };
+    ghost EXTENSIBLE = { ⟦<AreaRoundRow as Components>⟧.EXTENSIBLE };
 
-    const EXTENSIBLE: bool = true;
+    const EXTENSIBLE: bool = false;
 
-    ghost row_schema = { ⟦<TakenRow as Components>⟧.schema };
+    ghost row_schema = { ⟦<AreaRoundRow as Components>⟧.schema };
 
-    ghost row_is_schema = { ⟦<TakenRow as Components>⟧.is_schema };
+    ghost row_is_schema = { ⟦<AreaRoundRow as Components>⟧.is_schema };
 
-    ghost components = { λ v. both v.at (both v.on (both v.day (both v.part (both v.plain (both v.own (both v.level tt)))))) };
+    ghost components = { λ v. both v.middle (both v.radius tt) };
 
     fn from_row(row: Self::Values) -> Self {
-        built![TakenComponents from row:
-            at,
-            on,
-            day,
-            part,
-            plain,
-            own,
-            level
+        built![AreaRoundComponents from row:
+            middle,
+            radius
         ]
     }
 }
 
-impl Takes for TakenComponents {
-    ghost Refuses = { ⟦<TakenRow as Reads>⟧.Refuses };
+impl Takes for AreaRoundComponents {
+    ghost Refuses = { ⟦<AreaRoundRow as Reads>⟧.Refuses };
 
     #[inline(always)]
     fn take(alloc: Global, decoder: &mut Decoder<'_>) -> Result<Self, DecodeError> {
-        read_row::<Self, TakenRow>(alloc, decoder)
+        read_row::<Self, AreaRoundRow>(alloc, decoder)
     }
 }
 
-impl Tabled<6, 1> for TakenComponents {
+impl Tabled<2, 0> for AreaRoundComponents {
     ghost use Rattle.std.specs.Prelude.{refl};
 
-    const FIELDS: Fields<6> = Fields {
+    const FIELDS: Fields<2> = Fields {
         fields: fields![
-            0 Required Context 0 "at",
-            1 Required Context 1 "on",
-            2 Required Context 2 "day",
-            3 Default Context 3 "part",
-            4 Optional Context 4 "plain",
-            5 Required Context 5 "own"
+            0 Required Context 0 "middle",
+            1 Required Context 1 "radius"
         ],
     };
 
-    const EXTENDED_FIELDS: Option<Fields<1>> = Some(Fields {
-        fields: fields![
-            0 Optional Context 6 "level"
-        ],
-    });
+    const EXTENDED_FIELDS: Option<Fields<0>> = None;
 
     fn root_fields() -> &'static [Field<'static>] {
         Self::FIELDS.fields
@@ -182,130 +71,189 @@ impl Tabled<6, 1> for TakenComponents {
     #[inline(always)]
     fn put(&self, encoder: &mut Encoder<'_>) -> Result<(), EncodeError> {
         let view = views![self:
-            at,
-            on,
-            day,
-            part,
-            plain,
-            own,
-            level
+            middle,
+            radius
         ];
-        TakenRow::write(&view, encoder)
+        AreaRoundRow::write(&view, encoder)
     }
 
     ghost counts = { (refl, refl) };
 }
 
-/// The limits of `NumbersTwo`.
-#[derive(Drop)]
-pub enum NumbersTwoLimits {}
+/// `SEQUENCE { from Spot, to Spot }`
+pub type AreaBoxes = Sequence<AreaBoxesComponents, 2, 0>;
 
-impl Limits for NumbersTwoLimits {
-    ghost use Rattle.std.specs.Prelude.{None, Some, false, negsuc, pos, refl};
-    ghost use Rattle.rasn_oer.specs.Bounded.{Range, Single};
-
-    ghost LIMITS = { record { value = Some (Range (Some (pos 0)) (Some (pos 256)), false); size = None } };
-
-    const LIMITS: Constraints = Constraints {
-        value: Some((
-            Bounded::Range {
-                start: Some(0),
-                end: Some(256),
-            },
-            false,
-        )),
-        size: None,
-    };
-
-    ghost consistent = { refl };
+/// The components of `AreaBoxes`.
+#[derive(Debug, PartialEq, Eq, Drop)]
+pub struct AreaBoxesComponents {
+    pub from: Spot,
+    pub to: Spot,
 }
 
-/// The limits of `NumbersWide`.
-#[derive(Drop)]
-pub enum NumbersWideLimits {}
+type AreaBoxesRow = Required<Context<0>, Spot, Required<Context<1>, Spot, End>>;
 
-impl Limits for NumbersWideLimits {
-    ghost use Rattle.std.specs.Prelude.{None, Some, false, negsuc, pos, refl};
-    ghost use Rattle.rasn_oer.specs.Bounded.{Range, Single};
+impl Rowed for AreaBoxesComponents {
+    ghost use Rattle.rasn_oer.specs.Values.{both};
 
-    ghost LIMITS = { record { value = Some (Range (Some (negsuc 128)) (Some (pos 0)), false); size = None } };
+    type Values = <AreaBoxesRow as Components>::Values;
 
-    const LIMITS: Constraints = Constraints {
-        value: Some((
-            Bounded::Range {
-                start: Some(-129),
-                end: Some(0),
-            },
-            false,
-        )),
-        size: None,
-    };
+    ghost EXTENSIBLE = { ⟦<AreaBoxesRow as Components>⟧.EXTENSIBLE };
 
-    ghost consistent = { refl };
+    const EXTENSIBLE: bool = false;
+
+    ghost row_schema = { ⟦<AreaBoxesRow as Components>⟧.schema };
+
+    ghost row_is_schema = { ⟦<AreaBoxesRow as Components>⟧.is_schema };
+
+    ghost components = { λ v. both v.from (both v.to tt) };
+
+    fn from_row(row: Self::Values) -> Self {
+        built![AreaBoxesComponents from row:
+            from,
+            to
+        ]
+    }
 }
 
-/// The limits of `NumbersLong`.
-#[derive(Drop)]
-pub enum NumbersLongLimits {}
+impl Takes for AreaBoxesComponents {
+    ghost Refuses = { ⟦<AreaBoxesRow as Reads>⟧.Refuses };
 
-impl Limits for NumbersLongLimits {
-    ghost use Rattle.std.specs.Prelude.{None, Some, false, negsuc, pos, refl};
-    ghost use Rattle.rasn_oer.specs.Bounded.{Range, Single};
-
-    ghost LIMITS = { record { value = Some (Range (Some (pos 0)) (Some (pos 18446744073709551616)), false); size = None } };
-
-    const LIMITS: Constraints = Constraints {
-        value: Some((
-            Bounded::Range {
-                start: Some(0),
-                end: Some(18446744073709551616),
-            },
-            false,
-        )),
-        size: None,
-    };
-
-    ghost consistent = { refl };
+    #[inline(always)]
+    fn take(alloc: Global, decoder: &mut Decoder<'_>) -> Result<Self, DecodeError> {
+        read_row::<Self, AreaBoxesRow>(alloc, decoder)
+    }
 }
 
-/// The limits of `NumbersDown`.
-#[derive(Drop)]
-pub enum NumbersDownLimits {}
+impl Tabled<2, 0> for AreaBoxesComponents {
+    ghost use Rattle.std.specs.Prelude.{refl};
 
-impl Limits for NumbersDownLimits {
-    ghost use Rattle.std.specs.Prelude.{None, Some, false, negsuc, pos, refl};
-    ghost use Rattle.rasn_oer.specs.Bounded.{Range, Single};
-
-    ghost LIMITS = { record { value = Some (Range None (Some (pos 65535)), false); size = None } };
-
-    const LIMITS: Constraints = Constraints {
-        value: Some((
-            Bounded::Range {
-                start: None,
-                end: Some(65535),
-            },
-            false,
-        )),
-        size: None,
+    const FIELDS: Fields<2> = Fields {
+        fields: fields![
+            0 Required Context 0 "from",
+            1 Required Context 1 "to"
+        ],
     };
 
-    ghost consistent = { refl };
+    const EXTENDED_FIELDS: Option<Fields<0>> = None;
+
+    fn root_fields() -> &'static [Field<'static>] {
+        Self::FIELDS.fields
+    }
+
+    fn addition_fields() -> &'static [Field<'static>] {
+        rows_of!(Self::EXTENDED_FIELDS)
+    }
+
+    #[inline(always)]
+    fn put(&self, encoder: &mut Encoder<'_>) -> Result<(), EncodeError> {
+        let view = views![self:
+            from,
+            to
+        ];
+        AreaBoxesRow::write(&view, encoder)
+    }
+
+    ghost counts = { (refl, refl) };
 }
 
-/// The limits of `NumbersNamed`.
-#[derive(Drop)]
-pub enum NumbersNamedLimits {}
+/// `Area ::= CHOICE { round SEQUENCE { middle Spot, radius INTEGER (0..65535) }, boxes SEQUENCE OF
+/// SEQUENCE { from Spot, to Spot }, corners SEQUENCE (SIZE(3..MAX)) OF Spot, names Names, ... }`
+pub type Area = OneOf<AreaAlternatives>;
 
-impl Limits for NumbersNamedLimits {
+/// The alternatives of `Area`.
+#[derive(Debug, PartialEq, Eq, Drop)]
+pub enum AreaAlternatives {
+    Round(AreaRound),
+    Boxes(ListOf<AreaBoxes>),
+    Corners(ListOf<Spot>),
+    Names(Names),
+}
+
+type AreaRow = Alternative<
+    Context<0>,
+    AreaRound,
+    Alternative<
+        Context<1>,
+        ListOf<AreaBoxes>,
+        Alternative<Context<2>, ListOf<Spot>, Alternative<Context<3>, Names, Extensible<End>>>,
+    >,
+>;
+
+const AREA_ROOTS: &'static [Tag] = tags![Context 0, Context 1, Context 2, Context 3];
+
+const AREA_ADDITIONS: &'static [Tag] = &[];
+
+impl Alternating for AreaAlternatives {
+    ghost use Rattle.std.specs.Prelude.{refl};
+    ghost use Rattle.rasn_oer.specs.Alternative.{First, Rest};
+    ghost use Rattle.example_printed.specs.declared.types_05.AreaAlternatives.TheVariants.{Round, Boxes, Corners, Names};
+
+    type Values = <AreaRow as Alternatives>::Values;
+
+    ghost row_choices = { ⟦<AreaRow as Alternatives>⟧.choices };
+
+    ghost row_are_choices = { ⟦<AreaRow as Alternatives>⟧.are_choices };
+
+    ghost alternative = { elim [ Round held ↦ First held | Boxes held ↦ Rest (First held) | Corners held ↦ Rest (Rest (First held)) | Names held ↦ Rest (Rest (Rest (First held))) ] };
+
+    const VARIANTS: &'static [Tag] = AREA_ROOTS;
+
+    const EXTENDED_VARIANTS: Option<&'static [Tag]> = Some(AREA_ADDITIONS);
+
+    fn root_tags() -> &'static [Tag] {
+        Self::VARIANTS
+    }
+
+    fn addition_tags() -> Option<&'static [Tag]> {
+        Self::EXTENDED_VARIANTS
+    }
+
+    fn from_alternative(value: Self::Values) -> Self {
+        from_row!(value => AreaAlternatives: Round, Boxes, Corners, Names)
+    }
+
+    #[inline(always)]
+    fn put<E: Choice>(&self, encoder: &mut Encoder<'_>) -> Result<(), EncodeError> {
+        match self {
+            Self::Round(held) => put_alternative::<E, _>(encoder, Context::<0>::tag(), held),
+            Self::Boxes(held) => put_alternative::<E, _>(encoder, Context::<1>::tag(), held),
+            Self::Corners(held) => put_alternative::<E, _>(encoder, Context::<2>::tag(), held),
+            Self::Names(held) => put_alternative::<E, _>(encoder, Context::<3>::tag(), held),
+        }
+    }
+
+    ghost apart = { refl };
+}
+
+impl TakesAlternative for AreaAlternatives {
+    ghost Refuses = { ⟦<AreaRow as ReadsAlternatives>⟧.Refuses };
+
+    fn take<D: Choice>(
+        alloc: Global,
+        decoder: &mut Decoder<'_>,
+        tag: Tag,
+    ) -> Result<Self, DecodeError> {
+        read_alternative::<Self, AreaRow, D>(alloc, decoder, tag)
+    }
+}
+
+/// `Named ::= INTEGER { low(-3), high(3) } (low..high)`
+pub type Named = Limited<i8, NamedLimits>;
+
+/// The limits of `Named`.
+#[derive(Drop)]
+pub enum NamedLimits {}
+
+impl Limits for NamedLimits {
     ghost use Rattle.std.specs.Prelude.{None, Some, false, negsuc, pos, refl};
     ghost use Rattle.rasn_oer.specs.Bounded.{Range, Single};
 
-    ghost LIMITS = { record { value = Some (Range (Some (pos 0)) (Some (pos 3)), false); size = None } };
+    ghost LIMITS = { record { value = Some (Range (Some (negsuc 2)) (Some (pos 3)), false); size = None } };
 
     const LIMITS: Constraints = Constraints {
         value: Some((
             Bounded::Range {
-                start: Some(0),
+                start: Some(-3),
                 end: Some(3),
             },
             false,
@@ -316,154 +264,64 @@ impl Limits for NumbersNamedLimits {
     ghost consistent = { refl };
 }
 
-/// `Numbers ::= SEQUENCE { none NULL, two INTEGER (0..256), wide INTEGER (-129..0), long INTEGER
-/// (0..18446744073709551616), extensible INTEGER (0..7, ..., 9), down INTEGER (MIN..top),
-/// named Named (0..MAX) }`
-pub type Numbers = Sequence<NumbersComponents, 7, 0>;
+/// `Then ::= SEQUENCE { at UTCTime, on GeneralizedTime, day DATE }`
+pub type Then = Sequence<ThenComponents, 3, 0>;
 
-/// The components of `Numbers`.
+/// The components of `Then`.
 #[derive(Debug, PartialEq, Eq, Drop)]
-pub struct NumbersComponents {
-    /// a comment within its line
-    pub none: (),
-    pub two: Limited<u16, NumbersTwoLimits>,
-    pub wide: Limited<i16, NumbersWideLimits>,
-    pub long: Limited<Integer, NumbersLongLimits>,
-    pub extensible: Integer,
-    pub down: Limited<Integer, NumbersDownLimits>,
-    pub named: Limited<u8, NumbersNamedLimits>,
+pub struct ThenComponents {
+    pub at: UtcTime,
+    pub on: GeneralizedTime,
+    pub day: Date,
 }
 
-type NumbersRow = Required<
+type ThenRow = Required<
     Context<0>,
-    (),
-    Required<
-        Context<1>,
-        Limited<u16, NumbersTwoLimits>,
-        Required<
-            Context<2>,
-            Limited<i16, NumbersWideLimits>,
-            Required<
-                Context<3>,
-                Limited<Integer, NumbersLongLimits>,
-                Required<Context<4>, Integer, NumbersFromDown>,
-            >,
-        >,
-    >,
+    UtcTime,
+    Required<Context<1>, GeneralizedTime, Required<Context<2>, Date, End>>,
 >;
 
-/// The components of `Numbers` from `down` on.
-pub struct NumbersFromDown;
-
-type NumbersFromDownRow = Required<
-    Context<5>,
-    Limited<Integer, NumbersDownLimits>,
-    Required<Context<6>, Limited<u8, NumbersNamedLimits>, End>,
->;
-
-impl Components for NumbersFromDown {
-    type Values = <NumbersFromDownRow as Components>::Values;
-
-    ghost EXTENSIBLE = { ⟦<NumbersFromDownRow as Components>⟧.EXTENSIBLE };
-
-    const EXTENSIBLE: bool = false;
-
-    ghost schema = { ⟦<NumbersFromDownRow as Components>⟧.schema };
-
-    ghost is_schema = { ⟦<NumbersFromDownRow as Components>⟧.is_schema };
-}
-
-impl Slotted for NumbersFromDown {
-    type Slots = <NumbersFromDownRow as Slotted>::Slots;
-
-    ghost filled = { ⟦<NumbersFromDownRow as Slotted>⟧.filled };
-
-    ghost filled_once = { ⟦<NumbersFromDownRow as Slotted>⟧.filled_once };
-
-    #[inline(always)]
-    fn empty() -> Self::Slots {
-        NumbersFromDownRow::empty()
-    }
-
-    #[inline(always)]
-    fn taken(slots: Self::Slots) -> Self::Values {
-        NumbersFromDownRow::taken(slots)
-    }
-}
-
-impl Reads for NumbersFromDown {
-    ghost Refuses = { ⟦<NumbersFromDownRow as Reads>⟧.Refuses };
-
-    #[inline(always)]
-    fn read(
-        alloc: Global,
-        decoder: &mut Decoder<'_>,
-        slots: &mut Self::Slots,
-    ) -> Result<(), DecodeError> {
-        <NumbersFromDownRow as Reads>::read(alloc, decoder, slots)
-    }
-}
-
-impl<'v> Views<'v> for NumbersFromDown {
-    type View = <NumbersFromDownRow as Views<'v>>::View;
-
-    ghost seen = { ⟦<NumbersFromDownRow as Views<'v>>⟧.seen };
-
-    #[inline(always)]
-    fn write(view: &Self::View, encoder: &mut Encoder<'_>) -> Result<(), EncodeError> {
-        NumbersFromDownRow::write(view, encoder)
-    }
-}
-
-impl Rowed for NumbersComponents {
+impl Rowed for ThenComponents {
     ghost use Rattle.rasn_oer.specs.Values.{both};
 
-    type Values = <NumbersRow as Components>::Values;
+    type Values = <ThenRow as Components>::Values;
 
-    ghost EXTENSIBLE = { ⟦<NumbersRow as Components>⟧.EXTENSIBLE };
+    ghost EXTENSIBLE = { ⟦<ThenRow as Components>⟧.EXTENSIBLE };
 
     const EXTENSIBLE: bool = false;
 
-    ghost row_schema = { ⟦<NumbersRow as Components>⟧.schema };
+    ghost row_schema = { ⟦<ThenRow as Components>⟧.schema };
 
-    ghost row_is_schema = { ⟦<NumbersRow as Components>⟧.is_schema };
+    ghost row_is_schema = { ⟦<ThenRow as Components>⟧.is_schema };
 
-    ghost components = { λ v. both v.none (both v.two (both v.wide (both v.long (both v.extensible (both v.down (both v.named tt)))))) };
+    ghost components = { λ v. both v.at (both v.on (both v.day tt)) };
 
     fn from_row(row: Self::Values) -> Self {
-        built![NumbersComponents from row:
-            none,
-            two,
-            wide,
-            long,
-            extensible,
-            down,
-            named
+        built![ThenComponents from row:
+            at,
+            on,
+            day
         ]
     }
 }
 
-impl Takes for NumbersComponents {
-    ghost Refuses = { ⟦<NumbersRow as Reads>⟧.Refuses };
+impl Takes for ThenComponents {
+    ghost Refuses = { ⟦<ThenRow as Reads>⟧.Refuses };
 
     #[inline(always)]
     fn take(alloc: Global, decoder: &mut Decoder<'_>) -> Result<Self, DecodeError> {
-        read_row::<Self, NumbersRow>(alloc, decoder)
+        read_row::<Self, ThenRow>(alloc, decoder)
     }
 }
 
-impl Tabled<7, 0> for NumbersComponents {
+impl Tabled<3, 0> for ThenComponents {
     ghost use Rattle.std.specs.Prelude.{refl};
 
-    const FIELDS: Fields<7> = Fields {
+    const FIELDS: Fields<3> = Fields {
         fields: fields![
-            0 Required Context 0 "none",
-            1 Required Context 1 "two",
-            2 Required Context 2 "wide",
-            3 Required Context 3 "long",
-            4 Required Context 4 "extensible",
-            5 Required Context 5 "down",
-            6 Required Context 6 "named"
+            0 Required Context 0 "at",
+            1 Required Context 1 "on",
+            2 Required Context 2 "day"
         ],
     };
 
@@ -480,186 +338,149 @@ impl Tabled<7, 0> for NumbersComponents {
     #[inline(always)]
     fn put(&self, encoder: &mut Encoder<'_>) -> Result<(), EncodeError> {
         let view = views![self:
-            none,
-            two,
-            wide,
-            long,
-            extensible,
-            down,
-            named
+            at,
+            on,
+            day
         ];
-        NumbersRow::write(&view, encoder)
+        ThenRow::write(&view, encoder)
     }
 
     ghost counts = { (refl, refl) };
 }
 
-/// The limits of `RangesSingle`.
-#[derive(Drop)]
-pub enum RangesSingleLimits {}
+/// `Level ::= [PRIVATE 2] EXPLICIT INTEGER (0..top)`
+pub type Level = u16;
 
-impl Limits for RangesSingleLimits {
-    ghost use Rattle.std.specs.Prelude.{None, Some, false, negsuc, pos, refl};
-    ghost use Rattle.rasn_oer.specs.Bounded.{Range, Single};
+/// `Colours ::= CHOICE { one [1] NULL, two [UNIVERSAL 7] NULL, three INTEGER }`
+pub type Colours = OneOf<ColoursAlternatives>;
 
-    ghost LIMITS = { record { value = Some (Range (Some (pos 5)) (Some (pos 5)), false); size = None } };
-
-    const LIMITS: Constraints = Constraints {
-        value: Some((
-            Bounded::Range {
-                start: Some(5),
-                end: Some(5),
-            },
-            false,
-        )),
-        size: None,
-    };
-
-    ghost consistent = { refl };
-}
-
-/// The limits of `RangesGaps`.
-#[derive(Drop)]
-pub enum RangesGapsLimits {}
-
-impl Limits for RangesGapsLimits {
-    ghost use Rattle.std.specs.Prelude.{None, Some, false, negsuc, pos, refl};
-    ghost use Rattle.rasn_oer.specs.Bounded.{Range, Single};
-
-    ghost LIMITS = { record { value = Some (Range (Some (pos 1)) (Some (pos 200)), false); size = None } };
-
-    const LIMITS: Constraints = Constraints {
-        value: Some((
-            Bounded::Range {
-                start: Some(1),
-                end: Some(200),
-            },
-            false,
-        )),
-        size: None,
-    };
-
-    ghost consistent = { refl };
-}
-
-/// The limits of `RangesCommon`.
-#[derive(Drop)]
-pub enum RangesCommonLimits {}
-
-impl Limits for RangesCommonLimits {
-    ghost use Rattle.std.specs.Prelude.{None, Some, false, negsuc, pos, refl};
-    ghost use Rattle.rasn_oer.specs.Bounded.{Range, Single};
-
-    ghost LIMITS = { record { value = Some (Range (Some (pos 50)) (Some (pos 100)), false); size = None } };
-
-    const LIMITS: Constraints = Constraints {
-        value: Some((
-            Bounded::Range {
-                start: Some(50),
-                end: Some(100),
-            },
-            false,
-        )),
-        size: None,
-    };
-
-    ghost consistent = { refl };
-}
-
-/// The limits of `RangesLess`.
-#[derive(Drop)]
-pub enum RangesLessLimits {}
-
-impl Limits for RangesLessLimits {
-    ghost use Rattle.std.specs.Prelude.{None, Some, false, negsuc, pos, refl};
-    ghost use Rattle.rasn_oer.specs.Bounded.{Range, Single};
-
-    ghost LIMITS = { record { value = Some (Range (Some (pos 0)) (Some (pos 9)), false); size = None } };
-
-    const LIMITS: Constraints = Constraints {
-        value: Some((
-            Bounded::Range {
-                start: Some(0),
-                end: Some(9),
-            },
-            false,
-        )),
-        size: None,
-    };
-
-    ghost consistent = { refl };
-}
-
-/// `Ranges ::= SEQUENCE { single INTEGER (5), gaps INTEGER (1..3 | 200), common INTEGER (0..300)
-/// (0..100 ^ 50..400), less INTEGER (0..9 EXCEPT 5) }`
-pub type Ranges = Sequence<RangesComponents, 4, 0>;
-
-/// The components of `Ranges`.
+/// The alternatives of `Colours`.
 #[derive(Debug, PartialEq, Eq, Drop)]
-pub struct RangesComponents {
-    pub single: Limited<u8, RangesSingleLimits>,
-    pub gaps: Limited<u8, RangesGapsLimits>,
-    pub common: Limited<u8, RangesCommonLimits>,
-    pub less: Limited<u8, RangesLessLimits>,
+pub enum ColoursAlternatives {
+    One(()),
+    Two(()),
+    Three(Integer),
 }
 
-type RangesRow = Required<
-    Context<0>,
-    Limited<u8, RangesSingleLimits>,
-    Required<
-        Context<1>,
-        Limited<u8, RangesGapsLimits>,
-        Required<
-            Context<2>,
-            Limited<u8, RangesCommonLimits>,
-            Required<Context<3>, Limited<u8, RangesLessLimits>, End>,
-        >,
-    >,
+type ColoursRow = Alternative<
+    Context<1>,
+    (),
+    Alternative<Universal<7>, (), Alternative<Universal<2>, Integer, End>>,
 >;
 
-impl Rowed for RangesComponents {
+const COLOURS_ROOTS: &'static [Tag] = tags![Context 1, Universal 7, Universal 2];
+
+impl Alternating for ColoursAlternatives {
+    ghost use Rattle.std.specs.Prelude.{refl};
+    ghost use Rattle.rasn_oer.specs.Alternative.{First, Rest};
+    ghost use Rattle.example_printed.specs.declared.types_05.ColoursAlternatives.TheVariants.{One, Two, Three};
+
+    type Values = <ColoursRow as Alternatives>::Values;
+
+    ghost row_choices = { ⟦<ColoursRow as Alternatives>⟧.choices };
+
+    ghost row_are_choices = { ⟦<ColoursRow as Alternatives>⟧.are_choices };
+
+    ghost alternative = { elim [ One held ↦ First held | Two held ↦ Rest (First held) | Three held ↦ Rest (Rest (First held)) ] };
+
+    const VARIANTS: &'static [Tag] = COLOURS_ROOTS;
+
+    const EXTENDED_VARIANTS: Option<&'static [Tag]> = None;
+
+    fn root_tags() -> &'static [Tag] {
+        Self::VARIANTS
+    }
+
+    fn addition_tags() -> Option<&'static [Tag]> {
+        Self::EXTENDED_VARIANTS
+    }
+
+    fn from_alternative(value: Self::Values) -> Self {
+        from_row!(value => ColoursAlternatives: One, Two, Three)
+    }
+
+    #[inline(always)]
+    fn put<E: Choice>(&self, encoder: &mut Encoder<'_>) -> Result<(), EncodeError> {
+        match self {
+            Self::One(held) => put_alternative::<E, _>(encoder, Context::<1>::tag(), held),
+            Self::Two(held) => put_alternative::<E, _>(encoder, Universal::<7>::tag(), held),
+            Self::Three(held) => put_alternative::<E, _>(encoder, Universal::<2>::tag(), held),
+        }
+    }
+
+    ghost apart = { refl };
+}
+
+impl TakesAlternative for ColoursAlternatives {
+    ghost Refuses = { ⟦<ColoursRow as ReadsAlternatives>⟧.Refuses };
+
+    fn take<D: Choice>(
+        alloc: Global,
+        decoder: &mut Decoder<'_>,
+        tag: Tag,
+    ) -> Result<Self, DecodeError> {
+        read_alternative::<Self, ColoursRow, D>(alloc, decoder, tag)
+    }
+}
+
+/// `Plain ::= SEQUENCE { a BOOLEAN, l Levels.Level, c Colours OPTIONAL }`
+pub type Plain = Sequence<PlainComponents, 3, 0>;
+
+/// The components of `Plain`.
+#[derive(Debug, PartialEq, Eq, Drop)]
+pub struct PlainComponents {
+    pub a: bool,
+    pub l: Level,
+    pub c: Option<Colours>,
+}
+
+type PlainRow = Required<
+    Universal<1>,
+    bool,
+    Required<Private<2>, Level, Optional<Universal<0>, Colours, End>>,
+>;
+
+impl Rowed for PlainComponents {
     ghost use Rattle.rasn_oer.specs.Values.{both};
 
-    type Values = <RangesRow as Components>::Values;
+    type Values = <PlainRow as Components>::Values;
 
-    ghost EXTENSIBLE = { ⟦<RangesRow as Components>⟧.EXTENSIBLE };
+    ghost EXTENSIBLE = { ⟦<PlainRow as Components>⟧.EXTENSIBLE };
 
     const EXTENSIBLE: bool = false;
 
-    ghost row_schema = { ⟦<RangesRow as Components>⟧.schema };
+    ghost row_schema = { ⟦<PlainRow as Components>⟧.schema };
 
-    ghost row_is_schema = { ⟦<RangesRow as Components>⟧.is_schema };
+    ghost row_is_schema = { ⟦<PlainRow as Components>⟧.is_schema };
 
-    ghost components = { λ v. both v.single (both v.gaps (both v.common (both v.less tt))) };
+    ghost components = { λ v. both v.a (both v.l (both v.c tt)) };
 
     fn from_row(row: Self::Values) -> Self {
-        built![RangesComponents from row:
-            single,
-            gaps,
-            common,
-            less
+        built![PlainComponents from row:
+            a,
+            l,
+            c
         ]
     }
 }
 
-impl Takes for RangesComponents {
-    ghost Refuses = { ⟦<RangesRow as Reads>⟧.Refuses };
+impl Takes for PlainComponents {
+    ghost Refuses = { ⟦<PlainRow as Reads>⟧.Refuses };
 
     #[inline(always)]
     fn take(alloc: Global, decoder: &mut Decoder<'_>) -> Result<Self, DecodeError> {
-        read_row::<Self, RangesRow>(alloc, decoder)
+        read_row::<Self, PlainRow>(alloc, decoder)
     }
 }
 
-impl Tabled<4, 0> for RangesComponents {
+impl Tabled<3, 0> for PlainComponents {
     ghost use Rattle.std.specs.Prelude.{refl};
 
-    const FIELDS: Fields<4> = Fields {
+    const FIELDS: Fields<3> = Fields {
         fields: fields![
-            0 Required Context 0 "single",
-            1 Required Context 1 "gaps",
-            2 Required Context 2 "common",
-            3 Required Context 3 "less"
+            0 Required Universal 1 "a",
+            1 Required Private 2 "l",
+            2 Optional Universal 0 "c"
         ],
     };
 
@@ -676,12 +497,11 @@ impl Tabled<4, 0> for RangesComponents {
     #[inline(always)]
     fn put(&self, encoder: &mut Encoder<'_>) -> Result<(), EncodeError> {
         let view = views![self:
-            single,
-            gaps,
-            common,
-            less
+            a,
+            l,
+            c
         ];
-        RangesRow::write(&view, encoder)
+        PlainRow::write(&view, encoder)
     }
 
     ghost counts = { (refl, refl) };

@@ -1,241 +1,95 @@
 //! Types of ASN.1 modules, as oergen printed them.
 
-use crate::{Numbers, Ranges};
+use crate::{Level, Plain};
 use rasn_oer::prelude::*;
-use std::alloc::Global;
+use std::alloc::{AllocError, Global};
 
-/// The limits of `StringsSizes`.
-#[derive(Drop)]
-pub enum StringsSizesLimits {}
+/// The default 3 of `TakenPart`.
+pub struct TakenPartDefault;
 
-impl Limits for StringsSizesLimits {
-    ghost use Rattle.std.specs.Prelude.{None, Some, false, negsuc, pos, refl};
-    ghost use Rattle.rasn_oer.specs.Bounded.{Range, Single};
+impl DefaultValue<u16> for TakenPartDefault {
+    ghost use Rattle.std.specs.Prelude.{negsuc, pos, refl};
 
-    ghost LIMITS = { record { value = None; size = Some (Range (Some 1) (Some 3), false) } };
+    ghost value = { 3 };
 
-    const LIMITS: Constraints = Constraints {
-        value: None,
-        size: Some((
-            Bounded::Range {
-                start: Some(1),
-                end: Some(3),
-            },
-            false,
-        )),
-    };
+    fn value(_alloc: Global) -> Result<u16, AllocError> {
+        Ok(3)
+    }
 
-    ghost consistent = { refl };
+    fn is_value(other: &u16) -> bool {
+        *other == 3
+    }
+
+    ghost admitted = { refl };
 }
 
-/// The limits of `StringsLetters`.
-#[derive(Drop)]
-pub enum StringsLettersLimits {}
+/// `Taken ::= SEQUENCE { COMPONENTS OF Then, part INTEGER (0..top) DEFAULT three, plain Plain OPTIONAL,
+/// ..., level Level OPTIONAL, ..., own NULL } (WITH COMPONENTS { ..., plain PRESENT })`
+pub type Taken = Sequence<TakenComponents, 6, 1>;
 
-impl Limits for StringsLettersLimits {
-    ghost use Rattle.std.specs.Prelude.{None, Some, false, negsuc, pos, refl};
-    ghost use Rattle.rasn_oer.specs.Bounded.{Range, Single};
-
-    ghost LIMITS = { record { value = None; size = Some (Single 2, false) } };
-
-    const LIMITS: Constraints = Constraints {
-        value: None,
-        size: Some((Bounded::Single(2), false)),
-    };
-
-    ghost consistent = { refl };
-}
-
-/// `Strings ::= SEQUENCE { blob OCTET STRING (SIZE(1..9, ...)), sizes OCTET STRING (SIZE(1 | 3)),
-/// content OCTET STRING (CONTAINING Named), letters PrintableString (FROM("A".."Z") ^ SIZE(2))
-/// }`
-pub type Strings = Sequence<StringsComponents, 4, 0>;
-
-/// The components of `Strings`.
+/// The components of `Taken`.
 #[derive(Debug, PartialEq, Eq, Drop)]
-pub struct StringsComponents {
-    pub blob: Octets,
-    pub sizes: Limited<Octets, StringsSizesLimits>,
-    pub content: Octets,
-    pub letters: Limited<PrintableText, StringsLettersLimits>,
+pub struct TakenComponents {
+    pub at: UtcTime,
+    pub on: GeneralizedTime,
+    pub day: Date,
+    pub part: u16,
+    pub plain: Option<Plain>,
+    pub own: (),
+    pub level: Option<Level>,
 }
 
-type StringsRow = Required<
+type TakenRow = Required<
     Context<0>,
-    Octets,
+    UtcTime,
     Required<
         Context<1>,
-        Limited<Octets, StringsSizesLimits>,
+        GeneralizedTime,
         Required<
             Context<2>,
-            Octets,
-            Required<Context<3>, Limited<PrintableText, StringsLettersLimits>, End>,
+            Date,
+            Defaulted<Context<3>, u16, TakenPartDefault, Optional<Context<4>, Plain, TakenFromOwn>>,
         >,
     >,
 >;
 
-impl Rowed for StringsComponents {
-    ghost use Rattle.rasn_oer.specs.Values.{both};
+/// The components of `Taken` from `own` on.
+pub struct TakenFromOwn;
 
-    type Values = <StringsRow as Components>::Values;
+type TakenFromOwnRow = Required<Context<5>, (), Extensible<TakenAdditions>>;
 
-    ghost EXTENSIBLE = { ⟦<StringsRow as Components>⟧.EXTENSIBLE };
+impl Components for TakenFromOwn {
+    type Values = <TakenFromOwnRow as Components>::Values;
 
-    const EXTENSIBLE: bool = false;
+    ghost EXTENSIBLE = { ⟦<TakenFromOwnRow as Components>⟧.EXTENSIBLE };
 
-    ghost row_schema = { ⟦<StringsRow as Components>⟧.schema };
+    const EXTENSIBLE: bool = true;
 
-    ghost row_is_schema = { ⟦<StringsRow as Components>⟧.is_schema };
+    ghost schema = { ⟦<TakenFromOwnRow as Components>⟧.schema };
 
-    ghost components = { λ v. both v.blob (both v.sizes (both v.content (both v.letters tt))) };
-
-    fn from_row(row: Self::Values) -> Self {
-        built![StringsComponents from row:
-            blob,
-            sizes,
-            content,
-            letters
-        ]
-    }
+    ghost is_schema = { ⟦<TakenFromOwnRow as Components>⟧.is_schema };
 }
 
-impl Takes for StringsComponents {
-    ghost Refuses = { ⟦<StringsRow as Reads>⟧.Refuses };
+impl Slotted for TakenFromOwn {
+    type Slots = <TakenFromOwnRow as Slotted>::Slots;
 
-    #[inline(always)]
-    fn take(alloc: Global, decoder: &mut Decoder<'_>) -> Result<Self, DecodeError> {
-        read_row::<Self, StringsRow>(alloc, decoder)
-    }
-}
+    ghost filled = { ⟦<TakenFromOwnRow as Slotted>⟧.filled };
 
-impl Tabled<4, 0> for StringsComponents {
-    ghost use Rattle.std.specs.Prelude.{refl};
-
-    const FIELDS: Fields<4> = Fields {
-        fields: fields![
-            0 Required Context 0 "blob",
-            1 Required Context 1 "sizes",
-            2 Required Context 2 "content",
-            3 Required Context 3 "letters"
-        ],
-    };
-
-    const EXTENDED_FIELDS: Option<Fields<0>> = None;
-
-    fn root_fields() -> &'static [Field<'static>] {
-        Self::FIELDS.fields
-    }
-
-    fn addition_fields() -> &'static [Field<'static>] {
-        rows_of!(Self::EXTENDED_FIELDS)
-    }
-
-    #[inline(always)]
-    fn put(&self, encoder: &mut Encoder<'_>) -> Result<(), EncodeError> {
-        let view = views![self:
-            blob,
-            sizes,
-            content,
-            letters
-        ];
-        StringsRow::write(&view, encoder)
-    }
-
-    ghost counts = { (refl, refl) };
-}
-
-/// The limits of `LeavesLists`.
-#[derive(Drop)]
-pub enum LeavesListsLimits {}
-
-impl Limits for LeavesListsLimits {
-    ghost use Rattle.std.specs.Prelude.{None, Some, false, negsuc, pos, refl};
-    ghost use Rattle.rasn_oer.specs.Bounded.{Range, Single};
-
-    ghost LIMITS = { record { value = None; size = Some (Single 3, false) } };
-
-    const LIMITS: Constraints = Constraints {
-        value: None,
-        size: Some((Bounded::Single(3), false)),
-    };
-
-    ghost consistent = { refl };
-}
-
-/// no octet but those of its parts
-///
-/// `Leaves ::= SEQUENCE { numbers Numbers, ranges Ranges, strings Strings, text UTF8String (SIZE(0..5)),
-/// texts SEQUENCE (SIZE(1..4)) OF IA5String, lists SET OF SEQUENCE OF VisibleString (SIZE(3)),
-/// id OBJECT IDENTIFIER }`
-pub type Leaves = Sequence<LeavesComponents, 7, 0>;
-
-/// The components of `Leaves`.
-#[derive(Debug, PartialEq, Eq, Drop)]
-pub struct LeavesComponents {
-    pub numbers: Numbers,
-    pub ranges: Ranges,
-    pub strings: Strings,
-    pub text: Utf8Text,
-    pub texts: ListOf<Ia5Text>,
-    pub lists: SetOf<ListOf<Limited<VisibleText, LeavesListsLimits>>>,
-    pub id: ObjectIdentifier,
-}
-
-type LeavesRow = Required<
-    Context<0>,
-    Numbers,
-    Required<
-        Context<1>,
-        Ranges,
-        Required<
-            Context<2>,
-            Strings,
-            Required<Context<3>, Utf8Text, Required<Context<4>, ListOf<Ia5Text>, LeavesFromLists>>,
-        >,
-    >,
->;
-
-/// The components of `Leaves` from `lists` on.
-pub struct LeavesFromLists;
-
-type LeavesFromListsRow = Required<
-    Context<5>,
-    SetOf<ListOf<Limited<VisibleText, LeavesListsLimits>>>,
-    Required<Context<6>, ObjectIdentifier, End>,
->;
-
-impl Components for LeavesFromLists {
-    type Values = <LeavesFromListsRow as Components>::Values;
-
-    ghost EXTENSIBLE = { ⟦<LeavesFromListsRow as Components>⟧.EXTENSIBLE };
-
-    const EXTENSIBLE: bool = false;
-
-    ghost schema = { ⟦<LeavesFromListsRow as Components>⟧.schema };
-
-    ghost is_schema = { ⟦<LeavesFromListsRow as Components>⟧.is_schema };
-}
-
-impl Slotted for LeavesFromLists {
-    type Slots = <LeavesFromListsRow as Slotted>::Slots;
-
-    ghost filled = { ⟦<LeavesFromListsRow as Slotted>⟧.filled };
-
-    ghost filled_once = { ⟦<LeavesFromListsRow as Slotted>⟧.filled_once };
+    ghost filled_once = { ⟦<TakenFromOwnRow as Slotted>⟧.filled_once };
 
     #[inline(always)]
     fn empty() -> Self::Slots {
-        LeavesFromListsRow::empty()
+        TakenFromOwnRow::empty()
     }
 
     #[inline(always)]
     fn taken(slots: Self::Slots) -> Self::Values {
-        LeavesFromListsRow::taken(slots)
+        TakenFromOwnRow::taken(slots)
     }
 }
 
-impl Reads for LeavesFromLists {
-    ghost Refuses = { ⟦<LeavesFromListsRow as Reads>⟧.Refuses };
+impl Reads for TakenFromOwn {
+    ghost Refuses = { ⟦<TakenFromOwnRow as Reads>⟧.Refuses };
 
     #[inline(always)]
     fn read(
@@ -243,70 +97,373 @@ impl Reads for LeavesFromLists {
         decoder: &mut Decoder<'_>,
         slots: &mut Self::Slots,
     ) -> Result<(), DecodeError> {
-        <LeavesFromListsRow as Reads>::read(alloc, decoder, slots)
+        <TakenFromOwnRow as Reads>::read(alloc, decoder, slots)
     }
 }
 
-impl<'v> Views<'v> for LeavesFromLists {
-    type View = <LeavesFromListsRow as Views<'v>>::View;
+impl<'v> Views<'v> for TakenFromOwn {
+    type View = <TakenFromOwnRow as Views<'v>>::View;
 
-    ghost seen = { ⟦<LeavesFromListsRow as Views<'v>>⟧.seen };
+    ghost seen = { ⟦<TakenFromOwnRow as Views<'v>>⟧.seen };
 
     #[inline(always)]
     fn write(view: &Self::View, encoder: &mut Encoder<'_>) -> Result<(), EncodeError> {
-        LeavesFromListsRow::write(view, encoder)
+        TakenFromOwnRow::write(view, encoder)
     }
 }
 
-impl Rowed for LeavesComponents {
+type TakenAdditions = OptionalAddition<Context<6>, Level, End>;
+
+impl Rowed for TakenComponents {
     ghost use Rattle.rasn_oer.specs.Values.{both};
 
-    type Values = <LeavesRow as Components>::Values;
+    type Values = <TakenRow as Components>::Values;
 
-    ghost EXTENSIBLE = { ⟦<LeavesRow as Components>⟧.EXTENSIBLE };
+    ghost EXTENSIBLE = { ⟦<TakenRow as Components>⟧.EXTENSIBLE };
 
-    const EXTENSIBLE: bool = false;
+    const EXTENSIBLE: bool = true;
 
-    ghost row_schema = { ⟦<LeavesRow as Components>⟧.schema };
+    ghost row_schema = { ⟦<TakenRow as Components>⟧.schema };
 
-    ghost row_is_schema = { ⟦<LeavesRow as Components>⟧.is_schema };
+    ghost row_is_schema = { ⟦<TakenRow as Components>⟧.is_schema };
 
-    ghost components = { λ v. both v.numbers (both v.ranges (both v.strings (both v.text (both v.texts (both v.lists (both v.id tt)))))) };
+    ghost components = { λ v. both v.at (both v.on (both v.day (both v.part (both v.plain (both v.own (both v.level tt)))))) };
 
     fn from_row(row: Self::Values) -> Self {
-        built![LeavesComponents from row:
-            numbers,
-            ranges,
-            strings,
-            text,
-            texts,
-            lists,
-            id
+        built![TakenComponents from row:
+            at,
+            on,
+            day,
+            part,
+            plain,
+            own,
+            level
         ]
     }
 }
 
-impl Takes for LeavesComponents {
-    ghost Refuses = { ⟦<LeavesRow as Reads>⟧.Refuses };
+impl Takes for TakenComponents {
+    ghost Refuses = { ⟦<TakenRow as Reads>⟧.Refuses };
 
     #[inline(always)]
     fn take(alloc: Global, decoder: &mut Decoder<'_>) -> Result<Self, DecodeError> {
-        read_row::<Self, LeavesRow>(alloc, decoder)
+        read_row::<Self, TakenRow>(alloc, decoder)
     }
 }
 
-impl Tabled<7, 0> for LeavesComponents {
+impl Tabled<6, 1> for TakenComponents {
+    ghost use Rattle.std.specs.Prelude.{refl};
+
+    const FIELDS: Fields<6> = Fields {
+        fields: fields![
+            0 Required Context 0 "at",
+            1 Required Context 1 "on",
+            2 Required Context 2 "day",
+            3 Default Context 3 "part",
+            4 Optional Context 4 "plain",
+            5 Required Context 5 "own"
+        ],
+    };
+
+    const EXTENDED_FIELDS: Option<Fields<1>> = Some(Fields {
+        fields: fields![
+            0 Optional Context 6 "level"
+        ],
+    });
+
+    fn root_fields() -> &'static [Field<'static>] {
+        Self::FIELDS.fields
+    }
+
+    fn addition_fields() -> &'static [Field<'static>] {
+        rows_of!(Self::EXTENDED_FIELDS)
+    }
+
+    #[inline(always)]
+    fn put(&self, encoder: &mut Encoder<'_>) -> Result<(), EncodeError> {
+        let view = views![self:
+            at,
+            on,
+            day,
+            part,
+            plain,
+            own,
+            level
+        ];
+        TakenRow::write(&view, encoder)
+    }
+
+    ghost counts = { (refl, refl) };
+}
+
+/// The limits of `NumbersTwo`.
+#[derive(Drop)]
+pub enum NumbersTwoLimits {}
+
+impl Limits for NumbersTwoLimits {
+    ghost use Rattle.std.specs.Prelude.{None, Some, false, negsuc, pos, refl};
+    ghost use Rattle.rasn_oer.specs.Bounded.{Range, Single};
+
+    ghost LIMITS = { record { value = Some (Range (Some (pos 0)) (Some (pos 256)), false); size = None } };
+
+    const LIMITS: Constraints = Constraints {
+        value: Some((
+            Bounded::Range {
+                start: Some(0),
+                end: Some(256),
+            },
+            false,
+        )),
+        size: None,
+    };
+
+    ghost consistent = { refl };
+}
+
+/// The limits of `NumbersWide`.
+#[derive(Drop)]
+pub enum NumbersWideLimits {}
+
+impl Limits for NumbersWideLimits {
+    ghost use Rattle.std.specs.Prelude.{None, Some, false, negsuc, pos, refl};
+    ghost use Rattle.rasn_oer.specs.Bounded.{Range, Single};
+
+    ghost LIMITS = { record { value = Some (Range (Some (negsuc 128)) (Some (pos 0)), false); size = None } };
+
+    const LIMITS: Constraints = Constraints {
+        value: Some((
+            Bounded::Range {
+                start: Some(-129),
+                end: Some(0),
+            },
+            false,
+        )),
+        size: None,
+    };
+
+    ghost consistent = { refl };
+}
+
+/// The limits of `NumbersLong`.
+#[derive(Drop)]
+pub enum NumbersLongLimits {}
+
+impl Limits for NumbersLongLimits {
+    ghost use Rattle.std.specs.Prelude.{None, Some, false, negsuc, pos, refl};
+    ghost use Rattle.rasn_oer.specs.Bounded.{Range, Single};
+
+    ghost LIMITS = { record { value = Some (Range (Some (pos 0)) (Some (pos 18446744073709551616)), false); size = None } };
+
+    const LIMITS: Constraints = Constraints {
+        value: Some((
+            Bounded::Range {
+                start: Some(0),
+                end: Some(18446744073709551616),
+            },
+            false,
+        )),
+        size: None,
+    };
+
+    ghost consistent = { refl };
+}
+
+/// The limits of `NumbersDown`.
+#[derive(Drop)]
+pub enum NumbersDownLimits {}
+
+impl Limits for NumbersDownLimits {
+    ghost use Rattle.std.specs.Prelude.{None, Some, false, negsuc, pos, refl};
+    ghost use Rattle.rasn_oer.specs.Bounded.{Range, Single};
+
+    ghost LIMITS = { record { value = Some (Range None (Some (pos 65535)), false); size = None } };
+
+    const LIMITS: Constraints = Constraints {
+        value: Some((
+            Bounded::Range {
+                start: None,
+                end: Some(65535),
+            },
+            false,
+        )),
+        size: None,
+    };
+
+    ghost consistent = { refl };
+}
+
+/// The limits of `NumbersNamed`.
+#[derive(Drop)]
+pub enum NumbersNamedLimits {}
+
+impl Limits for NumbersNamedLimits {
+    ghost use Rattle.std.specs.Prelude.{None, Some, false, negsuc, pos, refl};
+    ghost use Rattle.rasn_oer.specs.Bounded.{Range, Single};
+
+    ghost LIMITS = { record { value = Some (Range (Some (pos 0)) (Some (pos 3)), false); size = None } };
+
+    const LIMITS: Constraints = Constraints {
+        value: Some((
+            Bounded::Range {
+                start: Some(0),
+                end: Some(3),
+            },
+            false,
+        )),
+        size: None,
+    };
+
+    ghost consistent = { refl };
+}
+
+/// `Numbers ::= SEQUENCE { none NULL, two INTEGER (0..256), wide INTEGER (-129..0), long INTEGER
+/// (0..18446744073709551616), extensible INTEGER (0..7, ..., 9), down INTEGER (MIN..top),
+/// named Named (0..MAX) }`
+pub type Numbers = Sequence<NumbersComponents, 7, 0>;
+
+/// The components of `Numbers`.
+#[derive(Debug, PartialEq, Eq, Drop)]
+pub struct NumbersComponents {
+    /// a comment within its line
+    pub none: (),
+    pub two: Limited<u16, NumbersTwoLimits>,
+    pub wide: Limited<i16, NumbersWideLimits>,
+    pub long: Limited<Integer, NumbersLongLimits>,
+    pub extensible: Integer,
+    pub down: Limited<Integer, NumbersDownLimits>,
+    pub named: Limited<u8, NumbersNamedLimits>,
+}
+
+type NumbersRow = Required<
+    Context<0>,
+    (),
+    Required<
+        Context<1>,
+        Limited<u16, NumbersTwoLimits>,
+        Required<
+            Context<2>,
+            Limited<i16, NumbersWideLimits>,
+            Required<
+                Context<3>,
+                Limited<Integer, NumbersLongLimits>,
+                Required<Context<4>, Integer, NumbersFromDown>,
+            >,
+        >,
+    >,
+>;
+
+/// The components of `Numbers` from `down` on.
+pub struct NumbersFromDown;
+
+type NumbersFromDownRow = Required<
+    Context<5>,
+    Limited<Integer, NumbersDownLimits>,
+    Required<Context<6>, Limited<u8, NumbersNamedLimits>, End>,
+>;
+
+impl Components for NumbersFromDown {
+    type Values = <NumbersFromDownRow as Components>::Values;
+
+    ghost EXTENSIBLE = { ⟦<NumbersFromDownRow as Components>⟧.EXTENSIBLE };
+
+    const EXTENSIBLE: bool = false;
+
+    ghost schema = { ⟦<NumbersFromDownRow as Components>⟧.schema };
+
+    ghost is_schema = { ⟦<NumbersFromDownRow as Components>⟧.is_schema };
+}
+
+impl Slotted for NumbersFromDown {
+    type Slots = <NumbersFromDownRow as Slotted>::Slots;
+
+    ghost filled = { ⟦<NumbersFromDownRow as Slotted>⟧.filled };
+
+    ghost filled_once = { ⟦<NumbersFromDownRow as Slotted>⟧.filled_once };
+
+    #[inline(always)]
+    fn empty() -> Self::Slots {
+        NumbersFromDownRow::empty()
+    }
+
+    #[inline(always)]
+    fn taken(slots: Self::Slots) -> Self::Values {
+        NumbersFromDownRow::taken(slots)
+    }
+}
+
+impl Reads for NumbersFromDown {
+    ghost Refuses = { ⟦<NumbersFromDownRow as Reads>⟧.Refuses };
+
+    #[inline(always)]
+    fn read(
+        alloc: Global,
+        decoder: &mut Decoder<'_>,
+        slots: &mut Self::Slots,
+    ) -> Result<(), DecodeError> {
+        <NumbersFromDownRow as Reads>::read(alloc, decoder, slots)
+    }
+}
+
+impl<'v> Views<'v> for NumbersFromDown {
+    type View = <NumbersFromDownRow as Views<'v>>::View;
+
+    ghost seen = { ⟦<NumbersFromDownRow as Views<'v>>⟧.seen };
+
+    #[inline(always)]
+    fn write(view: &Self::View, encoder: &mut Encoder<'_>) -> Result<(), EncodeError> {
+        NumbersFromDownRow::write(view, encoder)
+    }
+}
+
+impl Rowed for NumbersComponents {
+    ghost use Rattle.rasn_oer.specs.Values.{both};
+
+    type Values = <NumbersRow as Components>::Values;
+
+    ghost EXTENSIBLE = { ⟦<NumbersRow as Components>⟧.EXTENSIBLE };
+
+    const EXTENSIBLE: bool = false;
+
+    ghost row_schema = { ⟦<NumbersRow as Components>⟧.schema };
+
+    ghost row_is_schema = { ⟦<NumbersRow as Components>⟧.is_schema };
+
+    ghost components = { λ v. both v.none (both v.two (both v.wide (both v.long (both v.extensible (both v.down (both v.named tt)))))) };
+
+    fn from_row(row: Self::Values) -> Self {
+        built![NumbersComponents from row:
+            none,
+            two,
+            wide,
+            long,
+            extensible,
+            down,
+            named
+        ]
+    }
+}
+
+impl Takes for NumbersComponents {
+    ghost Refuses = { ⟦<NumbersRow as Reads>⟧.Refuses };
+
+    #[inline(always)]
+    fn take(alloc: Global, decoder: &mut Decoder<'_>) -> Result<Self, DecodeError> {
+        read_row::<Self, NumbersRow>(alloc, decoder)
+    }
+}
+
+impl Tabled<7, 0> for NumbersComponents {
     ghost use Rattle.std.specs.Prelude.{refl};
 
     const FIELDS: Fields<7> = Fields {
         fields: fields![
-            0 Required Context 0 "numbers",
-            1 Required Context 1 "ranges",
-            2 Required Context 2 "strings",
-            3 Required Context 3 "text",
-            4 Required Context 4 "texts",
-            5 Required Context 5 "lists",
-            6 Required Context 6 "id"
+            0 Required Context 0 "none",
+            1 Required Context 1 "two",
+            2 Required Context 2 "wide",
+            3 Required Context 3 "long",
+            4 Required Context 4 "extensible",
+            5 Required Context 5 "down",
+            6 Required Context 6 "named"
         ],
     };
 
@@ -323,274 +480,16 @@ impl Tabled<7, 0> for LeavesComponents {
     #[inline(always)]
     fn put(&self, encoder: &mut Encoder<'_>) -> Result<(), EncodeError> {
         let view = views![self:
-            numbers,
-            ranges,
-            strings,
-            text,
-            texts,
-            lists,
-            id
+            none,
+            two,
+            wide,
+            long,
+            extensible,
+            down,
+            named
         ];
-        LeavesRow::write(&view, encoder)
+        NumbersRow::write(&view, encoder)
     }
 
     ghost counts = { (refl, refl) };
-}
-
-/// `Reply ::= CHOICE { plain [0] BOOLEAN, other CHOICE { one [1] INTEGER (0..255), two [2] NULL,
-/// ..., more [4] BOOLEAN }, last [3] NULL }`
-pub type Reply = OneOf<ReplyAlternatives>;
-
-/// The alternatives of `Reply`.
-#[derive(Debug, PartialEq, Eq, Drop)]
-pub enum ReplyAlternatives {
-    Plain(bool),
-    OtherOne(u8),
-    OtherTwo(()),
-    Last(()),
-    OtherMore(bool),
-}
-
-type ReplyRow = Alternative<
-    Context<0>,
-    bool,
-    Alternative<
-        Context<1>,
-        u8,
-        Alternative<Context<2>, (), Alternative<Context<3>, (), Extensible<ReplyAdditions>>>,
-    >,
->;
-
-type ReplyAdditions = Alternative<Context<4>, bool, End>;
-
-const REPLY_ROOTS: &'static [Tag] = tags![Context 0, Context 1, Context 2, Context 3];
-
-const REPLY_ADDITIONS: &'static [Tag] = tags![Context 4];
-
-impl Alternating for ReplyAlternatives {
-    ghost use Rattle.std.specs.Prelude.{refl};
-    ghost use Rattle.rasn_oer.specs.Alternative.{First, Rest};
-    ghost use Rattle.example_printed.specs.declared.types_06.ReplyAlternatives.TheVariants.{Plain, OtherOne, OtherTwo, Last, OtherMore};
-
-    type Values = <ReplyRow as Alternatives>::Values;
-
-    ghost row_choices = { ⟦<ReplyRow as Alternatives>⟧.choices };
-
-    ghost row_are_choices = { ⟦<ReplyRow as Alternatives>⟧.are_choices };
-
-    ghost alternative = { elim [ Plain held ↦ First held | OtherOne held ↦ Rest (First held) | OtherTwo held ↦ Rest (Rest (First held)) | Last held ↦ Rest (Rest (Rest (First held))) | OtherMore held ↦ Rest (Rest (Rest (Rest (First held)))) ] };
-
-    const VARIANTS: &'static [Tag] = REPLY_ROOTS;
-
-    const EXTENDED_VARIANTS: Option<&'static [Tag]> = Some(REPLY_ADDITIONS);
-
-    fn root_tags() -> &'static [Tag] {
-        Self::VARIANTS
-    }
-
-    fn addition_tags() -> Option<&'static [Tag]> {
-        Self::EXTENDED_VARIANTS
-    }
-
-    fn from_alternative(value: Self::Values) -> Self {
-        from_row!(value => ReplyAlternatives: Plain, OtherOne, OtherTwo, Last, OtherMore)
-    }
-
-    #[inline(always)]
-    fn put<E: Choice>(&self, encoder: &mut Encoder<'_>) -> Result<(), EncodeError> {
-        match self {
-            Self::Plain(held) => put_alternative::<E, _>(encoder, Context::<0>::tag(), held),
-            Self::OtherOne(held) => put_alternative::<E, _>(encoder, Context::<1>::tag(), held),
-            Self::OtherTwo(held) => put_alternative::<E, _>(encoder, Context::<2>::tag(), held),
-            Self::Last(held) => put_alternative::<E, _>(encoder, Context::<3>::tag(), held),
-            Self::OtherMore(held) => put_alternative::<E, _>(encoder, Context::<4>::tag(), held),
-        }
-    }
-
-    ghost apart = { refl };
-}
-
-impl TakesAlternative for ReplyAlternatives {
-    ghost Refuses = { ⟦<ReplyRow as ReadsAlternatives>⟧.Refuses };
-
-    fn take<D: Choice>(
-        alloc: Global,
-        decoder: &mut Decoder<'_>,
-        tag: Tag,
-    ) -> Result<Self, DecodeError> {
-        read_alternative::<Self, ReplyRow, D>(alloc, decoder, tag)
-    }
-}
-
-/// `CHOICE { c [1] BOOLEAN, d [7] NULL }`
-pub type BothB = OneOf<BothBAlternatives>;
-
-/// The alternatives of `BothB`.
-#[derive(Debug, PartialEq, Eq, Drop)]
-pub enum BothBAlternatives {
-    C(bool),
-    D(()),
-}
-
-type BothBRow = Alternative<Context<1>, bool, Alternative<Context<7>, (), End>>;
-
-const BOTHB_ROOTS: &'static [Tag] = tags![Context 1, Context 7];
-
-impl Alternating for BothBAlternatives {
-    ghost use Rattle.std.specs.Prelude.{refl};
-    ghost use Rattle.rasn_oer.specs.Alternative.{First, Rest};
-    ghost use Rattle.example_printed.specs.declared.types_06.BothBAlternatives.TheVariants.{C, D};
-
-    type Values = <BothBRow as Alternatives>::Values;
-
-    ghost row_choices = { ⟦<BothBRow as Alternatives>⟧.choices };
-
-    ghost row_are_choices = { ⟦<BothBRow as Alternatives>⟧.are_choices };
-
-    ghost alternative = { elim [ C held ↦ First held | D held ↦ Rest (First held) ] };
-
-    const VARIANTS: &'static [Tag] = BOTHB_ROOTS;
-
-    const EXTENDED_VARIANTS: Option<&'static [Tag]> = None;
-
-    fn root_tags() -> &'static [Tag] {
-        Self::VARIANTS
-    }
-
-    fn addition_tags() -> Option<&'static [Tag]> {
-        Self::EXTENDED_VARIANTS
-    }
-
-    fn from_alternative(value: Self::Values) -> Self {
-        from_row!(value => BothBAlternatives: C, D)
-    }
-
-    #[inline(always)]
-    fn put<E: Choice>(&self, encoder: &mut Encoder<'_>) -> Result<(), EncodeError> {
-        match self {
-            Self::C(held) => put_alternative::<E, _>(encoder, Context::<1>::tag(), held),
-            Self::D(held) => put_alternative::<E, _>(encoder, Context::<7>::tag(), held),
-        }
-    }
-
-    ghost apart = { refl };
-}
-
-impl TakesAlternative for BothBAlternatives {
-    ghost Refuses = { ⟦<BothBRow as ReadsAlternatives>⟧.Refuses };
-
-    fn take<D: Choice>(
-        alloc: Global,
-        decoder: &mut Decoder<'_>,
-        tag: Tag,
-    ) -> Result<Self, DecodeError> {
-        read_alternative::<Self, BothBRow, D>(alloc, decoder, tag)
-    }
-}
-
-/// `Both ::= SET { a [5] INTEGER (0..255), b CHOICE { c [1] BOOLEAN, d [7] NULL }, e [0] NULL
-/// OPTIONAL }`
-pub type Both = Set<BothComponents, 3, 0>;
-
-/// The components of `Both`.
-#[derive(Debug, PartialEq, Eq, Drop)]
-pub struct BothComponents {
-    pub e: Option<()>,
-    pub b: BothB,
-    pub a: u8,
-}
-
-type BothRow = Optional<Context<0>, (), Required<Context<1>, BothB, Required<Context<5>, u8, End>>>;
-
-impl Rowed for BothComponents {
-    ghost use Rattle.rasn_oer.specs.Values.{both};
-
-    type Values = <BothRow as Components>::Values;
-
-    ghost EXTENSIBLE = { ⟦<BothRow as Components>⟧.EXTENSIBLE };
-
-    const EXTENSIBLE: bool = false;
-
-    ghost row_schema = { ⟦<BothRow as Components>⟧.schema };
-
-    ghost row_is_schema = { ⟦<BothRow as Components>⟧.is_schema };
-
-    ghost components = { λ v. both v.e (both v.b (both v.a tt)) };
-
-    fn from_row(row: Self::Values) -> Self {
-        built![BothComponents from row:
-            e,
-            b,
-            a
-        ]
-    }
-}
-
-impl Takes for BothComponents {
-    ghost Refuses = { ⟦<BothRow as Reads>⟧.Refuses };
-
-    #[inline(always)]
-    fn take(alloc: Global, decoder: &mut Decoder<'_>) -> Result<Self, DecodeError> {
-        read_row::<Self, BothRow>(alloc, decoder)
-    }
-}
-
-impl Tabled<3, 0> for BothComponents {
-    ghost use Rattle.std.specs.Prelude.{refl};
-
-    const FIELDS: Fields<3> = Fields {
-        fields: fields![
-            0 Optional Context 0 "e",
-            1 Required Context 1 "b",
-            2 Required Context 5 "a"
-        ],
-    };
-
-    const EXTENDED_FIELDS: Option<Fields<0>> = None;
-
-    fn root_fields() -> &'static [Field<'static>] {
-        Self::FIELDS.fields
-    }
-
-    fn addition_fields() -> &'static [Field<'static>] {
-        rows_of!(Self::EXTENDED_FIELDS)
-    }
-
-    #[inline(always)]
-    fn put(&self, encoder: &mut Encoder<'_>) -> Result<(), EncodeError> {
-        let view = views![self:
-            e,
-            b,
-            a
-        ];
-        BothRow::write(&view, encoder)
-    }
-
-    ghost counts = { (refl, refl) };
-}
-
-const BOTH_IN_TEXT_ORDER: &'static [Field<'static>] = fields![
-    0 Required Context 5 "a",
-    1 Required Context 1 "b",
-    2 Optional Context 0 "e"
-];
-
-impl TextOrder for BothComponents {
-    ghost use Rattle.std.specs.Prelude.{[], ◌∷◌};
-
-    ghost places = { 2 ∷ 1 ∷ 0 ∷ [] };
-}
-
-impl InTagOrder<3, 0> for BothComponents {
-    ghost use Rattle.std.specs.Prelude.{refl};
-
-    ghost in_order = { refl };
-
-    const SET_FIELDS: Fields<3> = Fields {
-        fields: BOTH_IN_TEXT_ORDER,
-    };
-
-    fn text_fields() -> &'static [Field<'static>] {
-        Self::SET_FIELDS.fields
-    }
 }

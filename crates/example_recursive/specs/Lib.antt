@@ -5,3 +5,4 @@ pub mod NestWeights
 pub mod GroupWeights
 pub mod BagWeights
 pub mod FilterWeights
+pub mod QueryWeights

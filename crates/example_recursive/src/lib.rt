@@ -4,6 +4,7 @@
 mod types_01;
 mod types_02;
 mod types_03;
+mod types_04;
 
 pub use types_01::{
     Body, BodyAlternatives, BodyContent, Envelope, EnvelopeComponents, EnvelopeContent, Node,
@@ -14,6 +15,7 @@ pub use types_02::{
     TreeComponents, TreeContent,
 };
 pub use types_03::{
-    Bag, BagContent, Filter, FilterAlternatives, FilterContent, Post, PostComponents, State,
-    StateValues, Way, WayAlternatives,
+    Bag, BagContent, Filter, FilterAlternatives, FilterContent, Query, QueryAlternatives,
+    QueryContent, State, StateValues,
 };
+pub use types_04::{Post, PostComponents, Way, WayAlternatives};

@@ -3,6 +3,7 @@ ghost use Rattle.std.specs.Prelude.{OnOk, IfErr};
 ghost use Rattle.oer_write.specs.Written.{Encodes, Refused};
 ghost use Rattle.asn1_core.specs.declared.constraints.TheConstants.Constraints.{NONE};
 
+use oer_kept::KeptChoice;
 use rasn_oer::prelude::*;
 use std::alloc::Global;
 
@@ -245,7 +246,7 @@ impl Limits for SerialLimits {
 pub type Body = BodyContent<Envelope>;
 
 /// A `Body` with `K` in the place of `Envelope`.
-pub type BodyContent<K> = OneOf<BodyAlternatives<K>>;
+pub type BodyContent<K> = KeptChoice<BodyAlternatives<K>>;
 
 /// The alternatives of `Body`.
 #[derive(Debug, PartialEq, Eq, Drop)]

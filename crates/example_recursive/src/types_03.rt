@@ -3,10 +3,9 @@ ghost use Rattle.std.specs.Prelude.{OnOk, IfErr};
 ghost use Rattle.oer_write.specs.Written.{Encodes, Refused};
 ghost use Rattle.asn1_core.specs.declared.constraints.TheConstants.Constraints.{NONE};
 
-use crate::{Body, Envelope};
 use oer_kept::{KeptChoice, KeptEnumeration};
 use rasn_oer::prelude::*;
-use std::alloc::{AllocError, Global};
+use std::alloc::Global;
 
 /// A set of itself, and no more.
 ///
@@ -325,6 +324,216 @@ impl Decode for Filter {
     }
 }
 
+/// The same, where newer versions may ask otherwise.
+///
+/// `Query ::= CHOICE { all SEQUENCE OF Query, except Query, name UTF8String, ... }`
+#[derive(Debug, PartialEq, Eq, Drop)]
+pub struct Query(pub QueryContent<Query>);
+
+/// What a `Query` holds.
+pub type QueryContent<K> = KeptChoice<QueryAlternatives<K>>;
+
+/// The alternatives of `Query`.
+#[derive(Debug, PartialEq, Eq, Drop)]
+pub enum QueryAlternatives<K> {
+    All(ListOf<Bare<K>>),
+    Except(Held<K>),
+    Name(Utf8Text),
+}
+
+type QueryRow<K> = AlternativeKnot<
+    Context<0>,
+    ListOf<Bare<K>>,
+    AlternativeKnot<Context<1>, Held<K>, Alternative<Context<2>, Utf8Text, Extensible<End>>>,
+>;
+
+const QUERY_ROOTS: &'static [Tag] = tags![Context 0, Context 1, Context 2];
+
+const QUERY_ADDITIONS: &'static [Tag] = &[];
+
+impl<K> KnotAlternating<K> for QueryAlternatives<K> {
+    ghost use Rattle.std.specs.Prelude.{refl};
+    ghost use Rattle.rasn_oer.specs.Alternative.{First, Rest};
+    ghost use Rattle.example_recursive.specs.QueryWeights.{query_weight};
+    ghost use Rattle.example_recursive.specs.declared.types_03.QueryAlternatives.TheVariants.{All, Except, Name};
+
+    type KnotValues = <QueryRow<K> as KnotAlternatives<K>>::Values;
+
+    ghost knot_choices = { ⟦<QueryRow<K> as KnotAlternatives<K>>⟧.choices };
+
+    ghost knot_weight = { ⟦<QueryRow<K> as KnotAlternatives<K>>⟧.weight };
+
+    ghost knot_ties = { ⟦<QueryRow<K> as KnotAlternatives<K>>⟧.ties };
+
+    ghost knot_alternative = { elim [ All held ↦ First held | Except held ↦ Rest (First held) | Name held ↦ Rest (Rest (First held)) ] };
+
+    ghost variant_weight = { query_weight };
+
+    ghost weighs = { λ size. elim [ All held ↦ refl | Except held ↦ refl | Name held ↦ refl ] };
+}
+
+impl<K: Encode> TakesKnotAlternative<K> for QueryAlternatives<K> {
+    ghost refusing = { ⟦<QueryRow<K> as ReadsKnotAlternatives<K>>⟧.refusing };
+
+    fn take_knot<D: Choice, F: Fn(&mut Decoder<'_>) -> Result<K, DecodeError>>(
+        alloc: Global,
+        decoder: &mut Decoder<'_>,
+        tag: Tag,
+        knot: &F,
+    ) -> Result<Self, DecodeError> {
+        read_knot_alternative::<K, Self, QueryRow<K>, D, F>(alloc, decoder, tag, knot)
+    }
+}
+
+impl<K: Encode> Alternating for QueryAlternatives<K> {
+    ghost use Rattle.std.specs.Prelude.{refl};
+    ghost use Rattle.rasn_oer.specs.Alternative.{First, Rest};
+    ghost use Rattle.example_recursive.specs.declared.types_03.QueryAlternatives.TheVariants.{All, Except, Name};
+
+    type Values = <QueryRow<K> as Alternatives>::Values;
+
+    ghost row_choices = { ⟦<QueryRow<K> as Alternatives>⟧.choices };
+
+    ghost row_are_choices = { ⟦<QueryRow<K> as Alternatives>⟧.are_choices };
+
+    ghost alternative = { elim [ All held ↦ First held | Except held ↦ Rest (First held) | Name held ↦ Rest (Rest (First held)) ] };
+
+    const VARIANTS: &'static [Tag] = QUERY_ROOTS;
+
+    const EXTENDED_VARIANTS: Option<&'static [Tag]> = Some(QUERY_ADDITIONS);
+
+    fn root_tags() -> &'static [Tag] {
+        QUERY_ROOTS
+    }
+
+    fn addition_tags() -> Option<&'static [Tag]> {
+        Some(QUERY_ADDITIONS)
+    }
+
+    fn from_alternative(value: Self::Values) -> Self {
+        from_row!(value => QueryAlternatives: All, Except, Name)
+    }
+
+    #[inline(always)]
+    fn put<E: Choice>(&self, encoder: &mut Encoder<'_>) -> Result<(), EncodeError> {
+        match self {
+            Self::All(held) => put_alternative::<E, _>(encoder, Context::<0>::tag(), held),
+            Self::Except(held) => put_alternative::<E, _>(encoder, Context::<1>::tag(), held),
+            Self::Name(held) => put_alternative::<E, _>(encoder, Context::<2>::tag(), held),
+        }
+    }
+
+    ghost apart = { refl };
+}
+
+impl<K: Encode + Decode> TakesAlternative for QueryAlternatives<K> {
+    ghost Refuses = { ⟦<QueryRow<K> as ReadsAlternatives>⟧.Refuses };
+
+    fn take<D: Choice>(
+        alloc: Global,
+        decoder: &mut Decoder<'_>,
+        tag: Tag,
+    ) -> Result<Self, DecodeError> {
+        read_alternative::<Self, QueryRow<K>, D>(alloc, decoder, tag)
+    }
+}
+
+impl AsnType for Query {
+    ghost use Rattle.std.specs.Prelude.{refl};
+    ghost use Rattle.asn1_core.specs.declared.tag.TheConstants.Tag.{EOC};
+    ghost use Rattle.asn1_core.specs.declared.constraints.TheConstants.Constraints.{NONE};
+
+    ghost TAG = { EOC };
+
+    const TAG: Tag = Tag::EOC;
+
+    ghost CONSTRAINTS = { NONE };
+
+    const CONSTRAINTS: Constraints = Constraints::NONE;
+
+    ghost consistent = { refl };
+
+    const IS_CHOICE: bool = true;
+}
+
+impl Spelled for Query {
+    ghost use Rattle.rasn_oer.specs.Knots.{knot_tree, IsKnot, knot_typed};
+    ghost use Rattle.example_recursive.specs.QueryWeights.{query_smaller};
+    ghost use Rattle.example_recursive.specs.declared.types_03.Query.{out-Query, size-Query};
+
+    ghost tree = { λ c v. knot_tree size-Query (λ v. (out-Query v).0) ⟦<QueryContent<Query> as HoldsKnot<Query>>⟧.tied v };
+
+    ghost IsValue = { IsKnot size-Query (λ v. (out-Query v).0) ⟦<QueryContent<Query> as HoldsKnot<Query>>⟧.tied };
+
+    ghost is_tree = { λ c k v i. (knot_typed size-Query (λ v. (out-Query v).0) ⟦<QueryContent<Query> as HoldsKnot<Query>>⟧.tied ⟦<QueryContent<Query> as HoldsKnot<Query>>⟧.weight (record { ties = ⟦<QueryContent<Query> as HoldsKnot<Query>>⟧.ties; smaller = query_smaller })).is v i };
+
+    ghost alike = { λ c k v w i j. (knot_typed size-Query (λ v. (out-Query v).0) ⟦<QueryContent<Query> as HoldsKnot<Query>>⟧.tied ⟦<QueryContent<Query> as HoldsKnot<Query>>⟧.weight (record { ties = ⟦<QueryContent<Query> as HoldsKnot<Query>>⟧.ties; smaller = query_smaller })).like v w i j };
+}
+
+impl Layered for Query {
+    ghost use Rattle.rasn_oer.specs.Knots.{knot, knot_layers, layer};
+    ghost use Rattle.example_recursive.specs.QueryWeights.{query_smaller};
+    ghost use Rattle.example_recursive.specs.declared.types_03.Query.{out-Query, size-Query};
+
+    ghost inner = { layer size-Query (λ v. (out-Query v).0) ⟦<QueryContent<Query> as HoldsKnot<Query>>⟧.tied (knot size-Query (λ v. (out-Query v).0) ⟦<QueryContent<Query> as HoldsKnot<Query>>⟧.tied) };
+
+    ghost layers = { knot_layers size-Query (λ v. (out-Query v).0) ⟦<QueryContent<Query> as HoldsKnot<Query>>⟧.tied ⟦<QueryContent<Query> as HoldsKnot<Query>>⟧.weight (record { ties = ⟦<QueryContent<Query> as HoldsKnot<Query>>⟧.ties; smaller = query_smaller }) };
+}
+
+/// Writes what a `Query` holds.
+fn encode_query<K: Encode>(
+    inner: &QueryContent<K>,
+    encoder: &mut Encoder<'_>,
+    tag: Tag,
+) -> Result<(), EncodeError>
+    ensures done { OnOk result (Encodes (⟦<QueryContent<K> as Spelled>⟧.tree NONE inner.now) encoder.old encoder.new) }
+    ensures value { OnOk result (⟦<QueryContent<K> as Spelled>⟧.IsValue inner.now) }
+    ensures refused { IfErr result (λ x. Refused (⟦<QueryContent<K> as Spelled>⟧.tree NONE inner.now) x encoder.old encoder.new) }
+{
+    inner.encode_with_tag(encoder, tag)
+}
+
+impl Encode for Query {
+    fn encode_with_tag_and_constraints(
+        &self,
+        encoder: &mut Encoder<'_>,
+        tag: Tag,
+        _constraints: Constraints,
+    ) -> Result<(), EncodeError> {
+        layer_of::<Query>(self);
+        encode_query::<Query>(&self.0, encoder, tag)
+    }
+}
+
+impl Knot<QueryContent<Query>> for Query {
+    ghost use Rattle.rasn_oer.specs.Knots.{knot_layered};
+    ghost use Rattle.example_recursive.specs.QueryWeights.{query_smaller};
+    ghost use Rattle.example_recursive.specs.declared.types_03.Query.{out-Query, size-Query};
+
+    ghost content = { λ v. (out-Query v).0 };
+
+    fn from_content(inner: QueryContent<Query>) -> Query {
+        Query(inner)
+    }
+
+    ghost layered = { knot_layered size-Query (λ v. (out-Query v).0) ⟦<QueryContent<Query> as HoldsKnot<Query>>⟧.tied ⟦<QueryContent<Query> as HoldsKnot<Query>>⟧.weight (record { ties = ⟦<QueryContent<Query> as HoldsKnot<Query>>⟧.ties; smaller = query_smaller }) };
+}
+
+impl Decode for Query {
+    ghost use Rattle.rasn_oer.specs.Answering.{KnotAnswers};
+
+    ghost Answered = { λ c s r t. KnotAnswers ⟦<Query as Knot<QueryContent<Query>>>⟧.content ⟦<QueryContent<Query> as DecodeKnot<Query>>⟧.answering s r t };
+
+    fn decode_with_tag_and_constraints(
+        alloc: Global,
+        decoder: &mut Decoder<'_>,
+        tag: Tag,
+        _constraints: Constraints,
+    ) -> Result<Query, DecodeError> {
+        decode_knotted::<QueryContent<Self>, Self>(alloc, decoder, tag)
+    }
+}
+
 /// `State ::= ENUMERATED { sent, read, ..., lost }`
 pub type State = KeptEnumeration<StateValues>;
 
@@ -353,192 +562,4 @@ impl Numbered for StateValues {
     fn values() -> &'static [StateValues] {
         &[StateValues::Sent, StateValues::Read, StateValues::Lost]
     }
-}
-
-/// `Way ::= CHOICE { road NULL, air INTEGER (0..255), ..., sea State }`
-pub type Way = KeptChoice<WayAlternatives>;
-
-/// The alternatives of `Way`.
-#[derive(Debug, PartialEq, Eq, Drop)]
-pub enum WayAlternatives {
-    Road(()),
-    Air(u8),
-    Sea(State),
-}
-
-type WayRow = Alternative<Context<0>, (), Alternative<Context<1>, u8, Extensible<WayAdditions>>>;
-
-type WayAdditions = Alternative<Context<2>, State, End>;
-
-const WAY_ROOTS: &'static [Tag] = tags![Context 0, Context 1];
-
-const WAY_ADDITIONS: &'static [Tag] = tags![Context 2];
-
-impl Alternating for WayAlternatives {
-    ghost use Rattle.std.specs.Prelude.{refl};
-    ghost use Rattle.rasn_oer.specs.Alternative.{First, Rest};
-    ghost use Rattle.example_recursive.specs.declared.types_03.WayAlternatives.TheVariants.{Road, Air, Sea};
-
-    type Values = <WayRow as Alternatives>::Values;
-
-    ghost row_choices = { ⟦<WayRow as Alternatives>⟧.choices };
-
-    ghost row_are_choices = { ⟦<WayRow as Alternatives>⟧.are_choices };
-
-    ghost alternative = { elim [ Road held ↦ First held | Air held ↦ Rest (First held) | Sea held ↦ Rest (Rest (First held)) ] };
-
-    const VARIANTS: &'static [Tag] = WAY_ROOTS;
-
-    const EXTENDED_VARIANTS: Option<&'static [Tag]> = Some(WAY_ADDITIONS);
-
-    fn root_tags() -> &'static [Tag] {
-        Self::VARIANTS
-    }
-
-    fn addition_tags() -> Option<&'static [Tag]> {
-        Self::EXTENDED_VARIANTS
-    }
-
-    fn from_alternative(value: Self::Values) -> Self {
-        from_row!(value => WayAlternatives: Road, Air, Sea)
-    }
-
-    #[inline(always)]
-    fn put<E: Choice>(&self, encoder: &mut Encoder<'_>) -> Result<(), EncodeError> {
-        match self {
-            Self::Road(held) => put_alternative::<E, _>(encoder, Context::<0>::tag(), held),
-            Self::Air(held) => put_alternative::<E, _>(encoder, Context::<1>::tag(), held),
-            Self::Sea(held) => put_alternative::<E, _>(encoder, Context::<2>::tag(), held),
-        }
-    }
-
-    ghost apart = { refl };
-}
-
-impl TakesAlternative for WayAlternatives {
-    ghost Refuses = { ⟦<WayRow as ReadsAlternatives>⟧.Refuses };
-
-    fn take<D: Choice>(
-        alloc: Global,
-        decoder: &mut Decoder<'_>,
-        tag: Tag,
-    ) -> Result<Self, DecodeError> {
-        read_alternative::<Self, WayRow, D>(alloc, decoder, tag)
-    }
-}
-
-/// The default sent of `PostState`.
-pub struct PostStateDefault;
-
-impl DefaultValue<State> for PostStateDefault {
-    ghost use Rattle.example_recursive.specs.declared.types_03.StateValues.TheVariants.{Sent};
-    ghost use Rattle.std.specs.Prelude.{refl};
-    ghost use Rattle.oer_kept.specs.declared.enumerations.KeptEnumeration.TheVariants.{Known};
-
-    ghost value = { Known Sent };
-
-    fn value(_alloc: Global) -> Result<State, AllocError> {
-        Ok(KeptEnumeration::Known(StateValues::Sent))
-    }
-
-    fn is_value(other: &State) -> bool {
-        *other == KeptEnumeration::Known(StateValues::Sent)
-    }
-
-    ghost admitted = { (refl, refl) };
-}
-
-/// Beside a cycle. Newer versions may have other states and ways.
-///
-/// `Post ::= SEQUENCE { letter Envelope, answer Body OPTIONAL, state State DEFAULT sent, way Way OPTIONAL
-/// }`
-pub type Post = Sequence<PostComponents, 4, 0>;
-
-/// The components of `Post`.
-#[derive(Debug, PartialEq, Eq, Drop)]
-pub struct PostComponents {
-    pub letter: Envelope,
-    pub answer: Option<Body>,
-    pub state: State,
-    pub way: Option<Way>,
-}
-
-type PostRow = Required<
-    Context<0>,
-    Envelope,
-    Optional<
-        Context<1>,
-        Body,
-        Defaulted<Context<2>, State, PostStateDefault, Optional<Context<3>, Way, End>>,
-    >,
->;
-
-impl Rowed for PostComponents {
-    ghost use Rattle.rasn_oer.specs.Values.{both};
-
-    type Values = <PostRow as Components>::Values;
-
-    ghost EXTENSIBLE = { ⟦<PostRow as Components>⟧.EXTENSIBLE };
-
-    const EXTENSIBLE: bool = false;
-
-    ghost row_schema = { ⟦<PostRow as Components>⟧.schema };
-
-    ghost row_is_schema = { ⟦<PostRow as Components>⟧.is_schema };
-
-    ghost components = { λ v. both v.letter (both v.answer (both v.state (both v.way tt))) };
-
-    fn from_row(row: Self::Values) -> Self {
-        built![PostComponents from row:
-            letter,
-            answer,
-            state,
-            way
-        ]
-    }
-}
-
-impl Takes for PostComponents {
-    ghost Refuses = { ⟦<PostRow as Reads>⟧.Refuses };
-
-    #[inline(always)]
-    fn take(alloc: Global, decoder: &mut Decoder<'_>) -> Result<Self, DecodeError> {
-        read_row::<Self, PostRow>(alloc, decoder)
-    }
-}
-
-impl Tabled<4, 0> for PostComponents {
-    ghost use Rattle.std.specs.Prelude.{refl};
-
-    const FIELDS: Fields<4> = Fields {
-        fields: fields![
-            0 Required Context 0 "letter",
-            1 Optional Context 1 "answer",
-            2 Default Context 2 "state",
-            3 Optional Context 3 "way"
-        ],
-    };
-
-    const EXTENDED_FIELDS: Option<Fields<0>> = None;
-
-    fn root_fields() -> &'static [Field<'static>] {
-        Self::FIELDS.fields
-    }
-
-    fn addition_fields() -> &'static [Field<'static>] {
-        rows_of!(Self::EXTENDED_FIELDS)
-    }
-
-    #[inline(always)]
-    fn put(&self, encoder: &mut Encoder<'_>) -> Result<(), EncodeError> {
-        let view = views![self:
-            letter,
-            answer,
-            state,
-            way
-        ];
-        PostRow::write(&view, encoder)
-    }
-
-    ghost counts = { (refl, refl) };
 }

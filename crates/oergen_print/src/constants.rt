@@ -182,6 +182,26 @@ fn push_assigned<'m>(
     Ok(())
 }
 
+/// The values that all modules assign.
+fn push_all_assigned<'m>(scope: Scope<'m, '_>, out: &mut Constants) -> Result<(), AllocError> {
+    for module in scope.modules.iter() {
+        push_assigned(scope, out, module)?;
+    }
+    Ok(())
+}
+
+/// The named numbers of a type's parts.
+fn push_numbers<'m>(
+    scope: Scope<'m, '_>,
+    out: &mut Constants,
+    definition: &Definition<'m>,
+) -> Result<(), AllocError> {
+    for part in definition.parts.iter() {
+        push_named(scope, out, definition.rust_name.as_str(), part)?;
+    }
+    Ok(())
+}
+
 /// The constants of the modules, one behind another, each with an empty line behind it.
 pub fn constants_of<'m>(
     scope: Scope<'m, '_>,
@@ -191,13 +211,9 @@ pub fn constants_of<'m>(
         text: Text::new(scope.alloc),
         names: BTreeMap::new(scope.alloc),
     };
-    for module in scope.modules.iter() {
-        push_assigned(scope, &mut out, module)?;
-    }
+    push_all_assigned(scope, &mut out)?;
     for definition in all.iter() {
-        for part in definition.parts.iter() {
-            push_named(scope, &mut out, definition.rust_name.as_str(), part)?;
-        }
+        push_numbers(scope, &mut out, definition)?;
     }
     laid_out(scope.alloc, &out.text)
 }

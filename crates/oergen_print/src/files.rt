@@ -1,4 +1,7 @@
 //! The files of the crates that the types are put into.
+ghost use Rattle.std.specs.Prelude.{◌≡◌, ◌++◌, IfOk, OnOk, map};
+ghost use Rattle.std.specs.List.{All, flat_map};
+ghost use Rattle.oergen_print.specs.Sections.{IsSectionOf, called, its_name, of_section};
 
 use crate::constants::constants_of;
 use crate::kept::{KEPT_LIBRARY, keep_unknown, use_kept};
@@ -6,6 +9,7 @@ use crate::knot_files::{has_knots, push_definition_names, push_proof_files};
 use crate::knot_templates::KNOT_USES;
 use crate::outputs::{File, push_placed};
 use crate::printer::{LeftOut, Outcome, Printed, free_names, print_types};
+use crate::sections::{Section, sections, types_of};
 use crate::sizes::hold_large;
 use crate::text::Text;
 use crate::uses::{Homes, Paths, names_crate, path_lines, push_path, use_lines};
@@ -19,15 +23,6 @@ use oergen_parse::modules::read_tree;
 use oergen_parse::refusal::Refusal;
 use std::alloc::{AllocError, Global};
 use std::collections::BTreeMap;
-
-/// How many types a crate has, but for the rest of a cycle: so that its check stays within a few minutes.
-const TYPES_A_CRATE: usize = 40;
-
-/// How many lines a crate has, at least, that ends where a cycle begins: the cycle's own check takes as long as theirs.
-const LINES_BEFORE_A_CYCLE: usize = 1000;
-
-/// How many lines a file has, but for its last type or cycle.
-const LINES_A_FILE: usize = 500;
 
 /// The library that each printed crate uses.
 const LIBRARY: &str = "rasn_oer";
@@ -56,135 +51,23 @@ pub struct Output {
     pub types: Vec<Named>,
 }
 
-/// Where a file's types stand: the crate, the file's module, and its first type and the one behind its last.
-#[derive(Drop)]
-struct Section {
-    library: String,
-    module: String,
-    from: usize,
-    to: usize,
-}
-
-/// Where a file's types stand: the numbers of its crate and of its module, from 1, and the places of the types.
-#[derive(Clone, Copy)]
-struct Cut {
-    library: usize,
-    module: usize,
-    from: usize,
-    to: usize,
-}
-
-impl Cut {
-    /// Where the next file begins, in the same crate or in another.
-    fn next(self, ends_crate: bool) -> Cut {
-        let (library, module) = if ends_crate {
-            (self.library.saturating_add(1), 1)
-        } else {
-            (self.library, self.module.saturating_add(1))
-        };
-        Cut {
-            library,
-            module,
-            from: self.to,
-            to: self.to,
-        }
+/// Puts the names of a type to the homes of others.
+fn push_homes(homes: &mut Homes, one: &Printed, section: &Section) -> Result<(), AllocError> {
+    for name in one.names.iter() {
+        let home = (section.library.clone()?, section.module.clone()?);
+        homes.insert(name.clone()?, home)?;
     }
+    Ok(())
 }
 
-/// Whether a type stands in the file of the one before.
-fn is_joined(types: &[Printed], at: usize) -> bool {
-    match types.get(at) {
-        Some(one) => one.is_joined,
-        None => false,
-    }
-}
-
-/// Whether a cycle of several types begins there.
-fn begins_cycle(types: &[Printed], at: usize) -> bool {
-    !is_joined(types, at) && is_joined(types, at.saturating_add(1))
-}
-
-/// Whether a crate of so many types and lines ends before the type.
-fn is_full(types: &[Printed], count: usize, lines: usize, at: usize) -> bool {
-    count >= TYPES_A_CRATE || lines >= LINES_BEFORE_A_CYCLE && begins_cycle(types, at)
-}
-
-/// Cuts the types into crates and files; a cycle isn't cut.
-fn cuts(alloc: Global, types: &[Printed]) -> Result<Vec<Cut>, AllocError> {
-    let mut all: Vec<Cut> = Vec::new(alloc);
-    let mut cut = Cut {
-        library: 1,
-        module: 1,
-        from: 0,
-        to: 0,
-    };
-    let mut crate_from = 0usize;
-    let mut crate_lines = 0usize;
-    let mut lines = 0usize;
-    for (at, one) in types.iter().enumerate() {
-        let count = one.text.as_str().lines().count();
-        lines = lines.saturating_add(count);
-        crate_lines = crate_lines.saturating_add(count);
-        cut.to = at.saturating_add(1);
-        let count = cut.to.saturating_sub(crate_from);
-        let ends_crate = is_full(types, count, crate_lines, cut.to) || cut.to == types.len();
-        if is_joined(types, cut.to) || !ends_crate && lines < LINES_A_FILE {
-            continue;
-        }
-        all.push(cut)?;
-        cut = cut.next(ends_crate);
-        if ends_crate {
-            crate_from = cut.from;
-            crate_lines = 0;
-        }
-        lines = 0;
-    }
-    Ok(all)
-}
-
-/// The section of a cut, in one of so many crates: by their numbers from 1.
-fn section_of(alloc: Global, name: &str, cut: Cut, count: usize) -> Result<Section, AllocError> {
-    let mut library = Text::of(alloc, &[name]);
-    if count > 1 {
-        library.push("_");
-        library.push_count(cut.library);
-    }
-    let mut module = Text::of(alloc, &[if cut.module < 10 { "types_0" } else { "types_" }]);
-    module.push_count(cut.module);
-    Ok(Section {
-        library: library.end()?,
-        module: module.end()?,
-        from: cut.from,
-        to: cut.to,
-    })
-}
-
-/// The types by crates and files.
-fn sections(alloc: Global, name: &str, types: &[Printed]) -> Result<Vec<Section>, AllocError> {
-    let cuts = cuts(alloc, types)?;
-    let count = match cuts.last() {
-        Some(last) => last.library,
-        None => 0,
-    };
-    let mut all = Vec::new(alloc);
-    for cut in cuts.iter() {
-        all.push(section_of(alloc, name, *cut, count)?)?;
-    }
-    Ok(all)
-}
-
-/// The types of a section.
-fn types_of<'t>(types: &'t [Printed], section: &Section) -> &'t [Printed] {
-    types.get(section.from..section.to).unwrap_or(&[])
-}
-
-/// Puts the names of a section to the homes of others.
-fn push_homes(homes: &mut Homes, types: &[Printed], section: &Section) -> Result<(), AllocError> {
+/// Puts the names of a section's types to the homes of others.
+fn push_all_homes(
+    homes: &mut Homes,
+    types: &[Printed],
+    section: &Section,
+) -> Result<(), AllocError> {
     for one in types.iter() {
-        for name in one.names.iter() {
-            let home = (section.library.clone()?, section.module.clone()?);
-            homes.insert(name.clone()?, home)?;
-        }
+        push_homes(homes, one, section)?;
     }
     Ok(())
 }
@@ -193,7 +76,7 @@ fn push_homes(homes: &mut Homes, types: &[Printed], section: &Section) -> Result
 fn homes_of(alloc: Global, types: &[Printed], all: &[Section]) -> Result<Homes, AllocError> {
     let mut homes = BTreeMap::new(alloc);
     for section in all.iter() {
-        push_homes(&mut homes, types_of(types, section), section)?;
+        push_all_homes(&mut homes, types_of(types, section), section)?;
     }
     Ok(homes)
 }
@@ -269,17 +152,28 @@ fn section_file(
     File::at(alloc, &path, text)
 }
 
-/// Puts the paths of a section's names to others.
+/// Puts the paths of a type's names to others.
 fn push_paths(
+    alloc: Global,
+    one: &Printed,
+    module: &str,
+    paths: &mut Paths,
+) -> Result<(), AllocError> {
+    for name in one.names.iter() {
+        push_path(alloc, paths, module, name.as_str())?;
+    }
+    Ok(())
+}
+
+/// Puts the paths of the names of a section's types to others.
+fn push_all_paths(
     alloc: Global,
     types: &[Printed],
     section: &Section,
     paths: &mut Paths,
 ) -> Result<(), AllocError> {
     for one in types_of(types, section).iter() {
-        for name in one.names.iter() {
-            push_path(alloc, paths, section.module.as_str(), name.as_str())?;
-        }
+        push_paths(alloc, one, section.module.as_str(), paths)?;
     }
     Ok(())
 }
@@ -303,7 +197,7 @@ fn name_lines(
     let mut paths: Paths = BTreeMap::new(alloc);
     for section in all.iter() {
         if section.library.as_str() == library {
-            push_paths(alloc, types, section, &mut paths)?;
+            push_all_paths(alloc, types, section, &mut paths)?;
         }
     }
     path_lines(alloc, "pub use", &paths)
@@ -453,7 +347,9 @@ fn push_named(
     named: &mut Vec<Named>,
     types: &[Printed],
     library: &str,
-) -> Result<(), AllocError> {
+) -> Result<(), AllocError>
+    ensures { OnOk result (map called named.new.items ≡ map called named.old.items ++ map its_name types.now) }
+{
     for one in types.iter() {
         named.push(Named {
             library: String::from_str(alloc, library)?,
@@ -464,11 +360,9 @@ fn push_named(
 }
 
 /// The types of all crates.
-fn named_types(
-    alloc: Global,
-    types: &[Printed],
-    all: &[Section],
-) -> Result<Vec<Named>, AllocError> {
+fn named_types(alloc: Global, types: &[Printed], all: &[Section]) -> Result<Vec<Named>, AllocError>
+    ensures { flat_map (of_section types.now) all.now ≡ types.now → All (IsSectionOf types.now) all.now → IfOk result (λ named. map called named.items ≡ map its_name types.now) }
+{
     let mut named = Vec::new(alloc);
     for section in all.iter() {
         push_named(
@@ -536,13 +430,15 @@ fn push_all_unread(scope: Scope<'_, '_>, out: &mut Text, files: &[&str]) -> Resu
     Ok(())
 }
 
-/// What is written of types that are printed or left out.
+/// What is written of types that are printed or left out: each type that is printed, once.
 fn output_of(
     scope: Scope<'_, '_>,
     outcome: &Outcome,
     constants: &str,
     wish: Wish<'_>,
-) -> Result<Output, AllocError> {
+) -> Result<Output, AllocError>
+    ensures { IfOk result (λ output. map called output.types.items ≡ map its_name outcome.now.printed.items) }
+{
     let alloc = scope.alloc;
     let types = outcome.printed.as_slice();
     let all = sections(alloc, wish.name, types)?;

@@ -37,10 +37,10 @@ fn may_grow(definition: &Definition<'_>) -> bool {
     }
 }
 
-/// Says of each type whether it keeps what newer versions have: of those that may grow, all that are of no cycle.
+/// Says of each type whether it keeps what newer versions have: all that may grow.
 pub fn keep_unknown(all: &mut Vec<Definition<'_>>) {
     for definition in all.iter_mut() {
-        definition.keeps_unknown = definition.cycle.is_none() && may_grow(definition);
+        definition.keeps_unknown = may_grow(definition);
     }
 }
 

@@ -24,6 +24,7 @@ pub mod notation;
 pub mod notes;
 pub mod outputs;
 pub mod printer;
+pub mod sections;
 pub mod sequences;
 pub mod set_order;
 pub mod shapes;

@@ -221,6 +221,15 @@ fn marked(alloc: Global, text: &str) -> Text {
     out
 }
 
+/// The lines of a text, each too long one broken once.
+fn broken(alloc: Global, text: &str) -> Text {
+    let mut out = Text::new(alloc);
+    for line in text.lines() {
+        push_line(&mut out, line);
+    }
+    out
+}
+
 /// Items with an empty line behind each, in the layout that the formatter leaves as it is.
 pub fn laid_out(alloc: Global, text: &Text) -> Result<String, AllocError> {
     let mut done = Text::new(alloc);
@@ -229,10 +238,7 @@ pub fn laid_out(alloc: Global, text: &Text) -> Result<String, AllocError> {
         if !has_long(done.as_str()) {
             return done.end();
         }
-        let mut next = Text::new(alloc);
-        for line in done.as_str().lines() {
-            push_line(&mut next, line);
-        }
+        let mut next = broken(alloc, done.as_str());
         next.heed(&done);
         done = next;
     }

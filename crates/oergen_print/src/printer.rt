@@ -288,11 +288,8 @@ fn clash_at<'m>(
 fn clashes<'m>(scope: Scope<'m, '_>, all: &[Definition<'m>]) -> Result<Vec<usize>, AllocError> {
     let mut places = BTreeMap::new(scope.alloc);
     let mut found = Vec::new(scope.alloc);
-    for definition in all.iter() {
-        if definition.cycle.is_some() {
-            places.insert(String::from_str(scope.alloc, "k")?, (all.len(), true))?;
-            break;
-        }
+    if all.iter().any(|one| one.cycle.is_some()) {
+        places.insert(String::from_str(scope.alloc, "k")?, (all.len(), true))?;
     }
     for at in 0..all.len() {
         if let Some(clash) = clash_at(scope, all, at, &mut places)? {

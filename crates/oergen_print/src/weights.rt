@@ -11,6 +11,9 @@ use oergen_layouts::scope::Scope;
 use oergen_parse::ast::{Body, Need};
 use std::alloc::{AllocError, Global};
 
+/// What begins the weight of a choice that keeps alternatives of newer versions: a name that no weight of a type has.
+const KEPT_WEIGHT: &str = "weight-kept (";
+
 /// What the definitions of a cycle have of one of its types: the names that they take from elsewhere, and their lines.
 #[derive(Drop)]
 pub struct Weights {
@@ -25,11 +28,27 @@ pub struct Knot {
     pub weight: Text,
 }
 
-/// What a part leads to past lists: how many these are, and the type of the cycle there by its name; nothing for the knot.
+/// A type of a cycle, and whether it keeps what newer versions of it have.
+#[derive(Clone, Copy)]
+struct Owner<'d> {
+    name: &'d str,
+    keeps_unknown: bool,
+}
+
+impl<'d> Owner<'d> {
+    fn of(definition: &'d Definition<'_>) -> Owner<'d> {
+        Owner {
+            name: definition.rust_name.as_str(),
+            keeps_unknown: definition.keeps_unknown,
+        }
+    }
+}
+
+/// What a part leads to past lists: how many these are, and the type of the cycle there; nothing for the knot.
 #[derive(Clone, Copy)]
 struct Reach<'d> {
     lists: usize,
-    owner: Option<&'d str>,
+    owner: Option<Owner<'d>>,
 }
 
 /// The element of the list that a part leads to.
@@ -55,17 +74,22 @@ fn reach_of<'d>(all: &'d [Definition<'_>], part: &Part<'_>) -> Reach<'d> {
         tie = element.tie;
     }
     let owner = match tie {
-        Tie::Member(at) => all.get(at).map(|definition| definition.rust_name.as_str()),
+        Tie::Member(at) => all.get(at).map(|definition| Owner::of(definition)),
         Tie::Plain | Tie::Knot => None,
     };
     Reach { lists, owner }
 }
 
 /// Appends what a value weighs that is no list: of a knot what is in its box, where it has one.
-fn push_leaf(out: &mut Text, owner: Option<&str>, size: &str, of: &str, knot: &str) {
+fn push_leaf(out: &mut Text, owner: Option<Owner<'_>>, size: &str, of: &str, knot: &str) {
     match owner {
+        Some(owner) if owner.keeps_unknown => {
+            out.push(KEPT_WEIGHT);
+            out.push_component_name(owner.name);
+            out.push_all(&["_weight ", size, ") ", of]);
+        }
         Some(owner) => {
-            out.push_component_name(owner);
+            out.push_component_name(owner.name);
             out.push_all(&["_weight ", size, " ", of, ".0"]);
         }
         None => out.push_all(&[size, " ", of, knot]),
@@ -288,7 +312,8 @@ pub fn weights_of(
 
 /// What a knot's content weighs.
 fn content_weight(alloc: Global, all: &[Definition<'_>], definition: &Definition<'_>) -> Text {
-    let name = definition.rust_name.as_str();
+    let owner = Owner::of(definition);
+    let name = owner.name;
     let size = Text::of(alloc, &["size-", name]);
     let of = Text::of(alloc, &["(out-", name, " v).0"]);
     let mut out = Text::new(alloc);
@@ -296,7 +321,7 @@ fn content_weight(alloc: Global, all: &[Definition<'_>], definition: &Definition
         Some(part) if part.row.is_none() => {
             push_weight(&mut out, reach_of(all, part), size.as_str(), of.as_str());
         }
-        _ => push_leaf(&mut out, Some(name), size.as_str(), of.as_str(), ""),
+        _ => push_leaf(&mut out, Some(owner), size.as_str(), of.as_str(), ""),
     }
     out.heed(&size);
     out.heed(&of);
@@ -325,6 +350,9 @@ fn push_word_uses(out: &mut Text, lines: &str) {
     }
     if lines.contains("option_weight ") {
         out.push("use Rattle.rasn_oer.specs.Ties.{option_weight}\n");
+    }
+    if lines.contains(KEPT_WEIGHT) {
+        out.push("use Rattle.oer_kept.specs.KeptKnots.{kept_weight as weight-kept}\n");
     }
 }
 

@@ -19,7 +19,7 @@ type KeptPriority = KeptChoice<PriorityAlternatives>;
 type KeptOnly = KeptChoice<OnlyAlternatives>;
 
 /// Whether both modules read the octets as the value, and write it as these octets again.
-fn agree<T: Encode + Decode + PartialEq>(
+pub fn agree<T: Encode + Decode + PartialEq>(
     alloc: Global,
     value: &T,
     octets: &[u8],
@@ -37,7 +37,7 @@ fn agree<T: Encode + Decode + PartialEq>(
 }
 
 /// Whether lenient reading gives the value, which is written as the other octets, and canonical reading refuses as that kind.
-fn only_lenient<T: Encode + Decode + PartialEq>(
+pub fn only_lenient<T: Encode + Decode + PartialEq>(
     alloc: Global,
     value: &T,
     octets: &[u8],
@@ -59,7 +59,7 @@ fn why_unread<T: Decode>(alloc: Global, octets: &[u8]) -> Option<DecodeErrorKind
 }
 
 /// Why the value isn't written, if it isn't.
-fn why_unwritten<T: Encode>(alloc: Global, value: &T) -> Option<EncodeErrorKind> {
+pub fn why_unwritten<T: Encode>(alloc: Global, value: &T) -> Option<EncodeErrorKind> {
     match coer::encode(alloc, value) {
         Ok(_) => None,
         Err(e) => Some(e.kind),
@@ -67,7 +67,7 @@ fn why_unwritten<T: Encode>(alloc: Global, value: &T) -> Option<EncodeErrorKind>
 }
 
 /// The alternative with that tag, by its octets.
-fn other<T>(
+pub fn other<T>(
     alloc: Global,
     class: Class,
     number: u32,

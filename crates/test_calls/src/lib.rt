@@ -10,6 +10,8 @@ mod closures;
 #[cfg(test)]
 mod kept;
 #[cfg(test)]
+mod kept_cycles;
+#[cfg(test)]
 mod lent;
 #[cfg(test)]
 mod messages;

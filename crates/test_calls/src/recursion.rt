@@ -6,6 +6,7 @@ use example_recursive::{
     Bag, BodyAlternatives, Envelope, EnvelopeComponents, Filter, FilterAlternatives, Group,
     GroupComponents, Tree, TreeComponents,
 };
+use oer_kept::KeptChoice;
 use oer_types::{Chain, ChainComponents, Node, NodeComponents};
 use rasn_oer::oer::de::DecoderOptions;
 use rasn_oer::prelude::*;
@@ -46,7 +47,7 @@ fn envelope(
     let id = OctetString::from_slice(alloc, &id)?;
     Ok(Envelope(Sequence(EnvelopeComponents {
         id: Limited::new(Octets(id)),
-        body: OneOf(body),
+        body: KeptChoice::Known(body),
         urgent,
     })))
 }

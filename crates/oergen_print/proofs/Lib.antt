@@ -1,0 +1,2 @@
+-- Lemmas that proofs cite.
+mod Following
