@@ -18,9 +18,6 @@ use std::collections::BTreeMap;
 /// How many alternatives a printed CHOICE has at most.
 const MAX_ALTERNATIVES: usize = 24;
 
-/// Of how many the prover finds itself how `put` writes them: the tenth it doesn't.
-const MAX_FOUND: usize = 9;
-
 /// Appends the name of the table of a CHOICE's tags.
 pub fn push_table_name(out: &mut Text, owner: &str, part: &str) {
     out.push_upper(owner);
@@ -209,16 +206,20 @@ pub fn push_choice<'m>(
     Ok(())
 }
 
-/// What the prover is told of `put` of a wide CHOICE: how each further variant is written. Nothing of another type.
+/// What the prover is told of `put` of a CHOICE: how each variant is written. Nothing of another type.
 pub fn answers_of(alloc: Global, definition: &Definition<'_>) -> Text {
     let mut out = Text::new(alloc);
     if !matches!(definition.of.body, Body::Choice(_)) {
         return out;
     }
-    for part in definition.parts.iter().skip(MAX_FOUND) {
+    for (at, part) in definition.parts.iter().enumerate() {
         let name = alternative_name(alloc, part.name.as_str());
         let mut words = Words::new(alloc);
         words.put("VARIANT", name.as_str());
+        let within = words.begin("IN");
+        if at != 0 {
+            within.push_all(&["-in-", name.as_str()]);
+        }
         out.fill(PUT_ANSWER, &words);
         out.heed(&name);
     }

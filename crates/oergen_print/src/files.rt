@@ -1,7 +1,7 @@
 //! The files of the crates that the types are put into.
 ghost use Rattle.std.specs.Prelude.{◌≡◌, ◌++◌, IfOk, OnOk, map};
 ghost use Rattle.std.specs.List.{All, flat_map};
-ghost use Rattle.oergen_print.specs.Sections.{IsSectionOf, called, its_name, of_section};
+ghost use Rattle.oergen_print.specs.Sections.{IsSectionOf, listed_name, of_section, type_name};
 
 use crate::constants::constants_of;
 use crate::kept::{KEPT_LIBRARY, keep_unknown, use_kept};
@@ -348,7 +348,7 @@ fn push_named(
     types: &[Printed],
     library: &str,
 ) -> Result<(), AllocError>
-    ensures { OnOk result (map called named.new.items ≡ map called named.old.items ++ map its_name types.now) }
+    ensures { OnOk result (map listed_name named.new.items ≡ map listed_name named.old.items ++ map type_name types.now) }
 {
     for one in types.iter() {
         named.push(Named {
@@ -361,7 +361,7 @@ fn push_named(
 
 /// The types of all crates.
 fn named_types(alloc: Global, types: &[Printed], all: &[Section]) -> Result<Vec<Named>, AllocError>
-    ensures { flat_map (of_section types.now) all.now ≡ types.now → All (IsSectionOf types.now) all.now → IfOk result (λ named. map called named.items ≡ map its_name types.now) }
+    ensures { flat_map (of_section types.now) all.now ≡ types.now → All (IsSectionOf types.now) all.now → IfOk result (λ named. map listed_name named.items ≡ map type_name types.now) }
 {
     let mut named = Vec::new(alloc);
     for section in all.iter() {
@@ -437,7 +437,7 @@ fn output_of(
     constants: &str,
     wish: Wish<'_>,
 ) -> Result<Output, AllocError>
-    ensures { IfOk result (λ output. map called output.types.items ≡ map its_name outcome.now.printed.items) }
+    ensures { IfOk result (λ output. map listed_name output.types.items ≡ map type_name outcome.now.printed.items) }
 {
     let alloc = scope.alloc;
     let types = outcome.printed.as_slice();

@@ -1,10 +1,9 @@
 //! Which types stand in which crate and file.
-ghost use Rattle.std.specs.Prelude.{◌≡◌, ◌≤◌, IfOk, false, length};
+ghost use Rattle.std.specs.Prelude.{◌≡◌, IfOk, map};
 ghost use Rattle.std.specs.List.{All, flat_map};
-ghost use Rattle.oergen_print.specs.Sections.{IsCutOf, IsSectionOf, of_cut, of_section};
+ghost use Rattle.oergen_print.specs.Sections.{AreNumbered, Follows, HasNext, IsCutOf, IsNamed, IsSectionOf, crate_count, cuts_of, joins, numbers, of_cut, of_section};
 
 use crate::printer::Printed;
-use crate::text::Text;
 use std::alloc::{AllocError, Global};
 
 /// How many types a crate has, but for the rest of a cycle: so that its check stays within a few minutes.
@@ -16,16 +15,15 @@ const LINES_BEFORE_A_CYCLE: usize = 1000;
 /// How many lines the types of a file have at most, where one type or cycle alone doesn't have more.
 const LINES_A_FILE: usize = 600;
 
-/// Where a file's types stand: the crate, the file's module, and its first type and the one behind its last.
+/// Where a file's types stand: the crate, the file's module, and the places.
 #[derive(Drop)]
 pub struct Section {
     pub library: String,
     pub module: String,
-    from: usize,
-    to: usize,
+    cut: Cut,
 }
 
-/// Where a file's types stand: the numbers of its crate and of its module, from 1, and the places of the types.
+/// The places of a file's types, the first and the one behind the last, and the numbers of its crate and its module, from 1.
 #[derive(Clone, Copy)]
 struct Cut {
     library: usize,
@@ -39,6 +37,7 @@ impl Cut {
     fn next(self, ends_crate: bool) -> Cut
         ensures from { result.from ≡ self.to }
         ensures to { result.to ≡ self.to }
+        ensures follows { HasNext self → Follows (numbers self) (numbers result) }
     {
         let (library, module) = if ends_crate {
             (self.library.saturating_add(1), 1)
@@ -56,12 +55,9 @@ impl Cut {
 
 /// Whether a type stands in the file of the one before.
 fn is_joined(types: &[Printed], at: usize) -> bool
-    ensures behind { length types.now ≤ at → result ≡ false }
+    ensures { result ≡ joins types.now at }
 {
-    match types.get(at) {
-        Some(one) => one.is_joined,
-        None => false,
-    }
+    types.get(at).is_some_and(|one| one.is_joined)
 }
 
 /// Whether a cycle of several types begins there.
@@ -99,10 +95,11 @@ fn has_room(types: &[Printed], lines: usize, at: usize) -> bool {
     lines.saturating_add(lines_from(types, at)) <= LINES_A_FILE
 }
 
-/// Cuts the types into crates and files: each is in one, in their order. A cycle isn't cut.
+/// Cuts the types into crates and files: each is in one, in their order, and a cycle is in one.
 fn cuts(alloc: Global, types: &[Printed]) -> Result<Vec<Cut>, AllocError>
     ensures each { IfOk result (λ all. flat_map (of_cut types.now) all.items ≡ types.now) }
     ensures within { IfOk result (λ all. All (IsCutOf types.now) all.items) }
+    ensures numbered { IfOk result (λ all. AreNumbered (map numbers all.items)) }
 {
     let mut all: Vec<Cut> = Vec::new(alloc);
     let mut cut = Cut {
@@ -135,40 +132,50 @@ fn cuts(alloc: Global, types: &[Printed]) -> Result<Vec<Cut>, AllocError>
     Ok(all)
 }
 
+/// How many crates there are.
+fn count_of(cuts: &[Cut]) -> usize
+    ensures { result ≡ crate_count cuts.now }
+{
+    match cuts.last() {
+        Some(last) => last.library,
+        None => 0,
+    }
+}
+
 /// The section of a cut, in one of so many crates: by their numbers from 1.
 fn section_of(alloc: Global, name: &str, cut: Cut, count: usize) -> Result<Section, AllocError>
-    ensures from { IfOk result (λ one. one.from ≡ cut.from) }
-    ensures to { IfOk result (λ one. one.to ≡ cut.to) }
+    ensures cut { IfOk result (λ one. one.cut ≡ cut) }
+    ensures named { IfOk result (λ one. IsNamed name.now count one) }
 {
-    let mut library = Text::of(alloc, &[name]);
-    if count > 1 {
-        library.push("_");
-        library.push_count(cut.library);
-    }
-    let mut module = Text::of(alloc, &[if cut.module < 10 { "types_0" } else { "types_" }]);
-    module.push_count(cut.module);
+    let Cut {
+        library,
+        module,
+        ..
+    } = cut;
+    let zero = if module < 10 { "0" } else { "" };
     Ok(Section {
-        library: library.end()?,
-        module: module.end()?,
-        from: cut.from,
-        to: cut.to,
+        library: if count > 1 {
+            format!(in alloc; "{name}_{library}")?
+        } else {
+            String::from_str(alloc, name)?
+        },
+        module: format!(in alloc; "types_{zero}{module}")?,
+        cut,
     })
 }
 
-/// The types by crates and files: each is in one, in their order.
+/// The types by crates and files: each is in one, in their order, a cycle in one, and no two files have one name.
 pub fn sections(alloc: Global, name: &str, types: &[Printed]) -> Result<Vec<Section>, AllocError>
     ensures each { IfOk result (λ all. flat_map (of_section types.now) all.items ≡ types.now) }
     ensures within { IfOk result (λ all. All (IsSectionOf types.now) all.items) }
+    ensures numbered { IfOk result (λ all. AreNumbered (map numbers (cuts_of all.items))) }
+    ensures named { IfOk result (λ all. All (IsNamed name.now (crate_count (cuts_of all.items))) all.items) }
 {
     let cuts = cuts(alloc, types)?;
-    let count = match cuts.last() {
-        Some(last) => last.library,
-        None => 0,
-    };
+    let count = count_of(cuts.as_slice());
     let mut all = Vec::new(alloc);
-    for one in cuts.iter() {
-        let cut = *one;
-        all.push(section_of(alloc, name, cut, count)?)?;
+    for cut in cuts.iter() {
+        all.push(section_of(alloc, name, *cut, count)?)?;
     }
     Ok(all)
 }
@@ -177,5 +184,5 @@ pub fn sections(alloc: Global, name: &str, types: &[Printed]) -> Result<Vec<Sect
 pub fn types_of<'t>(types: &'t [Printed], section: &Section) -> &'t [Printed]
     ensures { IsSectionOf types.now section.now → result.now ≡ of_section types.now section.now }
 {
-    types.get(section.from..section.to).unwrap_or(&[])
+    types.get(section.cut.from..section.cut.to).unwrap_or(&[])
 }

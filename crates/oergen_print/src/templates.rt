@@ -277,7 +277,7 @@ impl@READS@ TakesAlternative for @NAME@Alternatives@K@ {
 /// The answer of a variant's goal in `put`.
 pub const PUT_ANSWER: &str = r#"
 pub returns-in-@VARIANT@ : goal.returns-in-@VARIANT@
-returns-in-@VARIANT@ g c = rw c.in-@VARIANT@.is (rw c.tag-in-@VARIANT@.ensures at c.put_alternative-in-@VARIANT@.ensures)
+returns-in-@VARIANT@ g c = rw c.in-@VARIANT@.is (rw c.tag@IN@.ensures at c.put_alternative@IN@.ensures)
 "#;
 
 /// An ENUMERATED, and the enum of its values.

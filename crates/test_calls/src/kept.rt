@@ -81,13 +81,13 @@ pub fn other<T>(
 fn numbers_are_kept(rt: HostRuntime) -> Result<(), Fail> {
     let alloc = rt.alloc();
     let blue: KeptColor = KeptEnumeration::Known(Color::Blue);
-    assert!(rt; agree(alloc, &blue, &[0x06])?);
+    assert!(rt; agree(alloc, &blue, b"\x06")?);
     let nine: KeptColor = KeptEnumeration::Other(9);
-    assert!(rt; agree(alloc, &nine, &[0x09])?);
+    assert!(rt; agree(alloc, &nine, b"\x09")?);
     let thousand: KeptColor = KeptEnumeration::Other(1000);
-    assert!(rt; agree(alloc, &thousand, &[0x82, 0x03, 0xE8])?);
+    assert!(rt; agree(alloc, &thousand, b"\x82\x03\xE8")?);
     let below: KeptColor = KeptEnumeration::Other(-1000);
-    assert!(rt; agree(alloc, &below, &[0x82, 0xFC, 0x18])?);
+    assert!(rt; agree(alloc, &below, b"\x82\xFC\x18")?);
     Ok(())
 }
 
@@ -111,13 +111,13 @@ fn numbers_are_read_leniently(rt: HostRuntime) -> Result<(), Fail> {
         only_lenient(
             alloc,
             &blue,
-            &[0x81, 0x06],
-            &[0x06],
+            b"\x81\x06",
+            b"\x06",
             DecodeErrorKind::NotValidCanonicalEncoding
         )?
     );
     assert!(rt;
-        why_unread::<KeptColor>(alloc, &[0x82, 0x03])
+        why_unread::<KeptColor>(alloc, b"\x82\x03")
             == Some(DecodeErrorKind::Incomplete { needed: 1 })
     );
     Ok(())
@@ -153,35 +153,19 @@ fn keeps(
 fn known_alternatives_are_read(rt: HostRuntime) -> Result<(), Fail> {
     let alloc = rt.alloc();
     let normal = KeptChoice::Known(PriorityAlternatives::Normal(Integer::from_i128(5)));
-    assert!(rt; agree(alloc, &normal, &[0x80, 0x01, 0x05])?);
+    assert!(rt; agree(alloc, &normal, b"\x80\x01\x05")?);
     let medium = KeptChoice::Known(PriorityAlternatives::Medium(Integer::from_i128(5)));
-    assert!(rt; agree(alloc, &medium, &[0x82, 0x02, 0x01, 0x05])?);
+    assert!(rt; agree(alloc, &medium, b"\x82\x02\x01\x05")?);
     Ok(())
 }
 
 #[test]
 fn alternatives_are_kept(rt: HostRuntime) -> Result<(), Fail> {
     let alloc = rt.alloc();
-    assert!(rt;
-        keeps(
-            alloc,
-            Class::Context,
-            3,
-            &[0xFF, 0x00],
-            &[0x83, 0x02, 0xFF, 0x00]
-        )?
-    );
-    assert!(rt; keeps(alloc, Class::Context, 3, &[], &[0x83, 0x00])?);
-    assert!(rt; keeps(alloc, Class::Application, 0, &[0xAA], &[0x40, 0x01, 0xAA])?);
-    assert!(rt;
-        keeps(
-            alloc,
-            Class::Context,
-            100,
-            &[0xAA],
-            &[0xBF, 0x64, 0x01, 0xAA]
-        )?
-    );
+    assert!(rt; keeps(alloc, Class::Context, 3, b"\xFF\x00", b"\x83\x02\xFF\x00")?);
+    assert!(rt; keeps(alloc, Class::Context, 3, &[], b"\x83\x00")?);
+    assert!(rt; keeps(alloc, Class::Application, 0, b"\xAA", b"\x40\x01\xAA")?);
+    assert!(rt; keeps(alloc, Class::Context, 100, b"\xAA", b"\xBF\x64\x01\xAA")?);
     Ok(())
 }
 
@@ -189,38 +173,32 @@ fn alternatives_are_kept(rt: HostRuntime) -> Result<(), Fail> {
 fn alternatives_are_kept_in_lists(rt: HostRuntime) -> Result<(), Fail> {
     let alloc = rt.alloc();
     let normal = KeptChoice::Known(PriorityAlternatives::Normal(Integer::from_i128(5)));
-    let third: KeptPriority = other(alloc, Class::Context, 3, &[0xAA])?;
+    let third: KeptPriority = other(alloc, Class::Context, 3, b"\xAA")?;
     let list = ListOf(Vec::from_array(alloc, [third, normal])?);
-    assert!(rt;
-        agree(
-            alloc,
-            &list,
-            &[0x01, 0x02, 0x83, 0x01, 0xAA, 0x80, 0x01, 0x05]
-        )?
-    );
+    assert!(rt; agree(alloc, &list, b"\x01\x02\x83\x01\xAA\x80\x01\x05")?);
     Ok(())
 }
 
 #[test]
 fn alternatives_are_read_leniently(rt: HostRuntime) -> Result<(), Fail> {
     let alloc = rt.alloc();
-    let third: KeptPriority = other(alloc, Class::Context, 3, &[0xFF])?;
+    let third: KeptPriority = other(alloc, Class::Context, 3, b"\xFF")?;
     let long = [0x83, 0x81, 0x01, 0xFF];
     assert!(rt;
         only_lenient(
             alloc,
             &third,
             &long,
-            &[0x83, 0x01, 0xFF],
+            b"\x83\x01\xFF",
             DecodeErrorKind::NotValidCanonicalEncoding
         )?
     );
     assert!(rt;
-        why_unread::<KeptPriority>(alloc, &[0x83, 0x02, 0xFF])
+        why_unread::<KeptPriority>(alloc, b"\x83\x02\xFF")
             == Some(DecodeErrorKind::Incomplete { needed: 1 })
     );
     assert!(rt;
-        why_unread::<KeptPriority>(alloc, &[0x83])
+        why_unread::<KeptPriority>(alloc, b"\x83")
             == Some(DecodeErrorKind::Incomplete { needed: 1 })
     );
     Ok(())
@@ -229,9 +207,9 @@ fn alternatives_are_read_leniently(rt: HostRuntime) -> Result<(), Fail> {
 #[test]
 fn a_known_tag_is_no_other_alternative(rt: HostRuntime) -> Result<(), Fail> {
     let alloc = rt.alloc();
-    let root: KeptPriority = other(alloc, Class::Context, 0, &[0x01, 0x05])?;
+    let root: KeptPriority = other(alloc, Class::Context, 0, b"\x01\x05")?;
     assert!(rt; why_unwritten(alloc, &root) == Some(EncodeErrorKind::ValueConstraintNotSatisfied));
-    let addition: KeptPriority = other(alloc, Class::Context, 2, &[0x01, 0x05])?;
+    let addition: KeptPriority = other(alloc, Class::Context, 2, b"\x01\x05")?;
     assert!(rt;
         why_unwritten(alloc, &addition) == Some(EncodeErrorKind::ValueConstraintNotSatisfied)
     );
@@ -241,33 +219,31 @@ fn a_known_tag_is_no_other_alternative(rt: HostRuntime) -> Result<(), Fail> {
 #[test]
 fn a_choice_that_is_not_extensible_keeps_none(rt: HostRuntime) -> Result<(), Fail> {
     let alloc = rt.alloc();
-    let third: KeptOnly = other(alloc, Class::Context, 3, &[0xAA])?;
+    let third: KeptOnly = other(alloc, Class::Context, 3, b"\xAA")?;
     assert!(rt; why_unwritten(alloc, &third) == Some(EncodeErrorKind::ValueConstraintNotSatisfied));
     let kind = DecodeErrorKind::InvalidTagVariantOnChoice {
         value: Tag::new(Class::Context, 3),
         is_extensible: false,
     };
-    assert!(rt; why_unread::<KeptOnly>(alloc, &[0x83, 0x01, 0xAA]) == Some(kind));
+    assert!(rt; why_unread::<KeptOnly>(alloc, b"\x83\x01\xAA") == Some(kind));
     Ok(())
 }
 
 #[test]
 fn printed_types_keep_what_is_newer(rt: HostRuntime) -> Result<(), Fail> {
     let alloc = rt.alloc();
-    let letter: Envelope = coer::decode(alloc, &[0x00, 0xAA, 0xBB, 0x80, 0x01, 0x61])?;
+    let letter: Envelope = coer::decode(alloc, b"\x00\xAA\xBB\x80\x01\x61")?;
     let post: Post = Sequence(PostComponents {
         letter,
         answer: None,
         state: KeptEnumeration::Other(9),
-        way: Some(other(alloc, Class::Context, 7, &[0xAB, 0xCD])?),
+        way: Some(other(alloc, Class::Context, 7, b"\xAB\xCD")?),
     });
     assert!(rt;
         agree(
             alloc,
             &post,
-            &[
-                0x60, 0x00, 0xAA, 0xBB, 0x80, 0x01, 0x61, 0x09, 0x87, 0x02, 0xAB, 0xCD
-            ]
+            b"\x60\x00\xAA\xBB\x80\x01\x61\x09\x87\x02\xAB\xCD"
         )?
     );
     Ok(())
@@ -276,19 +252,13 @@ fn printed_types_keep_what_is_newer(rt: HostRuntime) -> Result<(), Fail> {
 #[test]
 fn printed_types_keep_within_what_they_know(rt: HostRuntime) -> Result<(), Fail> {
     let alloc = rt.alloc();
-    let letter: Envelope = coer::decode(alloc, &[0x00, 0xAA, 0xBB, 0x80, 0x01, 0x61])?;
+    let letter: Envelope = coer::decode(alloc, b"\x00\xAA\xBB\x80\x01\x61")?;
     let post: Post = Sequence(PostComponents {
         letter,
         answer: None,
         state: KeptEnumeration::Known(StateValues::Sent),
         way: Some(KeptChoice::Known(WayAlternatives::Sea(KeptEnumeration::Other(5)))),
     });
-    assert!(rt;
-        agree(
-            alloc,
-            &post,
-            &[0x20, 0x00, 0xAA, 0xBB, 0x80, 0x01, 0x61, 0x82, 0x01, 0x05]
-        )?
-    );
+    assert!(rt; agree(alloc, &post, b"\x20\x00\xAA\xBB\x80\x01\x61\x82\x01\x05")?);
     Ok(())
 }

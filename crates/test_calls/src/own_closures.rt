@@ -12,12 +12,12 @@ fn reports_are_written_and_read(rt: HostRuntime) -> Result<(), Fail> {
         urgent: true,
         number: Some(Integer::from_i128(5)),
     };
-    assert!(rt; agrees(alloc, &report, &[0xC0, 0xFF, 0x01, 0x05])?);
+    assert!(rt; agrees(alloc, &report, b"\xC0\xFF\x01\x05")?);
     let none = Report {
         urgent: false,
         number: None,
     };
-    assert!(rt; agrees(alloc, &none, &[0x00])?);
+    assert!(rt; agrees(alloc, &none, b"\x00")?);
     Ok(())
 }
 
@@ -28,12 +28,12 @@ fn statuses_are_written_and_read(rt: HostRuntime) -> Result<(), Fail> {
         ready: true,
         code: Some(Integer::from_i128(5)),
     };
-    assert!(rt; agrees(alloc, &status, &[0x80, 0x01, 0x05, 0xFF])?);
+    assert!(rt; agrees(alloc, &status, b"\x80\x01\x05\xFF")?);
     let none = Status {
         ready: true,
         code: None,
     };
-    assert!(rt; agrees(alloc, &none, &[0x00, 0xFF])?);
+    assert!(rt; agrees(alloc, &none, b"\x00\xFF")?);
     Ok(())
 }
 
@@ -41,7 +41,7 @@ fn statuses_are_written_and_read(rt: HostRuntime) -> Result<(), Fail> {
 fn commands_are_written_and_read(rt: HostRuntime) -> Result<(), Fail> {
     let alloc = rt.alloc();
     let level = Command::Level(Integer::from_i128(5));
-    assert!(rt; agrees(alloc, &level, &[0x80, 0x01, 0x05])?);
-    assert!(rt; agrees(alloc, &Command::Reset(()), &[0x81, 0x00])?);
+    assert!(rt; agrees(alloc, &level, b"\x80\x01\x05")?);
+    assert!(rt; agrees(alloc, &Command::Reset(()), b"\x81\x00")?);
     Ok(())
 }

@@ -27,7 +27,7 @@ fn reports_are_written_and_read(rt: HostRuntime) -> Result<(), Fail> {
         urgent: true,
         number: Some(Integer::from_i128(5)),
     });
-    assert!(rt; agrees(alloc, &report, &[0xC0, 0xFF, 0x01, 0x05])?);
+    assert!(rt; agrees(alloc, &report, b"\xC0\xFF\x01\x05")?);
     Ok(())
 }
 
@@ -35,9 +35,9 @@ fn reports_are_written_and_read(rt: HostRuntime) -> Result<(), Fail> {
 fn signals_are_written_and_read(rt: HostRuntime) -> Result<(), Fail> {
     let alloc = rt.alloc();
     let level: Signal = OneOf(SignalAlternatives::Level(Integer::from_i128(5)));
-    assert!(rt; agrees(alloc, &level, &[0x81, 0x01, 0x05])?);
+    assert!(rt; agrees(alloc, &level, b"\x81\x01\x05")?);
     let count: Signal = OneOf(SignalAlternatives::Count(258));
-    assert!(rt; agrees(alloc, &count, &[0x82, 0x02, 0x01, 0x02])?);
+    assert!(rt; agrees(alloc, &count, b"\x82\x02\x01\x02")?);
     Ok(())
 }
 
@@ -48,8 +48,8 @@ fn messages_are_written_and_read(rt: HostRuntime) -> Result<(), Fail> {
         version: 1,
         sent: Some(2),
         level: Integer::from_i128(5),
-        key: Limited::new(OctetString::from_slice(alloc, &[0xAA, 0xBB, 0xCC])?),
-        path: ListOf(Vec::from_array(alloc, [Octets(OctetString::from_slice(alloc, &[0xDD])?)])?),
+        key: Limited::new(OctetString::from_slice(alloc, b"\xAA\xBB\xCC")?),
+        path: ListOf(Vec::from_array(alloc, [Octets(OctetString::from_slice(alloc, b"\xDD")?)])?),
     });
     let octets = [
         0x80, 0x01, 0, 0, 0, 0, 0, 0, 0, 2, 0xAA, 0xBB, 0xCC, 0x01, 0x01, 0x01, 0xDD,

@@ -26,15 +26,9 @@ fn node(value: i128, next: Option<Held<Node>>, last: bool) -> Node {
 fn nodes_are_written_and_read(rt: HostRuntime) -> Result<(), Fail> {
     let alloc = rt.alloc();
     let end = node(5, None, true);
-    assert!(rt; agrees(alloc, &end, &[0x00, 0x01, 0x05, 0xFF])?);
+    assert!(rt; agrees(alloc, &end, b"\x00\x01\x05\xFF")?);
     let whole = node(1, Some(Held(Box::new(alloc, end)?)), false);
-    assert!(rt;
-        agrees(
-            alloc,
-            &whole,
-            &[0x80, 0x01, 0x01, 0x00, 0x01, 0x05, 0xFF, 0x00]
-        )?
-    );
+    assert!(rt; agrees(alloc, &whole, b"\x80\x01\x01\x00\x01\x05\xFF\x00")?);
     Ok(())
 }
 
@@ -57,7 +51,7 @@ fn envelopes_are_written_and_read(rt: HostRuntime) -> Result<(), Fail> {
     let alloc = rt.alloc();
     let text = Utf8Text(String::from_str(alloc, "a")?);
     let inner = envelope(alloc, [0xAA, 0xBB], BodyAlternatives::Text(text), None)?;
-    assert!(rt; agrees(alloc, &inner, &[0x00, 0xAA, 0xBB, 0x80, 0x01, 0x61])?);
+    assert!(rt; agrees(alloc, &inner, b"\x00\xAA\xBB\x80\x01\x61")?);
     let held = BodyAlternatives::Inner(Held(Box::new(alloc, inner)?));
     let whole = envelope(alloc, [0x00, 0x01], held, Some(true))?;
     let octets = [
@@ -66,7 +60,7 @@ fn envelopes_are_written_and_read(rt: HostRuntime) -> Result<(), Fail> {
     assert!(rt; agrees(alloc, &whole, &octets)?);
     let number = BodyAlternatives::Count(Integer::from_i128(5));
     let count = envelope(alloc, [0x00, 0x02], number, None)?;
-    assert!(rt; agrees(alloc, &count, &[0x00, 0x00, 0x02, 0x82, 0x02, 0x01, 0x05])?);
+    assert!(rt; agrees(alloc, &count, b"\x00\x00\x02\x82\x02\x01\x05")?);
     Ok(())
 }
 
@@ -91,7 +85,7 @@ fn tree(
 fn trees_are_written_and_read(rt: HostRuntime) -> Result<(), Fail> {
     let alloc = rt.alloc();
     let leaf = tree(alloc, b"a", Vec::new(alloc), None)?;
-    assert!(rt; agrees(alloc, &leaf, &[0x00, 0x01, 0x61, 0x01, 0x00])?);
+    assert!(rt; agrees(alloc, &leaf, b"\x00\x01\x61\x01\x00")?);
     let mut leaves = Vec::new(alloc);
     leaves.push(Bare(leaf))?;
     leaves.push(Bare(tree(alloc, b"b", Vec::new(alloc), None)?))?;
@@ -113,7 +107,7 @@ fn chain(ok: bool, next: Option<Held<Chain>>) -> Chain {
 fn chains_are_written_and_read(rt: HostRuntime) -> Result<(), Fail> {
     let alloc = rt.alloc();
     let end = chain(true, None);
-    assert!(rt; agrees(alloc, &end, &[0x00, 0xFF])?);
+    assert!(rt; agrees(alloc, &end, b"\x00\xFF")?);
     let two = chain(false, Some(Held(Box::new(alloc, end)?)));
     let octets = [0x80, 0x00, 0x02, 0x07, 0x80, 0x02, 0x00, 0xFF];
     assert!(rt; agrees(alloc, &two, &octets)?);
@@ -175,7 +169,7 @@ const TURNED_PAIR: &[u8] = &[
 fn groups_are_written_and_read(rt: HostRuntime) -> Result<(), Fail> {
     let alloc = rt.alloc();
     let alone = group(5, Vec::new(alloc), None);
-    assert!(rt; agrees(alloc, &alone, &[0x00, 0x05, 0x01, 0x00])?);
+    assert!(rt; agrees(alloc, &alone, b"\x00\x05\x01\x00")?);
     let guest = vec![in alloc; Bare(alone)]?;
     let hosts = group(6, Vec::new(alloc), Some(SetOf::from_vec(guest)));
     let octets = [0x80, 0x06, 0x01, 0x00, 0x01, 0x01, 0x00, 0x05, 0x01, 0x00];
@@ -223,13 +217,7 @@ fn bags(alloc: Global) -> Result<Bag, Fail> {
 fn bags_are_written_and_read(rt: HostRuntime) -> Result<(), Fail> {
     let alloc = rt.alloc();
     let whole = bags(alloc)?;
-    assert!(rt;
-        agrees(
-            alloc,
-            &whole,
-            &[0x01, 0x02, 0x01, 0x00, 0x01, 0x01, 0x01, 0x00]
-        )?
-    );
+    assert!(rt; agrees(alloc, &whole, b"\x01\x02\x01\x00\x01\x01\x01\x00")?);
     let turned = [0x01, 0x02, 0x01, 0x01, 0x01, 0x00, 0x01, 0x00];
     let lenient: Bag = oer::decode(alloc, &turned)?;
     assert!(rt; lenient == whole);

@@ -143,7 +143,7 @@ fn tell_octets(alloc: Global, told: &mut String) -> Result<(), Fail> {
 }
 
 fn tell_bits(alloc: Global, told: &mut String) -> Result<(), Fail> {
-    let bits = BitString::from_octets(alloc, &[0xfe], 7)?.ok_or("bits")?;
+    let bits = BitString::from_octets(alloc, b"\xFE", 7)?.ok_or("bits")?;
     tell_under(alloc, told, sizes(), &bits)
 }
 

@@ -189,7 +189,7 @@ the type has no such extension addition\n";
 #[test]
 fn components_are_asked_by_their_methods(rt: HostRuntime) -> Result<(), Fail> {
     for options in [DecoderOptions::oer(), DecoderOptions::coer()] {
-        let mut decoder = Decoder::new(&[0xff], options);
+        let mut decoder = Decoder::new(b"\xFF", options);
         let told = ask(rt.alloc(), &mut decoder)?;
         assert_eq!(rt; told.as_str(), ASKED);
         assert_eq!(rt; decoder.remaining(), [0xff].as_slice());
@@ -200,7 +200,7 @@ fn components_are_asked_by_their_methods(rt: HostRuntime) -> Result<(), Fail> {
 #[test]
 fn an_equal_default_is_refused_canonically(rt: HostRuntime) {
     for options in [DecoderOptions::oer(), DecoderOptions::coer()] {
-        let decoder = Decoder::new(&[0xff], options);
+        let decoder = Decoder::new(b"\xFF", options);
         let is_lenient = decoder.codec() == Codec::Oer;
         assert!(rt; decoder.refuse_default(&7, &7).is_ok() == is_lenient);
         assert!(rt; decoder.refuse_default(&7, &8).is_ok());

@@ -46,7 +46,7 @@ fn options_rules_and_refusals_have_their_derives(rt: HostRuntime) -> Result<(), 
 #[test]
 fn the_lenient_module_has_its_paths(rt: HostRuntime) -> Result<(), Fail> {
     let alloc = rt.alloc();
-    let mut decoder = Decoder::new(&[0xff], DecoderOptions::oer());
+    let mut decoder = Decoder::new(b"\xFF", DecoderOptions::oer());
     assert!(rt; decoder.decode_bool(Tag::BOOL)?);
     let mut output = Vec::new(alloc);
     let mut worker = Vec::new(alloc);
@@ -60,7 +60,7 @@ fn the_lenient_module_has_its_paths(rt: HostRuntime) -> Result<(), Fail> {
 fn the_canonical_module_has_its_paths(rt: HostRuntime) -> Result<(), Fail> {
     let alloc = rt.alloc();
     let options = coer::de::DecoderOptions::coer();
-    let mut decoder = coer::Decoder::new(&[0xff], options);
+    let mut decoder = coer::Decoder::new(b"\xFF", options);
     assert!(rt; decoder.decode_bool(Tag::BOOL)?);
     let mut output = Vec::new(alloc);
     let mut worker = Vec::new(alloc);

@@ -26,7 +26,7 @@ fn a_required_addition_is_written_and_read(rt: HostRuntime) -> Result<(), Fail> 
 
 /// A list of one value of two octets.
 fn names(alloc: Global) -> Result<Vec<OctetString>, Fail> {
-    let name = OctetString::from_slice(alloc, &[0xAA, 0xBB])?;
+    let name = OctetString::from_slice(alloc, b"\xAA\xBB")?;
     Ok(Vec::from_array(alloc, [name])?)
 }
 
