@@ -206,10 +206,10 @@ pub fn push_choice<'m>(
     Ok(())
 }
 
-/// What the prover is told of `put` of a CHOICE: how each variant is written. Nothing of another type.
+/// What the prover is told of `put` of a CHOICE: how each variant is written. Nothing of a single one, or of another type.
 pub fn answers_of(alloc: Global, definition: &Definition<'_>) -> Text {
     let mut out = Text::new(alloc);
-    if !matches!(definition.of.body, Body::Choice(_)) {
+    if !matches!(definition.of.body, Body::Choice(_)) || definition.parts.len() < 2 {
         return out;
     }
     for (at, part) in definition.parts.iter().enumerate() {
