@@ -18,6 +18,9 @@ use std::collections::BTreeMap;
 /// How many alternatives a printed CHOICE has at most.
 const MAX_ALTERNATIVES: usize = 24;
 
+/// Of how many alternatives of a CHOICE in a cycle the prover finds itself how `put` writes them: the tenth it doesn't.
+const MAX_FOUND: usize = 9;
+
 /// Appends the name of the table of a CHOICE's tags.
 pub fn push_table_name(out: &mut Text, owner: &str, part: &str) {
     out.push_upper(owner);
@@ -206,13 +209,19 @@ pub fn push_choice<'m>(
     Ok(())
 }
 
-/// What the prover is told of `put` of a CHOICE: how each variant is written. Nothing of a single one, or of another type.
-pub fn answers_of(alloc: Global, definition: &Definition<'_>) -> Text {
+/// What the prover is told of `put` of a CHOICE: how each variant is written. Nothing of a single one, of the first ones in a cycle, where
+/// what it would rewrite by that is too large, or of another type.
+pub fn answers_of(alloc: Global, all: &[Definition<'_>], definition: &Definition<'_>) -> Text {
     let mut out = Text::new(alloc);
     if !matches!(definition.of.body, Body::Choice(_)) || definition.parts.len() < 2 {
         return out;
     }
-    for (at, part) in definition.parts.iter().enumerate() {
+    let found = if knot_name(all, definition).is_some() {
+        MAX_FOUND
+    } else {
+        0
+    };
+    for (at, part) in definition.parts.iter().enumerate().skip(found) {
         let name = alternative_name(alloc, part.name.as_str());
         let mut words = Words::new(alloc);
         words.put("VARIANT", name.as_str());

@@ -361,7 +361,7 @@ fn print_one<'m>(
         is_joined: false,
         weights: weights_of(scope, all, definition)?,
         knot: knot_of(scope.alloc, all, definition)?,
-        answers: answers_of(scope.alloc, definition),
+        answers: answers_of(scope.alloc, all, definition),
     })
 }
 
