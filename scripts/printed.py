@@ -1,8 +1,8 @@
 #!/usr/bin/env python3
 """Says where crates/example_printed or crates/example_recursive, or the line of one in crates.txt, isn't what oergen prints of its module
 in crates/oergen/data, where types of made modules are put into other crates than they should be, or crates use others than they should, or types lack names, comments, constants
-or boxes that they should have, where of the published modules in scripts/v2x.d a type is left out or isn't listed as listed.txt there has it, where the types of scripts/printed.d/cycle.asn, which contain each other, aren't printed with the definitions beside it, where the prover is told of other variants of a CHOICE than it asks for,
-where what is printed of long.asn, which has long names and wide choices, or of comments, isn't in the layout that `rt fmt` leaves as it is, and
+or boxes that they should have, where of the published modules in scripts/v2x.d a type is left out or isn't listed as listed.txt there has it, where the types of scripts/printed.d/cycle.asn, which contain each other, aren't printed with the definitions beside it,
+where other answers of a CHOICE are printed than the prover asks for, where what is printed of long.asn, which has long names and wide choices, or of comments, isn't in the layout that `rt fmt` leaves as it is, and
 where the library for C of a BOOLEAN hasn't the functions that crates/jilgomt has of `bool`, by other names.
 
 usage: printed.py PROGRAM, for example: printed.py crates/oergen/out/oergen
@@ -255,19 +255,19 @@ def undefined(program):
     return faults
 
 
-# choices, and the variants whose writing the prover is told of: of one alternative it doesn't ask
+# choices, and the answers printed for the prover: of a single alternative it doesn't ask
 CHOICES = "One ::= CHOICE { a NULL } Two ::= CHOICE { b NULL, c NULL }"
-TOLD = ["pub returns-in-B : goal.returns-in-B", "pub returns-in-C : goal.returns-in-C"]
+ANSWERS = ["pub returns-in-B : goal.returns-in-B", "pub returns-in-C : goal.returns-in-C"]
 
 
-def untold(program):
-    """Where the prover is told of other variants than it should be."""
+def unanswered(program):
+    """Where other answers are printed than the prover asks for."""
     with tempfile.TemporaryDirectory() as folder:
         module = pathlib.Path(folder) / "made.asn"
         module.write_text(MADE.format(CHOICES))
         _, files = printed(program, folder, "made", module)
-    told = [line for text in files.values() for line in text.split("\n") if line.startswith("pub returns-in-")]
-    return [] if told == TOLD else [f"{CHOICES}: the prover is told of {told}, and not {TOLD}"]
+    found = [line for text in files.values() for line in text.split("\n") if line.startswith("pub returns-in-")]
+    return [] if found == ANSWERS else [f"{CHOICES}: the answers are {found}, and not {ANSWERS}"]
 
 
 # the library for C of one type: the lines for crates.txt, the files, and what stands for the names of the type in crates/jilgomt
@@ -305,7 +305,7 @@ def unformatted(program):
 
 
 def main(program):
-    faults = misplaced(program) + misprinted(program) + unread(program) + undefined(program) + untold(program) + unformatted(program) + unexported(program)
+    faults = misplaced(program) + misprinted(program) + unread(program) + undefined(program) + unanswered(program) + unformatted(program) + unexported(program)
     for fault in faults:
         print(f"printed: {fault}")
     status = 1 if faults else 0
