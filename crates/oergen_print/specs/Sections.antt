@@ -1,5 +1,5 @@
 -- Which types stand in which file.
-use Rattle.std.specs.Prelude.{ℕ, Bool, List, [], ◌∷◌, ◌⊎◌, ◌≡◌, ◌≤◌, ◌<◌, ◌^◌, ◌+◌, ◌-◌, ◌++◌, codes, cond, false, length, map, nat_lt, string_bytes, ⊤}
+use Rattle.std.specs.Prelude.{ℕ, Bool, List, Option, Some, None, eqb, [], ◌∷◌, ◌⊎◌, ◌≡◌, ◌≤◌, ◌<◌, ◌^◌, ◌+◌, ◌-◌, ◌++◌, codes, cond, false, length, map, nat_lt, string_bytes, ⊤}
 use Rattle.std.specs.Fmt.{decimal}
 use Rattle.std.specs.List.{slice_get, slice_range}
 use Rattle.std.specs.Option.{option_map_or}
@@ -8,9 +8,17 @@ use Rattle.oergen_print.specs.declared.printer.Printed.{Printed}
 use Rattle.oergen_print.specs.declared.sections.Cut.{Cut}
 use Rattle.oergen_print.specs.declared.sections.Section.{Section}
 
--- whether a type stands with the one before: in a cycle, not as its first
-abbrev pub joins : List Printed → ℕ → Bool
-joins types at = option_map_or (λ one. one.is_joined) (slice_get types at) false
+-- the number of the cycle of the type at a place, if it is of one
+abbrev pub cycle_at : List Printed → ℕ → Option ℕ
+cycle_at types at = option_map_or (λ one. one.cycle) (slice_get types at) None
+
+abbrev pub is_one_cycle : Option ℕ → Option ℕ → Bool
+is_one_cycle (Some a) (Some b) = eqb a b
+is_one_cycle _ _ = false
+
+-- whether a type is of the cycle of the one before
+abbrev pub is_joined : List Printed → ℕ → Bool
+is_joined types at = is_one_cycle (cycle_at types (at - 1)) (cycle_at types at)
 
 -- the types of a file, of all
 abbrev pub of_cut : List Printed → Cut → List Printed
@@ -20,7 +28,7 @@ of_cut types cut = slice_range types cut.from cut.to
 pub record IsCutOf (types : List Printed) (cut : Cut) : Type 0 where
   pub some : cut.from + 1 ≤ cut.to
   pub within : cut.to ≤ length types
-  pub whole : joins types cut.to ≡ false
+  pub whole : is_joined types cut.to ≡ false
 
 abbrev pub of_section : List Printed → Section → List Printed
 of_section types section = of_cut types section.cut
@@ -41,11 +49,15 @@ abbrev pub Follows : ℕ × ℕ → ℕ × ℕ → Type 0
 Follows before after =
     ((after.0 ≡ before.0) × (after.1 ≡ before.1 + 1)) ⊎ ((after.0 ≡ before.0 + 1) × (after.1 ≡ 1))
 
--- each file follows the one before: so none has the numbers of another
+-- each file follows the one before
+unfoldable pub AreBehind : ℕ × ℕ → List (ℕ × ℕ) → Type 0
+AreBehind _ [] = ⊤
+AreBehind before (one ∷ more) = Follows before one × AreBehind one more
+
+-- numbers begin at 1, and each file follows the one before: so none has the numbers of another
 unfoldable pub AreNumbered : List (ℕ × ℕ) → Type 0
 AreNumbered [] = ⊤
-AreNumbered (_ ∷ []) = ⊤
-AreNumbered (a ∷ b ∷ more) = Follows a b × AreNumbered (b ∷ more)
+AreNumbered (first ∷ more) = (first ≡ (1, 1)) × AreBehind first more
 
 -- what the numbers stand for: a crate has one only where there are more
 abbrev pub crate_name : List ℕ → ℕ → ℕ → List ℕ

@@ -51,8 +51,8 @@ pub struct Printed {
     pub name: String,
     pub text: String,
     pub names: Vec<String>,
-    /// Whether it stands in the file of the type before: both are of one cycle.
-    pub is_joined: bool,
+    /// The number of its cycle, if it is of one.
+    pub cycle: Option<usize>,
     /// What the definitions of its cycle have of it.
     pub weights: Weights,
     /// What they have of it as their knot, which is the last of its cycle.
@@ -358,7 +358,7 @@ fn print_one<'m>(
         name: definition.rust_name.clone()?,
         text,
         names,
-        is_joined: false,
+        cycle: definition.cycle.map(|cycle| cycle.number),
         weights: weights_of(scope, all, definition)?,
         knot: knot_of(scope.alloc, all, definition)?,
         answers: answers_of(scope.alloc, all, definition),
@@ -373,13 +373,9 @@ fn print_members<'m>(
     progress: &mut Progress,
 ) -> Result<Vec<Result<Printed, Refusal>>, Refusal> {
     let mut made = Vec::new(scope.alloc);
-    for (number, at) in run.iter().enumerate().rev() {
+    for at in run.iter().rev() {
         if let Some(definition) = all.get(*at) {
-            let one = print_one(scope, all, *at, definition, progress)?;
-            made.push(Ok(Printed {
-                is_joined: number != 0,
-                ..one
-            }))?;
+            made.push(Ok(print_one(scope, all, *at, definition, progress)?))?;
         }
     }
     Ok(made)

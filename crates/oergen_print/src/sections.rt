@@ -1,7 +1,7 @@
 //! Which types stand in which crate and file.
-ghost use Rattle.std.specs.Prelude.{◌≡◌, IfOk, map};
+ghost use Rattle.std.specs.Prelude.{◌≡◌, ◌+◌, IfOk, cond, map};
 ghost use Rattle.std.specs.List.{All, flat_map};
-ghost use Rattle.oergen_print.specs.Sections.{AreNumbered, Follows, HasNext, IsCutOf, IsNamed, IsSectionOf, crate_count, cuts_of, joins, numbers, of_cut, of_section};
+ghost use Rattle.oergen_print.specs.Sections.{AreNumbered, HasNext, IsCutOf, IsNamed, IsSectionOf, crate_count, cuts_of, cycle_at, is_joined, numbers, of_cut, of_section};
 
 use crate::printer::Printed;
 use std::alloc::{AllocError, Global};
@@ -37,7 +37,7 @@ impl Cut {
     fn next(self, ends_crate: bool) -> Cut
         ensures from { result.from ≡ self.to }
         ensures to { result.to ≡ self.to }
-        ensures follows { HasNext self → Follows (numbers self) (numbers result) }
+        ensures numbers { HasNext self → numbers result ≡ cond ends_crate (self.library + 1, 1) (self.library, self.«module» + 1) }
     {
         let (library, module) = if ends_crate {
             (self.library.saturating_add(1), 1)
@@ -53,11 +53,21 @@ impl Cut {
     }
 }
 
-/// Whether a type stands in the file of the one before.
-fn is_joined(types: &[Printed], at: usize) -> bool
-    ensures { result ≡ joins types.now at }
+/// The number of the cycle of the type at a place, if it is of one.
+fn cycle_at(types: &[Printed], at: usize) -> Option<usize>
+    ensures { result ≡ cycle_at types.now at }
 {
-    types.get(at).is_some_and(|one| one.is_joined)
+    types.get(at)?.cycle
+}
+
+/// Whether a type is of the cycle of the one before.
+fn is_joined(types: &[Printed], at: usize) -> bool
+    ensures { result ≡ is_joined types.now at }
+{
+    match (cycle_at(types, at.saturating_sub(1)), cycle_at(types, at)) {
+        (Some(before), Some(own)) => before == own,
+        _ => false,
+    }
 }
 
 /// Whether a cycle of several types begins there.
@@ -77,12 +87,9 @@ fn lines_of(one: &Printed) -> usize {
 
 /// How many lines the type at a place has, with the rest of its cycle.
 fn lines_from(types: &[Printed], at: usize) -> usize {
-    let mut lines = match types.get(at) {
-        Some(first) => lines_of(first),
-        None => 0,
-    };
-    for one in types.iter().skip(at.saturating_add(1)) {
-        if !one.is_joined {
+    let mut lines = 0usize;
+    for (next, one) in types.iter().enumerate().skip(at) {
+        if next > at && !is_joined(types, next) {
             break;
         }
         lines = lines.saturating_add(lines_of(one));
