@@ -4,157 +4,25 @@ use rasn_oer::prelude::*;
 use std::alloc::{AllocError, Global};
 
 /// `Percent ::= INTEGER (0..100)`
-pub type Percent = Limited<u8, PercentLimits>;
-
-/// The limits of `Percent`.
-#[derive(Drop)]
-pub enum PercentLimits {}
-
-impl Limits for PercentLimits {
-    ghost use Rattle.std.specs.Prelude.{None, Some, false, negsuc, pos, refl};
-    ghost use Rattle.rasn_oer.specs.Bounded.{Range, Single};
-
-    ghost LIMITS = { record { value = Some (Range (Some (pos 0)) (Some (pos 100)), false); size = None } };
-
-    const LIMITS: Constraints = Constraints {
-        value: Some((
-            Bounded::Range {
-                start: Some(0),
-                end: Some(100),
-            },
-            false,
-        )),
-        size: None,
-    };
-
-    ghost consistent = { refl };
-}
+pub type Percent = Limited<u8, Between<0, 100>>;
 
 /// `Below ::= INTEGER (-5..MAX)`
-pub type Below = Limited<Integer, BelowLimits>;
-
-/// The limits of `Below`.
-#[derive(Drop)]
-pub enum BelowLimits {}
-
-impl Limits for BelowLimits {
-    ghost use Rattle.std.specs.Prelude.{None, Some, false, negsuc, pos, refl};
-    ghost use Rattle.rasn_oer.specs.Bounded.{Range, Single};
-
-    ghost LIMITS = { record { value = Some (Range (Some (negsuc 4)) None, false); size = None } };
-
-    const LIMITS: Constraints = Constraints {
-        value: Some((
-            Bounded::Range {
-                start: Some(-5),
-                end: None,
-            },
-            false,
-        )),
-        size: None,
-    };
-
-    ghost consistent = { refl };
-}
+pub type Below = Limited<Integer, AtLeast<-5>>;
 
 /// `Again ::= Percent`
 pub type Again = Percent;
 
 /// `Narrow ::= Percent (0..9)`
-pub type Narrow = Limited<u8, NarrowLimits>;
-
-/// The limits of `Narrow`.
-#[derive(Drop)]
-pub enum NarrowLimits {}
-
-impl Limits for NarrowLimits {
-    ghost use Rattle.std.specs.Prelude.{None, Some, false, negsuc, pos, refl};
-    ghost use Rattle.rasn_oer.specs.Bounded.{Range, Single};
-
-    ghost LIMITS = { record { value = Some (Range (Some (pos 0)) (Some (pos 9)), false); size = None } };
-
-    const LIMITS: Constraints = Constraints {
-        value: Some((
-            Bounded::Range {
-                start: Some(0),
-                end: Some(9),
-            },
-            false,
-        )),
-        size: None,
-    };
-
-    ghost consistent = { refl };
-}
+pub type Narrow = Limited<u8, Between<0, 9>>;
 
 /// `Key ::= OCTET STRING (SIZE(4))`
-pub type Key = Limited<Octets, KeyLimits>;
-
-/// The limits of `Key`.
-#[derive(Drop)]
-pub enum KeyLimits {}
-
-impl Limits for KeyLimits {
-    ghost use Rattle.std.specs.Prelude.{None, Some, false, negsuc, pos, refl};
-    ghost use Rattle.rasn_oer.specs.Bounded.{Range, Single};
-
-    ghost LIMITS = { record { value = None; size = Some (Single 4, false) } };
-
-    const LIMITS: Constraints = Constraints {
-        value: None,
-        size: Some((Bounded::Single(4), false)),
-    };
-
-    ghost consistent = { refl };
-}
+pub type Key = Limited<Octets, FixedSize<4>>;
 
 /// `Bits ::= BIT STRING { first(0), last(11) } (SIZE(12))`
-pub type Bits = Limited<BitString, BitsLimits>;
-
-/// The limits of `Bits`.
-#[derive(Drop)]
-pub enum BitsLimits {}
-
-impl Limits for BitsLimits {
-    ghost use Rattle.std.specs.Prelude.{None, Some, false, negsuc, pos, refl};
-    ghost use Rattle.rasn_oer.specs.Bounded.{Range, Single};
-
-    ghost LIMITS = { record { value = None; size = Some (Single 12, false) } };
-
-    const LIMITS: Constraints = Constraints {
-        value: None,
-        size: Some((Bounded::Single(12), false)),
-    };
-
-    ghost consistent = { refl };
-}
+pub type Bits = Limited<BitString, FixedSize<12>>;
 
 /// `Name ::= IA5String (SIZE(1..8))`
-pub type Name = Limited<Ia5Text, NameLimits>;
-
-/// The limits of `Name`.
-#[derive(Drop)]
-pub enum NameLimits {}
-
-impl Limits for NameLimits {
-    ghost use Rattle.std.specs.Prelude.{None, Some, false, negsuc, pos, refl};
-    ghost use Rattle.rasn_oer.specs.Bounded.{Range, Single};
-
-    ghost LIMITS = { record { value = None; size = Some (Range (Some 1) (Some 8), false) } };
-
-    const LIMITS: Constraints = Constraints {
-        value: None,
-        size: Some((
-            Bounded::Range {
-                start: Some(1),
-                end: Some(8),
-            },
-            false,
-        )),
-    };
-
-    ghost consistent = { refl };
-}
+pub type Name = Limited<Ia5Text, SizeBetween<1, 8>>;
 
 /// `Names ::= SEQUENCE OF Name`
 pub type Names = ListOf<Name>;
@@ -571,4 +439,124 @@ impl Tabled<6, 3> for RowComponents {
     }
 
     ghost counts = { (refl, refl) };
+}
+
+/// `Bag ::= SET { b [1] INTEGER (-128..127), a [APPLICATION 2] BOOLEAN OPTIONAL, c [0] Name,
+/// ..., more [3] NULL OPTIONAL }`
+pub type Bag = Set<BagComponents, 3, 1>;
+
+/// The components of `Bag`.
+#[derive(Debug, PartialEq, Eq, Drop)]
+pub struct BagComponents {
+    pub a: Option<bool>,
+    pub c: Name,
+    pub b: i8,
+    pub more: Option<()>,
+}
+
+type BagRow = Optional<
+    Application<2>,
+    bool,
+    Required<Context<0>, Name, Required<Context<1>, i8, Extensible<BagAdditions>>>,
+>;
+
+type BagAdditions = OptionalAddition<Context<3>, (), End>;
+
+impl Rowed for BagComponents {
+    ghost use Rattle.rasn_oer.specs.Values.{both};
+
+    type Values = <BagRow as Components>::Values;
+
+    ghost EXTENSIBLE = { ⟦<BagRow as Components>⟧.EXTENSIBLE };
+
+    const EXTENSIBLE: bool = true;
+
+    ghost row_schema = { ⟦<BagRow as Components>⟧.schema };
+
+    ghost row_is_schema = { ⟦<BagRow as Components>⟧.is_schema };
+
+    ghost components = { λ v. both v.a (both v.c (both v.b (both v.more tt))) };
+
+    fn from_row(row: Self::Values) -> Self {
+        built![BagComponents from row:
+            a,
+            c,
+            b,
+            more
+        ]
+    }
+}
+
+impl Takes for BagComponents {
+    ghost Refuses = { ⟦<BagRow as Reads>⟧.Refuses };
+
+    #[inline(always)]
+    fn take(alloc: Global, decoder: &mut Decoder<'_>) -> Result<Self, DecodeError> {
+        read_row::<Self, BagRow>(alloc, decoder)
+    }
+}
+
+impl Tabled<3, 1> for BagComponents {
+    ghost use Rattle.std.specs.Prelude.{refl};
+
+    const FIELDS: Fields<3> = Fields {
+        fields: fields![
+            0 Optional Application 2 "a",
+            1 Required Context 0 "c",
+            2 Required Context 1 "b"
+        ],
+    };
+
+    const EXTENDED_FIELDS: Option<Fields<1>> = Some(Fields {
+        fields: fields![
+            0 Optional Context 3 "more"
+        ],
+    });
+
+    fn root_fields() -> &'static [Field<'static>] {
+        Self::FIELDS.fields
+    }
+
+    fn addition_fields() -> &'static [Field<'static>] {
+        rows_of!(Self::EXTENDED_FIELDS)
+    }
+
+    #[inline(always)]
+    fn put(&self, encoder: &mut Encoder<'_>) -> Result<(), EncodeError> {
+        let view = views![self:
+            a,
+            c,
+            b,
+            more
+        ];
+        BagRow::write(&view, encoder)
+    }
+
+    ghost counts = { (refl, refl) };
+}
+
+const BAG_IN_TEXT_ORDER: &'static [Field<'static>] = fields![
+    0 Required Context 1 "b",
+    1 Optional Application 2 "a",
+    2 Required Context 0 "c"
+];
+
+impl TextOrder for BagComponents {
+    ghost use Rattle.std.specs.Prelude.{[], ◌∷◌};
+
+    ghost places = { 1 ∷ 2 ∷ 0 ∷ [] };
+}
+
+impl InTagOrder<3, 1> for BagComponents {
+    ghost use Rattle.std.specs.Prelude.{refl};
+
+    ghost in_order = { refl };
+
+    const SET_FIELDS: Fields<3> = Fields {
+        fields: BAG_IN_TEXT_ORDER,
+    };
+
+    fn text_fields() -> &'static [Field<'static>] {
+        Self::SET_FIELDS.fields
+    }
 }

@@ -4,126 +4,6 @@ use crate::{Key, Name, Percent};
 use rasn_oer::prelude::*;
 use std::alloc::Global;
 
-/// `Bag ::= SET { b [1] INTEGER (-128..127), a [APPLICATION 2] BOOLEAN OPTIONAL, c [0] Name,
-/// ..., more [3] NULL OPTIONAL }`
-pub type Bag = Set<BagComponents, 3, 1>;
-
-/// The components of `Bag`.
-#[derive(Debug, PartialEq, Eq, Drop)]
-pub struct BagComponents {
-    pub a: Option<bool>,
-    pub c: Name,
-    pub b: i8,
-    pub more: Option<()>,
-}
-
-type BagRow = Optional<
-    Application<2>,
-    bool,
-    Required<Context<0>, Name, Required<Context<1>, i8, Extensible<BagAdditions>>>,
->;
-
-type BagAdditions = OptionalAddition<Context<3>, (), End>;
-
-impl Rowed for BagComponents {
-    ghost use Rattle.rasn_oer.specs.Values.{both};
-
-    type Values = <BagRow as Components>::Values;
-
-    ghost EXTENSIBLE = { ⟦<BagRow as Components>⟧.EXTENSIBLE };
-
-    const EXTENSIBLE: bool = true;
-
-    ghost row_schema = { ⟦<BagRow as Components>⟧.schema };
-
-    ghost row_is_schema = { ⟦<BagRow as Components>⟧.is_schema };
-
-    ghost components = { λ v. both v.a (both v.c (both v.b (both v.more tt))) };
-
-    fn from_row(row: Self::Values) -> Self {
-        built![BagComponents from row:
-            a,
-            c,
-            b,
-            more
-        ]
-    }
-}
-
-impl Takes for BagComponents {
-    ghost Refuses = { ⟦<BagRow as Reads>⟧.Refuses };
-
-    #[inline(always)]
-    fn take(alloc: Global, decoder: &mut Decoder<'_>) -> Result<Self, DecodeError> {
-        read_row::<Self, BagRow>(alloc, decoder)
-    }
-}
-
-impl Tabled<3, 1> for BagComponents {
-    ghost use Rattle.std.specs.Prelude.{refl};
-
-    const FIELDS: Fields<3> = Fields {
-        fields: fields![
-            0 Optional Application 2 "a",
-            1 Required Context 0 "c",
-            2 Required Context 1 "b"
-        ],
-    };
-
-    const EXTENDED_FIELDS: Option<Fields<1>> = Some(Fields {
-        fields: fields![
-            0 Optional Context 3 "more"
-        ],
-    });
-
-    fn root_fields() -> &'static [Field<'static>] {
-        Self::FIELDS.fields
-    }
-
-    fn addition_fields() -> &'static [Field<'static>] {
-        rows_of!(Self::EXTENDED_FIELDS)
-    }
-
-    #[inline(always)]
-    fn put(&self, encoder: &mut Encoder<'_>) -> Result<(), EncodeError> {
-        let view = views![self:
-            a,
-            c,
-            b,
-            more
-        ];
-        BagRow::write(&view, encoder)
-    }
-
-    ghost counts = { (refl, refl) };
-}
-
-const BAG_IN_TEXT_ORDER: &'static [Field<'static>] = fields![
-    0 Required Context 1 "b",
-    1 Optional Application 2 "a",
-    2 Required Context 0 "c"
-];
-
-impl TextOrder for BagComponents {
-    ghost use Rattle.std.specs.Prelude.{[], ◌∷◌};
-
-    ghost places = { 1 ∷ 2 ∷ 0 ∷ [] };
-}
-
-impl InTagOrder<3, 1> for BagComponents {
-    ghost use Rattle.std.specs.Prelude.{refl};
-
-    ghost in_order = { refl };
-
-    const SET_FIELDS: Fields<3> = Fields {
-        fields: BAG_IN_TEXT_ORDER,
-    };
-
-    fn text_fields() -> &'static [Field<'static>] {
-        Self::SET_FIELDS.fields
-    }
-}
-
 /// `Signal ::= CHOICE { busy NULL, level Percent, ..., new-key Key }`
 pub type Signal = OneOf<SignalAlternatives>;
 
@@ -200,24 +80,6 @@ impl TakesAlternative for SignalAlternatives {
     }
 }
 
-/// The limits of `LetterHeadWide`.
-#[derive(Drop)]
-pub enum LetterHeadWideLimits {}
-
-impl Limits for LetterHeadWideLimits {
-    ghost use Rattle.std.specs.Prelude.{None, Some, false, negsuc, pos, refl};
-    ghost use Rattle.rasn_oer.specs.Bounded.{Range, Single};
-
-    ghost LIMITS = { record { value = None; size = Some (Single 2, false) } };
-
-    const LIMITS: Constraints = Constraints {
-        value: None,
-        size: Some((Bounded::Single(2), false)),
-    };
-
-    ghost consistent = { refl };
-}
-
 /// `SEQUENCE { from Name, key Key OPTIONAL, signal Signal, open ANY, digits NumericString, plain
 /// PrintableString, seen VisibleString, general GeneralString, graphic GraphicString, teletex
 /// TeletexString, wide BMPString (SIZE(2)) }`
@@ -236,7 +98,7 @@ pub struct LetterHeadComponents {
     pub general: GeneralText,
     pub graphic: GraphicText,
     pub teletex: TeletexText,
-    pub wide: Limited<BmpText, LetterHeadWideLimits>,
+    pub wide: Limited<BmpText, FixedSize<2>>,
 }
 
 type LetterHeadRow = Required<
@@ -335,7 +197,7 @@ impl<'v> Views<'v> for LetterHeadFromPlain {
 /// The components of `LetterHead` from `wide` on.
 pub struct LetterHeadFromWide;
 
-type LetterHeadFromWideRow = Required<Context<10>, Limited<BmpText, LetterHeadWideLimits>, End>;
+type LetterHeadFromWideRow = Required<Context<10>, Limited<BmpText, FixedSize<2>>, End>;
 
 impl Components for LetterHeadFromWide {
     type Values = <LetterHeadFromWideRow as Components>::Values;
@@ -481,3 +343,178 @@ impl Tabled<11, 0> for LetterHeadComponents {
 
     ghost counts = { (refl, refl) };
 }
+
+/// The addition group 1 of `Letter`.
+pub type LetterGroup1 = Sequence<LetterGroup1Components, 2, 0>;
+
+/// The components of `LetterGroup1`.
+#[derive(Debug, PartialEq, Eq, Drop)]
+pub struct LetterGroup1Components {
+    pub stamp: Limited<Octets, FixedSize<2>>,
+    pub note: Option<Utf8Text>,
+}
+
+type LetterGroup1Row = Required<
+    Context<2>,
+    Limited<Octets, FixedSize<2>>,
+    Optional<Context<3>, Utf8Text, End>,
+>;
+
+impl Rowed for LetterGroup1Components {
+    ghost use Rattle.rasn_oer.specs.Values.{both};
+
+    type Values = <LetterGroup1Row as Components>::Values;
+
+    ghost EXTENSIBLE = { ⟦<LetterGroup1Row as Components>⟧.EXTENSIBLE };
+
+    const EXTENSIBLE: bool = false;
+
+    ghost row_schema = { ⟦<LetterGroup1Row as Components>⟧.schema };
+
+    ghost row_is_schema = { ⟦<LetterGroup1Row as Components>⟧.is_schema };
+
+    ghost components = { λ v. both v.stamp (both v.note tt) };
+
+    fn from_row(row: Self::Values) -> Self {
+        built![LetterGroup1Components from row:
+            stamp,
+            note
+        ]
+    }
+}
+
+impl Takes for LetterGroup1Components {
+    ghost Refuses = { ⟦<LetterGroup1Row as Reads>⟧.Refuses };
+
+    #[inline(always)]
+    fn take(alloc: Global, decoder: &mut Decoder<'_>) -> Result<Self, DecodeError> {
+        read_row::<Self, LetterGroup1Row>(alloc, decoder)
+    }
+}
+
+impl Tabled<2, 0> for LetterGroup1Components {
+    ghost use Rattle.std.specs.Prelude.{refl};
+
+    const FIELDS: Fields<2> = Fields {
+        fields: fields![
+            0 Required Context 2 "stamp",
+            1 Optional Context 3 "note"
+        ],
+    };
+
+    const EXTENDED_FIELDS: Option<Fields<0>> = None;
+
+    fn root_fields() -> &'static [Field<'static>] {
+        Self::FIELDS.fields
+    }
+
+    fn addition_fields() -> &'static [Field<'static>] {
+        rows_of!(Self::EXTENDED_FIELDS)
+    }
+
+    #[inline(always)]
+    fn put(&self, encoder: &mut Encoder<'_>) -> Result<(), EncodeError> {
+        let view = views![self:
+            stamp,
+            note
+        ];
+        LetterGroup1Row::write(&view, encoder)
+    }
+
+    ghost counts = { (refl, refl) };
+}
+
+/// `Letter ::= SEQUENCE { head SEQUENCE { from Name, key Key OPTIONAL, signal Signal, open ANY, digits
+/// NumericString, plain PrintableString, seen VisibleString, general GeneralString, graphic
+/// GraphicString, teletex TeletexString, wide BMPString (SIZE(2)) }, body OCTET STRING, ..., [[
+/// stamp OCTET STRING (SIZE(2)), note UTF8String OPTIONAL ]] }`
+pub type Letter = Sequence<LetterComponents, 2, 1>;
+
+/// The components of `Letter`.
+#[derive(Debug, PartialEq, Eq, Drop)]
+pub struct LetterComponents {
+    pub head: LetterHead,
+    pub body: Octets,
+    pub group_1: Option<LetterGroup1>,
+}
+
+type LetterRow = Required<
+    Context<0>,
+    LetterHead,
+    Required<Context<1>, Octets, Extensible<LetterAdditions>>,
+>;
+
+type LetterAdditions = AdditionGroup<2, 0, LetterGroup1, End>;
+
+impl Rowed for LetterComponents {
+    ghost use Rattle.rasn_oer.specs.Values.{both};
+
+    type Values = <LetterRow as Components>::Values;
+
+    ghost EXTENSIBLE = { ⟦<LetterRow as Components>⟧.EXTENSIBLE };
+
+    const EXTENSIBLE: bool = true;
+
+    ghost row_schema = { ⟦<LetterRow as Components>⟧.schema };
+
+    ghost row_is_schema = { ⟦<LetterRow as Components>⟧.is_schema };
+
+    ghost components = { λ v. both v.head (both v.body (both v.group_1 tt)) };
+
+    fn from_row(row: Self::Values) -> Self {
+        built![LetterComponents from row:
+            head,
+            body,
+            group_1
+        ]
+    }
+}
+
+impl Takes for LetterComponents {
+    ghost Refuses = { ⟦<LetterRow as Reads>⟧.Refuses };
+
+    #[inline(always)]
+    fn take(alloc: Global, decoder: &mut Decoder<'_>) -> Result<Self, DecodeError> {
+        read_row::<Self, LetterRow>(alloc, decoder)
+    }
+}
+
+impl Tabled<2, 1> for LetterComponents {
+    ghost use Rattle.std.specs.Prelude.{refl};
+
+    const FIELDS: Fields<2> = Fields {
+        fields: fields![
+            0 Required Context 0 "head",
+            1 Required Context 1 "body"
+        ],
+    };
+
+    const EXTENDED_FIELDS: Option<Fields<1>> = Some(Fields {
+        fields: fields![
+            0 Optional Universal 16 "group 1"
+        ],
+    });
+
+    fn root_fields() -> &'static [Field<'static>] {
+        Self::FIELDS.fields
+    }
+
+    fn addition_fields() -> &'static [Field<'static>] {
+        rows_of!(Self::EXTENDED_FIELDS)
+    }
+
+    #[inline(always)]
+    fn put(&self, encoder: &mut Encoder<'_>) -> Result<(), EncodeError> {
+        let view = views![self:
+            head,
+            body,
+            group_1
+        ];
+        LetterRow::write(&view, encoder)
+    }
+
+    ghost counts = { (refl, refl) };
+}
+
+/// `Rights ::= BIT STRING { read(0), write(1) } (SIZE(8))`
+pub type Rights = Limited<BitString, FixedSize<8>>;

@@ -1,219 +1,8 @@
 //! Types of ASN.1 modules, as oergen printed them.
 
-use crate::{Colour, ColourValues, LetterHead, Name};
+use crate::{Colour, ColourValues, Name, Names, Rights};
 use rasn_oer::prelude::*;
 use std::alloc::{AllocError, Global};
-
-/// The limits of `LetterGroup1Stamp`.
-#[derive(Drop)]
-pub enum LetterGroup1StampLimits {}
-
-impl Limits for LetterGroup1StampLimits {
-    ghost use Rattle.std.specs.Prelude.{None, Some, false, negsuc, pos, refl};
-    ghost use Rattle.rasn_oer.specs.Bounded.{Range, Single};
-
-    ghost LIMITS = { record { value = None; size = Some (Single 2, false) } };
-
-    const LIMITS: Constraints = Constraints {
-        value: None,
-        size: Some((Bounded::Single(2), false)),
-    };
-
-    ghost consistent = { refl };
-}
-
-/// The addition group 1 of `Letter`.
-pub type LetterGroup1 = Sequence<LetterGroup1Components, 2, 0>;
-
-/// The components of `LetterGroup1`.
-#[derive(Debug, PartialEq, Eq, Drop)]
-pub struct LetterGroup1Components {
-    pub stamp: Limited<Octets, LetterGroup1StampLimits>,
-    pub note: Option<Utf8Text>,
-}
-
-type LetterGroup1Row = Required<
-    Context<2>,
-    Limited<Octets, LetterGroup1StampLimits>,
-    Optional<Context<3>, Utf8Text, End>,
->;
-
-impl Rowed for LetterGroup1Components {
-    ghost use Rattle.rasn_oer.specs.Values.{both};
-
-    type Values = <LetterGroup1Row as Components>::Values;
-
-    ghost EXTENSIBLE = { ⟦<LetterGroup1Row as Components>⟧.EXTENSIBLE };
-
-    const EXTENSIBLE: bool = false;
-
-    ghost row_schema = { ⟦<LetterGroup1Row as Components>⟧.schema };
-
-    ghost row_is_schema = { ⟦<LetterGroup1Row as Components>⟧.is_schema };
-
-    ghost components = { λ v. both v.stamp (both v.note tt) };
-
-    fn from_row(row: Self::Values) -> Self {
-        built![LetterGroup1Components from row:
-            stamp,
-            note
-        ]
-    }
-}
-
-impl Takes for LetterGroup1Components {
-    ghost Refuses = { ⟦<LetterGroup1Row as Reads>⟧.Refuses };
-
-    #[inline(always)]
-    fn take(alloc: Global, decoder: &mut Decoder<'_>) -> Result<Self, DecodeError> {
-        read_row::<Self, LetterGroup1Row>(alloc, decoder)
-    }
-}
-
-impl Tabled<2, 0> for LetterGroup1Components {
-    ghost use Rattle.std.specs.Prelude.{refl};
-
-    const FIELDS: Fields<2> = Fields {
-        fields: fields![
-            0 Required Context 2 "stamp",
-            1 Optional Context 3 "note"
-        ],
-    };
-
-    const EXTENDED_FIELDS: Option<Fields<0>> = None;
-
-    fn root_fields() -> &'static [Field<'static>] {
-        Self::FIELDS.fields
-    }
-
-    fn addition_fields() -> &'static [Field<'static>] {
-        rows_of!(Self::EXTENDED_FIELDS)
-    }
-
-    #[inline(always)]
-    fn put(&self, encoder: &mut Encoder<'_>) -> Result<(), EncodeError> {
-        let view = views![self:
-            stamp,
-            note
-        ];
-        LetterGroup1Row::write(&view, encoder)
-    }
-
-    ghost counts = { (refl, refl) };
-}
-
-/// `Letter ::= SEQUENCE { head SEQUENCE { from Name, key Key OPTIONAL, signal Signal, open ANY, digits
-/// NumericString, plain PrintableString, seen VisibleString, general GeneralString, graphic
-/// GraphicString, teletex TeletexString, wide BMPString (SIZE(2)) }, body OCTET STRING, ..., [[
-/// stamp OCTET STRING (SIZE(2)), note UTF8String OPTIONAL ]] }`
-pub type Letter = Sequence<LetterComponents, 2, 1>;
-
-/// The components of `Letter`.
-#[derive(Debug, PartialEq, Eq, Drop)]
-pub struct LetterComponents {
-    pub head: LetterHead,
-    pub body: Octets,
-    pub group_1: Option<LetterGroup1>,
-}
-
-type LetterRow = Required<
-    Context<0>,
-    LetterHead,
-    Required<Context<1>, Octets, Extensible<LetterAdditions>>,
->;
-
-type LetterAdditions = AdditionGroup<2, 0, LetterGroup1, End>;
-
-impl Rowed for LetterComponents {
-    ghost use Rattle.rasn_oer.specs.Values.{both};
-
-    type Values = <LetterRow as Components>::Values;
-
-    ghost EXTENSIBLE = { ⟦<LetterRow as Components>⟧.EXTENSIBLE };
-
-    const EXTENSIBLE: bool = true;
-
-    ghost row_schema = { ⟦<LetterRow as Components>⟧.schema };
-
-    ghost row_is_schema = { ⟦<LetterRow as Components>⟧.is_schema };
-
-    ghost components = { λ v. both v.head (both v.body (both v.group_1 tt)) };
-
-    fn from_row(row: Self::Values) -> Self {
-        built![LetterComponents from row:
-            head,
-            body,
-            group_1
-        ]
-    }
-}
-
-impl Takes for LetterComponents {
-    ghost Refuses = { ⟦<LetterRow as Reads>⟧.Refuses };
-
-    #[inline(always)]
-    fn take(alloc: Global, decoder: &mut Decoder<'_>) -> Result<Self, DecodeError> {
-        read_row::<Self, LetterRow>(alloc, decoder)
-    }
-}
-
-impl Tabled<2, 1> for LetterComponents {
-    ghost use Rattle.std.specs.Prelude.{refl};
-
-    const FIELDS: Fields<2> = Fields {
-        fields: fields![
-            0 Required Context 0 "head",
-            1 Required Context 1 "body"
-        ],
-    };
-
-    const EXTENDED_FIELDS: Option<Fields<1>> = Some(Fields {
-        fields: fields![
-            0 Optional Universal 16 "group 1"
-        ],
-    });
-
-    fn root_fields() -> &'static [Field<'static>] {
-        Self::FIELDS.fields
-    }
-
-    fn addition_fields() -> &'static [Field<'static>] {
-        rows_of!(Self::EXTENDED_FIELDS)
-    }
-
-    #[inline(always)]
-    fn put(&self, encoder: &mut Encoder<'_>) -> Result<(), EncodeError> {
-        let view = views![self:
-            head,
-            body,
-            group_1
-        ];
-        LetterRow::write(&view, encoder)
-    }
-
-    ghost counts = { (refl, refl) };
-}
-
-/// `Rights ::= BIT STRING { read(0), write(1) } (SIZE(8))`
-pub type Rights = Limited<BitString, RightsLimits>;
-
-/// The limits of `Rights`.
-#[derive(Drop)]
-pub enum RightsLimits {}
-
-impl Limits for RightsLimits {
-    ghost use Rattle.std.specs.Prelude.{None, Some, false, negsuc, pos, refl};
-    ghost use Rattle.rasn_oer.specs.Bounded.{Range, Single};
-
-    ghost LIMITS = { record { value = None; size = Some (Single 8, false) } };
-
-    const LIMITS: Constraints = Constraints {
-        value: None,
-        size: Some((Bounded::Single(8), false)),
-    };
-
-    ghost consistent = { refl };
-}
 
 /// The default {read} of `PermitRights`.
 pub struct PermitRightsDefault;
@@ -235,24 +24,6 @@ impl DefaultValue<BitString> for PermitRightsDefault {
     }
 
     ghost admitted = { tt };
-}
-
-/// The limits of `PermitMark`.
-#[derive(Drop)]
-pub enum PermitMarkLimits {}
-
-impl Limits for PermitMarkLimits {
-    ghost use Rattle.std.specs.Prelude.{None, Some, false, negsuc, pos, refl};
-    ghost use Rattle.rasn_oer.specs.Bounded.{Range, Single};
-
-    ghost LIMITS = { record { value = None; size = Some (Single 2, false) } };
-
-    const LIMITS: Constraints = Constraints {
-        value: None,
-        size: Some((Bounded::Single(2), false)),
-    };
-
-    ghost consistent = { refl };
 }
 
 /// The default 'AB01'H of `PermitMark`.
@@ -398,7 +169,7 @@ pub type Permit = Sequence<PermitComponents, 6, 2>;
 #[derive(Debug, PartialEq, Eq, Drop)]
 pub struct PermitComponents {
     pub rights: Rights,
-    pub mark: Limited<Octets, PermitMarkLimits>,
+    pub mark: Limited<Octets, FixedSize<2>>,
     pub place: Name,
     pub colour: Colour,
     pub bits: BitString,
@@ -413,7 +184,7 @@ type PermitRow = Defaulted<
     Within<PermitRightsDefault>,
     Defaulted<
         Context<1>,
-        Limited<Octets, PermitMarkLimits>,
+        Limited<Octets, FixedSize<2>>,
         Within<PermitMarkDefault>,
         Defaulted<
             Context<2>,
@@ -575,6 +346,97 @@ impl Tabled<6, 2> for PermitComponents {
             more
         ];
         PermitRow::write(&view, encoder)
+    }
+
+    ghost counts = { (refl, refl) };
+}
+
+/// `Folder ::= SEQUENCE { names Names DEFAULT { }, numbers SET (SIZE(0..9)) OF INTEGER DEFAULT { },
+/// ..., more Names DEFAULT none }`
+pub type Folder = Sequence<FolderComponents, 2, 1>;
+
+/// The components of `Folder`.
+#[derive(Debug, PartialEq, Eq, Drop)]
+pub struct FolderComponents {
+    pub names: Names,
+    pub numbers: SetOf<Integer>,
+    pub more: Names,
+}
+
+type FolderRow = Defaulted<
+    Context<0>,
+    Names,
+    IsEmptyList,
+    Defaulted<Context<1>, SetOf<Integer>, IsEmptyList, Extensible<FolderAdditions>>,
+>;
+
+type FolderAdditions = DefaultedAddition<Context<2>, Names, IsEmptyList, End>;
+
+impl Rowed for FolderComponents {
+    ghost use Rattle.rasn_oer.specs.Values.{both};
+
+    type Values = <FolderRow as Components>::Values;
+
+    ghost EXTENSIBLE = { ⟦<FolderRow as Components>⟧.EXTENSIBLE };
+
+    const EXTENSIBLE: bool = true;
+
+    ghost row_schema = { ⟦<FolderRow as Components>⟧.schema };
+
+    ghost row_is_schema = { ⟦<FolderRow as Components>⟧.is_schema };
+
+    ghost components = { λ v. both v.names (both v.numbers (both v.more tt)) };
+
+    fn from_row(row: Self::Values) -> Self {
+        built![FolderComponents from row:
+            names,
+            numbers,
+            more
+        ]
+    }
+}
+
+impl Takes for FolderComponents {
+    ghost Refuses = { ⟦<FolderRow as Reads>⟧.Refuses };
+
+    #[inline(always)]
+    fn take(alloc: Global, decoder: &mut Decoder<'_>) -> Result<Self, DecodeError> {
+        read_row::<Self, FolderRow>(alloc, decoder)
+    }
+}
+
+impl Tabled<2, 1> for FolderComponents {
+    ghost use Rattle.std.specs.Prelude.{refl};
+
+    const FIELDS: Fields<2> = Fields {
+        fields: fields![
+            0 Default Context 0 "names",
+            1 Default Context 1 "numbers"
+        ],
+    };
+
+    const EXTENDED_FIELDS: Option<Fields<1>> = Some(Fields {
+        fields: fields![
+            0 Default Context 2 "more"
+        ],
+    });
+
+    fn root_fields() -> &'static [Field<'static>] {
+        Self::FIELDS.fields
+    }
+
+    fn addition_fields() -> &'static [Field<'static>] {
+        rows_of!(Self::EXTENDED_FIELDS)
+    }
+
+    #[inline(always)]
+    fn put(&self, encoder: &mut Encoder<'_>) -> Result<(), EncodeError> {
+        let view = views![self:
+            names,
+            numbers,
+            more
+        ];
+        FolderRow::write(&view, encoder)
     }
 
     ghost counts = { (refl, refl) };

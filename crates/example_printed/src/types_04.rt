@@ -1,99 +1,7 @@
 //! Types of ASN.1 modules, as oergen printed them.
 
-use crate::Names;
 use rasn_oer::prelude::*;
 use std::alloc::{AllocError, Global};
-
-/// `Folder ::= SEQUENCE { names Names DEFAULT { }, numbers SET (SIZE(0..9)) OF INTEGER DEFAULT { },
-/// ..., more Names DEFAULT none }`
-pub type Folder = Sequence<FolderComponents, 2, 1>;
-
-/// The components of `Folder`.
-#[derive(Debug, PartialEq, Eq, Drop)]
-pub struct FolderComponents {
-    pub names: Names,
-    pub numbers: SetOf<Integer>,
-    pub more: Names,
-}
-
-type FolderRow = Defaulted<
-    Context<0>,
-    Names,
-    IsEmptyList,
-    Defaulted<Context<1>, SetOf<Integer>, IsEmptyList, Extensible<FolderAdditions>>,
->;
-
-type FolderAdditions = DefaultedAddition<Context<2>, Names, IsEmptyList, End>;
-
-impl Rowed for FolderComponents {
-    ghost use Rattle.rasn_oer.specs.Values.{both};
-
-    type Values = <FolderRow as Components>::Values;
-
-    ghost EXTENSIBLE = { ⟦<FolderRow as Components>⟧.EXTENSIBLE };
-
-    const EXTENSIBLE: bool = true;
-
-    ghost row_schema = { ⟦<FolderRow as Components>⟧.schema };
-
-    ghost row_is_schema = { ⟦<FolderRow as Components>⟧.is_schema };
-
-    ghost components = { λ v. both v.names (both v.numbers (both v.more tt)) };
-
-    fn from_row(row: Self::Values) -> Self {
-        built![FolderComponents from row:
-            names,
-            numbers,
-            more
-        ]
-    }
-}
-
-impl Takes for FolderComponents {
-    ghost Refuses = { ⟦<FolderRow as Reads>⟧.Refuses };
-
-    #[inline(always)]
-    fn take(alloc: Global, decoder: &mut Decoder<'_>) -> Result<Self, DecodeError> {
-        read_row::<Self, FolderRow>(alloc, decoder)
-    }
-}
-
-impl Tabled<2, 1> for FolderComponents {
-    ghost use Rattle.std.specs.Prelude.{refl};
-
-    const FIELDS: Fields<2> = Fields {
-        fields: fields![
-            0 Default Context 0 "names",
-            1 Default Context 1 "numbers"
-        ],
-    };
-
-    const EXTENDED_FIELDS: Option<Fields<1>> = Some(Fields {
-        fields: fields![
-            0 Default Context 2 "more"
-        ],
-    });
-
-    fn root_fields() -> &'static [Field<'static>] {
-        Self::FIELDS.fields
-    }
-
-    fn addition_fields() -> &'static [Field<'static>] {
-        rows_of!(Self::EXTENDED_FIELDS)
-    }
-
-    #[inline(always)]
-    fn put(&self, encoder: &mut Encoder<'_>) -> Result<(), EncodeError> {
-        let view = views![self:
-            names,
-            numbers,
-            more
-        ];
-        FolderRow::write(&view, encoder)
-    }
-
-    ghost counts = { (refl, refl) };
-}
 
 /// The default "h""é" of `LabelsTitle`.
 pub struct LabelsTitleDefault;
@@ -116,30 +24,6 @@ impl DefaultValue<Utf8Text> for LabelsTitleDefault {
     }
 
     ghost admitted = { written texts.Utf8 (104 ∷ 34 ∷ 195 ∷ 169 ∷ []) refl (spelled (104 ∷ 34 ∷ 195 ∷ 169 ∷ []) refl) };
-}
-
-/// The limits of `LabelsDigits`.
-#[derive(Drop)]
-pub enum LabelsDigitsLimits {}
-
-impl Limits for LabelsDigitsLimits {
-    ghost use Rattle.std.specs.Prelude.{None, Some, false, negsuc, pos, refl};
-    ghost use Rattle.rasn_oer.specs.Bounded.{Range, Single};
-
-    ghost LIMITS = { record { value = None; size = Some (Range (Some 1) (Some 4), false) } };
-
-    const LIMITS: Constraints = Constraints {
-        value: None,
-        size: Some((
-            Bounded::Range {
-                start: Some(1),
-                end: Some(4),
-            },
-            false,
-        )),
-    };
-
-    ghost consistent = { refl };
 }
 
 /// The default "0 1" of `LabelsDigits`.
@@ -295,7 +179,7 @@ pub type Labels = Sequence<LabelsComponents, 7, 0>;
 #[derive(Debug, PartialEq, Eq, Drop)]
 pub struct LabelsComponents {
     pub title: Utf8Text,
-    pub digits: Limited<NumericText, LabelsDigitsLimits>,
+    pub digits: Limited<NumericText, SizeBetween<1, 4>>,
     pub plain: PrintableText,
     pub seen: VisibleText,
     pub general: GeneralText,
@@ -309,7 +193,7 @@ type LabelsRow = Defaulted<
     LabelsTitleDefault,
     Defaulted<
         Context<1>,
-        Limited<NumericText, LabelsDigitsLimits>,
+        Limited<NumericText, SizeBetween<1, 4>>,
         Within<LabelsDigitsDefault>,
         Defaulted<
             Context<2>,
@@ -539,6 +423,158 @@ impl Tabled<2, 0> for SpotComponents {
             y
         ];
         SpotRow::write(&view, encoder)
+    }
+
+    ghost counts = { (refl, refl) };
+}
+
+/// `SEQUENCE { middle Spot, radius INTEGER (0..65535) }`
+pub type AreaRound = Sequence<AreaRoundComponents, 2, 0>;
+
+/// The components of `AreaRound`.
+#[derive(Debug, PartialEq, Eq, Drop)]
+pub struct AreaRoundComponents {
+    pub middle: Spot,
+    pub radius: u16,
+}
+
+type AreaRoundRow = Required<Context<0>, Spot, Required<Context<1>, u16, End>>;
+
+impl Rowed for AreaRoundComponents {
+    ghost use Rattle.rasn_oer.specs.Values.{both};
+
+    type Values = <AreaRoundRow as Components>::Values;
+
+    ghost EXTENSIBLE = { ⟦<AreaRoundRow as Components>⟧.EXTENSIBLE };
+
+    const EXTENSIBLE: bool = false;
+
+    ghost row_schema = { ⟦<AreaRoundRow as Components>⟧.schema };
+
+    ghost row_is_schema = { ⟦<AreaRoundRow as Components>⟧.is_schema };
+
+    ghost components = { λ v. both v.middle (both v.radius tt) };
+
+    fn from_row(row: Self::Values) -> Self {
+        built![AreaRoundComponents from row:
+            middle,
+            radius
+        ]
+    }
+}
+
+impl Takes for AreaRoundComponents {
+    ghost Refuses = { ⟦<AreaRoundRow as Reads>⟧.Refuses };
+
+    #[inline(always)]
+    fn take(alloc: Global, decoder: &mut Decoder<'_>) -> Result<Self, DecodeError> {
+        read_row::<Self, AreaRoundRow>(alloc, decoder)
+    }
+}
+
+impl Tabled<2, 0> for AreaRoundComponents {
+    ghost use Rattle.std.specs.Prelude.{refl};
+
+    const FIELDS: Fields<2> = Fields {
+        fields: fields![
+            0 Required Context 0 "middle",
+            1 Required Context 1 "radius"
+        ],
+    };
+
+    const EXTENDED_FIELDS: Option<Fields<0>> = None;
+
+    fn root_fields() -> &'static [Field<'static>] {
+        Self::FIELDS.fields
+    }
+
+    fn addition_fields() -> &'static [Field<'static>] {
+        rows_of!(Self::EXTENDED_FIELDS)
+    }
+
+    #[inline(always)]
+    fn put(&self, encoder: &mut Encoder<'_>) -> Result<(), EncodeError> {
+        let view = views![self:
+            middle,
+            radius
+        ];
+        AreaRoundRow::write(&view, encoder)
+    }
+
+    ghost counts = { (refl, refl) };
+}
+
+/// `SEQUENCE { from Spot, to Spot }`
+pub type AreaBoxes = Sequence<AreaBoxesComponents, 2, 0>;
+
+/// The components of `AreaBoxes`.
+#[derive(Debug, PartialEq, Eq, Drop)]
+pub struct AreaBoxesComponents {
+    pub from: Spot,
+    pub to: Spot,
+}
+
+type AreaBoxesRow = Required<Context<0>, Spot, Required<Context<1>, Spot, End>>;
+
+impl Rowed for AreaBoxesComponents {
+    ghost use Rattle.rasn_oer.specs.Values.{both};
+
+    type Values = <AreaBoxesRow as Components>::Values;
+
+    ghost EXTENSIBLE = { ⟦<AreaBoxesRow as Components>⟧.EXTENSIBLE };
+
+    const EXTENSIBLE: bool = false;
+
+    ghost row_schema = { ⟦<AreaBoxesRow as Components>⟧.schema };
+
+    ghost row_is_schema = { ⟦<AreaBoxesRow as Components>⟧.is_schema };
+
+    ghost components = { λ v. both v.from (both v.to tt) };
+
+    fn from_row(row: Self::Values) -> Self {
+        built![AreaBoxesComponents from row:
+            from,
+            to
+        ]
+    }
+}
+
+impl Takes for AreaBoxesComponents {
+    ghost Refuses = { ⟦<AreaBoxesRow as Reads>⟧.Refuses };
+
+    #[inline(always)]
+    fn take(alloc: Global, decoder: &mut Decoder<'_>) -> Result<Self, DecodeError> {
+        read_row::<Self, AreaBoxesRow>(alloc, decoder)
+    }
+}
+
+impl Tabled<2, 0> for AreaBoxesComponents {
+    ghost use Rattle.std.specs.Prelude.{refl};
+
+    const FIELDS: Fields<2> = Fields {
+        fields: fields![
+            0 Required Context 0 "from",
+            1 Required Context 1 "to"
+        ],
+    };
+
+    const EXTENDED_FIELDS: Option<Fields<0>> = None;
+
+    fn root_fields() -> &'static [Field<'static>] {
+        Self::FIELDS.fields
+    }
+
+    fn addition_fields() -> &'static [Field<'static>] {
+        rows_of!(Self::EXTENDED_FIELDS)
+    }
+
+    #[inline(always)]
+    fn put(&self, encoder: &mut Encoder<'_>) -> Result<(), EncodeError> {
+        let view = views![self:
+            from,
+            to
+        ];
+        AreaBoxesRow::write(&view, encoder)
     }
 
     ghost counts = { (refl, refl) };

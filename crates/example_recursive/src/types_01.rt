@@ -222,25 +222,7 @@ impl Decode for Node {
 }
 
 /// `Serial ::= OCTET STRING (SIZE(2))`
-pub type Serial = Limited<Octets, SerialLimits>;
-
-/// The limits of `Serial`.
-#[derive(Drop)]
-pub enum SerialLimits {}
-
-impl Limits for SerialLimits {
-    ghost use Rattle.std.specs.Prelude.{None, Some, false, negsuc, pos, refl};
-    ghost use Rattle.rasn_oer.specs.Bounded.{Range, Single};
-
-    ghost LIMITS = { record { value = None; size = Some (Single 2, false) } };
-
-    const LIMITS: Constraints = Constraints {
-        value: None,
-        size: Some((Bounded::Single(2), false)),
-    };
-
-    ghost consistent = { refl };
-}
+pub type Serial = Limited<Octets, FixedSize<2>>;
 
 /// `Body ::= CHOICE { text UTF8String, inner Envelope, ..., count INTEGER }`
 pub type Body = BodyContent<Envelope>;

@@ -15,6 +15,7 @@ mod literals;
 mod more_additions;
 mod more_texts;
 mod places;
+mod ranges;
 mod reading;
 mod rowed;
 mod sequences;
@@ -39,6 +40,7 @@ pub use places::{
     Application, Context, DefaultValue, IsFalse, IsNull, IsNumber, IsTrue, Place, Private,
     Universal, Within,
 };
+pub use ranges::{AtLeast, AtMost, Between, FixedSize, SizeAtLeast, SizeBetween};
 pub use reading::{decode_row, read_row};
 pub use rowed::{Rowed, Schemed, Takes};
 pub use sequences::{Sequence, Tabled};

@@ -73,6 +73,38 @@ fn push_bounds(out: &mut Text, limits: Limits, purpose: Purpose) {
     out.push(", false)");
 }
 
+/// Whether a number can be a parameter of the library's limits.
+fn is_parameter(number: i128, purpose: Purpose) -> bool {
+    match purpose {
+        Purpose::Size => usize::try_from(number).is_ok(),
+        Purpose::Value => i64::try_from(number).is_ok(),
+    }
+}
+
+/// The library's limits that have these numbers; nothing where it has none.
+pub fn limits_by_number(alloc: Global, limits: Limits, purpose: Purpose) -> Option<Text> {
+    let (name, first, last) = match (purpose, limits.low, limits.high) {
+        (Purpose::Size, Some(low), Some(high)) if low == high => ("FixedSize<", low, None),
+        (Purpose::Size, Some(low), Some(high)) => ("SizeBetween<", low, Some(high)),
+        (Purpose::Size, Some(low), None) => ("SizeAtLeast<", low, None),
+        (Purpose::Value, Some(low), Some(high)) => ("Between<", low, Some(high)),
+        (Purpose::Value, Some(low), None) => ("AtLeast<", low, None),
+        (Purpose::Value, None, Some(high)) => ("AtMost<", high, None),
+        (Purpose::Size, None, _) | (Purpose::Value, None, None) => return None,
+    };
+    if !is_parameter(first, purpose) || !is_parameter(last.unwrap_or(first), purpose) {
+        return None;
+    }
+    let mut text = Text::of(alloc, &[name]);
+    text.push_number(first);
+    if let Some(last) = last {
+        text.push(", ");
+        text.push_number(last);
+    }
+    text.push(">");
+    Some(text)
+}
+
 /// Whether sizes are those of an usize.
 fn are_sizes(limits: Limits) -> bool {
     let low = limits.low.unwrap_or(0);

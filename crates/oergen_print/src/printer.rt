@@ -40,7 +40,7 @@ reads readsadditions readsalternatives readsknot readsknotalternatives required 
 schemed sequence set tabled takes takesalternative takesknot takesknotalternative textorder universal views writes \
 octets openoctets bmptext generaltext graphictext ia5text numerictext printabletext teletextext universaltext utf8text visibletext \
 within equalasspelled spelled encode encoder bare isemptylist utf8_from are_bits bits_from bmp_from universal_from built fields \
-from_row pairs rows_of table tags namedbits";
+from_row pairs rows_of table tags namedbits between atleast atmost fixedsize sizebetween sizeatleast";
 
 /// How often names may be put right.
 const MAX_RENAMES: usize = 16;

@@ -1,5 +1,6 @@
 //! The Rust type of a type without parts, of a name, and of lists of either.
 
+use crate::items::limits_by_number;
 use crate::text::Text;
 use oergen_layouts::definitions::{Definition, Part, Tie};
 use oergen_layouts::layouts::unit_of;
@@ -17,7 +18,7 @@ const MAX_LISTS: usize = 64;
 #[derive(Drop)]
 pub struct Shape {
     pub text: Text,
-    /// The limits that it has a name for, where it has some.
+    /// The limits that are printed beside it, under a name of its own, where it has such.
     pub limits: Option<(Limits, Purpose)>,
 }
 
@@ -149,9 +150,14 @@ fn base_shape<'m>(
     if limits.is_extensible || limits == own {
         return Ok(plain(scope.alloc, rust, ""));
     }
-    let mut text = Text::of(scope.alloc, &["Limited<", rust]);
-    text.push_all(&[", ", name, "Limits>"]);
-    let limits = Some((limits, purpose));
+    let mut text = Text::of(scope.alloc, &["Limited<", rust, ", "]);
+    let by_number = limits_by_number(scope.alloc, limits, purpose);
+    match &by_number {
+        Some(own) => text.push_text(own),
+        None => text.push_all(&[name, "Limits"]),
+    }
+    text.push(">");
+    let limits = by_number.is_none().then_some((limits, purpose));
     Ok(Shape { text, limits })
 }
 

@@ -14,6 +14,8 @@ mod kept_cycles;
 #[cfg(test)]
 mod lent;
 #[cfg(test)]
+mod limits;
+#[cfg(test)]
 mod messages;
 #[cfg(test)]
 mod octets;

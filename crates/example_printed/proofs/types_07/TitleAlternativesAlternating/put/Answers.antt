@@ -1,4 +1,4 @@
-use Rattle.example_printed.proofs.types_08.TitleAlternativesAlternating.put.Goals as goal
+use Rattle.example_printed.proofs.types_07.TitleAlternativesAlternating.put.Goals as goal
 
 pub returns-in-TeletexString : goal.returns-in-TeletexString
 returns-in-TeletexString g c = rw c.in-TeletexString.is (rw c.tag.ensures at c.put_alternative.ensures)
