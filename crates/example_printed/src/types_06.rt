@@ -9,7 +9,7 @@ pub enum NumbersLongLimits {}
 
 impl Limits for NumbersLongLimits {
     ghost use Rattle.std.specs.Prelude.{None, Some, false, negsuc, pos, refl};
-    ghost use Rattle.rasn_oer.specs.Bounded.{Range, Single};
+    ghost use Rattle.rasn_oer.specs.Bounded.{Range};
 
     ghost LIMITS = { record { value = Some (Range (Some (pos 0)) (Some (pos 18446744073709551616)), false); size = None } };
 

@@ -33,46 +33,6 @@ fn push_end(out: &mut Text, end: Option<i128>, around: (&str, &str), has_sign: b
     out.push(around.1);
 }
 
-/// The one size that is left, where there is one.
-fn single_of(limits: Limits, purpose: Purpose) -> Option<i128> {
-    match purpose {
-        Purpose::Size => limits.fixed(),
-        Purpose::Value => None,
-    }
-}
-
-/// Appends bounds, for the code.
-fn push_code(out: &mut Text, limits: Limits, purpose: Purpose) {
-    const END: (&str, &str) = ("Some(", ")");
-    if let Some(size) = single_of(limits, purpose) {
-        out.push("Some((Bounded::Single(");
-        out.push_number(size);
-        out.push("), false))");
-        return;
-    }
-    out.push("Some((\n            Bounded::Range {\n                start: ");
-    push_end(out, limits.low, END, false);
-    out.push(",\n                end: ");
-    push_end(out, limits.high, END, false);
-    out.push(",\n            },\n            false,\n        ))");
-}
-
-/// Appends bounds, for definitions.
-fn push_bounds(out: &mut Text, limits: Limits, purpose: Purpose) {
-    if let Some(size) = single_of(limits, purpose) {
-        out.push("Some (Single ");
-        out.push_number(size);
-        out.push(", false)");
-        return;
-    }
-    out.push("Some (Range ");
-    let has_sign = purpose == Purpose::Value;
-    push_end(out, limits.low, ("(Some ", ")"), has_sign);
-    out.push(" ");
-    push_end(out, limits.high, ("(Some ", ")"), has_sign);
-    out.push(", false)");
-}
-
 /// Whether a number can be a parameter of the library's limits.
 fn is_parameter(number: i128, purpose: Purpose) -> bool {
     match purpose {
@@ -84,13 +44,13 @@ fn is_parameter(number: i128, purpose: Purpose) -> bool {
 /// The library's limits that have these numbers; nothing where it has none.
 pub fn limits_by_number(alloc: Global, limits: Limits, purpose: Purpose) -> Option<Text> {
     let (name, first, last) = match (purpose, limits.low, limits.high) {
-        (Purpose::Size, Some(low), Some(high)) if low == high => ("FixedSize<", low, None),
-        (Purpose::Size, Some(low), Some(high)) => ("SizeBetween<", low, Some(high)),
+        (Purpose::Size, low, Some(high)) if low == Some(high) => ("FixedSize<", high, None),
+        (Purpose::Size, low, Some(high)) => ("SizeBetween<", low.unwrap_or(0), Some(high)),
         (Purpose::Size, Some(low), None) => ("SizeAtLeast<", low, None),
         (Purpose::Value, Some(low), Some(high)) => ("Between<", low, Some(high)),
         (Purpose::Value, Some(low), None) => ("AtLeast<", low, None),
         (Purpose::Value, None, Some(high)) => ("AtMost<", high, None),
-        (Purpose::Size, None, _) | (Purpose::Value, None, None) => return None,
+        (Purpose::Size | Purpose::Value, None, None) => return None,
     };
     if !is_parameter(first, purpose) || !is_parameter(last.unwrap_or(first), purpose) {
         return None;
@@ -105,29 +65,7 @@ pub fn limits_by_number(alloc: Global, limits: Limits, purpose: Purpose) -> Opti
     Some(text)
 }
 
-/// Whether sizes are those of an usize.
-fn are_sizes(limits: Limits) -> bool {
-    let low = limits.low.unwrap_or(0);
-    let high = limits.high.unwrap_or(low);
-    low >= 0 && high <= 18446744073709551615
-}
-
-/// Prints limits.
-fn push_type(alloc: Global, out: &mut Text, name: &str, limits: Limits, purpose: Purpose) {
-    let mut words = Words::new(alloc);
-    words.put("NAME", name);
-    let (code, bounds, no_code, no_bounds) = match purpose {
-        Purpose::Size => ("SIZE", "GHOST_SIZE", "VALUE", "GHOST_VALUE"),
-        Purpose::Value => ("VALUE", "GHOST_VALUE", "SIZE", "GHOST_SIZE"),
-    };
-    push_code(words.begin(code), limits, purpose);
-    push_bounds(words.begin(bounds), limits, purpose);
-    words.put(no_code, "None");
-    words.put(no_bounds, "None");
-    out.fill(LIMITS, &words);
-}
-
-/// Prints limits. Refused where sizes are none.
+/// Prints limits that the library has no name for, as a type. Refused where they are of sizes.
 pub fn push_limits(
     scope: Scope<'_, '_>,
     out: &mut Text,
@@ -136,9 +74,20 @@ pub fn push_limits(
     first: TokenId,
 ) -> Result<(), Refusal> {
     let (limits, purpose) = limits;
-    if purpose == Purpose::Size && !are_sizes(limits) {
+    if purpose == Purpose::Size {
         return Err(scope.refused(first, "sizes from 0 to 18446744073709551615"));
     }
-    push_type(scope.alloc, out, name, limits, purpose);
+    let mut words = Words::new(scope.alloc);
+    words.put("NAME", name);
+    push_end(words.begin("LOW"), limits.low, ("Some(", ")"), false);
+    push_end(words.begin("HIGH"), limits.high, ("Some(", ")"), false);
+    push_end(words.begin("GHOST_LOW"), limits.low, ("(Some ", ")"), true);
+    push_end(
+        words.begin("GHOST_HIGH"),
+        limits.high,
+        ("(Some ", ")"),
+        true,
+    );
+    out.fill(LIMITS, &words);
     Ok(())
 }

@@ -163,20 +163,26 @@ impl@WRITES@ InTagOrder<@RC@, @EC@> for @NAME@Components@K@ {
 
 "#;
 
-/// The limits of a type.
+/// Limits of a type that the library has no name for.
 pub const LIMITS: &str = r#"/// The limits of `@NAME@`.
 #[derive(Drop)]
 pub enum @NAME@Limits {}
 
 impl Limits for @NAME@Limits {
     ghost use Rattle.std.specs.Prelude.{None, Some, false, negsuc, pos, refl};
-    ghost use Rattle.rasn_oer.specs.Bounded.{Range, Single};
+    ghost use Rattle.rasn_oer.specs.Bounded.{Range};
 
-    ghost LIMITS = { record { value = @GHOST_VALUE@; size = @GHOST_SIZE@ } };
+    ghost LIMITS = { record { value = Some (Range @GHOST_LOW@ @GHOST_HIGH@, false); size = None } };
 
     const LIMITS: Constraints = Constraints {
-        value: @VALUE@,
-        size: @SIZE@,
+        value: Some((
+            Bounded::Range {
+                start: @LOW@,
+                end: @HIGH@,
+            },
+            false,
+        )),
+        size: None,
     };
 
     ghost consistent = { refl };
