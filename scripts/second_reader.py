@@ -42,11 +42,8 @@ class Printed:
         self.aliases.update((name, (of, [])) for name, of in re.findall(r"^pub struct (\w+)\(pub (\w+)<", text, re.M))
         self.limits = {}
         for name, body in re.findall(r"^impl Limits for (\w+) \{\n(.*?)^\}", text, re.M | re.S):
-            is_size = "size: None" not in body
-            single = re.search(r"Single\((-?\d+)\)", body)
-            both = re.search(r"start: (?:Some\((-?\d+)\)|None),\s+end: (?:Some\((-?\d+)\)|None)", body)
-            found = (single[1], single[1]) if single else both.groups()
-            self.limits[name] = (is_size, *(None if it is None else int(it) for it in found))
+            found = re.search(r"start: (?:Some\((-?\d+)\)|None),\s+end: (?:Some\((-?\d+)\)|None)", body).groups()
+            self.limits[name] = (False, *(None if it is None else int(it) for it in found))
 
     def name(self, rust):
         """A type's name where it is printed: with `_` behind it where another thing has that name."""
@@ -56,7 +53,7 @@ class Printed:
     @staticmethod
     def parse(text):
         """A type's name with its parameters, each in turn."""
-        words = re.findall(r"\(\)|[A-Za-z0-9_]+|[<>,()]", text)
+        words = re.findall(r"\(\)|-?[A-Za-z0-9_]+|[<>,()]", text)
 
         def one():
             name, inside = words.pop(0), []
@@ -71,11 +68,20 @@ class Printed:
 
         return one()
 
+    def range(self, of):
+        """Whether limits are of sizes, and their numbers."""
+        name, inside = of
+        if not inside:
+            return self.limits[name]
+        first, last = (int(inside[at][0]) for at in (0, -1))
+        ends = (None, last) if name == "AtMost" else (first, None) if name.endswith("AtLeast") else (first, last)
+        return ("Size" in name, *ends)
+
     def shape(self, of):
         """A type past names, with its limits by number."""
         name, inside = of
         if name == "Limited":
-            return (name, self.shape(inside[0]), self.limits[inside[1][0]])
+            return (name, self.shape(inside[0]), self.range(inside[1]))
         if name in ("ListOf", "SetOf"):
             return (name, self.shape(inside[0]))
         if name == "Held":
@@ -150,7 +156,7 @@ class Comparison:
             rust = "NamedBits"
         if limits.mark or (limits.low, limits.high) == own:
             return (rust,)
-        return ("Limited", (rust,), (is_size, limits.low, limits.high))
+        return ("Limited", (rust,), (is_size, 0 if is_size and limits.low is None else limits.low, limits.high))
 
     @staticmethod
     def tag(tag):
