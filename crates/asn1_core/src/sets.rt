@@ -21,6 +21,18 @@ impl<T> Model for SetOf<T> {
     ghost view = { λ s. s.items.items };
 }
 
+impl<T: Clone> Clone for SetOf<T> {
+    ghost use Rattle.std.specs.List.{AllZip};
+
+    ghost is_clone = { AllZip T.is_clone };
+
+    /// Clones of the items, as these stand.
+    fn clone(&self) -> Result<SetOf<T>, AllocError> {
+        let items = self.items.clone()?;
+        Ok(SetOf { items })
+    }
+}
+
 impl<T> SetOf<T> {
     /// The list of these items.
     pub fn from_vec(items: Vec<T>) -> SetOf<T>

@@ -46,6 +46,18 @@ impl<R> Model for ConstrainedInteger<R> {
     ghost view = { λ c. c.number };
 }
 
+impl<R> Clone for ConstrainedInteger<R> {
+    ghost is_clone = { λ x y. y ≡ x };
+
+    /// The same number; refused where there is no memory for one outside i128.
+    fn clone(&self) -> Result<ConstrainedInteger<R>, AllocError> {
+        Ok(ConstrainedInteger {
+            number: self.number.clone()?,
+            range: PhantomData,
+        })
+    }
+}
+
 impl<R: IntegerRange> ConstrainedInteger<R> {
     /// The number `n`, be it in the range or not.
     pub fn new(n: i128) -> ConstrainedInteger<R>

@@ -37,6 +37,20 @@ impl Model for Integer {
     ghost invariant = { λ a. IsNumber a.number };
 }
 
+impl Clone for Integer {
+    ghost is_clone = { λ x y. y ≡ x };
+
+    /// The same number; refused where there is no memory for one outside i128.
+    fn clone(&self) -> Result<Integer, AllocError> {
+        match &self.number {
+            Number::Small(n) => Ok(Integer::from_i128(*n)),
+            Number::Large(octets) => Ok(Integer {
+                number: Number::Large(Vec::from_slice(*octets.allocator(), octets.as_slice())?),
+            }),
+        }
+    }
+}
+
 impl Integer {
     /// The number `n`.
     #[inline(always)]

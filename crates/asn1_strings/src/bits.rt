@@ -64,6 +64,18 @@ impl AsnType for BitString {
     ghost consistent = { refl };
 }
 
+impl Clone for BitString {
+    ghost is_clone = { λ x y. y ≡ x };
+
+    /// The same bits.
+    fn clone(&self) -> Result<BitString, AllocError> {
+        Ok(BitString {
+            octets: Vec::from_slice(*self.octets.allocator(), self.octets.as_slice())?,
+            bits: self.bits,
+        })
+    }
+}
+
 impl BitString {
     /// The first `bits` bits of the octets, the first bit highest; none where the octets aren't as many as so many
     /// bits need.

@@ -65,6 +65,16 @@ impl AsnType for ObjectIdentifier {
     ghost consistent = { refl };
 }
 
+impl Clone for ObjectIdentifier {
+    ghost is_clone = { λ x y. y ≡ x };
+
+    /// The same arcs.
+    fn clone(&self) -> Result<ObjectIdentifier, AllocError> {
+        let arcs = Vec::from_slice(*self.arcs.allocator(), self.arcs.as_slice())?;
+        Ok(ObjectIdentifier { arcs })
+    }
+}
+
 impl ObjectIdentifier {
     /// The identifier with these arcs; none where they are none.
     pub fn new(arcs: Vec<u32>) -> Option<ObjectIdentifier>

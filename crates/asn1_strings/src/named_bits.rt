@@ -4,6 +4,7 @@ ghost use Rattle.asn1_strings.specs.NamedBits.{without_zeros, IsNamed};
 
 use crate::bits::BitString;
 use asn1_core::{AsnType, Constraints, Tag};
+use std::alloc::AllocError;
 use std::marker::Model;
 
 /// BIT STRING with a list of named bits (X.680, 22.7): the bits up to the last that is set.
@@ -58,6 +59,16 @@ impl AsnType for NamedBits {
     const CONSTRAINTS: Constraints = Constraints::NONE;
 
     ghost consistent = { refl };
+}
+
+impl Clone for NamedBits {
+    ghost is_clone = { λ x y. y ≡ x };
+
+    /// The same bits.
+    fn clone(&self) -> Result<NamedBits, AllocError> {
+        let bits = self.bits.clone()?;
+        Ok(NamedBits { bits })
+    }
 }
 
 impl NamedBits {

@@ -101,6 +101,15 @@ impl<K: OctetType> AsnType for OctetContent<K> {
     ghost consistent = { refl };
 }
 
+impl<K: OctetType> Clone for OctetContent<K> {
+    ghost is_clone = { λ x y. y ≡ x };
+
+    /// The same octets.
+    fn clone(&self) -> Result<OctetContent<K>, AllocError> {
+        OctetContent::from_slice(*Box::allocator(&self.octets), self.octets.as_slice())
+    }
+}
+
 impl<K: OctetType> OctetContent<K> {
     /// A copy of the octets.
     #[inline(always)]

@@ -117,6 +117,18 @@ impl<C: CharacterSet> AsnType for RestrictedString<C> {
     ghost consistent = { refl };
 }
 
+impl<C: CharacterSet> Clone for RestrictedString<C> {
+    ghost is_clone = { λ x y. y ≡ x };
+
+    /// The same text.
+    fn clone(&self) -> Result<RestrictedString<C>, AllocError> {
+        Ok(RestrictedString {
+            octets: Vec::from_slice(*self.octets.allocator(), self.octets.as_slice())?,
+            set: PhantomData,
+        })
+    }
+}
+
 impl<C: CharacterSet> RestrictedString<C> {
     /// Whether the octets are a text of the type.
     pub fn is_text(octets: &[u8]) -> bool

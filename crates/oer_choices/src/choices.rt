@@ -100,7 +100,7 @@ pub fn read_alternative<T: Alternating, R: ReadsAlternatives<Values = T::Values>
 }
 
 /// The CHOICE (X.680, clause 29) of the alternatives of `T`.
-#[derive(PartialEq, Eq, Drop)]
+#[derive(Clone, PartialEq, Eq, Drop)]
 pub struct OneOf<T>(pub T);
 
 /// As the alternative's.

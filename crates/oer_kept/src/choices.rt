@@ -23,7 +23,7 @@ use std::alloc::Global;
 
 /// The CHOICE (X.680, clause 29) of the alternatives of `T`, and, if it is extensible, of those that newer versions of it
 /// have (X.696, 20.3).
-#[derive(Debug, PartialEq, Eq, Drop)]
+#[derive(Clone, Debug, PartialEq, Eq, Drop)]
 pub enum KeptChoice<T> {
     /// An alternative of this version.
     Known(T),

@@ -11,7 +11,7 @@ use oer_write::{Encode, Encoder};
 use std::alloc::Global;
 
 /// A value of a type that may contain this one: in a box.
-#[derive(Debug, PartialEq, Eq, Drop)]
+#[derive(Clone, Debug, PartialEq, Eq, Drop)]
 pub struct Held<K>(pub Box<K>);
 
 impl<K: AsnType> AsnType for Held<K> {
@@ -104,7 +104,7 @@ impl<K: Spelled> DecodeKnot<K> for Held<K> {
 }
 
 /// A value of a type that may contain this one, as it is: for a list, whose elements lie apart.
-#[derive(Debug, PartialEq, Eq, Drop)]
+#[derive(Clone, Debug, PartialEq, Eq, Drop)]
 pub struct Bare<K>(pub K);
 
 impl<K: AsnType> AsnType for Bare<K> {

@@ -11,7 +11,7 @@ use oer_write::{Encode, Encoder};
 use std::alloc::Global;
 
 /// `OCTET STRING`
-#[derive(Debug, PartialEq, Eq, Drop)]
+#[derive(Clone, Debug, PartialEq, Eq, Drop)]
 pub struct Octets(pub OctetString);
 
 impl AsnType for Octets {
@@ -78,7 +78,7 @@ impl Decode for Octets {
 }
 
 /// The octets of an open type, uninterpreted.
-#[derive(Debug, PartialEq, Eq, Drop)]
+#[derive(Clone, Debug, PartialEq, Eq, Drop)]
 pub struct OpenOctets(pub Any);
 
 impl AsnType for OpenOctets {

@@ -8,7 +8,7 @@ use asn1_strings::{Ia5String, NumericString, PrintableString, VisibleString};
 use oer_read::{Decode, Decoder};
 use oer_spec::{EqualAsSpelled, Spelled};
 use oer_write::{Encode, Encoder};
-use std::alloc::Global;
+use std::alloc::{AllocError, Global};
 use std::marker::Model;
 
 /// `UTF8String`: contracts see its octets, so that a definition can name a value of it.
@@ -41,6 +41,16 @@ impl Eq for Utf8Text {
     ghost use Rattle.std.specs.Cmp.Lexicographic.{nat_list_eq_equiv};
 
     ghost laws = { nat_list_eq_equiv };
+}
+
+impl Clone for Utf8Text {
+    ghost is_clone = { λ x y. y ≡ x };
+
+    /// The same text.
+    fn clone(&self) -> Result<Utf8Text, AllocError> {
+        let text = self.0.clone()?;
+        Ok(Utf8Text(text))
+    }
 }
 
 impl AsnType for Utf8Text {
@@ -115,7 +125,7 @@ impl Decode for Utf8Text {
 }
 
 /// `NumericString`
-#[derive(Debug, PartialEq, Eq, Drop)]
+#[derive(Clone, Debug, PartialEq, Eq, Drop)]
 pub struct NumericText(pub NumericString);
 
 impl AsnType for NumericText {
@@ -182,7 +192,7 @@ impl Decode for NumericText {
 }
 
 /// `PrintableString`
-#[derive(Debug, PartialEq, Eq, Drop)]
+#[derive(Clone, Debug, PartialEq, Eq, Drop)]
 pub struct PrintableText(pub PrintableString);
 
 impl AsnType for PrintableText {
@@ -249,7 +259,7 @@ impl Decode for PrintableText {
 }
 
 /// `VisibleString`
-#[derive(Debug, PartialEq, Eq, Drop)]
+#[derive(Clone, Debug, PartialEq, Eq, Drop)]
 pub struct VisibleText(pub VisibleString);
 
 impl AsnType for VisibleText {
@@ -316,7 +326,7 @@ impl Decode for VisibleText {
 }
 
 /// `IA5String`
-#[derive(Debug, PartialEq, Eq, Drop)]
+#[derive(Clone, Debug, PartialEq, Eq, Drop)]
 pub struct Ia5Text(pub Ia5String);
 
 impl AsnType for Ia5Text {

@@ -26,7 +26,7 @@ pub trait Limits {
 ///
 /// Constraints that are handed in are not looked at: `L` has all of the type's own. A value that they don't allow can be
 /// made, and is refused when it is written.
-#[derive_where(Debug, PartialEq, Eq; T)]
+#[derive_where(Clone, Debug, PartialEq, Eq; T)]
 #[derive(Drop)]
 pub struct Limited<T, L>(pub T, pub PhantomData<L>);
 

@@ -24,6 +24,18 @@ impl<T> Model for ListOf<T> {
     ghost view = { λ l. l.0.items };
 }
 
+impl<T: Clone> Clone for ListOf<T> {
+    ghost use Rattle.std.specs.List.{AllZip};
+
+    ghost is_clone = { AllZip T.is_clone };
+
+    /// Clones of the items.
+    fn clone(&self) -> Result<ListOf<T>, AllocError> {
+        let items = self.0.clone()?;
+        Ok(ListOf(items))
+    }
+}
+
 impl<T> ListOf<T> {
     /// Whether there is no item.
     pub fn is_empty(&self) -> bool

@@ -11,7 +11,7 @@ use oer_write::{Encode, Encoder};
 use std::alloc::Global;
 
 /// `GeneralString`
-#[derive(Debug, PartialEq, Eq, Drop)]
+#[derive(Clone, Debug, PartialEq, Eq, Drop)]
 pub struct GeneralText(pub GeneralString);
 
 impl AsnType for GeneralText {
@@ -78,7 +78,7 @@ impl Decode for GeneralText {
 }
 
 /// `GraphicString`
-#[derive(Debug, PartialEq, Eq, Drop)]
+#[derive(Clone, Debug, PartialEq, Eq, Drop)]
 pub struct GraphicText(pub GraphicString);
 
 impl AsnType for GraphicText {
@@ -145,7 +145,7 @@ impl Decode for GraphicText {
 }
 
 /// `TeletexString`
-#[derive(Debug, PartialEq, Eq, Drop)]
+#[derive(Clone, Debug, PartialEq, Eq, Drop)]
 pub struct TeletexText(pub TeletexString);
 
 impl AsnType for TeletexText {
@@ -212,7 +212,7 @@ impl Decode for TeletexText {
 }
 
 /// `BMPString`
-#[derive(Debug, PartialEq, Eq, Drop)]
+#[derive(Clone, Debug, PartialEq, Eq, Drop)]
 pub struct BmpText(pub BmpString);
 
 impl AsnType for BmpText {
@@ -279,7 +279,7 @@ impl Decode for BmpText {
 }
 
 /// `UniversalString`
-#[derive(Debug, PartialEq, Eq, Drop)]
+#[derive(Clone, Debug, PartialEq, Eq, Drop)]
 pub struct UniversalText(pub UniversalString);
 
 impl AsnType for UniversalText {

@@ -43,7 +43,7 @@ pub trait Tabled<const RC: usize, const EC: usize>: Rowed + Drop {
 }
 
 /// The SEQUENCE (X.680, clause 25) of the components of `T`, with `RC` root components and `EC` extension additions.
-#[derive(PartialEq, Eq, Drop)]
+#[derive(Clone, PartialEq, Eq, Drop)]
 pub struct Sequence<T, const RC: usize, const EC: usize>(pub T);
 
 /// Shows its components as they are.

@@ -38,7 +38,7 @@ pub trait InTagOrder<const RC: usize, const EC: usize>: Tabled<RC, EC> + TextOrd
 }
 
 /// The SET (X.680, clause 27) of the components of `T`, with `RC` root components and `EC` extension additions.
-#[derive(PartialEq, Eq, Drop)]
+#[derive(Clone, PartialEq, Eq, Drop)]
 pub struct Set<T, const RC: usize, const EC: usize>(pub T);
 
 /// Shows its components as they are.
