@@ -25,7 +25,7 @@ pub enum TimeError {
 }
 
 /// UTCTime (X.680, clause 47): a date and a time of day in UTC.
-#[derive(Clone, Copy, Debug, PartialEq, Eq)]
+#[derive(Clone, Debug, PartialEq, Eq, Drop)]
 pub struct UtcTime {
     value: civil::DateTime,
 }
@@ -111,7 +111,7 @@ impl UtcTime {
 }
 
 /// GeneralizedTime (X.680, clause 46): a date and a time of day in UTC.
-#[derive(Clone, Copy, Debug, PartialEq, Eq)]
+#[derive(Clone, Debug, PartialEq, Eq, Drop)]
 pub struct GeneralizedTime {
     value: civil::DateTime,
 }
@@ -200,7 +200,7 @@ impl GeneralizedTime {
 }
 
 /// DATE (X.680, clause 38): a day.
-#[derive(Clone, Copy, Debug, PartialEq, Eq)]
+#[derive(Clone, Debug, PartialEq, Eq, Drop)]
 pub struct Date {
     value: civil::Date,
 }
