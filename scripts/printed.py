@@ -20,7 +20,7 @@ top = pathlib.Path(__file__).resolve().parent.parent
 DATA = top / "scripts/printed.d"
 PUBLISHED = top / "scripts/v2x.d"
 MODULES = {"example_printed": "samples.asn", "example_recursive": "recursive.asn"}
-MORE = {"example_recursive": ("--keep-unknown",)}
+MORE = {"example_recursive": ("--keep-unknown", "--clone")}
 
 
 def sequences(count):

@@ -10,14 +10,14 @@ use std::alloc::Global;
 /// By an optional component, behind and in front of others.
 ///
 /// `Node ::= SEQUENCE { value INTEGER (0..255), next Node OPTIONAL, last BOOLEAN DEFAULT FALSE }`
-#[derive(Debug, PartialEq, Eq, Drop)]
+#[derive(Clone, Debug, PartialEq, Eq, Drop)]
 pub struct Node(pub NodeContent<Node>);
 
 /// What a `Node` holds.
 pub type NodeContent<K> = Sequence<NodeComponents<K>, 3, 0>;
 
 /// The components of `Node`.
-#[derive(Debug, PartialEq, Eq, Drop)]
+#[derive(Clone, Debug, PartialEq, Eq, Drop)]
 pub struct NodeComponents<K> {
     pub value: u8,
     pub next: Option<Held<K>>,
@@ -231,7 +231,7 @@ pub type Body = BodyContent<Envelope>;
 pub type BodyContent<K> = KeptChoice<BodyAlternatives<K>>;
 
 /// The alternatives of `Body`.
-#[derive(Debug, PartialEq, Eq, Drop)]
+#[derive(Clone, Debug, PartialEq, Eq, Drop)]
 pub enum BodyAlternatives<K> {
     Text(Utf8Text),
     Inner(Held<K>),
@@ -340,14 +340,14 @@ impl<K: Encode + Decode> TakesAlternative for BodyAlternatives<K> {
 /// A sequence, and a choice that may hold it; both may be extended.
 ///
 /// `Envelope ::= SEQUENCE { id Serial, body Body, ..., urgent BOOLEAN OPTIONAL }`
-#[derive(Debug, PartialEq, Eq, Drop)]
+#[derive(Clone, Debug, PartialEq, Eq, Drop)]
 pub struct Envelope(pub EnvelopeContent<Envelope>);
 
 /// What a `Envelope` holds.
 pub type EnvelopeContent<K> = Sequence<EnvelopeComponents<K>, 2, 1>;
 
 /// The components of `Envelope`.
-#[derive(Debug, PartialEq, Eq, Drop)]
+#[derive(Clone, Debug, PartialEq, Eq, Drop)]
 pub struct EnvelopeComponents<K> {
     pub id: Serial,
     pub body: BodyContent<K>,

@@ -15,14 +15,14 @@ pub type ForestContent<K> = ListOf<Bare<K>>;
 /// A list of itself, by names.
 ///
 /// `Tree ::= SEQUENCE { label IA5String, leaves Forest, shade Forest OPTIONAL }`
-#[derive(Debug, PartialEq, Eq, Drop)]
+#[derive(Clone, Debug, PartialEq, Eq, Drop)]
 pub struct Tree(pub TreeContent<Tree>);
 
 /// What a `Tree` holds.
 pub type TreeContent<K> = Sequence<TreeComponents<K>, 3, 0>;
 
 /// The components of `Tree`.
-#[derive(Debug, PartialEq, Eq, Drop)]
+#[derive(Clone, Debug, PartialEq, Eq, Drop)]
 pub struct TreeComponents<K> {
     pub label: Ia5Text,
     pub leaves: ForestContent<K>,
@@ -229,7 +229,7 @@ impl Decode for Tree {
 /// A list of itself, and no more.
 ///
 /// `Nest ::= SEQUENCE OF Nest`
-#[derive(Debug, PartialEq, Eq, Drop)]
+#[derive(Clone, Debug, PartialEq, Eq, Drop)]
 pub struct Nest(pub NestContent<Nest>);
 
 /// What a `Nest` holds.
@@ -332,14 +332,14 @@ impl Decode for Nest {
 /// A set of itself, in whatever order.
 ///
 /// `Group ::= SEQUENCE { number INTEGER (0..255), members SET OF Group, guests SET OF Group OPTIONAL }`
-#[derive(Debug, PartialEq, Eq, Drop)]
+#[derive(Clone, Debug, PartialEq, Eq, Drop)]
 pub struct Group(pub GroupContent<Group>);
 
 /// What a `Group` holds.
 pub type GroupContent<K> = Sequence<GroupComponents<K>, 3, 0>;
 
 /// The components of `Group`.
-#[derive(Debug, PartialEq, Eq, Drop)]
+#[derive(Clone, Debug, PartialEq, Eq, Drop)]
 pub struct GroupComponents<K> {
     pub number: u8,
     pub members: SetOf<Bare<K>>,

@@ -10,7 +10,7 @@ use std::alloc::Global;
 /// A set of itself, and no more.
 ///
 /// `Bag ::= SET OF Bag`
-#[derive(Debug, PartialEq, Eq, Drop)]
+#[derive(Clone, Debug, PartialEq, Eq, Drop)]
 pub struct Bag(pub BagContent<Bag>);
 
 /// What a `Bag` holds.
@@ -113,14 +113,14 @@ impl Decode for Bag {
 /// Which entries are meant. Only a CHOICE cuts the cycle.
 ///
 /// `Filter ::= CHOICE { and SET OF Filter, or SEQUENCE OF Filter, not Filter, present OCTET STRING }`
-#[derive(Debug, PartialEq, Eq, Drop)]
+#[derive(Clone, Debug, PartialEq, Eq, Drop)]
 pub struct Filter(pub FilterContent<Filter>);
 
 /// What a `Filter` holds.
 pub type FilterContent<K> = OneOf<FilterAlternatives<K>>;
 
 /// The alternatives of `Filter`.
-#[derive(Debug, PartialEq, Eq, Drop)]
+#[derive(Clone, Debug, PartialEq, Eq, Drop)]
 pub enum FilterAlternatives<K> {
     And(SetOf<Bare<K>>),
     Or(ListOf<Bare<K>>),
@@ -327,14 +327,14 @@ impl Decode for Filter {
 /// The same, where newer versions may ask otherwise.
 ///
 /// `Query ::= CHOICE { all SEQUENCE OF Query, except Query, name UTF8String, ... }`
-#[derive(Debug, PartialEq, Eq, Drop)]
+#[derive(Clone, Debug, PartialEq, Eq, Drop)]
 pub struct Query(pub QueryContent<Query>);
 
 /// What a `Query` holds.
 pub type QueryContent<K> = KeptChoice<QueryAlternatives<K>>;
 
 /// The alternatives of `Query`.
-#[derive(Debug, PartialEq, Eq, Drop)]
+#[derive(Clone, Debug, PartialEq, Eq, Drop)]
 pub enum QueryAlternatives<K> {
     All(ListOf<Bare<K>>),
     Except(Held<K>),

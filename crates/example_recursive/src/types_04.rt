@@ -9,7 +9,7 @@ use std::alloc::{AllocError, Global};
 pub type Way = KeptChoice<WayAlternatives>;
 
 /// The alternatives of `Way`.
-#[derive(Debug, PartialEq, Eq, Drop)]
+#[derive(Clone, Debug, PartialEq, Eq, Drop)]
 pub enum WayAlternatives {
     Road(()),
     Air(u8),
@@ -105,7 +105,7 @@ impl DefaultValue<State> for PostStateDefault {
 pub type Post = Sequence<PostComponents, 4, 0>;
 
 /// The components of `Post`.
-#[derive(Debug, PartialEq, Eq, Drop)]
+#[derive(Clone, Debug, PartialEq, Eq, Drop)]
 pub struct PostComponents {
     pub letter: Envelope,
     pub answer: Option<Body>,

@@ -44,6 +44,8 @@ impl Eq for Utf8Text {
 }
 
 impl Clone for Utf8Text {
+    ghost use Rattle.std.specs.Prelude.{◌≡◌};
+
     ghost is_clone = { λ x y. y ≡ x };
 
     /// The same text.

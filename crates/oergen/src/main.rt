@@ -22,7 +22,7 @@ use writing::writes_files;
 /// How the program is called.
 const USAGE: &str = "oergen --list MODULE.asn..
        oergen --table MODULE.asn..
-       oergen --out FOLDER --name NAME [--leave-out] [--keep-unknown] [--c] MODULE.asn..";
+       oergen --out FOLDER --name NAME [--leave-out] [--keep-unknown] [--clone] [--c] MODULE.asn..";
 
 /// What the program does, and what it answers.
 const ABOUT: &str =
@@ -65,6 +65,7 @@ fn command<'a>(alloc: Global) -> Result<Command<'a>, AllocError> {
     let name = "what the crate is called, or with _1, _2 and so on behind it the crates";
     let leave_out = "leaves out what can't be read or printed, with a line that says why";
     let keep_unknown = "keeps alternatives and enumerated values of newer versions";
+    let clone = "lets types derive Clone, which takes the check longer";
     let c =
         "writes beside them the crate NAME_c, a static library with two functions for each type, and its header";
     Command::new(alloc, "oergen")
@@ -77,6 +78,7 @@ fn command<'a>(alloc: Global) -> Result<Command<'a>, AllocError> {
         .arg(option(alloc, "name", "NAME", name))?
         .arg(flag(alloc, "leave-out", leave_out))?
         .arg(flag(alloc, "keep-unknown", keep_unknown))?
+        .arg(flag(alloc, "clone", clone))?
         .arg(flag(alloc, "c", c))?
         .arg(files(alloc))
 }
@@ -250,6 +252,7 @@ fn run<R: Files + Print + Eprint + AllocGlobal + Clone + Drop>(
                 files,
                 leaves_out: matches.get_flag("leave-out"),
                 keeps_unknown: matches.get_flag("keep-unknown"),
+                clones: matches.get_flag("clone"),
             };
             write_crates(rt, folder, wish, matches.get_flag("c"))
         }

@@ -383,6 +383,7 @@ pub struct Wish<'w> {
     pub files: &'w [&'w str],
     pub leaves_out: bool,
     pub keeps_unknown: bool,
+    pub clones: bool,
 }
 
 /// The name of the file that a refusal speaks of.
@@ -463,8 +464,9 @@ fn crates_of_scope(scope: Scope<'_, '_>, wish: Wish<'_>) -> Result<Output, Refus
         keep_unknown(&mut all);
     }
     free_names(scope, &mut all)?;
-    let outcome = print_types(scope, all.as_slice(), order.as_slice(), wish.leaves_out)?;
-    let constants = constants_of(scope, all.as_slice())?;
+    let (types, order) = (all.as_slice(), order.as_slice());
+    let outcome = print_types(scope, types, order, wish.leaves_out, wish.clones)?;
+    let constants = constants_of(scope, types)?;
     Ok(output_of(scope, &outcome, constants.as_str(), wish)?)
 }
 

@@ -8,6 +8,7 @@ pub mod constants;
 pub mod cycles;
 pub mod defaults;
 pub mod depths;
+pub mod derives;
 pub mod enumerations;
 pub mod export_templates;
 pub mod exports;

@@ -4,6 +4,7 @@ ghost use Rattle.std.specs.Prelude.{◌≡◌, ◌+◌, [], Err, false, IfOk, le
 use crate::choices::{answers_of, push_choice};
 use crate::cycles::{again, require_cycle, run_of};
 use crate::depths::{Depth, depths_of, require_depth};
+use crate::derives::with_clone;
 use crate::enumerations::push_enumerated;
 use crate::items::push_limits;
 use crate::knots::{knot_name, owner_words, push_knot};
@@ -84,12 +85,13 @@ enum State {
 }
 
 /// What is known so far: what became of each type, how deep each is, and what came of a cycle's other types, which are printed with its
-/// first one, the next one last.
+/// first one, the next one last; and whether types derive `Clone`.
 #[derive(Drop)]
 struct Progress {
     states: Vec<State>,
     depths: Vec<Depth>,
     waiting: Vec<Result<Printed, Refusal>>,
+    clones: bool,
 }
 
 impl Progress {
@@ -352,7 +354,10 @@ fn print_one<'m>(
     progress: &mut Progress,
 ) -> Result<Printed, Refusal> {
     require_depth(scope, all, definition, progress.depths.get(at))?;
-    let text = text_of(scope, all, definition, Some(progress.states.as_slice()))?;
+    let mut text = text_of(scope, all, definition, Some(progress.states.as_slice()))?;
+    if progress.clones {
+        text = with_clone(scope.alloc, text.as_str())?;
+    }
     let names = shown_names(scope.alloc, text.as_str())?;
     Ok(Printed {
         name: definition.rust_name.clone()?,
@@ -480,12 +485,14 @@ fn left_out_by(
 }
 
 /// Prints types in an order of use that has the types of a cycle together: as many are printed and left out together as are handed
-/// in. Refused at the first that can't be printed; with `leaves_out` that one, its cycle, and all that stand on them, are left out.
+/// in. Refused at the first that can't be printed; with `leaves_out` that one, its cycle, and all that stand on them, are left out. With
+/// `clones` they derive `Clone`.
 pub fn print_types<'m>(
     scope: Scope<'m, '_>,
     all: &[Definition<'m>],
     order: &[usize],
     leaves_out: bool,
+    clones: bool,
 ) -> Result<Outcome, Refusal>
     ensures unasked { leaves_out ≡ false → IfOk result (λ it. it.left_out.items ≡ []) }
     ensures each { IfOk result (λ it. length it.printed.items + length it.left_out.items ≡ length all.now) }
@@ -495,6 +502,7 @@ pub fn print_types<'m>(
         states: vec![in alloc; State::New; all.len()]?,
         depths: depths_of(scope, all, order)?,
         waiting: Vec::new(alloc),
+        clones,
     };
     let mut printed = Vec::new(alloc);
     let mut left_out = Vec::new(alloc);
