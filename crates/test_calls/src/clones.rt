@@ -3,6 +3,7 @@
 use asn1_ints::Integer;
 use asn1_strings::{BitString, NamedBits, ObjectIdentifier, OctetString, VisibleString};
 use asn1_times::{Date, GeneralizedTime, UtcTime};
+use example_recursive::{Envelope, Node};
 use rasn_oer::coer;
 use rasn_oer::prelude::{Between, Decode, Limited, ListOf, Octets, SetOf, Utf8String, Utf8Text};
 use std::alloc::Global;
@@ -45,5 +46,13 @@ fn types_of_rows_have_equal_clones(rt: HostRuntime) -> Result<(), Fail> {
     assert!(rt; has_equal_clone::<Limited<u8, Between<1, 8>>>(alloc, b"\x05")?);
     assert!(rt; has_equal_clone::<SetOf<Integer>>(alloc, b"\x01\x02\x01\x01\x01\x02")?);
     assert!(rt; has_equal_clone::<ListOf<Integer>>(alloc, b"\x01\x02\x01\x02\x01\x01")?);
+    Ok(())
+}
+
+#[test]
+fn recursive_types_have_equal_clones(rt: HostRuntime) -> Result<(), Fail> {
+    let alloc = rt.alloc();
+    assert!(rt; has_equal_clone::<Node>(alloc, b"\x80\x07\x00\x08")?);
+    assert!(rt; has_equal_clone::<Envelope>(alloc, b"\x00\xAA\xBB\x85\x02\x09\x08")?);
     Ok(())
 }
