@@ -47,7 +47,12 @@ impl<R> Model for ConstrainedInteger<R> {
 }
 
 impl<R> Clone for ConstrainedInteger<R> {
+    ghost use Rattle.std.specs.Prelude.{true};
+    ghost use Rattle.asn1_core.specs.Numbers.{in_i128};
+
     ghost is_clone = { λ x y. y ≡ x };
+
+    ghost is_infallible = { λ x. in_i128 x ≡ true };
 
     /// The same number; refused where there is no memory for one outside i128.
     fn clone(&self) -> Result<ConstrainedInteger<R>, AllocError> {

@@ -40,6 +40,8 @@ impl Model for Integer {
 impl Clone for Integer {
     ghost is_clone = { λ x y. y ≡ x };
 
+    ghost is_infallible = { λ x. in_i128 x ≡ true };
+
     /// The same number; refused where there is no memory for one outside i128.
     fn clone(&self) -> Result<Integer, AllocError> {
         match &self.number {

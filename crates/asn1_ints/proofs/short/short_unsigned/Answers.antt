@@ -1,4 +1,4 @@
-use Rattle.std.proofs.Common.{◌*◌, ◌+◌, ◌<◌, ◌^◌, ◌≡◌, get_or, ap, ◌∙◌, arith}
+use Rattle.std.proofs.Common.{◌<◌, get_or, ap, ◌∙◌, arith}
 use Rattle.std.proofs.lemmas.List.{take_all}
 use Rattle.asn1_core.specs.Octets.{unsigned}
 use Rattle.asn1_ints.proofs.ShortNumbers.{short_next, short_below, short_fits}
