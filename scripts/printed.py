@@ -2,7 +2,7 @@
 """Says where crates/example_printed or crates/example_recursive, or the line of one in crates.txt, isn't what oergen prints of its module
 in crates/oergen/data, where types of made modules are put into other crates than they should be, or crates use others than they should, or types lack names, comments, constants
 or boxes that they should have, where of the published modules in scripts/v2x.d a type is left out or isn't listed as listed.txt there has it, where the types of scripts/printed.d/cycle.asn, which contain each other, aren't printed with the definitions beside it,
-where other answers of a CHOICE are printed than the prover asks for, where what is printed of long.asn, which has long names and wide choices, or of comments, isn't in the layout that `rt fmt` leaves as it is, and
+where other answers of a CHOICE are printed than the prover asks for, or other enums of sets of objects than they should be, where what is printed of long.asn, which has long names and wide choices, of comments, or of sets of objects isn't in the layout that `rt fmt` leaves as it is, and
 where the library for C of a BOOLEAN hasn't the functions that crates/jilgomt has of `bool`, by other names.
 
 usage: printed.py PROGRAM, for example: printed.py crates/oergen/out/oergen
@@ -270,8 +270,55 @@ def unanswered(program):
     return [] if found == ANSWERS else [f"{CHOICES}: the answers are {found}, and not {ANSWERS}"]
 
 
+# sets of information objects, by their enums: what stands in each, with the number of its id. A number past a tag's, one below zero and an
+# OBJECT IDENTIFIER are no ids here, nor is a type known that isn't assigned; and sets without any have no enum.
+SETS = """Id ::= INTEGER (0..255) KIND ::= CLASS { &id Id UNIQUE, &Type } WITH SYNTAX { &Type IDENTIFIED BY &id } one Id ::= 1 Speed ::= SEQUENCE { a NULL }
+Kinds KIND ::= { { Speed IDENTIFIED BY one } | { IA5String (SIZE(3)) IDENTIFIED BY 2 },
+-- a choice
+{ CHOICE { a NULL, b BOOLEAN } IDENTIFIED BY 3 }, ..., more | More UNION M.other | { Speed IDENTIFIED BY 1 } | { Missing IDENTIFIED BY 5 } }
+more KIND ::= { SEQUENCE OF Speed IDENTIFIED BY 7 } other KIND ::= { Other IDENTIFIED BY 8 } Other ::= NULL
+More KIND ::= { { Speed IDENTIFIED BY 4294967295 } | { Speed IDENTIFIED BY 4294967296 } | { Speed IDENTIFIED BY -1 }, ... }
+CERT ::= CLASS { &name IA5String, &id Id UNIQUE, &App, &Req OPTIONAL } WITH SYNTAX { NAME &name ID &id APP &App [REQUEST &Req] }
+Certs CERT ::= { cert | { NAME "n" ID 2 APP NULL }, ... } cert CERT ::= { NAME "c" ID 1 APP OCTET STRING REQUEST Speed }
+Plains CLASSES ::= { { &id 3, &Type Other } | { &Type [5] BOOLEAN, &id 4 } } CLASSES ::= CLASS { &id Id, &Type }
+Many KIND ::= { %s }
+Names TYPE-IDENTIFIER ::= { { Speed IDENTIFIED BY { 1 2 3 } } } None KIND ::= { ... } Of{KIND:Set} ::= SEQUENCE { a KIND.&Type ({Set}) } Used ::= Of{{Kinds}}"""
+HELD = {
+    "Kinds": ["1 Speed(Speed)", "2 Id2(Limited<Ia5Text, FixedSize<3>>)", "3 Id3(Kinds3)", "7 More(ListOf<Speed>)", "8 ROther(Other)", "4294967295 Id4294967295(Speed)"],
+    "More": ["4294967295 Speed(Speed)"],
+    "CertsApp": ["1 Cert(Octets)", "2 Id2(())"],
+    "CertsReq": ["1 Cert(Speed)"],
+    "Plains": ["3 ROther(Other)", "4 Id4(bool)"],
+}
+SETS = SETS.replace("%s", " | ".join(f"{{ NULL IDENTIFIED BY {at} }}" for at in range(25)))
+# a set that can't be printed, and how the line begins that says so
+UNHELD = "KIND ::= CLASS { &id INTEGER, &Type } Kinds KIND ::= { { &id 1, &Type REAL } | { &id 2, &Type A } } A ::= NULL"
+UNHELD_LINE = re.compile(r"^# left out: sets of objects, .*/made\.asn:2:\d+: met 'REAL'; can read ", re.M)
+SET = re.compile(r"^pub enum (\w+) \{\n((?:    .*\n)*)    Other\(OpenOctets\),\n\}$", re.M)
+
+
+def unheld(program):
+    """Where other enums of sets of objects are printed than they should be, or it isn't said why none is."""
+    with tempfile.TemporaryDirectory() as folder:
+        module = pathlib.Path(folder) / "made.asn"
+        module.write_text(MADE.format(SETS))
+        _, files = printed(program, folder, "made", module)
+    found = {}
+    for text in files.values():
+        for name, body in SET.findall(text):
+            found[name] = [f"{number} {variant}" for number, variant in re.findall(r"^    /// Under the id (\d+)\.\n    (.*),$", body, re.M)]
+    faults = [] if found == HELD else [f"{SETS}: the enums are {found}, and not {HELD}"]
+    with tempfile.TemporaryDirectory() as folder:
+        module = pathlib.Path(folder) / "made.asn"
+        module.write_text(MADE.format(UNHELD))
+        said, files = printed(program, folder, "made", module)
+    is_said = UNHELD_LINE.search(said) and "pub type A = ();" in files.get("made/src/types_01.rt", "")
+    return faults + ([] if is_said else [f"{UNHELD}: {said!r}, {files}"])
+
+
 # the library for C of one type: the lines for crates.txt, the files, and what stands for the names of the type in crates/jilgomt
-LAMP = "Lamp ::= BOOLEAN"
+# its set of objects has no functions
+LAMP = "Lamp ::= BOOLEAN CLASSES ::= CLASS { &id INTEGER, &Type } Set CLASSES ::= { { &id 1, &Type Lamp } }"
 LAMP_LINES = "lamps: rasn_oer\nlamps_c staticlib: lamps oer_calls rasn_oer oer_read oer_spec asn1_core\n"
 LAMP_FILES = ["lamps/src/lib.rt", "lamps/src/types_01.rt", "lamps_c/include/lamps_c.h", "lamps_c/src/lib.rt", "lamps_c/src/types_01.rt"]
 LAMP_NAMES = (("jilgomt_bool_", "lamps_Lamp_"), ("<bool", "<lamps::Lamp"), ("`bool`", "`Lamp`"))
@@ -292,12 +339,14 @@ def unexported(program):
 
 
 def unformatted(program):
-    """Which files of long.asn, and of what has comments, aren't in the layout."""
+    """Which files of long.asn, of what has comments, and of sets of objects, aren't in the layout."""
     rattle = pathlib.Path(shutil.which("rt")).resolve().parent / "rattle"
     with tempfile.TemporaryDirectory() as folder:
         noted = pathlib.Path(folder) / "noted.asn"
         noted.write_text(MADE.format(NOTED), newline="")
-        for module in (DATA / "long.asn", noted):
+        sets = pathlib.Path(folder) / "sets.asn"
+        sets.write_text(MADE.format(SETS))
+        for module in (DATA / "long.asn", noted, sets):
             printed(program, folder, module.stem, module, ("--c",))
         files = sorted(pathlib.Path(folder).rglob("*.rt"))
         ran = subprocess.run([rattle, "fmt", "--check", *files], capture_output=True, text=True, timeout=60, check=False)
@@ -305,7 +354,7 @@ def unformatted(program):
 
 
 def main(program):
-    faults = misplaced(program) + misprinted(program) + unread(program) + undefined(program) + unanswered(program) + unformatted(program) + unexported(program)
+    faults = misplaced(program) + misprinted(program) + unread(program) + undefined(program) + unanswered(program) + unheld(program) + unformatted(program) + unexported(program)
     for fault in faults:
         print(f"printed: {fault}")
     status = 1 if faults else 0

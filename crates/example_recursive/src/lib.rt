@@ -5,6 +5,7 @@ mod types_01;
 mod types_02;
 mod types_03;
 mod types_04;
+pub mod values;
 
 pub use types_01::{
     Body, BodyAlternatives, BodyContent, Envelope, EnvelopeComponents, EnvelopeContent, Node,
@@ -18,4 +19,6 @@ pub use types_03::{
     Bag, BagContent, Filter, FilterAlternatives, FilterContent, Query, QueryAlternatives,
     QueryContent, State, StateValues,
 };
-pub use types_04::{Post, PostComponents, Way, WayAlternatives};
+pub use types_04::{
+    Extra, ExtraComponents, ExtraId, Extras, Post, PostComponents, Way, WayAlternatives,
+};

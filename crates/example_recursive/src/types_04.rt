@@ -1,6 +1,6 @@
 //! Types of ASN.1 modules, as oergen printed them.
 
-use crate::{Body, Envelope, State, StateValues};
+use crate::{Body, Envelope, Node, Serial, State, StateValues};
 use oer_kept::{KeptChoice, KeptEnumeration};
 use rasn_oer::prelude::*;
 use std::alloc::{AllocError, Global};
@@ -191,4 +191,142 @@ impl Tabled<4, 0> for PostComponents {
     }
 
     ghost counts = { (refl, refl) };
+}
+
+/// `ExtraId ::= INTEGER (0..255)`
+pub type ExtraId = u8;
+
+/// An open type, whose id says what it holds.
+///
+/// `Extra ::= SEQUENCE { id ExtraId, content ANY }`
+pub type Extra = Sequence<ExtraComponents, 2, 0>;
+
+/// The components of `Extra`.
+#[derive(Clone, Debug, PartialEq, Eq, Drop)]
+pub struct ExtraComponents {
+    pub id: ExtraId,
+    pub content: OpenOctets,
+}
+
+type ExtraRow = Required<Context<0>, ExtraId, Required<Context<1>, OpenOctets, End>>;
+
+impl Rowed for ExtraComponents {
+    ghost use Rattle.rasn_oer.specs.Values.{both};
+
+    type Values = <ExtraRow as Components>::Values;
+
+    ghost EXTENSIBLE = { ⟦<ExtraRow as Components>⟧.EXTENSIBLE };
+
+    const EXTENSIBLE: bool = false;
+
+    ghost row_schema = { ⟦<ExtraRow as Components>⟧.schema };
+
+    ghost row_is_schema = { ⟦<ExtraRow as Components>⟧.is_schema };
+
+    ghost components = { λ v. both v.id (both v.content tt) };
+
+    fn from_row(row: Self::Values) -> Self {
+        built![ExtraComponents from row:
+            id,
+            content
+        ]
+    }
+}
+
+impl Takes for ExtraComponents {
+    ghost Refuses = { ⟦<ExtraRow as Reads>⟧.Refuses };
+
+    #[inline(always)]
+    fn take(alloc: Global, decoder: &mut Decoder<'_>) -> Result<Self, DecodeError> {
+        read_row::<Self, ExtraRow>(alloc, decoder)
+    }
+}
+
+impl Tabled<2, 0> for ExtraComponents {
+    ghost use Rattle.std.specs.Prelude.{refl};
+
+    const FIELDS: Fields<2> = Fields {
+        fields: fields![
+            0 Required Context 0 "id",
+            1 Required Context 1 "content"
+        ],
+    };
+
+    const EXTENDED_FIELDS: Option<Fields<0>> = None;
+
+    fn root_fields() -> &'static [Field<'static>] {
+        Self::FIELDS.fields
+    }
+
+    fn addition_fields() -> &'static [Field<'static>] {
+        rows_of!(Self::EXTENDED_FIELDS)
+    }
+
+    #[inline(always)]
+    fn put(&self, encoder: &mut Encoder<'_>) -> Result<(), EncodeError> {
+        let view = views![self:
+            id,
+            content
+        ];
+        ExtraRow::write(&view, encoder)
+    }
+
+    ghost counts = { (refl, refl) };
+}
+
+/// What newer versions may add to.
+///
+/// What an open type of the objects `Extras` holds, by the id beside it.
+#[derive(Clone, Debug, PartialEq, Eq, Drop)]
+pub enum Extras {
+    /// Under the id 1.
+    Node(Node),
+    /// Under the id 7.
+    Stamp(Serial),
+    /// how often it was sent
+    ///
+    /// Under the id 9.
+    Id9(u8),
+    /// The octets under an id that the set doesn't have.
+    Other(OpenOctets),
+}
+
+impl Extras {
+    ghost use Rattle.std.specs.Prelude.{◌≡◌, ◌≢◌};
+    ghost use Rattle.rasn_oer.specs.Open.{IsObject, IsOther};
+    ghost use Rattle.example_recursive.specs.declared.types_04.Extras.TheVariants as Extras;
+
+    /// Reads the octets of an open type as the type that the id stands for, all of them in canonical reading.
+    ///
+    /// Refused as `decode_open_type` refuses them, and for want of memory.
+    pub fn read(
+        alloc: Global,
+        options: DecoderOptions,
+        id: u32,
+        octets: &OpenOctets,
+    ) -> Result<Extras, DecodeError>
+        ensures in_Node { id ≡ 1 → IsObject (⟦<Node as Spelled>⟧.tree ⟦<Node as AsnType>⟧.CONSTRAINTS) ⟦<Node as Spelled>⟧.IsValue Extras.Node (⟦<Node as Decode>⟧.Answered ⟦<Node as AsnType>⟧.CONSTRAINTS) options.codec options.levels octets.now.0 result }
+        ensures in_Stamp { id ≡ 7 → IsObject (⟦<Serial as Spelled>⟧.tree ⟦<Serial as AsnType>⟧.CONSTRAINTS) ⟦<Serial as Spelled>⟧.IsValue Extras.Stamp (⟦<Serial as Decode>⟧.Answered ⟦<Serial as AsnType>⟧.CONSTRAINTS) options.codec options.levels octets.now.0 result }
+        ensures in_Id9 { id ≡ 9 → IsObject (⟦<u8 as Spelled>⟧.tree ⟦<u8 as AsnType>⟧.CONSTRAINTS) ⟦<u8 as Spelled>⟧.IsValue Extras.Id9 (⟦<u8 as Decode>⟧.Answered ⟦<u8 as AsnType>⟧.CONSTRAINTS) options.codec options.levels octets.now.0 result }
+        ensures other { id ≢ 1 → id ≢ 7 → id ≢ 9 → IsOther Extras.Other octets.now options.codec result }
+    {
+        match id {
+            1 => match decode_open_type(alloc, options, octets) {
+                Ok(value) => Ok(Extras::Node(value)),
+                Err(e) => Err(e),
+            },
+            7 => match decode_open_type(alloc, options, octets) {
+                Ok(value) => Ok(Extras::Stamp(value)),
+                Err(e) => Err(e),
+            },
+            9 => match decode_open_type(alloc, options, octets) {
+                Ok(value) => Ok(Extras::Id9(value)),
+                Err(e) => Err(e),
+            },
+            _ => match other_octets(options, octets) {
+                Ok(octets) => Ok(Extras::Other(octets)),
+                Err(e) => Err(e),
+            },
+        }
+    }
 }

@@ -250,3 +250,45 @@ pub fn field_type<'t, 'a>(
         None
     })
 }
+
+/// The names of a class's fields by which an open type is known: the one of its id, and those of types.
+#[derive(Drop)]
+pub struct Keys<'a> {
+    pub id: &'a str,
+    pub types: Vec<&'a str>,
+}
+
+/// Whether a field has a value of its own for each object.
+fn is_unique(field: &[Token<'_>]) -> bool {
+    let behind = range(field, declared(field).len(), field.len());
+    is_at(behind, 0, "UNIQUE")
+}
+
+/// The fields by which an open type of a class is known: the id is the first of a value that is unique or, where none is, the first of a
+/// value. Nothing where no field is of a value.
+pub fn keys_of<'a>(alloc: Global, fields: &[Token<'a>]) -> Result<Option<Keys<'a>>, AllocError> {
+    let mut types = Vec::new(alloc);
+    let mut first = None;
+    let mut unique = None;
+    for field in parts_of(alloc, fields)? {
+        let behind = range(field, 2, field.len());
+        match field.get(1) {
+            Some(name) if name.kind == Kind::Name && declared(behind).is_empty() => {
+                types.push(name.text)?;
+            }
+            Some(name) if name.kind == Kind::Word => {
+                first = first.or(Some(name.text));
+                unique = unique.or(if is_unique(behind) {
+                    Some(name.text)
+                } else {
+                    None
+                });
+            }
+            Some(_) | None => {}
+        }
+    }
+    Ok(match unique.or(first) {
+        Some(id) => Some(Keys { id, types }),
+        None => None,
+    })
+}

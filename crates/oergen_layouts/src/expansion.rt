@@ -1,6 +1,6 @@
 //! Puts the text that they stand for in the place of types with parameters (X.683), of fields of classes of information objects (X.681),
-//! of value sets (X.680, 16.6), of EXTERNAL, ObjectDescriptor, EMBEDDED PDV and CHARACTER STRING, and of macros (X.208). Classes, sets of
-//! objects and assignments with parameters are left out: no octet depends on them.
+//! of value sets (X.680, 16.6), of EXTERNAL, ObjectDescriptor, EMBEDDED PDV and CHARACTER STRING, and of macros (X.208). Classes, objects
+//! and assignments with parameters are left out: no octet depends on them. So are sets of objects, unless they are asked for as types.
 
 use crate::classes::{BuiltIn, FieldType, field_type, push_declared};
 use crate::cuts::{
@@ -10,6 +10,7 @@ use crate::macros::{is_type_behind, type_of_values};
 use crate::objects::value_of;
 use crate::parameters::{Given, Parameter, dummy_at, governor_of, push_elements, push_given};
 use crate::scope::{Scope, all_tokens};
+use crate::sets::push_object_set;
 use crate::unrestricted::{Identification, behind_tags, identification_of, is_unrestricted};
 use oergen_parse::lexer::{Kind, Token};
 use oergen_parse::modules::read_tree;
@@ -26,21 +27,31 @@ const MAX_TOKENS: usize = 1000000;
 
 /// An assignment: its module, and the numbers of its first token, of the one behind its `::=`, and of the one behind it.
 #[derive(Clone, Copy)]
-struct Assignment {
+pub(crate) struct Assignment {
     module: usize,
     start: usize,
     body: usize,
     end: usize,
 }
 
+/// What becomes of sets of objects.
+#[derive(Clone, Copy, PartialEq, Eq)]
+enum ObjectSets {
+    /// They are left out.
+    LeftOut,
+    /// Each is a type of what the open types that name it hold.
+    Types,
+}
+
 /// The modules as they were handed in.
 #[derive(Clone, Copy)]
-struct Source<'m, 'a> {
-    scope: Scope<'m, 'a>,
+pub(crate) struct Source<'m, 'a> {
+    pub(crate) scope: Scope<'m, 'a>,
     assignments: &'m [Assignment],
     built_in: &'m BuiltIn<'a>,
     /// The names of macros.
     macros: &'m [&'a str],
+    sets: ObjectSets,
     /// Whether EMBEDDED PDV and CHARACTER STRING are replaced: once all else is, since constraints on their names say what they stand for.
     is_last: bool,
 }
@@ -139,6 +150,11 @@ impl<'m, 'a> Source<'m, 'a> {
         home
     }
 
+    /// What is assigned.
+    pub(crate) fn body(&self, of: Assignment) -> &'m [Token<'a>] {
+        self.range(of.body, of.end)
+    }
+
     /// The assignment of a name that stands in a module.
     fn find_in(&self, module: usize, name: &str) -> Option<Assignment> {
         let home = self.home_of(module, name);
@@ -150,8 +166,19 @@ impl<'m, 'a> Source<'m, 'a> {
         None
     }
 
+    /// The assignment of an object or a value that tokens name, where they are no more than that.
+    pub(crate) fn find_value(&self, tokens: &[Token<'a>]) -> Option<Assignment> {
+        match tokens {
+            [name] => self.find_in(self.scope.module_at(name.place), name.text),
+            [module, dot, name] if dot.text == "." => {
+                self.find_in(self.scope.module_by_name(module.text)?, name.text)
+            }
+            _ => None,
+        }
+    }
+
     /// The assignment of the name in front.
-    fn find(&self, tokens: &[Token<'a>]) -> Option<Assignment> {
+    pub(crate) fn find(&self, tokens: &[Token<'a>]) -> Option<Assignment> {
         let last = name_length(tokens).checked_sub(1)?;
         let (first, name) = (tokens.first()?, tokens.get(last)?);
         let module = if last == 0 {
@@ -220,14 +247,29 @@ impl<'m, 'a> Source<'m, 'a> {
     fn push_assignment(&self, out: &mut Vec<Token<'a>>, of: Assignment) -> Result<(), AllocError> {
         let second = self.range(of.start.saturating_add(1), of.body);
         let is_field = second.iter().any(|token| token.text == "&");
-        let is_object = !is_field && self.class_of(second).is_some();
-        if self.is_class(of) || self.has_parameters(of) || is_object {
+        if self.is_class(of) || self.has_parameters(of) {
             return Ok(());
         }
-        if self.is_set(of) {
-            return self.push_set(out, of);
+        match self.class_of(second) {
+            Some(class) if !is_field => self.push_objects(out, of, class),
+            Some(_) | None if self.is_set(of) => self.push_set(out, of),
+            Some(_) | None => out.extend_from_slice(self.range(of.start, of.end)),
         }
-        out.extend_from_slice(self.range(of.start, of.end))
+    }
+
+    /// Puts a set of objects behind others as a type, where that is asked for; nothing of an object.
+    fn push_objects(
+        &self,
+        out: &mut Vec<Token<'a>>,
+        of: Assignment,
+        class: &'m [Token<'a>],
+    ) -> Result<(), AllocError> {
+        match self.scope.tokens.get(of.start) {
+            Some(name) if self.sets == ObjectSets::Types && self.is_set(of) => {
+                push_object_set(*self, out, *name, class, self.body(of))
+            }
+            Some(_) | None => Ok(()),
+        }
     }
 
     /// The tokens without what no octet depends on, and with value sets as types with a constraint.
@@ -544,9 +586,11 @@ fn given_for<'t, 'a>(
     None
 }
 
-/// The tokens of modules, with what they stand for. `copies` counts how often one does; `is_last` is what `Source` says of it.
+/// The tokens of modules, with what they stand for. `copies` counts how often one does; `sets` and `is_last` are what `Source` says of
+/// them.
 fn expanded<'a>(
     scope: Scope<'_, 'a>,
+    sets: ObjectSets,
     is_last: bool,
     copies: &mut usize,
 ) -> Result<Vec<Token<'a>>, Refusal> {
@@ -558,6 +602,7 @@ fn expanded<'a>(
         assignments: assignments.as_slice(),
         built_in: &built_in,
         macros: macros.as_slice(),
+        sets,
         is_last,
     };
     let mut tokens = source.plain_tokens()?;
@@ -575,6 +620,7 @@ fn expanded<'a>(
 fn expand<'a>(
     alloc: Global,
     tokens: Vec<Token<'a>>,
+    sets: ObjectSets,
     is_last: bool,
     copies: &mut usize,
 ) -> Result<Vec<Token<'a>>, Refusal> {
@@ -585,20 +631,35 @@ fn expand<'a>(
                 modules: tree.modules(),
                 tokens: tokens.as_slice(),
             };
-            expanded(scope, is_last, copies)
+            expanded(scope, sets, is_last, copies)
         }
         Err(Refusal::OutOfMemory) => Err(Refusal::OutOfMemory),
         Err(Refusal::At { .. }) => Ok(tokens),
     }
 }
 
+/// The tokens of the files' texts, with what types with parameters, fields of classes and value sets stand for, and sets of objects as it is
+/// said.
+fn tokens_by<'a>(
+    alloc: Global,
+    texts: &[&'a str],
+    sets: ObjectSets,
+) -> Result<Vec<Token<'a>>, Refusal> {
+    let mut copies = 0usize;
+    let tokens = expand(alloc, all_tokens(alloc, texts)?, sets, false, &mut copies)?;
+    if has_unrestricted(tokens.as_slice()) {
+        return expand(alloc, tokens, sets, true, &mut copies);
+    }
+    Ok(tokens)
+}
+
 /// The tokens of the files' texts, with what types with parameters, fields of classes and value sets stand for. What can't be put in its
 /// place is left, and refused where it is read.
 pub fn tokens_of<'a>(alloc: Global, texts: &[&'a str]) -> Result<Vec<Token<'a>>, Refusal> {
-    let mut copies = 0usize;
-    let tokens = expand(alloc, all_tokens(alloc, texts)?, false, &mut copies)?;
-    if has_unrestricted(tokens.as_slice()) {
-        return expand(alloc, tokens, true, &mut copies);
-    }
-    Ok(tokens)
+    tokens_by(alloc, texts, ObjectSets::LeftOut)
+}
+
+/// The same, with each set of objects as a type of what the open types that name it hold.
+pub fn tokens_with_sets<'a>(alloc: Global, texts: &[&'a str]) -> Result<Vec<Token<'a>>, Refusal> {
+    tokens_by(alloc, texts, ObjectSets::Types)
 }

@@ -17,6 +17,7 @@ pub mod order;
 pub mod parameters;
 pub mod rows;
 pub mod scope;
+mod sets;
 pub mod unrestricted;
 pub mod untagged;
 pub mod values;

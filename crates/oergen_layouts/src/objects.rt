@@ -26,8 +26,8 @@ fn words_from(front: &[Token<'_>]) -> usize {
     0
 }
 
-/// What stands in an object in front of a field's value, and what such fronts are made of: words of the class's syntax, or the field's
-/// name where it has none (X.681, 10 and 11). The class is written from its `CLASS` on.
+/// What stands in an object in front of a field's value, and what such fronts are made of: words of the class's syntax, none of the field
+/// that it begins with, or the field's name where it has none (X.681, 10 and 11). The class is written from its `CLASS` on.
 fn front_of<'t, 'a>(
     class: &'t [Token<'a>],
     name: &str,
@@ -42,7 +42,7 @@ fn front_of<'t, 'a>(
     let words = inside(range(syntax, 2, syntax.len()));
     let at = field_at(words, name)?;
     let front = range(words, words_from(range(words, 0, at)), at);
-    if front.is_empty() {
+    if front.is_empty() && at != 0 {
         None
     } else {
         Some((front, words))
@@ -78,6 +78,42 @@ fn behind_front(object: &[Token<'_>], front: &[Token<'_>], words: &[Token<'_>]) 
         depth = token.depth_behind(depth);
     }
     None
+}
+
+/// Whether a token is one of the words of a class's syntax, and not the name of a field there.
+fn is_literal(words: &[Token<'_>], token: &Token<'_>) -> bool {
+    for (at, word) in words.iter().enumerate() {
+        let is_field = at > 0 && is_at(words, at.saturating_sub(1), "&");
+        if word.text == token.text && !is_field && !matches!(word.text, "&" | "[" | "]") {
+            return true;
+        }
+    }
+    false
+}
+
+/// The tokens in front of a comma, or of a word of a class's syntax.
+fn in_front<'t, 'a>(tokens: &'t [Token<'a>], words: &[Token<'_>]) -> &'t [Token<'a>] {
+    let mut depth = 0usize;
+    for (at, token) in tokens.iter().enumerate() {
+        if depth == 0 && (token.text == "," || is_literal(words, token)) {
+            return range(tokens, 0, at);
+        }
+        depth = token.depth_behind(depth);
+    }
+    tokens
+}
+
+/// The type that an object has for a field; nothing where it has none. The object is what stands between its braces, the class is written
+/// from its `CLASS` on.
+pub fn type_of<'t, 'a>(
+    object: &'t [Token<'a>],
+    class: &[Token<'a>],
+    name: &str,
+) -> Option<&'t [Token<'a>]> {
+    let (front, words) = front_of(class, name)?;
+    let at = behind_front(object, front, words)?;
+    let found = in_front(range(object, at, object.len()), words);
+    if found.is_empty() { None } else { Some(found) }
 }
 
 /// The first value of tokens: a number below zero, what stands between brackets, or a token.

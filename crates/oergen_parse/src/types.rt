@@ -9,7 +9,7 @@ use crate::refusal::Refusal;
 use crate::values::{
     goes_on, read_default, read_enumerated, read_exception, read_numbers, read_value,
 };
-use crate::words::{begins_type, is_type, is_unread};
+use crate::words::{OBJECTS, OBJECTS_BY_FIELD, begins_type, is_type, is_unread};
 use asn1_core::Class;
 
 /// Types without parts, by their first word.
@@ -121,11 +121,11 @@ fn read_body(reader: &mut Reader<'_>, levels: u32) -> Result<Body, Refusal> {
             let (values, mark) = read_enumerated(reader)?;
             Ok(Body::Enumerated(values, mark))
         }
-        "CHOICE" => {
+        "CHOICE" | OBJECTS => {
             let _ = reader.next();
             Ok(Body::Choice(read_members(reader, levels)?))
         }
-        "SEQUENCE" | "SET" => read_structure(reader, levels),
+        "SEQUENCE" | "SET" | OBJECTS_BY_FIELD => read_structure(reader, levels),
         _ => read_simple(reader),
     }
 }

@@ -18,6 +18,13 @@ DEFINITIONS EMBEDDED ENCODED ENCODING-CONTROL END EXCEPT EXPLICIT EXPORTS EXTENS
 IMPORTS INCLUDES INSTANCE INSTRUCTIONS INTERSECTION MAX MIN MINUS-INFINITY NOT-A-NUMBER OF OPTIONAL PATTERN PDV PLUS-INFINITY \
 PRESENT PRIVATE SETTINGS SIZE STRING SYNTAX TAGS TRUE UNION UNIQUE UNIVERSAL WITH";
 
+/// What begins the type that a set of objects stands for, like the CHOICE of what an open type holds, each with the tag of its id's
+/// number. No module can have it, since a blank is in it.
+pub const OBJECTS: &str = "OBJECT SET";
+
+/// The same of a class with more fields of types, like the SEQUENCE of these.
+pub const OBJECTS_BY_FIELD: &str = "OBJECT SETS";
+
 /// Whether a word stands in a list of words.
 fn is_in(words: &str, word: &str) -> bool {
     words.split(' ').any(|kept| kept == word)

@@ -5,6 +5,7 @@ use crate::chains::{Chain, push_row};
 use crate::kept::choice_holder;
 use crate::knot_templates::KNOT_ALTERNATING;
 use crate::knots::{knot_name, owner_words};
+use crate::objects::objects_of;
 use crate::templates::{CHOICE, CHOICE_IMPLS, PUT_ANSWER};
 use crate::text::{Text, Words};
 use oergen_layouts::definitions::Definition;
@@ -146,7 +147,7 @@ fn push_alternatives(alloc: Global, out: &mut Text, doc: &str, of: Chain<'_>) {
 }
 
 /// Puts the cells of the root alternatives, or of the others, behind others.
-fn push_cells<'m>(
+pub fn push_cells<'m>(
     scope: Scope<'m, '_>,
     all: &[Definition<'m>],
     out: &mut Text,
@@ -211,9 +212,16 @@ pub fn push_choice<'m>(
 
 /// What the prover is told of `put` of a CHOICE: how each variant is written. Nothing of a single one, of the first ones in a cycle, where
 /// what it would rewrite by that is too large, or of another type.
-pub fn answers_of(alloc: Global, all: &[Definition<'_>], definition: &Definition<'_>) -> Text {
+pub fn answers_of(
+    scope: Scope<'_, '_>,
+    all: &[Definition<'_>],
+    definition: &Definition<'_>,
+) -> Text {
+    let alloc = scope.alloc;
     let mut out = Text::new(alloc);
-    if !matches!(definition.of.body, Body::Choice(_)) || definition.parts.len() < 2 {
+    let is_choice = matches!(definition.of.body, Body::Choice(_));
+    let is_set = objects_of(scope, definition).is_some();
+    if !is_choice || is_set || definition.parts.len() < 2 {
         return out;
     }
     let found = if knot_name(all, definition).is_some() {

@@ -69,7 +69,7 @@ fn types_file(
     types: &[Named],
 ) -> Result<File, AllocError> {
     let mut text = Text::of(alloc, &[HEAD, USES]);
-    for one in types.iter() {
+    for one in types.iter().filter(|one| one.is_coded) {
         push_both(alloc, &mut text, name, one);
     }
     let mut module = Text::new(alloc);
@@ -113,7 +113,7 @@ fn export_line(alloc: Global, name: &str, types: &[Named]) -> Result<String, All
     let mut last = "";
     for one in types.iter() {
         let library = one.library.as_str();
-        if library != last {
+        if one.is_coded && library != last {
             line.push_all(&[library, " "]);
             last = library;
         }
@@ -123,7 +123,7 @@ fn export_line(alloc: Global, name: &str, types: &[Named]) -> Result<String, All
 }
 
 /// Puts the static library of the printed types behind what is printed: two functions for each type, called by the name and the
-/// type's own, as `NAME_Type_canonicalise` and `NAME_Type_check`. Where no type is printed there is none.
+/// type's own, as `NAME_Type_canonicalise` and `NAME_Type_check`; none for a set of objects. Where no type is printed there is none.
 pub fn push_exports(alloc: Global, name: &str, output: &mut Output) -> Result<(), AllocError>
     ensures types { OnOk result (output.new.types ≡ output.old.types) }
     ensures kept { OnOk result (take (length output.old.files.items) output.new.files.items ≡ output.old.files.items) }

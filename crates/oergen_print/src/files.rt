@@ -14,7 +14,7 @@ use crate::sizes::hold_large;
 use crate::text::Text;
 use crate::uses::{Homes, Paths, names_crate, path_lines, push_path, use_lines};
 use oergen_layouts::cycles::find_cycles;
-use oergen_layouts::expansion::tokens_of;
+use oergen_layouts::expansion::{tokens_of, tokens_with_sets};
 use oergen_layouts::scope::Scope;
 use oergen_layouts::untagged::all_definitions;
 use oergen_parse::ast::Module;
@@ -36,11 +36,12 @@ const FIRST_MODULE: &str = "types_01";
 /// The first line of each file: by it a later print knows an earlier one.
 pub const HEAD: &str = "//! Types of ASN.1 modules, as oergen printed them.\n";
 
-/// A type by its name, and the crate that has it.
+/// A type by its name, the crate that has it, and whether values of it have octets: it is no set of objects.
 #[derive(Drop)]
 pub struct Named {
     pub library: String,
     pub name: String,
+    pub is_coded: bool,
 }
 
 /// What is written: files, lines of `crates.txt`, and a line for each type that was left out; and the types that the files have.
@@ -354,6 +355,7 @@ fn push_named(
         named.push(Named {
             library: String::from_str(alloc, library)?,
             name: one.name.clone()?,
+            is_coded: one.is_coded,
         })?;
     }
     Ok(())
@@ -485,9 +487,33 @@ fn crates_of_tokens(
     crates_of_scope(scope, wish)
 }
 
+/// What is written, with a line more that says why sets of objects were left out.
+fn without_sets(
+    alloc: Global,
+    output: Output,
+    why: &Refusal,
+    files: &[&str],
+) -> Result<Output, AllocError> {
+    let mut lines = Text::of(alloc, &[output.lines.as_str()]);
+    push_why(&mut lines, "sets of objects", why, files)?;
+    Ok(Output {
+        lines: lines.end()?,
+        ..output
+    })
+}
+
 /// The crates of the modules in the files' texts. Refused at the first place that can't be read, resolved or printed; where that is
 /// wished, assignments that can't be read, and types that can't be resolved or printed, are left out, and each has a line that says why.
+/// Where nothing but sets of objects can't be printed, all of these are left out, with such a line.
 pub fn crates_of(alloc: Global, texts: &[&str], wish: Wish<'_>) -> Result<Output, Refusal> {
-    let tokens = tokens_of(alloc, texts)?;
-    crates_of_tokens(alloc, tokens.as_slice(), wish)
+    let tokens = tokens_with_sets(alloc, texts)?;
+    match crates_of_tokens(alloc, tokens.as_slice(), wish) {
+        Ok(output) => Ok(output),
+        Err(Refusal::OutOfMemory) => Err(Refusal::OutOfMemory),
+        Err(why) => {
+            let tokens = tokens_of(alloc, texts)?;
+            let output = crates_of_tokens(alloc, tokens.as_slice(), wish)?;
+            Ok(without_sets(alloc, output, &why, wish.files)?)
+        }
+    }
 }

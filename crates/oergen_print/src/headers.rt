@@ -8,7 +8,7 @@ use std::alloc::{AllocError, Global};
 
 /// Appends what is declared of each type.
 fn push_declarations(alloc: Global, out: &mut Text, name: &str, types: &[Named]) {
-    for one in types.iter() {
+    for one in types.iter().filter(|one| one.is_coded) {
         let mut words = Words::new(alloc);
         words.put("NAME", name);
         words.put("TYPE", one.name.as_str());

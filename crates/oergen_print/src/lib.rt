@@ -23,6 +23,7 @@ pub mod lines;
 pub mod literals;
 pub mod notation;
 pub mod notes;
+pub mod objects;
 pub mod outputs;
 pub mod printer;
 pub mod sections;

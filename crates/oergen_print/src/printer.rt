@@ -11,6 +11,7 @@ use crate::knots::{knot_name, owner_words, push_knot};
 use crate::lines::laid_out;
 use crate::notation::push_notation;
 use crate::notes::push_noted;
+use crate::objects::{Objects, objects_of, push_objects};
 use crate::sequences::push_sequence;
 use crate::shapes::shape_of;
 use crate::templates::ALIAS;
@@ -41,7 +42,7 @@ reads readsadditions readsalternatives readsknot readsknotalternatives required 
 schemed sequence set tabled takes takesalternative takesknot takesknotalternative textorder universal views writes \
 octets openoctets bmptext generaltext graphictext ia5text numerictext printabletext teletextext universaltext utf8text visibletext \
 within equalasspelled spelled encode encoder bare isemptylist utf8_from are_bits bits_from bmp_from universal_from built fields \
-from_row pairs rows_of table tags namedbits between atleast atmost fixedsize sizebetween sizeatleast";
+from_row pairs rows_of table tags namedbits between atleast atmost fixedsize sizebetween sizeatleast decode_open_type other_octets";
 
 /// How often names may be put right.
 const MAX_RENAMES: usize = 16;
@@ -60,6 +61,8 @@ pub struct Printed {
     pub knot: Option<Knot>,
     /// The answers of what writes a CHOICE, where the prover asks for them.
     pub answers: Text,
+    /// Whether values of it have octets: it is no set of objects.
+    pub is_coded: bool,
 }
 
 /// A type that was left out, and why.
@@ -180,6 +183,36 @@ fn doc_of(scope: Scope<'_, '_>, definition: &Definition<'_>) -> Result<String, A
     doc.end()
 }
 
+/// The comments in front of a set of objects, and what it is, as a doc comment.
+fn set_doc_of(scope: Scope<'_, '_>, definition: &Definition<'_>) -> Result<String, AllocError> {
+    let mut doc = Text::new(scope.alloc);
+    if let Some(name) = name_before(scope, definition.of.first.index) {
+        push_noted(&mut doc, name.note);
+    }
+    let name = definition.rust_name.as_str();
+    doc.push_all(&[
+        "/// What an open type of the objects `",
+        name,
+        "` holds, by the id beside it.\n",
+    ]);
+    doc.end()
+}
+
+/// The text of a set of objects: nothing where it is one of sets for several fields, which are printed by themselves.
+fn set_text_of<'m>(
+    scope: Scope<'m, '_>,
+    all: &[Definition<'m>],
+    definition: &Definition<'m>,
+    set: Objects,
+) -> Result<String, Refusal> {
+    let mut out = Text::new(scope.alloc);
+    if set == Objects::Held {
+        let doc = set_doc_of(scope, definition)?;
+        push_objects(scope, all, &mut out, definition, doc.as_str())?;
+    }
+    Ok(laid_out(scope.alloc, &out)?)
+}
+
 /// The text of one type.
 fn text_of<'m>(
     scope: Scope<'m, '_>,
@@ -188,6 +221,9 @@ fn text_of<'m>(
     states: Option<&[State]>,
 ) -> Result<String, Refusal> {
     require_targets(scope, definition, states)?;
+    if let Some(set) = objects_of(scope, definition) {
+        return set_text_of(scope, all, definition, set);
+    }
     let doc = doc_of(scope, definition)?;
     let doc = doc.as_str();
     let mut out = Text::new(scope.alloc);
@@ -366,7 +402,8 @@ fn print_one<'m>(
         cycle: definition.cycle.map(|cycle| cycle.number),
         weights: weights_of(scope, all, definition)?,
         knot: knot_of(scope.alloc, all, definition)?,
-        answers: answers_of(scope.alloc, all, definition),
+        answers: answers_of(scope, all, definition),
+        is_coded: objects_of(scope, definition).is_none(),
     })
 }
 

@@ -314,3 +314,55 @@ impl Numbered for @NAME@Values {
 }
 
 "#;
+
+/// A set of objects: the enum of what open types hold, and what reads it.
+pub const OBJECTS_TYPE: &str = r#"@DOC@#[derive(Debug, PartialEq, Eq, Drop)]
+pub enum @NAME@ {
+@VARIANTS@    /// The octets under an id that the set doesn't have.
+    Other(OpenOctets),
+}
+
+impl @NAME@ {
+    ghost use Rattle.std.specs.Prelude.{◌≡◌, ◌≢◌};
+    ghost use Rattle.rasn_oer.specs.Open.{IsObject, IsOther};
+    ghost use Rattle.@HOME@.@NAME@.TheVariants as @NAME@;
+
+    /// Reads the octets of an open type as the type that the id stands for, all of them in canonical reading.
+    ///
+    /// Refused as `decode_open_type` refuses them, and for want of memory.
+    pub fn read(
+        alloc: Global,
+        options: DecoderOptions,
+        id: u32,
+        octets: &OpenOctets,
+    ) -> Result<@NAME@, DecodeError>
+@CLAUSES@        ensures other { @ELSE@IsOther @NAME@.Other octets.now options.codec result }
+    {
+        match id {
+@CASES@            _ => match other_octets(options, octets) {
+                Ok(octets) => Ok(@NAME@::Other(octets)),
+                Err(e) => Err(e),
+            },
+        }
+    }
+}
+
+"#;
+
+/// A variant of it.
+pub const OBJECT_VARIANT: &str = r#"@NOTE@    /// Under the id @NUMBER@.
+    @VARIANT@(@TYPE@),
+"#;
+
+/// What is promised of an object's id.
+pub const OBJECT_CLAUSE: &str =
+    r#"        ensures in_@VARIANT@ { id ≡ @NUMBER@ → IsObject (⟦<@TYPE@ as Spelled>⟧.tree ⟦<@TYPE@ as AsnType>⟧.CONSTRAINTS) ⟦<@TYPE@ as Spelled>⟧.IsValue @NAME@.@VARIANT@ (⟦<@TYPE@ as Decode>⟧.Answered ⟦<@TYPE@ as AsnType>⟧.CONSTRAINTS) options.codec options.levels octets.now.0 result }
+"#;
+
+/// How it is read.
+pub const OBJECT_CASE: &str =
+    r#"            @NUMBER@ => match decode_open_type(alloc, options, octets) {
+                Ok(value) => Ok(@NAME@::@VARIANT@(value)),
+                Err(e) => Err(e),
+            },
+"#;

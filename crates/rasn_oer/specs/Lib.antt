@@ -1,6 +1,7 @@
 -- What the calls promise, and the definitions of other crates that a type's own contracts name through this one.
 pub mod Headline
 pub mod Conversions
+pub mod Open
 -- what a type by its row names
 pub use Rattle.oer_rows.specs.Values as Values
 pub use Rattle.oer_choices.specs.declared.alternatives.Either.TheVariants as Alternative

@@ -7,6 +7,7 @@ pub mod coer;
 mod entry;
 mod macros;
 pub mod oer;
+pub mod open;
 pub mod prelude;
 mod recode;
 

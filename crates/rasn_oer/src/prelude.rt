@@ -3,6 +3,8 @@
 pub use crate::built;
 pub use crate::fields;
 pub use crate::from_row;
+pub use crate::open::decode_open_type;
+pub use crate::open::other_octets;
 pub use crate::pairs;
 pub use crate::rows_of;
 pub use crate::table;

@@ -22,6 +22,8 @@ mod messages;
 #[cfg(test)]
 mod octets;
 #[cfg(test)]
+mod open_types;
+#[cfg(test)]
 mod own_closures;
 #[cfg(test)]
 mod own_types;
