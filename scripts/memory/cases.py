@@ -180,7 +180,7 @@ class Case:
 
 
 WRITES = ("encode", "encode_with_constraints")
-READS = ("decode", "decode_with_constraints")
+READS = ("decode", "decode_with_constraints", "decode_open_type")
 READS_FIRST = ("decode_with_remainder", "decode_with_options")
 ON_DECODER = (
     "Decode::decode", "Decode::decode_with_tag", "Decode::decode_with_constraints",
@@ -350,6 +350,15 @@ def values():
         return Case(("value", call, "-", o), answer, "Err(OutOfMemory)", takes_none=takes_none)
 
     great = "00" + "ff" * 127
+    yield made("OctetString::clone", "616263", octets("abc"))
+    yield made("other_octets", "616263", f"OpenOctets({octets('abc')})")
+    yield made("BitString::clone", "ff40", "BitString { octets: [255, 64], bits: 16 }")
+    yield made("NamedBits::clone", "ff40", "NamedBits { bits: BitString { octets: [255, 64], bits: 10 } }")
+    yield made("Integer::clone", "07", number(7), takes_none=True)
+    yield made("Integer::clone", great, number(GREAT))
+    yield made("ObjectIdentifier::clone", "2a9979", "ObjectIdentifier { arcs: [1, 2, 3321] }")
+    yield made("ListOf::clone", "0102", "ListOf([1, 2])")
+    yield made("SetOf::clone", "0102", "SetOf { items: [1, 2] }")
     yield made("OctetString::from_slice", "616263", octets("abc"))
     yield made("Any::from_slice", "616263", octets("abc"))
     yield made("BitString::from_octets", "ff40", "Some(BitString { octets: [255, 64], bits: 16 })")

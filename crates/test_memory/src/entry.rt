@@ -6,8 +6,11 @@ use crate::marks::begin;
 use crate::one_row::Way;
 use anyhow::{Error, Result};
 use asn1_core::{Class, Codec, Constraints, Tag};
+use asn1_strings::Any;
+use oer_rows::OpenOctets;
 use oer_write::Encode;
 use oertool_words::constrained::UnderConstraints;
+use rasn_oer::open::decode_open_type;
 use rasn_oer::{Decode, Decoder, DecoderOptions, coer, oer};
 use std::alloc::Global;
 use std::fmt::Debug;
@@ -31,6 +34,7 @@ pub enum Ask {
     Canonicalise,
     Decode,
     DecodeUnder,
+    DecodeOpen,
     DecodeFirst,
     DecodeByOptions,
     OnDecoder(Way),
@@ -46,6 +50,7 @@ pub fn ask_of(word: &str) -> Result<Ask> {
         "canonicalise" => Ok(Ask::Canonicalise),
         "decode" => Ok(Ask::Decode),
         "decode_with_constraints" => Ok(Ask::DecodeUnder),
+        "decode_open_type" => Ok(Ask::DecodeOpen),
         "decode_with_remainder" => Ok(Ask::DecodeFirst),
         "decode_with_options" => Ok(Ask::DecodeByOptions),
         "Decode::decode" => Ok(Ask::OnDecoder(Way::Plain)),
@@ -131,6 +136,14 @@ impl<'a> Entry<'a> {
         read(alloc, &answer)
     }
 
+    /// The call that takes an open type.
+    fn reading_open<T: Decode + Debug>(self) -> Result<String> {
+        let open = OpenOctets(Any::from_slice(self.alloc, self.octets)?);
+        begin(self.alloc)?;
+        let answer = decode_open_type::<T>(self.alloc, options_of(self.codec), &open);
+        read(self.alloc, &answer)
+    }
+
     /// The calls that answer what is left too.
     fn reading_first<T: Decode + Debug>(self) -> Result<String> {
         let (alloc, octets, options) = (self.alloc, self.octets, options_of(self.codec));
@@ -179,6 +192,7 @@ impl<'a> UnderConstraints for Entry<'a> {
         match self.ask {
             Ask::OnDecoder(way) => self.on_decoder::<T>(constraints, way),
             Ask::Decode | Ask::DecodeUnder => self.reading::<T>(constraints),
+            Ask::DecodeOpen => self.reading_open::<T>(),
             Ask::DecodeFirst | Ask::DecodeByOptions => self.reading_first::<T>(),
             Ask::Canonicalise => {
                 begin(alloc)?;

@@ -10,6 +10,7 @@
 
 mod answers;
 mod asking;
+mod clones;
 mod decoding;
 mod encoding;
 mod entry;

@@ -1,5 +1,6 @@
 //! Constructors, conversions and comparisons of the crates of ASN.1's values, of octets.
 use crate::answers::{filled, made, plain};
+use crate::clones::clone_of;
 use crate::marks::begin;
 use anyhow::{Error, Result};
 use asn1_core::{Codec, SetOf};
@@ -286,6 +287,9 @@ fn sets(alloc: Global, word: &str, octets: &[u8]) -> Result<String> {
 
 /// What a call answers, by its word.
 pub fn value_call(alloc: Global, word: &str, octets: &[u8]) -> Result<String> {
+    if let Some(line) = clone_of(alloc, word, octets)? {
+        return Ok(line);
+    }
     if let Some(line) = identifiers(alloc, word, octets)? {
         return Ok(line);
     }
