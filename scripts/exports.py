@@ -23,8 +23,7 @@ FILES = {
     "sets": ("Sequences with defaults, and sets.", "scopes", r"fn with_(default|holder|set)\b"),
     "lists": ("Choices and lists.", "scopes", r"fn with_(list_or_choice|list|unordered_list|further_bag)\b"),
 }
-# Types that the check can't name in a contract, since their rows lead to a struct with a bound of its own (docs/CHECKING.md, "Strings"):
-# they are called by their words alone.
+# Types that have no functions of their own yet: they are called by their words alone.
 UNSTATED = {"Omitted", "SequenceDuplicatesExtended", "ExtendedOptional", "ManyOptional", "MixedSet2"}
 HEAD = """//! {what} This file is written by scripts/exports.py.
 ghost use Rattle.std.specs.Prelude.{{◌≡◌}};

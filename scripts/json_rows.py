@@ -3,8 +3,8 @@
 
 usage: json_rows.py OERSHOW OERGEN
 
-OERSHOW and OERGEN are the built programs; the table is that of crates/oergen/data/words.asn. The exit status is 0 if the octets that come
-back are the same for each row whose type the module has, but for those that JSON can't give back, of which it says how many there are:
+OERSHOW and OERGEN are the built programs; the table is that of crates/oergen/data/words.asn and types.asn. The exit status is 0 if the octets that come
+back are the same for each row whose type the modules have, but for those that JSON can't give back, of which it says how many there are:
 values deeper than the 127 levels that the JSON reader takes, and groups of additions that are there without any component, which JSON
 doesn't show.
 """
@@ -54,7 +54,7 @@ def main(given):
     with tempfile.TemporaryDirectory() as folder:
         table = pathlib.Path(folder) / "words.table"
         with table.open("wb") as file:
-            subprocess.run([compiler, "--table", top / words.MODULE], check=True, stdout=file)
+            subprocess.run([compiler, "--table", *(top / it for it in words.MODULES)], check=True, stdout=file)
         shown = run(show, table, [f"--json {name} {octets}" for name, octets in known])
         back = run(show, table, [f"--from-json {name} {line}" for (name, _), line in zip(known, shown)])
     if not len(known) == len(shown) == len(back):

@@ -1,5 +1,5 @@
 #!/usr/bin/env python3
-"""Says where crates/example_printed or crates/example_recursive, or the line of one in crates.txt, isn't what oergen prints of its module
+"""Says where crates/example_printed, crates/example_recursive or crates/example_words, or the line of one in crates.txt, isn't what oergen prints of its module
 in crates/oergen/data, where types of made modules are put into other crates than they should be, or crates use others than they should, or types lack names, comments, constants
 or boxes that they should have, where of the published modules in scripts/v2x.d a type is left out or isn't listed as listed.txt there has it, where the types of scripts/printed.d/cycle.asn, which contain each other, aren't printed with the definitions beside it,
 where other answers of a CHOICE are printed than the prover asks for, or other enums of sets of objects than they should be, where what is printed of long.asn, which has long names and wide choices, of comments, or of sets of objects isn't in the layout that `rt fmt` leaves as it is, and
@@ -19,7 +19,7 @@ import tempfile
 top = pathlib.Path(__file__).resolve().parent.parent
 DATA = top / "scripts/printed.d"
 PUBLISHED = top / "scripts/v2x.d"
-MODULES = {"example_printed": "samples.asn", "example_recursive": "recursive.asn"}
+MODULES = {"example_printed": "samples.asn", "example_recursive": "recursive.asn", "example_words": "types.asn"}
 MORE = {"example_recursive": ("--keep-unknown", "--clone")}
 
 
@@ -109,14 +109,18 @@ NAMES = (
             "pub type NamedBits_ = ();",
             "pub type Sequence_ = bool;",
             "pub type Date_ = Sequence<Date_Components, 1, 0>;",
-            "    pub place: Place_,",
+            "        pub place: Place_,",
         ),
     ),
     ("Date ::= NULL DATe ::= BOOLEAN", ("pub type Date_ = ();", "pub type DATe__ = bool;")),
     ("A-B ::= NULL AB ::= BOOLEAN", ("pub type AB = ();", "pub type AB_ = bool;")),
     (
+        "Q ::= ENUMERATED { dB-1, dB0, dB1 } S ::= SEQUENCE { q Q DEFAULT dB1 }",
+        ("    DB1 = 0,", "    DB1_ = 2,", "        Ok(Enumeration(QValues::DB1_))"),
+    ),
+    (
         "T ::= INTEGER (0..255) END N DEFINITIONS ::= BEGIN T ::= INTEGER (0..65535) U ::= SEQUENCE { t T }",
-        ("pub type M_T = u8;", "pub type N_T = u16;", "    pub t: N_T,"),
+        ("pub type M_T = u8;", "pub type N_T = u16;", "        pub t: N_T,"),
     ),
     (
         "Tariff ::= SEQUENCE { rows SEQUENCE OF TariffRow } TariffRow ::= SEQUENCE { a NULL }",
@@ -124,7 +128,7 @@ NAMES = (
     ),
     (
         "A ::= SEQUENCE { a A OPTIONAL, k K } K ::= NULL AContent ::= BOOLEAN",
-        ("pub struct A_(pub A_Content<A_>);", "    pub k: K_,", "pub type K_ = ();", "pub type AContent = bool;"),
+        ("pub struct A_(pub A_Content<A_>);", "        pub k: K_,", "pub type K_ = ();", "pub type AContent = bool;"),
     ),
 )
 
@@ -193,7 +197,7 @@ LINES = (
             "pub const LEVEL_LOW: i8 = -1;",
             "pub const RIGHTS_WRITE_ALL: usize = 7;",
             "pub const ROW_BITS_A: usize = 3;",
-            "    /// its state",
+            "        /// its state",
             "/// a tab, a   turn and a return",
             "/// `Name ::= IA5String (PATTERN \"a b\")`",
             "/// The default \"a b\" of `NamedName`.",
@@ -204,8 +208,8 @@ LINES = (
         (),
         OLDER,
         (
-            "    pub code: Integer,",
-            "    pub string_value: Octets,",
+            "        pub code: Integer,",
+            "        pub string_value: Octets,",
             "pub const VERSION_V1: u8 = 1;",
             "pub const BITS_HIGH: usize = 7;",
             "    V1 = 1,",
@@ -213,7 +217,7 @@ LINES = (
             "        Ok(Enumeration(KindValues::V1))",
         ),
     ),
-    ((), SIZED, ("    A(Held<T>),", "    B(()),", "    C(Held<T>),", "    pub s0: S0,")),
+    ((), SIZED, ("    A(Held<T>),", "    B(()),", "    C(Held<T>),", "        pub s0: S0,")),
 )
 
 

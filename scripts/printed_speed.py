@@ -1,5 +1,5 @@
 #!/usr/bin/env python3
-"""Times values of the types by hand and of those that oergen prints of crates/oergen/data/words.asn, in turns, in one program.
+"""Times values of the types by hand and of those that oergen prints of crates/oergen/data/words.asn and types.asn, in turns, in one program.
 
 usage: printed_speed.py COPY PROGRAM [WORD..], for example: taskset -c 3 scripts/printed_speed.py /tmp/copy crates/oergen/out/oergen
 

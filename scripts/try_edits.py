@@ -47,10 +47,11 @@ class Function(NamedTuple):
         return path.split("::")[-1].lstrip("+") == self.name
 
     def is_at(self, path):
-        """Whether a path below the crate, of a function or a type's method, is of this name and of this file's module."""
+        """Whether a path below the crate, of a function or a type's method, is of this name and of this file's module: the type may
+        stand in a module within the file."""
         module = [it for it in self.path.removesuffix(".rt").split("/")[1:] if it not in ("lib", "main", "mod")]
         words = path.split("::")
-        return words[: len(module)] == module and len(words) - len(module) in (1, 2) and self.is_named(path)
+        return words[: len(module)] == module and len(words) - len(module) in (1, 2, 3) and self.is_named(path)
 
 
 class Edit:

@@ -3,8 +3,8 @@
 
 usage: walks.py OERGEN [COUNT [SEED]]
 
-OERGEN is a built oergen, for the table of crates/oergen/data/words.asn. The Python package jilgomt and its library have to be found. Of each
-input of a type of that module, read leniently:
+OERGEN is a built oergen, for the table of crates/oergen/data/words.asn and types.asn. The Python package jilgomt and its library have to be found. Of each
+input of a type of those modules, read leniently:
 - where the codec reads a value, the walk ends behind it, without a refusal;
 - each node of such a walk has an end, and lies behind the one before it, in the part around it;
 - where the walk stops, the last node without an end is the part that it stopped in.
@@ -89,7 +89,7 @@ def main(given):
         print(__doc__, file=sys.stderr)
         return 2
     count, seed = (int(it) for it in [*given[1:], *["10000", "1"][len(given) - 1:]])
-    table = subprocess.run([given[0], "--table", top / words.MODULE], check=True, capture_output=True, text=True).stdout
+    table = subprocess.run([given[0], "--table", *(top / it for it in words.MODULES)], check=True, capture_output=True, text=True).stdout
     module, seen, faults = Module.of_lines(table), collections.Counter(), 0
     for word, octets in inputs(count, seed):
         how = compared(module, words.NAMES[word], octets, lambda it, word=word: check(word, it, OER).consumed)

@@ -1,5 +1,6 @@
 #!/usr/bin/env python3
-"""Runs the rows of test_vectors over types that oergen prints of crates/oergen/data/words.asn, in the place of those by hand.
+"""Runs the rows of test_vectors over types that oergen prints of crates/oergen/data/words.asn and types.asn, in the place of those by
+hand and of the library.
 
 usage: words.py COPY PROGRAM, for example: words.py /tmp/copy crates/oergen/out/oergen
 
@@ -18,14 +19,14 @@ import sys
 # values nest up to a thousand levels deep, each a few calls
 sys.setrecursionlimit(20000)
 top = pathlib.Path(__file__).resolve().parent.parent
-MODULE = "crates/oergen/data/words.asn"
+MODULES = ("crates/oergen/data/types.asn", "crates/oergen/data/words.asn")
 # Words, and the types of the module that stand for them.
 NAMES = {
     "bool": "Truth", "int": "Whole", "null": "Nothing", "octets": "Content", "bits": "Flags", "utf8": "Text", "oid": "Name",
     "utctime": "ShortTime", "gentime": "LongTime", "date": "Day", "any": "Open",
     "posbig": "GreatPositive", "small": "Small", "0..255": "OneOctet", "0..65535": "TwoOctets", "2..65535": "FromTwo",
     "-5..5": "Small", "-129..0": "UpToZero", "5..5": "Five", "0..i128max": "FromZero", "i16range": "TwoSigned",
-    "ext1..8": "OneToEight", "Positive": "Positive", "Negative<Integer>": "Negative", "Negative<Positive>": "NegativePositive",
+    "ext1..8": "ExtensibleOneToEight", "Positive": "Positive", "Negative<Integer>": "Negative", "Negative<Positive>": "NegativePositive",
     "octets3..6": "Octets3to6", "bits3..6": "Bits3to6", "bits14": "Bits14", "bmpof2": "BmpOf2", "universalof2": "UniversalOf2",
     "named": "Named", "named4..8": "Named4to8",
     "bmp": "Bmp", "universal": "Ucs4", "numeric": "Numeric", "printable": "Printable", "visible": "Visible", "ia5": "Ia5", "general": "General",
@@ -55,7 +56,7 @@ def lay(copy):
 
 def printed(copy, program):
     """Prints the module's types; each with its crate, and the types that are left out."""
-    words = [program, "--out", copy / "crates", "--name", "word_types", "--leave-out", top / MODULE]
+    words = [program, "--out", copy / "crates", "--name", "word_types", "--leave-out", *(top / it for it in MODULES)]
     lines = subprocess.run(words, check=True, capture_output=True, text=True, timeout=600).stdout.splitlines()
     crates = [it for it in lines if not it.startswith("#")]
     with open(copy / "crates.txt", "a", encoding="utf-8") as file:

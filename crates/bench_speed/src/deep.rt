@@ -3,7 +3,7 @@
 use crate::measuring::{Figures, Plan, measure};
 use anyhow::Result;
 use oer_types::{
-    Bare, Chain, ChainComponents, Held, Link, LinkAlternatives, LinkComponents, ListOf, Nest,
+    Bare, Chain, ChainComponents, Held, Link, LinkChoiceAlternatives, LinkComponents, ListOf, Nest,
     OneOf, Sequence,
 };
 use std::alloc::Global;
@@ -20,13 +20,13 @@ fn nest(alloc: Global, count: u32) -> Result<Nest> {
 
 /// `count` sequences, each of which but the last ends in a choice of the next.
 fn links(alloc: Global, count: u32) -> Result<Link> {
-    let mut b = LinkAlternatives::A(true);
+    let mut b = LinkChoiceAlternatives::A(true);
     for _ in 1..count {
         let link = Link(Sequence(LinkComponents {
             a: None,
             b: OneOf(b),
         }));
-        b = LinkAlternatives::B(Held(Box::new(alloc, link)?));
+        b = LinkChoiceAlternatives::B(Held(Box::new(alloc, link)?));
     }
     Ok(Link(Sequence(LinkComponents {
         a: None,

@@ -8,6 +8,7 @@ mod types_04;
 mod types_05;
 mod types_06;
 mod types_07;
+mod types_08;
 pub mod values;
 
 pub use types_01::{
@@ -20,18 +21,15 @@ pub use types_02::{
 };
 pub use types_03::{Folder, FolderComponents, Permit, PermitComponents};
 pub use types_04::{
-    AreaBoxes, AreaBoxesComponents, AreaRound, AreaRoundComponents, Labels, LabelsComponents, Spot,
-    SpotComponents,
+    AreaRound, AreaRoundComponents, Labels, LabelsComponents, Spot, SpotComponents,
 };
 pub use types_05::{
-    Area, AreaAlternatives, Colours, ColoursAlternatives, Level, Named, Plain, PlainComponents,
-    Taken, TakenComponents, Then, ThenComponents,
+    Area, AreaAlternatives, AreaBoxes, AreaBoxesComponents, Colours, ColoursAlternatives, Level,
+    Named, Plain, PlainComponents, Then, ThenComponents,
 };
-pub use types_06::{
-    Leaves, LeavesComponents, Numbers, NumbersComponents, Ranges, RangesComponents, Strings,
-    StringsComponents,
-};
+pub use types_06::{Numbers, NumbersComponents, Ranges, RangesComponents, Taken, TakenComponents};
 pub use types_07::{
-    Both, BothB, BothBAlternatives, BothComponents, Card, CardComponents, Marks, Person,
-    PersonComponents, Reply, ReplyAlternatives, Title, TitleAlternatives,
+    Both, BothB, BothBAlternatives, BothComponents, Leaves, LeavesComponents, Marks, Reply,
+    ReplyAlternatives, Strings, StringsComponents,
 };
+pub use types_08::{Card, CardComponents, Person, PersonComponents, Title, TitleAlternatives};

@@ -66,11 +66,17 @@ impl Numbered for ColourValues {
 /// `SEQUENCE { x INTEGER (0..255), colour Colour OPTIONAL }`
 pub type RowInner = Sequence<RowInnerComponents, 2, 0>;
 
-/// The components of `RowInner`.
-#[derive(Debug, PartialEq, Eq, Drop)]
-pub struct RowInnerComponents {
-    pub x: u8,
-    pub colour: Option<Colour>,
+pub use row_inner_components::RowInner as RowInnerComponents;
+
+mod row_inner_components {
+    use super::*;
+
+    /// The components of `RowInner`.
+    #[derive(Debug, PartialEq, Eq, Drop)]
+    pub struct RowInner {
+        pub x: u8,
+        pub colour: Option<Colour>,
+    }
 }
 
 type RowInnerRow = Required<Context<0>, u8, Optional<Context<1>, Colour, End>>;
@@ -180,11 +186,17 @@ impl DefaultValue<Integer> for RowTypeDefault {
 /// The addition group 1 of `Row`.
 pub type RowGroup1 = Sequence<RowGroup1Components, 2, 0>;
 
-/// The components of `RowGroup1`.
-#[derive(Debug, PartialEq, Eq, Drop)]
-pub struct RowGroup1Components {
-    pub bits: Bits,
-    pub level: Option<u16>,
+pub use row_group1_components::RowGroup1 as RowGroup1Components;
+
+mod row_group1_components {
+    use super::*;
+
+    /// The components of `RowGroup1`.
+    #[derive(Debug, PartialEq, Eq, Drop)]
+    pub struct RowGroup1 {
+        pub bits: Bits,
+        pub level: Option<u16>,
+    }
 }
 
 type RowGroup1Row = Required<Context<7>, Bits, Optional<Context<8>, u16, End>>;
@@ -258,18 +270,24 @@ impl Tabled<2, 0> for RowGroup1Components {
 /// next Below OPTIONAL, [[ bits Bits, level INTEGER (0..65535) OPTIONAL ]], sure BOOLEAN }`
 pub type Row = Sequence<RowComponents, 6, 3>;
 
-/// The components of `Row`.
-#[derive(Debug, PartialEq, Eq, Drop)]
-pub struct RowComponents {
-    pub ok: bool,
-    pub percent: Percent,
-    pub key: Option<Key>,
-    pub names: Names,
-    pub inner: RowInner,
-    pub r_type: Integer,
-    pub next: Option<Below>,
-    pub group_1: Option<RowGroup1>,
-    pub sure: Option<bool>,
+pub use row_components::Row as RowComponents;
+
+mod row_components {
+    use super::*;
+
+    /// The components of `Row`.
+    #[derive(Debug, PartialEq, Eq, Drop)]
+    pub struct Row {
+        pub ok: bool,
+        pub percent: Percent,
+        pub key: Option<Key>,
+        pub names: Names,
+        pub inner: RowInner,
+        pub r_type: Integer,
+        pub next: Option<Below>,
+        pub group_1: Option<RowGroup1>,
+        pub sure: Option<bool>,
+    }
 }
 
 type RowRow = Defaulted<
@@ -445,13 +463,19 @@ impl Tabled<6, 3> for RowComponents {
 /// ..., more [3] NULL OPTIONAL }`
 pub type Bag = Set<BagComponents, 3, 1>;
 
-/// The components of `Bag`.
-#[derive(Debug, PartialEq, Eq, Drop)]
-pub struct BagComponents {
-    pub a: Option<bool>,
-    pub c: Name,
-    pub b: i8,
-    pub more: Option<()>,
+pub use bag_components::Bag as BagComponents;
+
+mod bag_components {
+    use super::*;
+
+    /// The components of `Bag`.
+    #[derive(Debug, PartialEq, Eq, Drop)]
+    pub struct Bag {
+        pub b: i8,
+        pub a: Option<bool>,
+        pub c: Name,
+        pub more: Option<()>,
+    }
 }
 
 type BagRow = Optional<

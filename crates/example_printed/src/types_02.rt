@@ -85,20 +85,26 @@ impl TakesAlternative for SignalAlternatives {
 /// TeletexString, wide BMPString (SIZE(2)) }`
 pub type LetterHead = Sequence<LetterHeadComponents, 11, 0>;
 
-/// The components of `LetterHead`.
-#[derive(Debug, PartialEq, Eq, Drop)]
-pub struct LetterHeadComponents {
-    pub from: Name,
-    pub key: Option<Key>,
-    pub signal: Signal,
-    pub open: OpenOctets,
-    pub digits: NumericText,
-    pub plain: PrintableText,
-    pub seen: VisibleText,
-    pub general: GeneralText,
-    pub graphic: GraphicText,
-    pub teletex: TeletexText,
-    pub wide: Limited<BmpText, FixedSize<2>>,
+pub use letter_head_components::LetterHead as LetterHeadComponents;
+
+mod letter_head_components {
+    use super::*;
+
+    /// The components of `LetterHead`.
+    #[derive(Debug, PartialEq, Eq, Drop)]
+    pub struct LetterHead {
+        pub from: Name,
+        pub key: Option<Key>,
+        pub signal: Signal,
+        pub open: OpenOctets,
+        pub digits: NumericText,
+        pub plain: PrintableText,
+        pub seen: VisibleText,
+        pub general: GeneralText,
+        pub graphic: GraphicText,
+        pub teletex: TeletexText,
+        pub wide: Limited<BmpText, FixedSize<2>>,
+    }
 }
 
 type LetterHeadRow = Required<
@@ -347,11 +353,17 @@ impl Tabled<11, 0> for LetterHeadComponents {
 /// The addition group 1 of `Letter`.
 pub type LetterGroup1 = Sequence<LetterGroup1Components, 2, 0>;
 
-/// The components of `LetterGroup1`.
-#[derive(Debug, PartialEq, Eq, Drop)]
-pub struct LetterGroup1Components {
-    pub stamp: Limited<Octets, FixedSize<2>>,
-    pub note: Option<Utf8Text>,
+pub use letter_group1_components::LetterGroup1 as LetterGroup1Components;
+
+mod letter_group1_components {
+    use super::*;
+
+    /// The components of `LetterGroup1`.
+    #[derive(Debug, PartialEq, Eq, Drop)]
+    pub struct LetterGroup1 {
+        pub stamp: Limited<Octets, FixedSize<2>>,
+        pub note: Option<Utf8Text>,
+    }
 }
 
 type LetterGroup1Row = Required<
@@ -430,12 +442,18 @@ impl Tabled<2, 0> for LetterGroup1Components {
 /// stamp OCTET STRING (SIZE(2)), note UTF8String OPTIONAL ]] }`
 pub type Letter = Sequence<LetterComponents, 2, 1>;
 
-/// The components of `Letter`.
-#[derive(Debug, PartialEq, Eq, Drop)]
-pub struct LetterComponents {
-    pub head: LetterHead,
-    pub body: Octets,
-    pub group_1: Option<LetterGroup1>,
+pub use letter_components::Letter as LetterComponents;
+
+mod letter_components {
+    use super::*;
+
+    /// The components of `Letter`.
+    #[derive(Debug, PartialEq, Eq, Drop)]
+    pub struct Letter {
+        pub head: LetterHead,
+        pub body: Octets,
+        pub group_1: Option<LetterGroup1>,
+    }
 }
 
 type LetterRow = Required<

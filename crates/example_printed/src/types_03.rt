@@ -165,17 +165,23 @@ impl DefaultValue<BitString> for PermitMoreDefault {
 /// DEFAULT NULL, ..., seal BMPString DEFAULT "Hi", more Rights DEFAULT { write } }`
 pub type Permit = Sequence<PermitComponents, 6, 2>;
 
-/// The components of `Permit`.
-#[derive(Debug, PartialEq, Eq, Drop)]
-pub struct PermitComponents {
-    pub rights: Rights,
-    pub mark: Limited<Octets, FixedSize<2>>,
-    pub place: Name,
-    pub colour: Colour,
-    pub bits: BitString,
-    pub nothing: (),
-    pub seal: BmpText,
-    pub more: Rights,
+pub use permit_components::Permit as PermitComponents;
+
+mod permit_components {
+    use super::*;
+
+    /// The components of `Permit`.
+    #[derive(Debug, PartialEq, Eq, Drop)]
+    pub struct Permit {
+        pub rights: Rights,
+        pub mark: Limited<Octets, FixedSize<2>>,
+        pub place: Name,
+        pub colour: Colour,
+        pub bits: BitString,
+        pub nothing: (),
+        pub seal: BmpText,
+        pub more: Rights,
+    }
 }
 
 type PermitRow = Defaulted<
@@ -355,12 +361,18 @@ impl Tabled<6, 2> for PermitComponents {
 /// ..., more Names DEFAULT none }`
 pub type Folder = Sequence<FolderComponents, 2, 1>;
 
-/// The components of `Folder`.
-#[derive(Debug, PartialEq, Eq, Drop)]
-pub struct FolderComponents {
-    pub names: Names,
-    pub numbers: SetOf<Integer>,
-    pub more: Names,
+pub use folder_components::Folder as FolderComponents;
+
+mod folder_components {
+    use super::*;
+
+    /// The components of `Folder`.
+    #[derive(Debug, PartialEq, Eq, Drop)]
+    pub struct Folder {
+        pub names: Names,
+        pub numbers: SetOf<Integer>,
+        pub more: Names,
+    }
 }
 
 type FolderRow = Defaulted<

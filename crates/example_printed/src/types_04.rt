@@ -175,16 +175,22 @@ impl DefaultValue<TeletexText> for LabelsTeletexDefault {
 /// GeneralString DEFAULT "", graphic GraphicString DEFAULT "g", teletex TeletexString DEFAULT "t" }`
 pub type Labels = Sequence<LabelsComponents, 7, 0>;
 
-/// The components of `Labels`.
-#[derive(Debug, PartialEq, Eq, Drop)]
-pub struct LabelsComponents {
-    pub title: Utf8Text,
-    pub digits: Limited<NumericText, SizeBetween<1, 4>>,
-    pub plain: PrintableText,
-    pub seen: VisibleText,
-    pub general: GeneralText,
-    pub graphic: GraphicText,
-    pub teletex: TeletexText,
+pub use labels_components::Labels as LabelsComponents;
+
+mod labels_components {
+    use super::*;
+
+    /// The components of `Labels`.
+    #[derive(Debug, PartialEq, Eq, Drop)]
+    pub struct Labels {
+        pub title: Utf8Text,
+        pub digits: Limited<NumericText, SizeBetween<1, 4>>,
+        pub plain: PrintableText,
+        pub seen: VisibleText,
+        pub general: GeneralText,
+        pub graphic: GraphicText,
+        pub teletex: TeletexText,
+    }
 }
 
 type LabelsRow = Defaulted<
@@ -355,11 +361,17 @@ impl Tabled<7, 0> for LabelsComponents {
 /// `Spot ::= SEQUENCE { x INTEGER (0..255), y INTEGER (0..255) }`
 pub type Spot = Sequence<SpotComponents, 2, 0>;
 
-/// The components of `Spot`.
-#[derive(Debug, PartialEq, Eq, Drop)]
-pub struct SpotComponents {
-    pub x: u8,
-    pub y: u8,
+pub use spot_components::Spot as SpotComponents;
+
+mod spot_components {
+    use super::*;
+
+    /// The components of `Spot`.
+    #[derive(Debug, PartialEq, Eq, Drop)]
+    pub struct Spot {
+        pub x: u8,
+        pub y: u8,
+    }
 }
 
 type SpotRow = Required<Context<0>, u8, Required<Context<1>, u8, End>>;
@@ -431,11 +443,17 @@ impl Tabled<2, 0> for SpotComponents {
 /// `SEQUENCE { middle Spot, radius INTEGER (0..65535) }`
 pub type AreaRound = Sequence<AreaRoundComponents, 2, 0>;
 
-/// The components of `AreaRound`.
-#[derive(Debug, PartialEq, Eq, Drop)]
-pub struct AreaRoundComponents {
-    pub middle: Spot,
-    pub radius: u16,
+pub use area_round_components::AreaRound as AreaRoundComponents;
+
+mod area_round_components {
+    use super::*;
+
+    /// The components of `AreaRound`.
+    #[derive(Debug, PartialEq, Eq, Drop)]
+    pub struct AreaRound {
+        pub middle: Spot,
+        pub radius: u16,
+    }
 }
 
 type AreaRoundRow = Required<Context<0>, Spot, Required<Context<1>, u16, End>>;
@@ -499,82 +517,6 @@ impl Tabled<2, 0> for AreaRoundComponents {
             radius
         ];
         AreaRoundRow::write(&view, encoder)
-    }
-
-    ghost counts = { (refl, refl) };
-}
-
-/// `SEQUENCE { from Spot, to Spot }`
-pub type AreaBoxes = Sequence<AreaBoxesComponents, 2, 0>;
-
-/// The components of `AreaBoxes`.
-#[derive(Debug, PartialEq, Eq, Drop)]
-pub struct AreaBoxesComponents {
-    pub from: Spot,
-    pub to: Spot,
-}
-
-type AreaBoxesRow = Required<Context<0>, Spot, Required<Context<1>, Spot, End>>;
-
-impl Rowed for AreaBoxesComponents {
-    ghost use Rattle.rasn_oer.specs.Values.{both};
-
-    type Values = <AreaBoxesRow as Components>::Values;
-
-    ghost EXTENSIBLE = { ⟦<AreaBoxesRow as Components>⟧.EXTENSIBLE };
-
-    const EXTENSIBLE: bool = false;
-
-    ghost row_schema = { ⟦<AreaBoxesRow as Components>⟧.schema };
-
-    ghost row_is_schema = { ⟦<AreaBoxesRow as Components>⟧.is_schema };
-
-    ghost components = { λ v. both v.from (both v.to tt) };
-
-    fn from_row(row: Self::Values) -> Self {
-        built![AreaBoxesComponents from row:
-            from,
-            to
-        ]
-    }
-}
-
-impl Takes for AreaBoxesComponents {
-    ghost Refuses = { ⟦<AreaBoxesRow as Reads>⟧.Refuses };
-
-    #[inline(always)]
-    fn take(alloc: Global, decoder: &mut Decoder<'_>) -> Result<Self, DecodeError> {
-        read_row::<Self, AreaBoxesRow>(alloc, decoder)
-    }
-}
-
-impl Tabled<2, 0> for AreaBoxesComponents {
-    ghost use Rattle.std.specs.Prelude.{refl};
-
-    const FIELDS: Fields<2> = Fields {
-        fields: fields![
-            0 Required Context 0 "from",
-            1 Required Context 1 "to"
-        ],
-    };
-
-    const EXTENDED_FIELDS: Option<Fields<0>> = None;
-
-    fn root_fields() -> &'static [Field<'static>] {
-        Self::FIELDS.fields
-    }
-
-    fn addition_fields() -> &'static [Field<'static>] {
-        rows_of!(Self::EXTENDED_FIELDS)
-    }
-
-    #[inline(always)]
-    fn put(&self, encoder: &mut Encoder<'_>) -> Result<(), EncodeError> {
-        let view = views![self:
-            from,
-            to
-        ];
-        AreaBoxesRow::write(&view, encoder)
     }
 
     ghost counts = { (refl, refl) };

@@ -1,8 +1,90 @@
 //! Types of ASN.1 modules, as oergen printed them.
 
-use crate::{AreaBoxes, AreaRound, Names, Spot};
+use crate::{AreaRound, Names, Spot};
 use rasn_oer::prelude::*;
-use std::alloc::{AllocError, Global};
+use std::alloc::Global;
+
+/// `SEQUENCE { from Spot, to Spot }`
+pub type AreaBoxes = Sequence<AreaBoxesComponents, 2, 0>;
+
+pub use area_boxes_components::AreaBoxes as AreaBoxesComponents;
+
+mod area_boxes_components {
+    use super::*;
+
+    /// The components of `AreaBoxes`.
+    #[derive(Debug, PartialEq, Eq, Drop)]
+    pub struct AreaBoxes {
+        pub from: Spot,
+        pub to: Spot,
+    }
+}
+
+type AreaBoxesRow = Required<Context<0>, Spot, Required<Context<1>, Spot, End>>;
+
+impl Rowed for AreaBoxesComponents {
+    ghost use Rattle.rasn_oer.specs.Values.{both};
+
+    type Values = <AreaBoxesRow as Components>::Values;
+
+    ghost EXTENSIBLE = { ⟦<AreaBoxesRow as Components>⟧.EXTENSIBLE };
+
+    const EXTENSIBLE: bool = false;
+
+    ghost row_schema = { ⟦<AreaBoxesRow as Components>⟧.schema };
+
+    ghost row_is_schema = { ⟦<AreaBoxesRow as Components>⟧.is_schema };
+
+    ghost components = { λ v. both v.from (both v.to tt) };
+
+    fn from_row(row: Self::Values) -> Self {
+        built![AreaBoxesComponents from row:
+            from,
+            to
+        ]
+    }
+}
+
+impl Takes for AreaBoxesComponents {
+    ghost Refuses = { ⟦<AreaBoxesRow as Reads>⟧.Refuses };
+
+    #[inline(always)]
+    fn take(alloc: Global, decoder: &mut Decoder<'_>) -> Result<Self, DecodeError> {
+        read_row::<Self, AreaBoxesRow>(alloc, decoder)
+    }
+}
+
+impl Tabled<2, 0> for AreaBoxesComponents {
+    ghost use Rattle.std.specs.Prelude.{refl};
+
+    const FIELDS: Fields<2> = Fields {
+        fields: fields![
+            0 Required Context 0 "from",
+            1 Required Context 1 "to"
+        ],
+    };
+
+    const EXTENDED_FIELDS: Option<Fields<0>> = None;
+
+    fn root_fields() -> &'static [Field<'static>] {
+        Self::FIELDS.fields
+    }
+
+    fn addition_fields() -> &'static [Field<'static>] {
+        rows_of!(Self::EXTENDED_FIELDS)
+    }
+
+    #[inline(always)]
+    fn put(&self, encoder: &mut Encoder<'_>) -> Result<(), EncodeError> {
+        let view = views![self:
+            from,
+            to
+        ];
+        AreaBoxesRow::write(&view, encoder)
+    }
+
+    ghost counts = { (refl, refl) };
+}
 
 /// `Area ::= CHOICE { round SEQUENCE { middle Spot, radius INTEGER (0..65535) }, boxes SEQUENCE OF
 /// SEQUENCE { from Spot, to Spot }, corners SEQUENCE (SIZE(3..MAX)) OF Spot, names Names, ... }`
@@ -91,12 +173,18 @@ pub type Named = Limited<i8, Between<-3, 3>>;
 /// `Then ::= SEQUENCE { at UTCTime, on GeneralizedTime, day DATE }`
 pub type Then = Sequence<ThenComponents, 3, 0>;
 
-/// The components of `Then`.
-#[derive(Debug, PartialEq, Eq, Drop)]
-pub struct ThenComponents {
-    pub at: UtcTime,
-    pub on: GeneralizedTime,
-    pub day: Date,
+pub use then_components::Then as ThenComponents;
+
+mod then_components {
+    use super::*;
+
+    /// The components of `Then`.
+    #[derive(Debug, PartialEq, Eq, Drop)]
+    pub struct Then {
+        pub at: UtcTime,
+        pub on: GeneralizedTime,
+        pub day: Date,
+    }
 }
 
 type ThenRow = Required<
@@ -250,12 +338,18 @@ impl TakesAlternative for ColoursAlternatives {
 /// `Plain ::= SEQUENCE { a BOOLEAN, l Levels.Level, c Colours OPTIONAL }`
 pub type Plain = Sequence<PlainComponents, 3, 0>;
 
-/// The components of `Plain`.
-#[derive(Debug, PartialEq, Eq, Drop)]
-pub struct PlainComponents {
-    pub a: bool,
-    pub l: Level,
-    pub c: Option<Colours>,
+pub use plain_components::Plain as PlainComponents;
+
+mod plain_components {
+    use super::*;
+
+    /// The components of `Plain`.
+    #[derive(Debug, PartialEq, Eq, Drop)]
+    pub struct Plain {
+        pub a: bool,
+        pub l: Level,
+        pub c: Option<Colours>,
+    }
 }
 
 type PlainRow = Required<
@@ -326,198 +420,6 @@ impl Tabled<3, 0> for PlainComponents {
             c
         ];
         PlainRow::write(&view, encoder)
-    }
-
-    ghost counts = { (refl, refl) };
-}
-
-/// The default 3 of `TakenPart`.
-pub struct TakenPartDefault;
-
-impl DefaultValue<u16> for TakenPartDefault {
-    ghost use Rattle.std.specs.Prelude.{negsuc, pos, refl};
-
-    ghost value = { 3 };
-
-    fn value(_alloc: Global) -> Result<u16, AllocError> {
-        Ok(3)
-    }
-
-    fn is_value(other: &u16) -> bool {
-        *other == 3
-    }
-
-    ghost admitted = { refl };
-}
-
-/// `Taken ::= SEQUENCE { COMPONENTS OF Then, part INTEGER (0..top) DEFAULT three, plain Plain OPTIONAL,
-/// ..., level Level OPTIONAL, ..., own NULL } (WITH COMPONENTS { ..., plain PRESENT })`
-pub type Taken = Sequence<TakenComponents, 6, 1>;
-
-/// The components of `Taken`.
-#[derive(Debug, PartialEq, Eq, Drop)]
-pub struct TakenComponents {
-    pub at: UtcTime,
-    pub on: GeneralizedTime,
-    pub day: Date,
-    pub part: u16,
-    pub plain: Option<Plain>,
-    pub own: (),
-    pub level: Option<Level>,
-}
-
-type TakenRow = Required<
-    Context<0>,
-    UtcTime,
-    Required<
-        Context<1>,
-        GeneralizedTime,
-        Required<
-            Context<2>,
-            Date,
-            Defaulted<Context<3>, u16, TakenPartDefault, Optional<Context<4>, Plain, TakenFromOwn>>,
-        >,
-    >,
->;
-
-/// The components of `Taken` from `own` on.
-pub struct TakenFromOwn;
-
-type TakenFromOwnRow = Required<Context<5>, (), Extensible<TakenAdditions>>;
-
-impl Components for TakenFromOwn {
-    type Values = <TakenFromOwnRow as Components>::Values;
-
-    ghost EXTENSIBLE = { ⟦<TakenFromOwnRow as Components>⟧.EXTENSIBLE };
-
-    const EXTENSIBLE: bool = true;
-
-    ghost schema = { ⟦<TakenFromOwnRow as Components>⟧.schema };
-
-    ghost is_schema = { ⟦<TakenFromOwnRow as Components>⟧.is_schema };
-}
-
-impl Slotted for TakenFromOwn {
-    type Slots = <TakenFromOwnRow as Slotted>::Slots;
-
-    ghost filled = { ⟦<TakenFromOwnRow as Slotted>⟧.filled };
-
-    ghost filled_once = { ⟦<TakenFromOwnRow as Slotted>⟧.filled_once };
-
-    #[inline(always)]
-    fn empty() -> Self::Slots {
-        TakenFromOwnRow::empty()
-    }
-
-    #[inline(always)]
-    fn taken(slots: Self::Slots) -> Self::Values {
-        TakenFromOwnRow::taken(slots)
-    }
-}
-
-impl Reads for TakenFromOwn {
-    ghost Refuses = { ⟦<TakenFromOwnRow as Reads>⟧.Refuses };
-
-    #[inline(always)]
-    fn read(
-        alloc: Global,
-        decoder: &mut Decoder<'_>,
-        slots: &mut Self::Slots,
-    ) -> Result<(), DecodeError> {
-        <TakenFromOwnRow as Reads>::read(alloc, decoder, slots)
-    }
-}
-
-impl<'v> Views<'v> for TakenFromOwn {
-    type View = <TakenFromOwnRow as Views<'v>>::View;
-
-    ghost seen = { ⟦<TakenFromOwnRow as Views<'v>>⟧.seen };
-
-    #[inline(always)]
-    fn write(view: &Self::View, encoder: &mut Encoder<'_>) -> Result<(), EncodeError> {
-        TakenFromOwnRow::write(view, encoder)
-    }
-}
-
-type TakenAdditions = OptionalAddition<Context<6>, Level, End>;
-
-impl Rowed for TakenComponents {
-    ghost use Rattle.rasn_oer.specs.Values.{both};
-
-    type Values = <TakenRow as Components>::Values;
-
-    ghost EXTENSIBLE = { ⟦<TakenRow as Components>⟧.EXTENSIBLE };
-
-    const EXTENSIBLE: bool = true;
-
-    ghost row_schema = { ⟦<TakenRow as Components>⟧.schema };
-
-    ghost row_is_schema = { ⟦<TakenRow as Components>⟧.is_schema };
-
-    ghost components = { λ v. both v.at (both v.on (both v.day (both v.part (both v.plain (both v.own (both v.level tt)))))) };
-
-    fn from_row(row: Self::Values) -> Self {
-        built![TakenComponents from row:
-            at,
-            on,
-            day,
-            part,
-            plain,
-            own,
-            level
-        ]
-    }
-}
-
-impl Takes for TakenComponents {
-    ghost Refuses = { ⟦<TakenRow as Reads>⟧.Refuses };
-
-    #[inline(always)]
-    fn take(alloc: Global, decoder: &mut Decoder<'_>) -> Result<Self, DecodeError> {
-        read_row::<Self, TakenRow>(alloc, decoder)
-    }
-}
-
-impl Tabled<6, 1> for TakenComponents {
-    ghost use Rattle.std.specs.Prelude.{refl};
-
-    const FIELDS: Fields<6> = Fields {
-        fields: fields![
-            0 Required Context 0 "at",
-            1 Required Context 1 "on",
-            2 Required Context 2 "day",
-            3 Default Context 3 "part",
-            4 Optional Context 4 "plain",
-            5 Required Context 5 "own"
-        ],
-    };
-
-    const EXTENDED_FIELDS: Option<Fields<1>> = Some(Fields {
-        fields: fields![
-            0 Optional Context 6 "level"
-        ],
-    });
-
-    fn root_fields() -> &'static [Field<'static>] {
-        Self::FIELDS.fields
-    }
-
-    fn addition_fields() -> &'static [Field<'static>] {
-        rows_of!(Self::EXTENDED_FIELDS)
-    }
-
-    #[inline(always)]
-    fn put(&self, encoder: &mut Encoder<'_>) -> Result<(), EncodeError> {
-        let view = views![self:
-            at,
-            on,
-            day,
-            part,
-            plain,
-            own,
-            level
-        ];
-        TakenRow::write(&view, encoder)
     }
 
     ghost counts = { (refl, refl) };

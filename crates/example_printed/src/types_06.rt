@@ -1,7 +1,206 @@
 //! Types of ASN.1 modules, as oergen printed them.
 
+use crate::{Level, Plain};
 use rasn_oer::prelude::*;
-use std::alloc::Global;
+use std::alloc::{AllocError, Global};
+
+/// The default 3 of `TakenPart`.
+pub struct TakenPartDefault;
+
+impl DefaultValue<u16> for TakenPartDefault {
+    ghost use Rattle.std.specs.Prelude.{negsuc, pos, refl};
+
+    ghost value = { 3 };
+
+    fn value(_alloc: Global) -> Result<u16, AllocError> {
+        Ok(3)
+    }
+
+    fn is_value(other: &u16) -> bool {
+        *other == 3
+    }
+
+    ghost admitted = { refl };
+}
+
+/// `Taken ::= SEQUENCE { COMPONENTS OF Then, part INTEGER (0..top) DEFAULT three, plain Plain OPTIONAL,
+/// ..., level Level OPTIONAL, ..., own NULL } (WITH COMPONENTS { ..., plain PRESENT })`
+pub type Taken = Sequence<TakenComponents, 6, 1>;
+
+pub use taken_components::Taken as TakenComponents;
+
+mod taken_components {
+    use super::*;
+
+    /// The components of `Taken`.
+    #[derive(Debug, PartialEq, Eq, Drop)]
+    pub struct Taken {
+        pub at: UtcTime,
+        pub on: GeneralizedTime,
+        pub day: Date,
+        pub part: u16,
+        pub plain: Option<Plain>,
+        pub own: (),
+        pub level: Option<Level>,
+    }
+}
+
+type TakenRow = Required<
+    Context<0>,
+    UtcTime,
+    Required<
+        Context<1>,
+        GeneralizedTime,
+        Required<
+            Context<2>,
+            Date,
+            Defaulted<Context<3>, u16, TakenPartDefault, Optional<Context<4>, Plain, TakenFromOwn>>,
+        >,
+    >,
+>;
+
+/// The components of `Taken` from `own` on.
+pub struct TakenFromOwn;
+
+type TakenFromOwnRow = Required<Context<5>, (), Extensible<TakenAdditions>>;
+
+impl Components for TakenFromOwn {
+    type Values = <TakenFromOwnRow as Components>::Values;
+
+    ghost EXTENSIBLE = { ⟦<TakenFromOwnRow as Components>⟧.EXTENSIBLE };
+
+    const EXTENSIBLE: bool = true;
+
+    ghost schema = { ⟦<TakenFromOwnRow as Components>⟧.schema };
+
+    ghost is_schema = { ⟦<TakenFromOwnRow as Components>⟧.is_schema };
+}
+
+impl Slotted for TakenFromOwn {
+    type Slots = <TakenFromOwnRow as Slotted>::Slots;
+
+    ghost filled = { ⟦<TakenFromOwnRow as Slotted>⟧.filled };
+
+    ghost filled_once = { ⟦<TakenFromOwnRow as Slotted>⟧.filled_once };
+
+    #[inline(always)]
+    fn empty() -> Self::Slots {
+        TakenFromOwnRow::empty()
+    }
+
+    #[inline(always)]
+    fn taken(slots: Self::Slots) -> Self::Values {
+        TakenFromOwnRow::taken(slots)
+    }
+}
+
+impl Reads for TakenFromOwn {
+    ghost Refuses = { ⟦<TakenFromOwnRow as Reads>⟧.Refuses };
+
+    #[inline(always)]
+    fn read(
+        alloc: Global,
+        decoder: &mut Decoder<'_>,
+        slots: &mut Self::Slots,
+    ) -> Result<(), DecodeError> {
+        <TakenFromOwnRow as Reads>::read(alloc, decoder, slots)
+    }
+}
+
+impl<'v> Views<'v> for TakenFromOwn {
+    type View = <TakenFromOwnRow as Views<'v>>::View;
+
+    ghost seen = { ⟦<TakenFromOwnRow as Views<'v>>⟧.seen };
+
+    #[inline(always)]
+    fn write(view: &Self::View, encoder: &mut Encoder<'_>) -> Result<(), EncodeError> {
+        TakenFromOwnRow::write(view, encoder)
+    }
+}
+
+type TakenAdditions = OptionalAddition<Context<6>, Level, End>;
+
+impl Rowed for TakenComponents {
+    ghost use Rattle.rasn_oer.specs.Values.{both};
+
+    type Values = <TakenRow as Components>::Values;
+
+    ghost EXTENSIBLE = { ⟦<TakenRow as Components>⟧.EXTENSIBLE };
+
+    const EXTENSIBLE: bool = true;
+
+    ghost row_schema = { ⟦<TakenRow as Components>⟧.schema };
+
+    ghost row_is_schema = { ⟦<TakenRow as Components>⟧.is_schema };
+
+    ghost components = { λ v. both v.at (both v.on (both v.day (both v.part (both v.plain (both v.own (both v.level tt)))))) };
+
+    fn from_row(row: Self::Values) -> Self {
+        built![TakenComponents from row:
+            at,
+            on,
+            day,
+            part,
+            plain,
+            own,
+            level
+        ]
+    }
+}
+
+impl Takes for TakenComponents {
+    ghost Refuses = { ⟦<TakenRow as Reads>⟧.Refuses };
+
+    #[inline(always)]
+    fn take(alloc: Global, decoder: &mut Decoder<'_>) -> Result<Self, DecodeError> {
+        read_row::<Self, TakenRow>(alloc, decoder)
+    }
+}
+
+impl Tabled<6, 1> for TakenComponents {
+    ghost use Rattle.std.specs.Prelude.{refl};
+
+    const FIELDS: Fields<6> = Fields {
+        fields: fields![
+            0 Required Context 0 "at",
+            1 Required Context 1 "on",
+            2 Required Context 2 "day",
+            3 Default Context 3 "part",
+            4 Optional Context 4 "plain",
+            5 Required Context 5 "own"
+        ],
+    };
+
+    const EXTENDED_FIELDS: Option<Fields<1>> = Some(Fields {
+        fields: fields![
+            0 Optional Context 6 "level"
+        ],
+    });
+
+    fn root_fields() -> &'static [Field<'static>] {
+        Self::FIELDS.fields
+    }
+
+    fn addition_fields() -> &'static [Field<'static>] {
+        rows_of!(Self::EXTENDED_FIELDS)
+    }
+
+    #[inline(always)]
+    fn put(&self, encoder: &mut Encoder<'_>) -> Result<(), EncodeError> {
+        let view = views![self:
+            at,
+            on,
+            day,
+            part,
+            plain,
+            own,
+            level
+        ];
+        TakenRow::write(&view, encoder)
+    }
+
+    ghost counts = { (refl, refl) };
+}
 
 /// The limits of `NumbersLong`.
 #[derive(Drop)]
@@ -32,17 +231,23 @@ impl Limits for NumbersLongLimits {
 /// named Named (0..MAX) }`
 pub type Numbers = Sequence<NumbersComponents, 7, 0>;
 
-/// The components of `Numbers`.
-#[derive(Debug, PartialEq, Eq, Drop)]
-pub struct NumbersComponents {
-    /// a comment within its line
-    pub none: (),
-    pub two: Limited<u16, Between<0, 256>>,
-    pub wide: Limited<i16, Between<-129, 0>>,
-    pub long: Limited<Integer, NumbersLongLimits>,
-    pub extensible: Integer,
-    pub down: Limited<Integer, AtMost<65535>>,
-    pub named: Limited<u8, Between<0, 3>>,
+pub use numbers_components::Numbers as NumbersComponents;
+
+mod numbers_components {
+    use super::*;
+
+    /// The components of `Numbers`.
+    #[derive(Debug, PartialEq, Eq, Drop)]
+    pub struct Numbers {
+        /// a comment within its line
+        pub none: (),
+        pub two: Limited<u16, Between<0, 256>>,
+        pub wide: Limited<i16, Between<-129, 0>>,
+        pub long: Limited<Integer, NumbersLongLimits>,
+        pub extensible: Integer,
+        pub down: Limited<Integer, AtMost<65535>>,
+        pub named: Limited<u8, Between<0, 3>>,
+    }
 }
 
 type NumbersRow = Required<
@@ -209,13 +414,19 @@ impl Tabled<7, 0> for NumbersComponents {
 /// (0..100 ^ 50..400), less INTEGER (0..9 EXCEPT 5) }`
 pub type Ranges = Sequence<RangesComponents, 4, 0>;
 
-/// The components of `Ranges`.
-#[derive(Debug, PartialEq, Eq, Drop)]
-pub struct RangesComponents {
-    pub single: Limited<u8, Between<5, 5>>,
-    pub gaps: Limited<u8, Between<1, 200>>,
-    pub common: Limited<u8, Between<50, 100>>,
-    pub less: Limited<u8, Between<0, 9>>,
+pub use ranges_components::Ranges as RangesComponents;
+
+mod ranges_components {
+    use super::*;
+
+    /// The components of `Ranges`.
+    #[derive(Debug, PartialEq, Eq, Drop)]
+    pub struct Ranges {
+        pub single: Limited<u8, Between<5, 5>>,
+        pub gaps: Limited<u8, Between<1, 200>>,
+        pub common: Limited<u8, Between<50, 100>>,
+        pub less: Limited<u8, Between<0, 9>>,
+    }
 }
 
 type RangesRow = Required<
@@ -297,279 +508,6 @@ impl Tabled<4, 0> for RangesComponents {
             less
         ];
         RangesRow::write(&view, encoder)
-    }
-
-    ghost counts = { (refl, refl) };
-}
-
-/// `Strings ::= SEQUENCE { blob OCTET STRING (SIZE(1..9, ...)), sizes OCTET STRING (SIZE(1 | 3)),
-/// content OCTET STRING (CONTAINING Named), letters PrintableString (FROM("A".."Z") ^ SIZE(2))
-/// }`
-pub type Strings = Sequence<StringsComponents, 4, 0>;
-
-/// The components of `Strings`.
-#[derive(Debug, PartialEq, Eq, Drop)]
-pub struct StringsComponents {
-    pub blob: Octets,
-    pub sizes: Limited<Octets, SizeBetween<1, 3>>,
-    pub content: Octets,
-    pub letters: Limited<PrintableText, FixedSize<2>>,
-}
-
-type StringsRow = Required<
-    Context<0>,
-    Octets,
-    Required<
-        Context<1>,
-        Limited<Octets, SizeBetween<1, 3>>,
-        Required<
-            Context<2>,
-            Octets,
-            Required<Context<3>, Limited<PrintableText, FixedSize<2>>, End>,
-        >,
-    >,
->;
-
-impl Rowed for StringsComponents {
-    ghost use Rattle.rasn_oer.specs.Values.{both};
-
-    type Values = <StringsRow as Components>::Values;
-
-    ghost EXTENSIBLE = { ⟦<StringsRow as Components>⟧.EXTENSIBLE };
-
-    const EXTENSIBLE: bool = false;
-
-    ghost row_schema = { ⟦<StringsRow as Components>⟧.schema };
-
-    ghost row_is_schema = { ⟦<StringsRow as Components>⟧.is_schema };
-
-    ghost components = { λ v. both v.blob (both v.sizes (both v.content (both v.letters tt))) };
-
-    fn from_row(row: Self::Values) -> Self {
-        built![StringsComponents from row:
-            blob,
-            sizes,
-            content,
-            letters
-        ]
-    }
-}
-
-impl Takes for StringsComponents {
-    ghost Refuses = { ⟦<StringsRow as Reads>⟧.Refuses };
-
-    #[inline(always)]
-    fn take(alloc: Global, decoder: &mut Decoder<'_>) -> Result<Self, DecodeError> {
-        read_row::<Self, StringsRow>(alloc, decoder)
-    }
-}
-
-impl Tabled<4, 0> for StringsComponents {
-    ghost use Rattle.std.specs.Prelude.{refl};
-
-    const FIELDS: Fields<4> = Fields {
-        fields: fields![
-            0 Required Context 0 "blob",
-            1 Required Context 1 "sizes",
-            2 Required Context 2 "content",
-            3 Required Context 3 "letters"
-        ],
-    };
-
-    const EXTENDED_FIELDS: Option<Fields<0>> = None;
-
-    fn root_fields() -> &'static [Field<'static>] {
-        Self::FIELDS.fields
-    }
-
-    fn addition_fields() -> &'static [Field<'static>] {
-        rows_of!(Self::EXTENDED_FIELDS)
-    }
-
-    #[inline(always)]
-    fn put(&self, encoder: &mut Encoder<'_>) -> Result<(), EncodeError> {
-        let view = views![self:
-            blob,
-            sizes,
-            content,
-            letters
-        ];
-        StringsRow::write(&view, encoder)
-    }
-
-    ghost counts = { (refl, refl) };
-}
-
-/// no octet but those of its parts
-///
-/// `Leaves ::= SEQUENCE { numbers Numbers, ranges Ranges, strings Strings, text UTF8String (SIZE(0..5)),
-/// texts SEQUENCE (SIZE(1..4)) OF IA5String, lists SET OF SEQUENCE OF VisibleString (SIZE(3)),
-/// id OBJECT IDENTIFIER }`
-pub type Leaves = Sequence<LeavesComponents, 7, 0>;
-
-/// The components of `Leaves`.
-#[derive(Debug, PartialEq, Eq, Drop)]
-pub struct LeavesComponents {
-    pub numbers: Numbers,
-    pub ranges: Ranges,
-    pub strings: Strings,
-    pub text: Utf8Text,
-    pub texts: ListOf<Ia5Text>,
-    pub lists: SetOf<ListOf<Limited<VisibleText, FixedSize<3>>>>,
-    pub id: ObjectIdentifier,
-}
-
-type LeavesRow = Required<
-    Context<0>,
-    Numbers,
-    Required<
-        Context<1>,
-        Ranges,
-        Required<
-            Context<2>,
-            Strings,
-            Required<Context<3>, Utf8Text, Required<Context<4>, ListOf<Ia5Text>, LeavesFromLists>>,
-        >,
-    >,
->;
-
-/// The components of `Leaves` from `lists` on.
-pub struct LeavesFromLists;
-
-type LeavesFromListsRow = Required<
-    Context<5>,
-    SetOf<ListOf<Limited<VisibleText, FixedSize<3>>>>,
-    Required<Context<6>, ObjectIdentifier, End>,
->;
-
-impl Components for LeavesFromLists {
-    type Values = <LeavesFromListsRow as Components>::Values;
-
-    ghost EXTENSIBLE = { ⟦<LeavesFromListsRow as Components>⟧.EXTENSIBLE };
-
-    const EXTENSIBLE: bool = false;
-
-    ghost schema = { ⟦<LeavesFromListsRow as Components>⟧.schema };
-
-    ghost is_schema = { ⟦<LeavesFromListsRow as Components>⟧.is_schema };
-}
-
-impl Slotted for LeavesFromLists {
-    type Slots = <LeavesFromListsRow as Slotted>::Slots;
-
-    ghost filled = { ⟦<LeavesFromListsRow as Slotted>⟧.filled };
-
-    ghost filled_once = { ⟦<LeavesFromListsRow as Slotted>⟧.filled_once };
-
-    #[inline(always)]
-    fn empty() -> Self::Slots {
-        LeavesFromListsRow::empty()
-    }
-
-    #[inline(always)]
-    fn taken(slots: Self::Slots) -> Self::Values {
-        LeavesFromListsRow::taken(slots)
-    }
-}
-
-impl Reads for LeavesFromLists {
-    ghost Refuses = { ⟦<LeavesFromListsRow as Reads>⟧.Refuses };
-
-    #[inline(always)]
-    fn read(
-        alloc: Global,
-        decoder: &mut Decoder<'_>,
-        slots: &mut Self::Slots,
-    ) -> Result<(), DecodeError> {
-        <LeavesFromListsRow as Reads>::read(alloc, decoder, slots)
-    }
-}
-
-impl<'v> Views<'v> for LeavesFromLists {
-    type View = <LeavesFromListsRow as Views<'v>>::View;
-
-    ghost seen = { ⟦<LeavesFromListsRow as Views<'v>>⟧.seen };
-
-    #[inline(always)]
-    fn write(view: &Self::View, encoder: &mut Encoder<'_>) -> Result<(), EncodeError> {
-        LeavesFromListsRow::write(view, encoder)
-    }
-}
-
-impl Rowed for LeavesComponents {
-    ghost use Rattle.rasn_oer.specs.Values.{both};
-
-    type Values = <LeavesRow as Components>::Values;
-
-    ghost EXTENSIBLE = { ⟦<LeavesRow as Components>⟧.EXTENSIBLE };
-
-    const EXTENSIBLE: bool = false;
-
-    ghost row_schema = { ⟦<LeavesRow as Components>⟧.schema };
-
-    ghost row_is_schema = { ⟦<LeavesRow as Components>⟧.is_schema };
-
-    ghost components = { λ v. both v.numbers (both v.ranges (both v.strings (both v.text (both v.texts (both v.lists (both v.id tt)))))) };
-
-    fn from_row(row: Self::Values) -> Self {
-        built![LeavesComponents from row:
-            numbers,
-            ranges,
-            strings,
-            text,
-            texts,
-            lists,
-            id
-        ]
-    }
-}
-
-impl Takes for LeavesComponents {
-    ghost Refuses = { ⟦<LeavesRow as Reads>⟧.Refuses };
-
-    #[inline(always)]
-    fn take(alloc: Global, decoder: &mut Decoder<'_>) -> Result<Self, DecodeError> {
-        read_row::<Self, LeavesRow>(alloc, decoder)
-    }
-}
-
-impl Tabled<7, 0> for LeavesComponents {
-    ghost use Rattle.std.specs.Prelude.{refl};
-
-    const FIELDS: Fields<7> = Fields {
-        fields: fields![
-            0 Required Context 0 "numbers",
-            1 Required Context 1 "ranges",
-            2 Required Context 2 "strings",
-            3 Required Context 3 "text",
-            4 Required Context 4 "texts",
-            5 Required Context 5 "lists",
-            6 Required Context 6 "id"
-        ],
-    };
-
-    const EXTENDED_FIELDS: Option<Fields<0>> = None;
-
-    fn root_fields() -> &'static [Field<'static>] {
-        Self::FIELDS.fields
-    }
-
-    fn addition_fields() -> &'static [Field<'static>] {
-        rows_of!(Self::EXTENDED_FIELDS)
-    }
-
-    #[inline(always)]
-    fn put(&self, encoder: &mut Encoder<'_>) -> Result<(), EncodeError> {
-        let view = views![self:
-            numbers,
-            ranges,
-            strings,
-            text,
-            texts,
-            lists,
-            id
-        ];
-        LeavesRow::write(&view, encoder)
     }
 
     ghost counts = { (refl, refl) };

@@ -1,7 +1,293 @@
 //! Types of ASN.1 modules, as oergen printed them.
 
+use crate::{Numbers, Ranges};
 use rasn_oer::prelude::*;
-use std::alloc::{AllocError, Global};
+use std::alloc::Global;
+
+/// `Strings ::= SEQUENCE { blob OCTET STRING (SIZE(1..9, ...)), sizes OCTET STRING (SIZE(1 | 3)),
+/// content OCTET STRING (CONTAINING Named), letters PrintableString (FROM("A".."Z") ^ SIZE(2))
+/// }`
+pub type Strings = Sequence<StringsComponents, 4, 0>;
+
+pub use strings_components::Strings as StringsComponents;
+
+mod strings_components {
+    use super::*;
+
+    /// The components of `Strings`.
+    #[derive(Debug, PartialEq, Eq, Drop)]
+    pub struct Strings {
+        pub blob: Octets,
+        pub sizes: Limited<Octets, SizeBetween<1, 3>>,
+        pub content: Octets,
+        pub letters: Limited<PrintableText, FixedSize<2>>,
+    }
+}
+
+type StringsRow = Required<
+    Context<0>,
+    Octets,
+    Required<
+        Context<1>,
+        Limited<Octets, SizeBetween<1, 3>>,
+        Required<
+            Context<2>,
+            Octets,
+            Required<Context<3>, Limited<PrintableText, FixedSize<2>>, End>,
+        >,
+    >,
+>;
+
+impl Rowed for StringsComponents {
+    ghost use Rattle.rasn_oer.specs.Values.{both};
+
+    type Values = <StringsRow as Components>::Values;
+
+    ghost EXTENSIBLE = { ⟦<StringsRow as Components>⟧.EXTENSIBLE };
+
+    const EXTENSIBLE: bool = false;
+
+    ghost row_schema = { ⟦<StringsRow as Components>⟧.schema };
+
+    ghost row_is_schema = { ⟦<StringsRow as Components>⟧.is_schema };
+
+    ghost components = { λ v. both v.blob (both v.sizes (both v.content (both v.letters tt))) };
+
+    fn from_row(row: Self::Values) -> Self {
+        built![StringsComponents from row:
+            blob,
+            sizes,
+            content,
+            letters
+        ]
+    }
+}
+
+impl Takes for StringsComponents {
+    ghost Refuses = { ⟦<StringsRow as Reads>⟧.Refuses };
+
+    #[inline(always)]
+    fn take(alloc: Global, decoder: &mut Decoder<'_>) -> Result<Self, DecodeError> {
+        read_row::<Self, StringsRow>(alloc, decoder)
+    }
+}
+
+impl Tabled<4, 0> for StringsComponents {
+    ghost use Rattle.std.specs.Prelude.{refl};
+
+    const FIELDS: Fields<4> = Fields {
+        fields: fields![
+            0 Required Context 0 "blob",
+            1 Required Context 1 "sizes",
+            2 Required Context 2 "content",
+            3 Required Context 3 "letters"
+        ],
+    };
+
+    const EXTENDED_FIELDS: Option<Fields<0>> = None;
+
+    fn root_fields() -> &'static [Field<'static>] {
+        Self::FIELDS.fields
+    }
+
+    fn addition_fields() -> &'static [Field<'static>] {
+        rows_of!(Self::EXTENDED_FIELDS)
+    }
+
+    #[inline(always)]
+    fn put(&self, encoder: &mut Encoder<'_>) -> Result<(), EncodeError> {
+        let view = views![self:
+            blob,
+            sizes,
+            content,
+            letters
+        ];
+        StringsRow::write(&view, encoder)
+    }
+
+    ghost counts = { (refl, refl) };
+}
+
+/// no octet but those of its parts
+///
+/// `Leaves ::= SEQUENCE { numbers Numbers, ranges Ranges, strings Strings, text UTF8String (SIZE(0..5)),
+/// texts SEQUENCE (SIZE(1..4)) OF IA5String, lists SET OF SEQUENCE OF VisibleString (SIZE(3)),
+/// id OBJECT IDENTIFIER }`
+pub type Leaves = Sequence<LeavesComponents, 7, 0>;
+
+pub use leaves_components::Leaves as LeavesComponents;
+
+mod leaves_components {
+    use super::*;
+
+    /// The components of `Leaves`.
+    #[derive(Debug, PartialEq, Eq, Drop)]
+    pub struct Leaves {
+        pub numbers: Numbers,
+        pub ranges: Ranges,
+        pub strings: Strings,
+        pub text: Utf8Text,
+        pub texts: ListOf<Ia5Text>,
+        pub lists: SetOf<ListOf<Limited<VisibleText, FixedSize<3>>>>,
+        pub id: ObjectIdentifier,
+    }
+}
+
+type LeavesRow = Required<
+    Context<0>,
+    Numbers,
+    Required<
+        Context<1>,
+        Ranges,
+        Required<
+            Context<2>,
+            Strings,
+            Required<Context<3>, Utf8Text, Required<Context<4>, ListOf<Ia5Text>, LeavesFromLists>>,
+        >,
+    >,
+>;
+
+/// The components of `Leaves` from `lists` on.
+pub struct LeavesFromLists;
+
+type LeavesFromListsRow = Required<
+    Context<5>,
+    SetOf<ListOf<Limited<VisibleText, FixedSize<3>>>>,
+    Required<Context<6>, ObjectIdentifier, End>,
+>;
+
+impl Components for LeavesFromLists {
+    type Values = <LeavesFromListsRow as Components>::Values;
+
+    ghost EXTENSIBLE = { ⟦<LeavesFromListsRow as Components>⟧.EXTENSIBLE };
+
+    const EXTENSIBLE: bool = false;
+
+    ghost schema = { ⟦<LeavesFromListsRow as Components>⟧.schema };
+
+    ghost is_schema = { ⟦<LeavesFromListsRow as Components>⟧.is_schema };
+}
+
+impl Slotted for LeavesFromLists {
+    type Slots = <LeavesFromListsRow as Slotted>::Slots;
+
+    ghost filled = { ⟦<LeavesFromListsRow as Slotted>⟧.filled };
+
+    ghost filled_once = { ⟦<LeavesFromListsRow as Slotted>⟧.filled_once };
+
+    #[inline(always)]
+    fn empty() -> Self::Slots {
+        LeavesFromListsRow::empty()
+    }
+
+    #[inline(always)]
+    fn taken(slots: Self::Slots) -> Self::Values {
+        LeavesFromListsRow::taken(slots)
+    }
+}
+
+impl Reads for LeavesFromLists {
+    ghost Refuses = { ⟦<LeavesFromListsRow as Reads>⟧.Refuses };
+
+    #[inline(always)]
+    fn read(
+        alloc: Global,
+        decoder: &mut Decoder<'_>,
+        slots: &mut Self::Slots,
+    ) -> Result<(), DecodeError> {
+        <LeavesFromListsRow as Reads>::read(alloc, decoder, slots)
+    }
+}
+
+impl<'v> Views<'v> for LeavesFromLists {
+    type View = <LeavesFromListsRow as Views<'v>>::View;
+
+    ghost seen = { ⟦<LeavesFromListsRow as Views<'v>>⟧.seen };
+
+    #[inline(always)]
+    fn write(view: &Self::View, encoder: &mut Encoder<'_>) -> Result<(), EncodeError> {
+        LeavesFromListsRow::write(view, encoder)
+    }
+}
+
+impl Rowed for LeavesComponents {
+    ghost use Rattle.rasn_oer.specs.Values.{both};
+
+    type Values = <LeavesRow as Components>::Values;
+
+    ghost EXTENSIBLE = { ⟦<LeavesRow as Components>⟧.EXTENSIBLE };
+
+    const EXTENSIBLE: bool = false;
+
+    ghost row_schema = { ⟦<LeavesRow as Components>⟧.schema };
+
+    ghost row_is_schema = { ⟦<LeavesRow as Components>⟧.is_schema };
+
+    ghost components = { λ v. both v.numbers (both v.ranges (both v.strings (both v.text (both v.texts (both v.lists (both v.id tt)))))) };
+
+    fn from_row(row: Self::Values) -> Self {
+        built![LeavesComponents from row:
+            numbers,
+            ranges,
+            strings,
+            text,
+            texts,
+            lists,
+            id
+        ]
+    }
+}
+
+impl Takes for LeavesComponents {
+    ghost Refuses = { ⟦<LeavesRow as Reads>⟧.Refuses };
+
+    #[inline(always)]
+    fn take(alloc: Global, decoder: &mut Decoder<'_>) -> Result<Self, DecodeError> {
+        read_row::<Self, LeavesRow>(alloc, decoder)
+    }
+}
+
+impl Tabled<7, 0> for LeavesComponents {
+    ghost use Rattle.std.specs.Prelude.{refl};
+
+    const FIELDS: Fields<7> = Fields {
+        fields: fields![
+            0 Required Context 0 "numbers",
+            1 Required Context 1 "ranges",
+            2 Required Context 2 "strings",
+            3 Required Context 3 "text",
+            4 Required Context 4 "texts",
+            5 Required Context 5 "lists",
+            6 Required Context 6 "id"
+        ],
+    };
+
+    const EXTENDED_FIELDS: Option<Fields<0>> = None;
+
+    fn root_fields() -> &'static [Field<'static>] {
+        Self::FIELDS.fields
+    }
+
+    fn addition_fields() -> &'static [Field<'static>] {
+        rows_of!(Self::EXTENDED_FIELDS)
+    }
+
+    #[inline(always)]
+    fn put(&self, encoder: &mut Encoder<'_>) -> Result<(), EncodeError> {
+        let view = views![self:
+            numbers,
+            ranges,
+            strings,
+            text,
+            texts,
+            lists,
+            id
+        ];
+        LeavesRow::write(&view, encoder)
+    }
+
+    ghost counts = { (refl, refl) };
+}
 
 /// `Reply ::= CHOICE { plain [0] BOOLEAN, other CHOICE { one [1] INTEGER (0..255), two [2] NULL,
 /// ..., more [4] BOOLEAN }, last [3] NULL }`
@@ -158,12 +444,18 @@ impl TakesAlternative for BothBAlternatives {
 /// OPTIONAL }`
 pub type Both = Set<BothComponents, 3, 0>;
 
-/// The components of `Both`.
-#[derive(Debug, PartialEq, Eq, Drop)]
-pub struct BothComponents {
-    pub e: Option<()>,
-    pub b: BothB,
-    pub a: u8,
+pub use both_components::Both as BothComponents;
+
+mod both_components {
+    use super::*;
+
+    /// The components of `Both`.
+    #[derive(Debug, PartialEq, Eq, Drop)]
+    pub struct Both {
+        pub a: u8,
+        pub b: BothB,
+        pub e: Option<()>,
+    }
 }
 
 type BothRow = Optional<Context<0>, (), Required<Context<1>, BothB, Required<Context<5>, u8, End>>>;
@@ -263,338 +555,3 @@ impl InTagOrder<3, 0> for BothComponents {
 
 /// `Marks ::= BIT STRING { urgent(0), sealed(1), read(9) }`
 pub type Marks = NamedBits;
-
-/// The default '1000'B of `CardUsual`.
-pub struct CardUsualDefault;
-
-impl DefaultValue<NamedBits> for CardUsualDefault {
-    ghost use Rattle.std.specs.Prelude.{◌∷◌, [], take, refl};
-    ghost use Rattle.rasn_oer.specs.Octets.{bits_of};
-
-    ghost value = { take 1 (bits_of (128 ∷ [])) };
-
-    fn value(alloc: Global) -> Result<NamedBits, AllocError> {
-        let octets: [u8; 1] = [0x80];
-        let bits = bits_from(alloc, &octets, 1)?;
-        Ok(NamedBits::new(bits))
-    }
-
-    fn is_value(other: &NamedBits) -> bool {
-        let octets: [u8; 1] = [0x80];
-        are_bits(other.as_bits(), &octets, 1)
-    }
-
-    ghost admitted = { refl };
-}
-
-/// `Card ::= SEQUENCE { marks Marks, least Marks (SIZE(4..12)), more Marks OPTIONAL, usual Marks
-/// DEFAULT '1000'B }`
-pub type Card = Sequence<CardComponents, 4, 0>;
-
-/// The components of `Card`.
-#[derive(Debug, PartialEq, Eq, Drop)]
-pub struct CardComponents {
-    pub marks: Marks,
-    pub least: Limited<NamedBits, SizeBetween<4, 12>>,
-    pub more: Option<Marks>,
-    pub usual: Marks,
-}
-
-type CardRow = Required<
-    Context<0>,
-    Marks,
-    Required<
-        Context<1>,
-        Limited<NamedBits, SizeBetween<4, 12>>,
-        Optional<Context<2>, Marks, Defaulted<Context<3>, Marks, CardUsualDefault, End>>,
-    >,
->;
-
-impl Rowed for CardComponents {
-    ghost use Rattle.rasn_oer.specs.Values.{both};
-
-    type Values = <CardRow as Components>::Values;
-
-    ghost EXTENSIBLE = { ⟦<CardRow as Components>⟧.EXTENSIBLE };
-
-    const EXTENSIBLE: bool = false;
-
-    ghost row_schema = { ⟦<CardRow as Components>⟧.schema };
-
-    ghost row_is_schema = { ⟦<CardRow as Components>⟧.is_schema };
-
-    ghost components = { λ v. both v.marks (both v.least (both v.more (both v.usual tt))) };
-
-    fn from_row(row: Self::Values) -> Self {
-        built![CardComponents from row:
-            marks,
-            least,
-            more,
-            usual
-        ]
-    }
-}
-
-impl Takes for CardComponents {
-    ghost Refuses = { ⟦<CardRow as Reads>⟧.Refuses };
-
-    #[inline(always)]
-    fn take(alloc: Global, decoder: &mut Decoder<'_>) -> Result<Self, DecodeError> {
-        read_row::<Self, CardRow>(alloc, decoder)
-    }
-}
-
-impl Tabled<4, 0> for CardComponents {
-    ghost use Rattle.std.specs.Prelude.{refl};
-
-    const FIELDS: Fields<4> = Fields {
-        fields: fields![
-            0 Required Context 0 "marks",
-            1 Required Context 1 "least",
-            2 Optional Context 2 "more",
-            3 Default Context 3 "usual"
-        ],
-    };
-
-    const EXTENDED_FIELDS: Option<Fields<0>> = None;
-
-    fn root_fields() -> &'static [Field<'static>] {
-        Self::FIELDS.fields
-    }
-
-    fn addition_fields() -> &'static [Field<'static>] {
-        rows_of!(Self::EXTENDED_FIELDS)
-    }
-
-    #[inline(always)]
-    fn put(&self, encoder: &mut Encoder<'_>) -> Result<(), EncodeError> {
-        let view = views![self:
-            marks,
-            least,
-            more,
-            usual
-        ];
-        CardRow::write(&view, encoder)
-    }
-
-    ghost counts = { (refl, refl) };
-}
-
-/// `Title ::= CHOICE { teletexString TeletexString (SIZE(1..3)), printableString PrintableString (SIZE(1..3)),
-/// universalString UniversalString (SIZE(1..3)), utf8String UTF8String (SIZE(1..3)),
-/// bmpString BMPString (SIZE(1..3)) }`
-pub type Title = OneOf<TitleAlternatives>;
-
-/// The alternatives of `Title`.
-#[derive(Debug, PartialEq, Eq, Drop)]
-pub enum TitleAlternatives {
-    TeletexString(TeletexText),
-    PrintableString(Limited<PrintableText, SizeBetween<1, 3>>),
-    UniversalString(Limited<UniversalText, SizeBetween<1, 3>>),
-    Utf8String(Utf8Text),
-    BmpString(Limited<BmpText, SizeBetween<1, 3>>),
-}
-
-type TitleRow = Alternative<
-    Context<0>,
-    TeletexText,
-    Alternative<
-        Context<1>,
-        Limited<PrintableText, SizeBetween<1, 3>>,
-        Alternative<
-            Context<2>,
-            Limited<UniversalText, SizeBetween<1, 3>>,
-            Alternative<
-                Context<3>,
-                Utf8Text,
-                Alternative<Context<4>, Limited<BmpText, SizeBetween<1, 3>>, End>,
-            >,
-        >,
-    >,
->;
-
-const TITLE_ROOTS: &'static [Tag] = tags![Context 0, Context 1, Context 2, Context 3, Context 4];
-
-impl Alternating for TitleAlternatives {
-    ghost use Rattle.std.specs.Prelude.{refl};
-    ghost use Rattle.rasn_oer.specs.Alternative.{First, Rest};
-    ghost use Rattle.example_printed.specs.declared.types_07.TitleAlternatives.TheVariants.{TeletexString, PrintableString, UniversalString, Utf8String, BmpString};
-
-    type Values = <TitleRow as Alternatives>::Values;
-
-    ghost row_choices = { ⟦<TitleRow as Alternatives>⟧.choices };
-
-    ghost row_are_choices = { ⟦<TitleRow as Alternatives>⟧.are_choices };
-
-    ghost alternative = { elim [ TeletexString held ↦ First held | PrintableString held ↦ Rest (First held) | UniversalString held ↦ Rest (Rest (First held)) | Utf8String held ↦ Rest (Rest (Rest (First held))) | BmpString held ↦ Rest (Rest (Rest (Rest (First held)))) ] };
-
-    const VARIANTS: &'static [Tag] = TITLE_ROOTS;
-
-    const EXTENDED_VARIANTS: Option<&'static [Tag]> = None;
-
-    fn root_tags() -> &'static [Tag] {
-        Self::VARIANTS
-    }
-
-    fn addition_tags() -> Option<&'static [Tag]> {
-        Self::EXTENDED_VARIANTS
-    }
-
-    fn from_alternative(value: Self::Values) -> Self {
-        from_row!(value => TitleAlternatives: TeletexString, PrintableString, UniversalString, Utf8String, BmpString)
-    }
-
-    #[inline(always)]
-    fn put<E: Choice>(&self, encoder: &mut Encoder<'_>) -> Result<(), EncodeError> {
-        match self {
-            Self::TeletexString(held) => put_alternative::<E, _>(
-                encoder,
-                Context::<0>::tag(),
-                held,
-            ),
-            Self::PrintableString(held) => put_alternative::<E, _>(
-                encoder,
-                Context::<1>::tag(),
-                held,
-            ),
-            Self::UniversalString(held) => put_alternative::<E, _>(
-                encoder,
-                Context::<2>::tag(),
-                held,
-            ),
-            Self::Utf8String(held) => put_alternative::<E, _>(encoder, Context::<3>::tag(), held),
-            Self::BmpString(held) => put_alternative::<E, _>(encoder, Context::<4>::tag(), held),
-        }
-    }
-
-    ghost apart = { refl };
-}
-
-impl TakesAlternative for TitleAlternatives {
-    ghost Refuses = { ⟦<TitleRow as ReadsAlternatives>⟧.Refuses };
-
-    fn take<D: Choice>(
-        alloc: Global,
-        decoder: &mut Decoder<'_>,
-        tag: Tag,
-    ) -> Result<Self, DecodeError> {
-        read_alternative::<Self, TitleRow, D>(alloc, decoder, tag)
-    }
-}
-
-/// The default "é😀" of `PersonMark`.
-pub struct PersonMarkDefault;
-
-impl DefaultValue<UniversalText> for PersonMarkDefault {
-    ghost use Rattle.std.specs.Prelude.{◌∷◌, [], refl};
-    ghost use Rattle.rasn_oer.specs.Literals.{written};
-    ghost use Rattle.rasn_oer.specs.Texts as texts;
-
-    ghost value = { record { 0 = (0 ∷ 0 ∷ 0 ∷ 233 ∷ 0 ∷ 1 ∷ 246 ∷ 0 ∷ []) } };
-
-    fn value(alloc: Global) -> Result<UniversalText, AllocError> {
-        let octets: [u8; 8] = [0x00, 0x00, 0x00, 0xE9, 0x00, 0x01, 0xF6, 0x00];
-        universal_from(alloc, &octets)
-    }
-
-    fn is_value(other: &UniversalText) -> bool {
-        let octets: [u8; 8] = [0x00, 0x00, 0x00, 0xE9, 0x00, 0x01, 0xF6, 0x00];
-        other.0.as_bytes() == octets.as_slice()
-    }
-
-    ghost admitted = { written texts.Universal (0 ∷ 0 ∷ 0 ∷ 233 ∷ 0 ∷ 1 ∷ 246 ∷ 0 ∷ []) refl (2, refl) };
-}
-
-/// `Person ::= SEQUENCE { title Title, country UniversalString (SIZE(2)), mark UniversalString (SIZE(1..2))
-/// DEFAULT "é😀" }`
-pub type Person = Sequence<PersonComponents, 3, 0>;
-
-/// The components of `Person`.
-#[derive(Debug, PartialEq, Eq, Drop)]
-pub struct PersonComponents {
-    pub title: Title,
-    pub country: Limited<UniversalText, FixedSize<2>>,
-    pub mark: Limited<UniversalText, SizeBetween<1, 2>>,
-}
-
-type PersonRow = Required<
-    Context<0>,
-    Title,
-    Required<
-        Context<1>,
-        Limited<UniversalText, FixedSize<2>>,
-        Defaulted<
-            Context<2>,
-            Limited<UniversalText, SizeBetween<1, 2>>,
-            Within<PersonMarkDefault>,
-            End,
-        >,
-    >,
->;
-
-impl Rowed for PersonComponents {
-    ghost use Rattle.rasn_oer.specs.Values.{both};
-
-    type Values = <PersonRow as Components>::Values;
-
-    ghost EXTENSIBLE = { ⟦<PersonRow as Components>⟧.EXTENSIBLE };
-
-    const EXTENSIBLE: bool = false;
-
-    ghost row_schema = { ⟦<PersonRow as Components>⟧.schema };
-
-    ghost row_is_schema = { ⟦<PersonRow as Components>⟧.is_schema };
-
-    ghost components = { λ v. both v.title (both v.country (both v.mark tt)) };
-
-    fn from_row(row: Self::Values) -> Self {
-        built![PersonComponents from row:
-            title,
-            country,
-            mark
-        ]
-    }
-}
-
-impl Takes for PersonComponents {
-    ghost Refuses = { ⟦<PersonRow as Reads>⟧.Refuses };
-
-    #[inline(always)]
-    fn take(alloc: Global, decoder: &mut Decoder<'_>) -> Result<Self, DecodeError> {
-        read_row::<Self, PersonRow>(alloc, decoder)
-    }
-}
-
-impl Tabled<3, 0> for PersonComponents {
-    ghost use Rattle.std.specs.Prelude.{refl};
-
-    const FIELDS: Fields<3> = Fields {
-        fields: fields![
-            0 Required Context 0 "title",
-            1 Required Context 1 "country",
-            2 Default Context 2 "mark"
-        ],
-    };
-
-    const EXTENDED_FIELDS: Option<Fields<0>> = None;
-
-    fn root_fields() -> &'static [Field<'static>] {
-        Self::FIELDS.fields
-    }
-
-    fn addition_fields() -> &'static [Field<'static>] {
-        rows_of!(Self::EXTENDED_FIELDS)
-    }
-
-    #[inline(always)]
-    fn put(&self, encoder: &mut Encoder<'_>) -> Result<(), EncodeError> {
-        let view = views![self:
-            title,
-            country,
-            mark
-        ];
-        PersonRow::write(&view, encoder)
-    }
-
-    ghost counts = { (refl, refl) };
-}

@@ -4,7 +4,7 @@ use Rattle.std.proofs.Common.{arith}
 use Rattle.oer_kept.specs.KeptKnots.{kept_weight as weight-kept}
 use Rattle.example_recursive.specs.declared.types_01.BodyAlternatives.{BodyAlternatives}
 use Rattle.example_recursive.specs.declared.types_01.BodyAlternatives.TheVariants.{Inner as BodyInner}
-use Rattle.example_recursive.specs.declared.types_01.EnvelopeComponents.{EnvelopeComponents}
+use Rattle.example_recursive.specs.declared.types_01.envelope_components.Envelope.{Envelope as EnvelopeComponents}
 use Rattle.example_recursive.specs.declared.types_01.Envelope.{Envelope, out-Envelope, size-Envelope, size_is-Envelope}
 
 abbrev pub body_weight : {K : Type 0} → (K → ℕ) → BodyAlternatives K → ℕ

@@ -3,7 +3,7 @@ use Rattle.std.specs.Prelude.{◌<◌, ℕ, max}
 use Rattle.std.proofs.Common.{arith}
 use denote.Param.Weighed.{most}
 use Rattle.rasn_oer.specs.Ties.{option_weight}
-use Rattle.example_recursive.specs.declared.types_02.GroupComponents.{GroupComponents}
+use Rattle.example_recursive.specs.declared.types_02.group_components.Group.{Group as GroupComponents}
 use Rattle.example_recursive.specs.declared.types_02.Group.{Group, out-Group, size-Group, size_is-Group}
 
 abbrev pub group_weight : {K : Type 0} → (K → ℕ) → GroupComponents K → ℕ

@@ -2,7 +2,7 @@
 use Rattle.std.specs.Prelude.{◌<◌, ℕ, max}
 use Rattle.std.proofs.Common.{arith}
 use Rattle.rasn_oer.specs.Ties.{option_weight}
-use Rattle.example_recursive.specs.declared.types_01.NodeComponents.{NodeComponents}
+use Rattle.example_recursive.specs.declared.types_01.node_components.Node.{Node as NodeComponents}
 use Rattle.example_recursive.specs.declared.types_01.Node.{Node, out-Node, size-Node, size_is-Node}
 
 abbrev pub node_weight : {K : Type 0} → (K → ℕ) → NodeComponents K → ℕ

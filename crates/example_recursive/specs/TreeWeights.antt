@@ -3,7 +3,7 @@ use Rattle.std.specs.Prelude.{◌<◌, ℕ, max}
 use Rattle.std.proofs.Common.{arith}
 use denote.Param.Weighed.{most}
 use Rattle.rasn_oer.specs.Ties.{option_weight}
-use Rattle.example_recursive.specs.declared.types_02.TreeComponents.{TreeComponents}
+use Rattle.example_recursive.specs.declared.types_02.tree_components.Tree.{Tree as TreeComponents}
 use Rattle.example_recursive.specs.declared.types_02.Tree.{Tree, out-Tree, size-Tree, size_is-Tree}
 
 abbrev pub tree_weight : {K : Type 0} → (K → ℕ) → TreeComponents K → ℕ

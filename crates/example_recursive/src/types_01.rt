@@ -16,12 +16,18 @@ pub struct Node(pub NodeContent<Node>);
 /// What a `Node` holds.
 pub type NodeContent<K> = Sequence<NodeComponents<K>, 3, 0>;
 
-/// The components of `Node`.
-#[derive(Clone, Debug, PartialEq, Eq, Drop)]
-pub struct NodeComponents<K> {
-    pub value: u8,
-    pub next: Option<Held<K>>,
-    pub last: bool,
+pub use node_components::Node as NodeComponents;
+
+mod node_components {
+    use super::*;
+
+    /// The components of `Node`.
+    #[derive(Clone, Debug, PartialEq, Eq, Drop)]
+    pub struct Node<K> {
+        pub value: u8,
+        pub next: Option<Held<K>>,
+        pub last: bool,
+    }
 }
 
 type NodeRow<K> = Required<
@@ -168,6 +174,7 @@ impl Layered for Node {
 }
 
 /// Writes what a `Node` holds.
+#[inline(always)]
 fn encode_node<K: Encode>(
     inner: &NodeContent<K>,
     encoder: &mut Encoder<'_>,
@@ -181,6 +188,7 @@ fn encode_node<K: Encode>(
 }
 
 impl Encode for Node {
+    #[inline(always)]
     fn encode_with_tag_and_constraints(
         &self,
         encoder: &mut Encoder<'_>,
@@ -346,12 +354,18 @@ pub struct Envelope(pub EnvelopeContent<Envelope>);
 /// What a `Envelope` holds.
 pub type EnvelopeContent<K> = Sequence<EnvelopeComponents<K>, 2, 1>;
 
-/// The components of `Envelope`.
-#[derive(Clone, Debug, PartialEq, Eq, Drop)]
-pub struct EnvelopeComponents<K> {
-    pub id: Serial,
-    pub body: BodyContent<K>,
-    pub urgent: Option<bool>,
+pub use envelope_components::Envelope as EnvelopeComponents;
+
+mod envelope_components {
+    use super::*;
+
+    /// The components of `Envelope`.
+    #[derive(Clone, Debug, PartialEq, Eq, Drop)]
+    pub struct Envelope<K> {
+        pub id: Serial,
+        pub body: BodyContent<K>,
+        pub urgent: Option<bool>,
+    }
 }
 
 type EnvelopeRow<K> = Required<
@@ -505,6 +519,7 @@ impl Layered for Envelope {
 }
 
 /// Writes what a `Envelope` holds.
+#[inline(always)]
 fn encode_envelope<K: Encode>(
     inner: &EnvelopeContent<K>,
     encoder: &mut Encoder<'_>,
@@ -518,6 +533,7 @@ fn encode_envelope<K: Encode>(
 }
 
 impl Encode for Envelope {
+    #[inline(always)]
     fn encode_with_tag_and_constraints(
         &self,
         encoder: &mut Encoder<'_>,

@@ -21,12 +21,18 @@ pub struct Tree(pub TreeContent<Tree>);
 /// What a `Tree` holds.
 pub type TreeContent<K> = Sequence<TreeComponents<K>, 3, 0>;
 
-/// The components of `Tree`.
-#[derive(Clone, Debug, PartialEq, Eq, Drop)]
-pub struct TreeComponents<K> {
-    pub label: Ia5Text,
-    pub leaves: ForestContent<K>,
-    pub shade: Option<ForestContent<K>>,
+pub use tree_components::Tree as TreeComponents;
+
+mod tree_components {
+    use super::*;
+
+    /// The components of `Tree`.
+    #[derive(Clone, Debug, PartialEq, Eq, Drop)]
+    pub struct Tree<K> {
+        pub label: Ia5Text,
+        pub leaves: ForestContent<K>,
+        pub shade: Option<ForestContent<K>>,
+    }
 }
 
 type TreeRow<K> = Required<
@@ -173,6 +179,7 @@ impl Layered for Tree {
 }
 
 /// Writes what a `Tree` holds.
+#[inline(always)]
 fn encode_tree<K: Encode>(
     inner: &TreeContent<K>,
     encoder: &mut Encoder<'_>,
@@ -186,6 +193,7 @@ fn encode_tree<K: Encode>(
 }
 
 impl Encode for Tree {
+    #[inline(always)]
     fn encode_with_tag_and_constraints(
         &self,
         encoder: &mut Encoder<'_>,
@@ -276,6 +284,7 @@ impl Layered for Nest {
 }
 
 /// Writes what a `Nest` holds.
+#[inline(always)]
 fn encode_nest<K: Encode>(
     inner: &NestContent<K>,
     encoder: &mut Encoder<'_>,
@@ -289,6 +298,7 @@ fn encode_nest<K: Encode>(
 }
 
 impl Encode for Nest {
+    #[inline(always)]
     fn encode_with_tag_and_constraints(
         &self,
         encoder: &mut Encoder<'_>,
@@ -338,12 +348,18 @@ pub struct Group(pub GroupContent<Group>);
 /// What a `Group` holds.
 pub type GroupContent<K> = Sequence<GroupComponents<K>, 3, 0>;
 
-/// The components of `Group`.
-#[derive(Clone, Debug, PartialEq, Eq, Drop)]
-pub struct GroupComponents<K> {
-    pub number: u8,
-    pub members: SetOf<Bare<K>>,
-    pub guests: Option<SetOf<Bare<K>>>,
+pub use group_components::Group as GroupComponents;
+
+mod group_components {
+    use super::*;
+
+    /// The components of `Group`.
+    #[derive(Clone, Debug, PartialEq, Eq, Drop)]
+    pub struct Group<K> {
+        pub number: u8,
+        pub members: SetOf<Bare<K>>,
+        pub guests: Option<SetOf<Bare<K>>>,
+    }
 }
 
 type GroupRow<K> = Required<
@@ -490,6 +506,7 @@ impl Layered for Group {
 }
 
 /// Writes what a `Group` holds.
+#[inline(always)]
 fn encode_group<K: Encode>(
     inner: &GroupContent<K>,
     encoder: &mut Encoder<'_>,
@@ -503,6 +520,7 @@ fn encode_group<K: Encode>(
 }
 
 impl Encode for Group {
+    #[inline(always)]
     fn encode_with_tag_and_constraints(
         &self,
         encoder: &mut Encoder<'_>,

@@ -57,6 +57,7 @@ impl Layered for Bag {
 }
 
 /// Writes what a `Bag` holds.
+#[inline(always)]
 fn encode_bag<K: Encode>(
     inner: &BagContent<K>,
     encoder: &mut Encoder<'_>,
@@ -70,6 +71,7 @@ fn encode_bag<K: Encode>(
 }
 
 impl Encode for Bag {
+    #[inline(always)]
     fn encode_with_tag_and_constraints(
         &self,
         encoder: &mut Encoder<'_>,
@@ -271,6 +273,7 @@ impl Layered for Filter {
 }
 
 /// Writes what a `Filter` holds.
+#[inline(always)]
 fn encode_filter<K: Encode>(
     inner: &FilterContent<K>,
     encoder: &mut Encoder<'_>,
@@ -284,6 +287,7 @@ fn encode_filter<K: Encode>(
 }
 
 impl Encode for Filter {
+    #[inline(always)]
     fn encode_with_tag_and_constraints(
         &self,
         encoder: &mut Encoder<'_>,
@@ -481,6 +485,7 @@ impl Layered for Query {
 }
 
 /// Writes what a `Query` holds.
+#[inline(always)]
 fn encode_query<K: Encode>(
     inner: &QueryContent<K>,
     encoder: &mut Encoder<'_>,
@@ -494,6 +499,7 @@ fn encode_query<K: Encode>(
 }
 
 impl Encode for Query {
+    #[inline(always)]
     fn encode_with_tag_and_constraints(
         &self,
         encoder: &mut Encoder<'_>,

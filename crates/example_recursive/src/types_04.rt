@@ -104,13 +104,19 @@ impl DefaultValue<State> for PostStateDefault {
 /// }`
 pub type Post = Sequence<PostComponents, 4, 0>;
 
-/// The components of `Post`.
-#[derive(Clone, Debug, PartialEq, Eq, Drop)]
-pub struct PostComponents {
-    pub letter: Envelope,
-    pub answer: Option<Body>,
-    pub state: State,
-    pub way: Option<Way>,
+pub use post_components::Post as PostComponents;
+
+mod post_components {
+    use super::*;
+
+    /// The components of `Post`.
+    #[derive(Clone, Debug, PartialEq, Eq, Drop)]
+    pub struct Post {
+        pub letter: Envelope,
+        pub answer: Option<Body>,
+        pub state: State,
+        pub way: Option<Way>,
+    }
 }
 
 type PostRow = Required<
@@ -201,11 +207,17 @@ pub type ExtraId = u8;
 /// `Extra ::= SEQUENCE { id ExtraId, content ANY }`
 pub type Extra = Sequence<ExtraComponents, 2, 0>;
 
-/// The components of `Extra`.
-#[derive(Clone, Debug, PartialEq, Eq, Drop)]
-pub struct ExtraComponents {
-    pub id: ExtraId,
-    pub content: OpenOctets,
+pub use extra_components::Extra as ExtraComponents;
+
+mod extra_components {
+    use super::*;
+
+    /// The components of `Extra`.
+    #[derive(Clone, Debug, PartialEq, Eq, Drop)]
+    pub struct Extra {
+        pub id: ExtraId,
+        pub content: OpenOctets,
+    }
 }
 
 type ExtraRow = Required<Context<0>, ExtraId, Required<Context<1>, OpenOctets, End>>;

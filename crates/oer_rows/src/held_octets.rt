@@ -9,10 +9,18 @@ use oer_read::{Decode, Decoder};
 use oer_spec::{EqualAsSpelled, Spelled};
 use oer_write::{Encode, Encoder};
 use std::alloc::Global;
+use std::fmt::{self, Debug};
 
 /// `OCTET STRING`
-#[derive(Clone, Debug, PartialEq, Eq, Drop)]
+#[derive(Clone, PartialEq, Eq, Drop)]
 pub struct Octets(pub OctetString);
+
+/// As what it holds.
+impl Debug for Octets {
+    fn fmt<W: fmt::Write>(&self, f: &mut fmt::Formatter<W>) -> fmt::Result {
+        self.0.fmt(f)
+    }
+}
 
 impl AsnType for Octets {
     ghost use Rattle.std.specs.Prelude.{refl};
@@ -48,6 +56,7 @@ impl EqualAsSpelled for Octets {
 }
 
 impl Encode for Octets {
+    #[inline(always)]
     fn encode_with_tag_and_constraints(
         &self,
         encoder: &mut Encoder<'_>,
@@ -64,6 +73,7 @@ impl Decode for Octets {
 
     ghost Answered = { λ c s r t. ⟦<OctetString as Decode>⟧.Answered c s (result_map_both (λ v. v.0) (λ e. e) r) t };
 
+    #[inline(always)]
     fn decode_with_tag_and_constraints(
         alloc: Global,
         decoder: &mut Decoder<'_>,
@@ -78,8 +88,15 @@ impl Decode for Octets {
 }
 
 /// The octets of an open type, uninterpreted.
-#[derive(Clone, Debug, PartialEq, Eq, Drop)]
+#[derive(Clone, PartialEq, Eq, Drop)]
 pub struct OpenOctets(pub Any);
+
+/// As what it holds.
+impl Debug for OpenOctets {
+    fn fmt<W: fmt::Write>(&self, f: &mut fmt::Formatter<W>) -> fmt::Result {
+        self.0.fmt(f)
+    }
+}
 
 impl AsnType for OpenOctets {
     ghost use Rattle.std.specs.Prelude.{refl};
@@ -115,6 +132,7 @@ impl EqualAsSpelled for OpenOctets {
 }
 
 impl Encode for OpenOctets {
+    #[inline(always)]
     fn encode_with_tag_and_constraints(
         &self,
         encoder: &mut Encoder<'_>,
@@ -131,6 +149,7 @@ impl Decode for OpenOctets {
 
     ghost Answered = { λ c s r t. ⟦<Any as Decode>⟧.Answered c s (result_map_both (λ v. v.0) (λ e. e) r) t };
 
+    #[inline(always)]
     fn decode_with_tag_and_constraints(
         alloc: Global,
         decoder: &mut Decoder<'_>,

@@ -9,11 +9,19 @@ use oer_read::{Decode, Decoder};
 use oer_spec::{EqualAsSpelled, Spelled};
 use oer_write::{Encode, Encoder};
 use std::alloc::{AllocError, Global};
+use std::fmt::{self, Debug};
 use std::marker::Model;
 
 /// `UTF8String`: contracts see its octets, so that a definition can name a value of it.
-#[derive(Debug, Drop)]
+#[derive(Drop)]
 pub struct Utf8Text(pub Utf8String);
+
+/// As what it holds.
+impl Debug for Utf8Text {
+    fn fmt<W: fmt::Write>(&self, f: &mut fmt::Formatter<W>) -> fmt::Result {
+        self.0.fmt(f)
+    }
+}
 
 impl Model for Utf8Text {
     ghost use Rattle.std.specs.Prelude.{List, ℕ, string_bytes};
@@ -92,6 +100,7 @@ impl EqualAsSpelled for Utf8Text {
 }
 
 impl Encode for Utf8Text {
+    #[inline(always)]
     fn encode_with_tag_and_constraints(
         &self,
         encoder: &mut Encoder<'_>,
@@ -113,6 +122,7 @@ impl Decode for Utf8Text {
 
     ghost Answered = { λ c s r t. LeafAnswers (λ v. v) true s r t (text_at is_utf8 StringConversionFailed (size_bounds c) s.codec s.input) };
 
+    #[inline(always)]
     fn decode_with_tag_and_constraints(
         alloc: Global,
         decoder: &mut Decoder<'_>,
@@ -127,8 +137,15 @@ impl Decode for Utf8Text {
 }
 
 /// `NumericString`
-#[derive(Clone, Debug, PartialEq, Eq, Drop)]
+#[derive(Clone, PartialEq, Eq, Drop)]
 pub struct NumericText(pub NumericString);
+
+/// As what it holds.
+impl Debug for NumericText {
+    fn fmt<W: fmt::Write>(&self, f: &mut fmt::Formatter<W>) -> fmt::Result {
+        self.0.fmt(f)
+    }
+}
 
 impl AsnType for NumericText {
     ghost use Rattle.std.specs.Prelude.{refl};
@@ -164,6 +181,7 @@ impl EqualAsSpelled for NumericText {
 }
 
 impl Encode for NumericText {
+    #[inline(always)]
     fn encode_with_tag_and_constraints(
         &self,
         encoder: &mut Encoder<'_>,
@@ -180,6 +198,7 @@ impl Decode for NumericText {
 
     ghost Answered = { λ c s r t. ⟦<NumericString as Decode>⟧.Answered c s (result_map_both (λ v. v.0) (λ e. e) r) t };
 
+    #[inline(always)]
     fn decode_with_tag_and_constraints(
         alloc: Global,
         decoder: &mut Decoder<'_>,
@@ -194,8 +213,15 @@ impl Decode for NumericText {
 }
 
 /// `PrintableString`
-#[derive(Clone, Debug, PartialEq, Eq, Drop)]
+#[derive(Clone, PartialEq, Eq, Drop)]
 pub struct PrintableText(pub PrintableString);
+
+/// As what it holds.
+impl Debug for PrintableText {
+    fn fmt<W: fmt::Write>(&self, f: &mut fmt::Formatter<W>) -> fmt::Result {
+        self.0.fmt(f)
+    }
+}
 
 impl AsnType for PrintableText {
     ghost use Rattle.std.specs.Prelude.{refl};
@@ -231,6 +257,7 @@ impl EqualAsSpelled for PrintableText {
 }
 
 impl Encode for PrintableText {
+    #[inline(always)]
     fn encode_with_tag_and_constraints(
         &self,
         encoder: &mut Encoder<'_>,
@@ -247,6 +274,7 @@ impl Decode for PrintableText {
 
     ghost Answered = { λ c s r t. ⟦<PrintableString as Decode>⟧.Answered c s (result_map_both (λ v. v.0) (λ e. e) r) t };
 
+    #[inline(always)]
     fn decode_with_tag_and_constraints(
         alloc: Global,
         decoder: &mut Decoder<'_>,
@@ -261,8 +289,15 @@ impl Decode for PrintableText {
 }
 
 /// `VisibleString`
-#[derive(Clone, Debug, PartialEq, Eq, Drop)]
+#[derive(Clone, PartialEq, Eq, Drop)]
 pub struct VisibleText(pub VisibleString);
+
+/// As what it holds.
+impl Debug for VisibleText {
+    fn fmt<W: fmt::Write>(&self, f: &mut fmt::Formatter<W>) -> fmt::Result {
+        self.0.fmt(f)
+    }
+}
 
 impl AsnType for VisibleText {
     ghost use Rattle.std.specs.Prelude.{refl};
@@ -298,6 +333,7 @@ impl EqualAsSpelled for VisibleText {
 }
 
 impl Encode for VisibleText {
+    #[inline(always)]
     fn encode_with_tag_and_constraints(
         &self,
         encoder: &mut Encoder<'_>,
@@ -314,6 +350,7 @@ impl Decode for VisibleText {
 
     ghost Answered = { λ c s r t. ⟦<VisibleString as Decode>⟧.Answered c s (result_map_both (λ v. v.0) (λ e. e) r) t };
 
+    #[inline(always)]
     fn decode_with_tag_and_constraints(
         alloc: Global,
         decoder: &mut Decoder<'_>,
@@ -328,8 +365,15 @@ impl Decode for VisibleText {
 }
 
 /// `IA5String`
-#[derive(Clone, Debug, PartialEq, Eq, Drop)]
+#[derive(Clone, PartialEq, Eq, Drop)]
 pub struct Ia5Text(pub Ia5String);
+
+/// As what it holds.
+impl Debug for Ia5Text {
+    fn fmt<W: fmt::Write>(&self, f: &mut fmt::Formatter<W>) -> fmt::Result {
+        self.0.fmt(f)
+    }
+}
 
 impl AsnType for Ia5Text {
     ghost use Rattle.std.specs.Prelude.{refl};
@@ -365,6 +409,7 @@ impl EqualAsSpelled for Ia5Text {
 }
 
 impl Encode for Ia5Text {
+    #[inline(always)]
     fn encode_with_tag_and_constraints(
         &self,
         encoder: &mut Encoder<'_>,
@@ -381,6 +426,7 @@ impl Decode for Ia5Text {
 
     ghost Answered = { λ c s r t. ⟦<Ia5String as Decode>⟧.Answered c s (result_map_both (λ v. v.0) (λ e. e) r) t };
 
+    #[inline(always)]
     fn decode_with_tag_and_constraints(
         alloc: Global,
         decoder: &mut Decoder<'_>,

@@ -6,6 +6,7 @@ use oer_read::{Decode, Decoder};
 use oer_spec::{EqualAsSpelled, Spelled};
 use oer_write::{Encode, Encoder};
 use std::alloc::Global;
+use std::fmt::{self, Debug};
 use std::marker::PhantomData;
 
 /// The constraints of a type, as a type: each of their ranges holds a number.
@@ -26,9 +27,16 @@ pub trait Limits {
 ///
 /// Constraints that are handed in are not looked at: `L` has all of the type's own. A value that they don't allow can be
 /// made, and is refused when it is written.
-#[derive_where(Clone, Debug, PartialEq, Eq; T)]
+#[derive_where(Clone, PartialEq, Eq; T)]
 #[derive(Drop)]
 pub struct Limited<T, L>(pub T, pub PhantomData<L>);
+
+/// As what is within the limits.
+impl<T: Debug, L> Debug for Limited<T, L> {
+    fn fmt<W: fmt::Write>(&self, f: &mut fmt::Formatter<W>) -> fmt::Result {
+        self.0.fmt(f)
+    }
+}
 
 impl<T, L> Limited<T, L> {
     /// A value, be it within the limits or not.
@@ -88,6 +96,7 @@ impl<T: Decode, L: Limits> Decode for Limited<T, L> {
 
     ghost Answered = { λ c s r t. T.Answered L.LIMITS s (result_map_both (λ v. v.0) (λ e. e) r) t };
 
+    #[inline(always)]
     fn decode_with_tag_and_constraints(
         alloc: Global,
         decoder: &mut Decoder<'_>,

@@ -10,11 +10,19 @@ use oer_read::{Decode, Decoder};
 use oer_spec::{EqualAsSpelled, Spelled};
 use oer_write::{Encode, Encoder};
 use std::alloc::{AllocError, Global};
+use std::fmt::{self, Debug};
 use std::marker::Model;
 
 /// `SEQUENCE OF T`
-#[derive(Debug, Drop)]
+#[derive(Drop)]
 pub struct ListOf<T>(pub Vec<T>);
+
+/// As the list.
+impl<T: Debug> Debug for ListOf<T> {
+    fn fmt<W: fmt::Write>(&self, f: &mut fmt::Formatter<W>) -> fmt::Result {
+        self.0.fmt(f)
+    }
+}
 
 impl<T> Model for ListOf<T> {
     ghost use Rattle.std.specs.Prelude.{List};
@@ -117,6 +125,7 @@ impl<T: Decode> Decode for ListOf<T> {
 
     ghost Answered = { λ c s r t. ListAnswers (Promised (T.tree T.CONSTRAINTS) T.IsValue (T.Answered T.CONSTRAINTS)) s (λ vs. vs) r t };
 
+    #[inline(always)]
     fn decode_with_tag_and_constraints(
         alloc: Global,
         decoder: &mut Decoder<'_>,

@@ -9,10 +9,18 @@ use oer_read::{Decode, Decoder};
 use oer_spec::{EqualAsSpelled, Spelled};
 use oer_write::{Encode, Encoder};
 use std::alloc::Global;
+use std::fmt::{self, Debug};
 
 /// `GeneralString`
-#[derive(Clone, Debug, PartialEq, Eq, Drop)]
+#[derive(Clone, PartialEq, Eq, Drop)]
 pub struct GeneralText(pub GeneralString);
+
+/// As what it holds.
+impl Debug for GeneralText {
+    fn fmt<W: fmt::Write>(&self, f: &mut fmt::Formatter<W>) -> fmt::Result {
+        self.0.fmt(f)
+    }
+}
 
 impl AsnType for GeneralText {
     ghost use Rattle.std.specs.Prelude.{refl};
@@ -48,6 +56,7 @@ impl EqualAsSpelled for GeneralText {
 }
 
 impl Encode for GeneralText {
+    #[inline(always)]
     fn encode_with_tag_and_constraints(
         &self,
         encoder: &mut Encoder<'_>,
@@ -64,6 +73,7 @@ impl Decode for GeneralText {
 
     ghost Answered = { λ c s r t. ⟦<GeneralString as Decode>⟧.Answered c s (result_map_both (λ v. v.0) (λ e. e) r) t };
 
+    #[inline(always)]
     fn decode_with_tag_and_constraints(
         alloc: Global,
         decoder: &mut Decoder<'_>,
@@ -78,8 +88,15 @@ impl Decode for GeneralText {
 }
 
 /// `GraphicString`
-#[derive(Clone, Debug, PartialEq, Eq, Drop)]
+#[derive(Clone, PartialEq, Eq, Drop)]
 pub struct GraphicText(pub GraphicString);
+
+/// As what it holds.
+impl Debug for GraphicText {
+    fn fmt<W: fmt::Write>(&self, f: &mut fmt::Formatter<W>) -> fmt::Result {
+        self.0.fmt(f)
+    }
+}
 
 impl AsnType for GraphicText {
     ghost use Rattle.std.specs.Prelude.{refl};
@@ -115,6 +132,7 @@ impl EqualAsSpelled for GraphicText {
 }
 
 impl Encode for GraphicText {
+    #[inline(always)]
     fn encode_with_tag_and_constraints(
         &self,
         encoder: &mut Encoder<'_>,
@@ -131,6 +149,7 @@ impl Decode for GraphicText {
 
     ghost Answered = { λ c s r t. ⟦<GraphicString as Decode>⟧.Answered c s (result_map_both (λ v. v.0) (λ e. e) r) t };
 
+    #[inline(always)]
     fn decode_with_tag_and_constraints(
         alloc: Global,
         decoder: &mut Decoder<'_>,
@@ -145,8 +164,15 @@ impl Decode for GraphicText {
 }
 
 /// `TeletexString`
-#[derive(Clone, Debug, PartialEq, Eq, Drop)]
+#[derive(Clone, PartialEq, Eq, Drop)]
 pub struct TeletexText(pub TeletexString);
+
+/// As what it holds.
+impl Debug for TeletexText {
+    fn fmt<W: fmt::Write>(&self, f: &mut fmt::Formatter<W>) -> fmt::Result {
+        self.0.fmt(f)
+    }
+}
 
 impl AsnType for TeletexText {
     ghost use Rattle.std.specs.Prelude.{refl};
@@ -182,6 +208,7 @@ impl EqualAsSpelled for TeletexText {
 }
 
 impl Encode for TeletexText {
+    #[inline(always)]
     fn encode_with_tag_and_constraints(
         &self,
         encoder: &mut Encoder<'_>,
@@ -198,6 +225,7 @@ impl Decode for TeletexText {
 
     ghost Answered = { λ c s r t. ⟦<TeletexString as Decode>⟧.Answered c s (result_map_both (λ v. v.0) (λ e. e) r) t };
 
+    #[inline(always)]
     fn decode_with_tag_and_constraints(
         alloc: Global,
         decoder: &mut Decoder<'_>,
@@ -212,8 +240,15 @@ impl Decode for TeletexText {
 }
 
 /// `BMPString`
-#[derive(Clone, Debug, PartialEq, Eq, Drop)]
+#[derive(Clone, PartialEq, Eq, Drop)]
 pub struct BmpText(pub BmpString);
+
+/// As what it holds.
+impl Debug for BmpText {
+    fn fmt<W: fmt::Write>(&self, f: &mut fmt::Formatter<W>) -> fmt::Result {
+        self.0.fmt(f)
+    }
+}
 
 impl AsnType for BmpText {
     ghost use Rattle.std.specs.Prelude.{refl};
@@ -249,6 +284,7 @@ impl EqualAsSpelled for BmpText {
 }
 
 impl Encode for BmpText {
+    #[inline(always)]
     fn encode_with_tag_and_constraints(
         &self,
         encoder: &mut Encoder<'_>,
@@ -265,6 +301,7 @@ impl Decode for BmpText {
 
     ghost Answered = { λ c s r t. ⟦<BmpString as Decode>⟧.Answered c s (result_map_both (λ v. v.0) (λ e. e) r) t };
 
+    #[inline(always)]
     fn decode_with_tag_and_constraints(
         alloc: Global,
         decoder: &mut Decoder<'_>,
@@ -279,8 +316,15 @@ impl Decode for BmpText {
 }
 
 /// `UniversalString`
-#[derive(Clone, Debug, PartialEq, Eq, Drop)]
+#[derive(Clone, PartialEq, Eq, Drop)]
 pub struct UniversalText(pub UniversalString);
+
+/// As what it holds.
+impl Debug for UniversalText {
+    fn fmt<W: fmt::Write>(&self, f: &mut fmt::Formatter<W>) -> fmt::Result {
+        self.0.fmt(f)
+    }
+}
 
 impl AsnType for UniversalText {
     ghost use Rattle.std.specs.Prelude.{refl};
@@ -316,6 +360,7 @@ impl EqualAsSpelled for UniversalText {
 }
 
 impl Encode for UniversalText {
+    #[inline(always)]
     fn encode_with_tag_and_constraints(
         &self,
         encoder: &mut Encoder<'_>,
@@ -332,6 +377,7 @@ impl Decode for UniversalText {
 
     ghost Answered = { λ c s r t. ⟦<UniversalString as Decode>⟧.Answered c s (result_map_both (λ v. v.0) (λ e. e) r) t };
 
+    #[inline(always)]
     fn decode_with_tag_and_constraints(
         alloc: Global,
         decoder: &mut Decoder<'_>,

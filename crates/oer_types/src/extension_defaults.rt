@@ -1,4 +1,4 @@
-//! Additions with a default, and extensible sequences that are defaults.
+//! Sequences with an extensible sequence as a default.
 ghost use Rattle.rasn_oer.specs.Values.{both};
 ghost use Rattle.std.specs.Prelude.{refl, true, None};
 ghost use Rattle.oer_spec.specs.Spelled.{booleans_same, IsAny, boolean};
@@ -9,63 +9,6 @@ use crate::components;
 use crate::extensible::{Sequence1, Sequence5};
 use rasn_oer::prelude::*;
 use std::alloc::{AllocError, Global};
-
-/// `SEQUENCE { a BOOLEAN, ..., b INTEGER DEFAULT 7 }`
-pub type AddDef = Sequence<components::AddDef, 1, 1>;
-
-type AddDefRow = Required<
-    Context<0>,
-    bool,
-    Extensible<DefaultedAddition<Context<1>, Integer, IsNumber<7>, End>>,
->;
-
-impl Rowed for components::AddDef {
-    type Values = <AddDefRow as Components>::Values;
-
-    ghost EXTENSIBLE = { ⟦<AddDefRow as Components>⟧.EXTENSIBLE };
-
-    const EXTENSIBLE: bool = true;
-
-    ghost row_schema = { ⟦<AddDefRow as Components>⟧.schema };
-
-    ghost row_is_schema = { ⟦<AddDefRow as Components>⟧.is_schema };
-
-    ghost components = { λ v. both v.a (both v.b tt) };
-
-    fn from_row(Both(a, Both(b, ())): Self::Values) -> Self {
-        components::AddDef { a, b }
-    }
-}
-
-impl Takes for components::AddDef {
-    ghost Refuses = { ⟦<AddDefRow as Reads>⟧.Refuses };
-
-    #[inline(always)]
-    fn take(alloc: Global, decoder: &mut Decoder<'_>) -> Result<Self, DecodeError> {
-        read_row::<Self, AddDefRow>(alloc, decoder)
-    }
-}
-
-impl Tabled<1, 1> for components::AddDef {
-    const FIELDS: Fields<1> = table![0 Required Context 0 "a"];
-
-    const EXTENDED_FIELDS: Option<Fields<1>> = Some(table![0 Default Context 1 "b"]);
-
-    fn root_fields() -> &'static [Field<'static>] {
-        Self::FIELDS.fields
-    }
-
-    fn addition_fields() -> &'static [Field<'static>] {
-        rows_of!(Self::EXTENDED_FIELDS)
-    }
-
-    #[inline(always)]
-    fn put(&self, encoder: &mut Encoder<'_>) -> Result<(), EncodeError> {
-        AddDefRow::write(&Both(&self.a, Both(&self.b, ())), encoder)
-    }
-
-    ghost counts = { (refl, refl) };
-}
 
 /// `SEQUENCE { a Sequence1 DEFAULT { a TRUE } }`
 pub type Holder1 = Sequence<components::Holder1, 1, 0>;

@@ -19,6 +19,9 @@ use std::collections::BTreeMap;
 /// How many alternatives a printed CHOICE has at most.
 const MAX_ALTERNATIVES: usize = 24;
 
+/// What can be read where a CHOICE has too many alternatives, or none.
+pub const ALTERNATIVES: &str = "a CHOICE of 1 to 24 alternatives: others aren't printed yet";
+
 /// Of how many alternatives of a CHOICE in a cycle the prover finds itself how `put` writes them: the tenth it doesn't.
 const MAX_FOUND: usize = 9;
 
@@ -188,10 +191,7 @@ pub fn push_choice<'m>(
 ) -> Result<(), Refusal> {
     let alloc = scope.alloc;
     if definition.parts.is_empty() || definition.parts.len() > MAX_ALTERNATIVES {
-        return Err(scope.refused(
-            definition.of.first,
-            "a CHOICE of 1 to 24 alternatives: others aren't printed yet",
-        ));
+        return Err(scope.refused(definition.of.first, ALTERNATIVES));
     }
     let mut cells = Vec::new(alloc);
     push_cells(scope, all, out, definition, true, &mut cells)?;

@@ -1,7 +1,7 @@
 //! The defaults of components, each printed as a type of its own but where the library has one.
 ghost use Rattle.std.specs.Prelude.{◌≡◌, false, true, int_le, IfOk, IfSome};
 
-use crate::cells::variant_name;
+use crate::enumerations::value_name;
 use crate::items::push_defined;
 use crate::literals::{bits_of_names, octets_of_text, push_array, push_list, push_written};
 use crate::shapes::{drops_zeros, number_of_octets, simple_type, sizes_of};
@@ -427,7 +427,7 @@ fn push_enumerated<'m>(
     named: (&str, &str),
 ) -> Result<Text, Refusal> {
     let text = scope.text(enumerated_default(scope, spot)?);
-    let variant = variant_name(scope.alloc, text, "Self").end()?;
+    let variant = value_name(scope, spot.names, text)?;
     let owner = definition_of(all, base);
     let words = enumerated_words(scope.alloc, named, text, owner, variant.as_str());
     Ok(push_words(scope.alloc, out, named.0, false, &words))

@@ -1,5 +1,6 @@
 //! How deep the structs, enums, tuples and references of printed types stand in one another: the language refuses more than 64.
 
+use crate::choices::ALTERNATIVES;
 use crate::sequences::{in_text_order, root_places};
 use crate::shapes::{drops_zeros, number_of_octets, sizes_of};
 use oergen_layouts::definitions::{Definition, Part, Tie};
@@ -377,6 +378,15 @@ fn require_lists<'m>(
     Ok(())
 }
 
+/// What can be read where a type has too many cells.
+fn few_of(definition: &Definition<'_>) -> &'static str {
+    if matches!(definition.of.body, Body::Choice(_)) {
+        ALTERNATIVES
+    } else {
+        "at most 50 components, and in a group as many: others aren't printed yet"
+    }
+}
+
 /// Refuses a type that is too deep for the language.
 pub fn require_depth<'m>(
     scope: Scope<'m, '_>,
@@ -386,10 +396,9 @@ pub fn require_depth<'m>(
 ) -> Result<(), Refusal> {
     require_lists(scope, all, definition)?;
     match depth {
-        Some(depth) if depth.cells > MAX_CELLS => Err(scope.refused(
-            definition.of.first,
-            "at most 50 components, and in a group as many: others aren't printed yet",
-        )),
+        Some(depth) if depth.cells > MAX_CELLS => {
+            Err(scope.refused(definition.of.first, few_of(definition)))
+        }
         Some(depth) if depth.within > MAX_DEPTH => Err(scope.refused(
             definition.of.first,
             "a type that is at most 64 deep in Rust, as docs/COMPILER.md counts it: what a list holds is counted anew",

@@ -6,13 +6,13 @@ use crate::kept::enumeration_holder;
 use crate::notes::push_note;
 use crate::templates::ENUMERATED;
 use crate::text::{Text, Words};
-use oergen_layouts::definitions::Definition;
+use oergen_layouts::definitions::{Definition, free_name};
 use oergen_layouts::numbers::enumerated_numbers;
 use oergen_layouts::scope::Scope;
 use oergen_parse::ast::Numbered;
 use oergen_parse::lexer::TokenId;
 use oergen_parse::refusal::Refusal;
-use std::alloc::Global;
+use std::alloc::{AllocError, Global};
 use std::collections::BTreeMap;
 
 /// A value: the comments in front of it, the name of its variant, and its number.
@@ -24,24 +24,55 @@ struct Variant {
 }
 
 /// What can be read where a value isn't printed.
-const READS: &str = "a value whose Rust name no other has, and a number of 64 bits";
+const READS: &str = "a value whose name no other has, and a number of 64 bits";
 
-/// The values. Refused where two have one Rust name, or a number is past 64 bits.
-fn variants_of(scope: Scope<'_, '_>, numbers: &[(TokenId, i128)]) -> Result<Vec<Variant>, Refusal> {
+/// The names of the variants of values, in their order: behind one that a value before has stands a `_`.
+fn names_of(scope: Scope<'_, '_>, items: &[Numbered]) -> Result<Vec<String>, AllocError> {
+    let mut taken = BTreeMap::new(scope.alloc);
+    let mut names = Vec::new(scope.alloc);
+    for item in items.iter() {
+        let wanted = variant_name(scope.alloc, scope.text(item.name), "Self").end()?;
+        names.push(free_name(scope.alloc, &mut taken, wanted.as_str())?)?;
+    }
+    Ok(names)
+}
+
+/// The name of the variant of the value that a module calls so.
+pub fn value_name(
+    scope: Scope<'_, '_>,
+    items: &[Numbered],
+    text: &str,
+) -> Result<String, AllocError> {
+    let names = names_of(scope, items)?;
+    for (item, name) in items.iter().zip(names.iter()) {
+        if scope.text(item.name) == text {
+            return name.clone();
+        }
+    }
+    String::from_str(scope.alloc, text)
+}
+
+/// The values. Refused where two have one name, or a number is past 64 bits.
+fn variants_of(
+    scope: Scope<'_, '_>,
+    items: &[Numbered],
+    numbers: &[(TokenId, i128)],
+) -> Result<Vec<Variant>, Refusal> {
     let mut seen = BTreeMap::new(scope.alloc);
     let mut variants = Vec::new(scope.alloc);
-    for (id, number) in numbers.iter() {
-        let name = variant_name(scope.alloc, scope.text(*id), "Self").end()?;
+    let names = names_of(scope, items)?;
+    for ((id, number), name) in numbers.iter().zip(names.iter()) {
         if i64::try_from(*number).is_err() {
             return Err(scope.refused(*id, READS));
         }
-        let named = (name.clone()?, scope.text(*id));
+        let text = scope.text(*id);
+        let named = (String::from_str(scope.alloc, text)?, text);
         see_name(scope, &mut seen, named, *id, READS)?;
         let mut note = Text::new(scope.alloc);
         push_note(&mut note, scope.token(*id).note, "    ");
         variants.push(Variant {
             note,
-            name,
+            name: name.clone()?,
             number: *number,
         })?;
     }
@@ -131,7 +162,7 @@ pub fn push_enumerated<'m>(
     doc: &str,
 ) -> Result<(), Refusal> {
     let numbers = enumerated_numbers(scope, items.0, items.1)?;
-    let variants = variants_of(scope, numbers.as_slice())?;
+    let variants = variants_of(scope, items.0, numbers.as_slice())?;
     push_values(scope.alloc, out, definition, doc, variants.as_slice());
     Ok(())
 }

@@ -125,6 +125,7 @@ impl Layered for @NAME@ {
 }
 
 /// Writes what a `@NAME@` holds.
+#[inline(always)]
 fn encode_@SNAKE@<K: Encode>(
     inner: &@NAME@Content<K>,
     encoder: &mut Encoder<'_>,
@@ -138,6 +139,7 @@ fn encode_@SNAKE@<K: Encode>(
 }
 
 impl Encode for @NAME@ {
+    #[inline(always)]
     fn encode_with_tag_and_constraints(
         &self,
         encoder: &mut Encoder<'_>,

@@ -17,6 +17,13 @@ pub fn knot_name<'d>(all: &'d [Definition<'_>], definition: &Definition<'_>) -> 
     }
 }
 
+/// Appends the name of the module in which the struct of a type's components stands.
+pub fn push_components_module(out: &mut Text, owner: &str) {
+    let name = Text::of(out.alloc(), &[owner, "Components"]);
+    out.push_component_name(name.as_str());
+    out.heed(&name);
+}
+
 /// What stands for the words that the templates of a type have in common: of one that holds knots its parameter and that one's bounds too,
 /// and in front of its type a struct of the knot, else what it is with the knot in the parameter's place.
 pub fn owner_words(alloc: Global, doc: &str, owner: &str, knot: Option<&str>) -> Words {
@@ -26,6 +33,7 @@ pub fn owner_words(alloc: Global, doc: &str, owner: &str, knot: Option<&str>) ->
     words.put("CRATE", "@CRATE@");
     words.put("DOC", doc);
     words.begin("SNAKE").push_component_name(owner);
+    push_components_module(words.begin("COMPONENTS"), owner);
     let Some(knot) = knot else {
         words.put("HEAD", doc);
         return words;

@@ -18,22 +18,43 @@ use oergen_parse::refusal::Refusal;
 use std::alloc::{AllocError, Global};
 use std::collections::BTreeMap;
 
-/// The fields of a struct, a line each.
-fn push_fields(out: &mut Text, cells: &[Cell]) {
+/// A field of a struct, in a line of its own.
+fn push_field(out: &mut Text, cell: &Cell) {
+    out.push("\n");
+    out.push_text(&cell.note);
+    let (name, rust) = (cell.field.as_str(), cell.field_type.as_str());
+    out.push_all(&["    pub ", name, ": ", rust, ","]);
+}
+
+/// Fields of a struct.
+fn push_some_fields(out: &mut Text, cells: &[Cell]) {
     for cell in cells.iter() {
-        out.push("\n");
-        out.push_text(&cell.note);
-        out.push_all(&[
-            "    pub ",
-            cell.field.as_str(),
-            ": ",
-            cell.field_type.as_str(),
-            ",",
-        ]);
+        push_field(out, cell);
     }
-    if !cells.is_empty() {
-        out.push("\n");
+}
+
+/// The fields of the root components of a SET, in the order of its text.
+fn push_root_fields(out: &mut Text, of: Chain<'_>) {
+    for at in of.in_text.iter() {
+        if let Some(cell) = of.roots().get(*at) {
+            push_field(out, cell);
+        }
     }
+}
+
+/// The fields of a struct, in the order of its text.
+fn push_fields(out: &mut Text, of: Chain<'_>) {
+    let mut fields = Text::new(out.alloc());
+    push_root_fields(&mut fields, of);
+    let others = if of.in_text.is_empty() {
+        of.cells
+    } else {
+        of.additions()
+    };
+    push_some_fields(&mut fields, others);
+    out.push_replaced(fields.as_str(), "\n", "\n    ");
+    out.push(if of.cells.is_empty() { "" } else { "\n    " });
+    out.heed(&fields);
 }
 
 /// The names of the fields, a line each.
@@ -132,7 +153,7 @@ fn words_of(alloc: Global, doc: &str, of: Chain<'_>, is_set: bool) -> Words {
     words.put("EXT", if of.is_extensible { "true" } else { "false" });
     words.begin("RC").push_count(of.roots().len());
     words.begin("EC").push_count(of.additions().len());
-    push_fields(words.begin("FIELDS"), of.cells);
+    push_fields(words.begin("FIELDS"), of);
     push_pairs(words.begin("PAIRS"), of.cells);
     push_list(words.begin("LIST"), of.cells);
     push_table(words.begin("ROOTS"), of, "COMPONENTS", of.roots());

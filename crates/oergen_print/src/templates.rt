@@ -1,11 +1,17 @@
 //! What is printed of each sort of item: between two `@` stands a word that is put in.
 
-/// A SEQUENCE or a SET, and the struct of its components.
+/// A SEQUENCE or a SET, and the struct of its components: in a module of its own, so that `Debug` shows it by the type's name.
 pub const TYPE: &str = r#"@HEAD@pub type @NAME@@CONTENT@ = @KIND@<@NAME@Components@K@, @RC@, @EC@>;
 
-/// The components of `@NAME@`.
-#[derive(Debug, PartialEq, Eq, Drop)]
-pub struct @NAME@Components@K@ {@FIELDS@}
+pub use @COMPONENTS@::@NAME@ as @NAME@Components;
+
+mod @COMPONENTS@ {
+    use super::*;
+
+    /// The components of `@NAME@`.
+    #[derive(Debug, PartialEq, Eq, Drop)]
+    pub struct @NAME@@K@ {@FIELDS@}
+}
 
 "#;
 

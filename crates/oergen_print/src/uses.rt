@@ -274,8 +274,17 @@ pub fn names_crate(text: &str, library: &str) -> bool {
     text.lines().any(|line| line_names(line, library))
 }
 
+/// The name under which a line shows what stands in a module.
+fn shown_as(line: &str) -> Option<&str> {
+    let (_, name) = line.strip_prefix("pub use ")?.split_once(" as ")?;
+    name.strip_suffix(';')
+}
+
 /// The name that a line declares, and whether others may use it.
 fn declared(line: &str) -> Option<(&str, bool)> {
+    if let Some(name) = shown_as(line) {
+        return Some((name, true));
+    }
     let (rest, is_public) = match line.strip_prefix("pub ") {
         Some(rest) => (rest, true),
         None => (line, false),

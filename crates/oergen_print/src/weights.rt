@@ -2,7 +2,7 @@
 
 use crate::cells::variant_name;
 use crate::knot_templates::WEIGHTS;
-use crate::knots::{knot_name, owner_words};
+use crate::knots::{knot_name, owner_words, push_components_module};
 use crate::sequences::{in_text_order, root_places};
 use crate::text::Text;
 use oergen_layouts::definitions::{Definition, Part, Tie};
@@ -234,10 +234,9 @@ fn push_variants(scope: Scope<'_, '_>, out: &mut Text, owner: &str, parts: &[Par
     }
 }
 
-/// Appends what begins the definition of a type's values' weight: the name of the struct of its components, or of the enum of its
-/// alternatives, and its first line.
+/// Appends what begins the definition of a type's values' weight, but for where the struct of its components, or the enum of its
+/// alternatives, stands.
 fn push_signature(out: &mut Weights, owner: &str, kind: &str) {
-    out.uses.push_all(&["use Rattle.@HOME@.", owner, kind, ".{", owner, kind, "}\n"]);
     out.lines.push("abbrev pub ");
     out.lines.push_component_name(owner);
     out.lines.push_all(&[
@@ -256,6 +255,10 @@ fn push_sequence(
     definition: &Definition<'_>,
 ) -> Result<(), AllocError> {
     let owner = definition.rust_name.as_str();
+    out.uses.push("use Rattle.@HOME@.");
+    push_components_module(&mut out.uses, owner);
+    out.uses
+        .push_all(&[".", owner, ".{", owner, " as ", owner, "Components}\n"]);
     push_signature(out, owner, "Components");
     push_head(&mut out.lines, owner, "v");
     let is_set = matches!(definition.of.body, Body::Set(_));
@@ -279,6 +282,13 @@ fn push_choice(
 ) {
     let owner = definition.rust_name.as_str();
     let parts = definition.parts.as_slice();
+    out.uses.push_all(&[
+        "use Rattle.@HOME@.",
+        owner,
+        "Alternatives.{",
+        owner,
+        "Alternatives}\n",
+    ]);
     push_signature(out, owner, "Alternatives");
     out.uses.push_all(&["use Rattle.@HOME@.", owner, "Alternatives.TheVariants.{"]);
     push_variants(scope, &mut out.uses, owner, parts);

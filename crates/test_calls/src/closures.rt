@@ -6,7 +6,10 @@ use asn1_core::{
     AsnType, Class, Constructed, DecodeError, DecodeErrorKind, Field, FieldPresence, Fields, Tag,
 };
 use asn1_ints::Integer;
-use oer_types::{AllOptional, MixedSet, Pair, Sequence, Sequence1, Set, components};
+use oer_types::{
+    AllOptional, AllOptionalComponents, MixedSet, MixedSetComponents, Pair, Sequence, Sequence1,
+    Set,
+};
 use rasn_oer::{Decode, Decoder, DecoderOptions, fields};
 use std::alloc::Global;
 use std::process::Abort;
@@ -34,7 +37,7 @@ fn asking_first(
             ensures { OnOk result (IsRear inner.old.input inner.new.input) }
         {
             let a = ask(alloc, inner, number)?;
-            Ok(Sequence(components::AllOptional { a, b: None }))
+            Ok(Sequence(AllOptionalComponents { a, b: None }))
         },
     )
 }
@@ -137,7 +140,7 @@ fn calls_of(alloc: Global, decoder: &mut Decoder<'_>) -> Result<Vec<(usize, Tag)
         { asked_by(alloc, inner, index, tag) },
         |fields: Vec<(usize, Tag)>| -> Result<MixedSet, DecodeError> {
             calls = fields;
-            Ok(Set(components::MixedSet {
+            Ok(Set(MixedSetComponents {
                 x: true,
                 y: None,
                 z: Integer::from_i128(0),

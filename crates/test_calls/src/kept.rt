@@ -3,20 +3,20 @@
 use asn1_core::{DecodeErrorKind, EncodeErrorKind};
 use example_recursive::{Envelope, Post, PostComponents, StateValues, WayAlternatives};
 use oer_kept::{KeptChoice, KeptEnumeration};
-use oer_types::{Color, OnlyAlternatives, PriorityAlternatives};
+use oer_types::{Enum3Values, OnlyChoiceAlternatives, PriorityChoiceAlternatives};
 use rasn_oer::prelude::*;
 use rasn_oer::{coer, oer};
 use std::alloc::Global;
 use std::test::Fail;
 
 /// `ENUMERATED { red(5), blue(6), green(7), ... }`
-type KeptColor = KeptEnumeration<Color>;
+type KeptColor = KeptEnumeration<Enum3Values>;
 
 /// `CHOICE { normal [0] INTEGER, high [1] INTEGER, ..., medium [2] INTEGER }`
-type KeptPriority = KeptChoice<PriorityAlternatives>;
+type KeptPriority = KeptChoice<PriorityChoiceAlternatives>;
 
 /// `CHOICE { only [130] BOOLEAN }`, which isn't extensible
-type KeptOnly = KeptChoice<OnlyAlternatives>;
+type KeptOnly = KeptChoice<OnlyChoiceAlternatives>;
 
 /// Whether both modules read the octets as the value, and write it as these octets again.
 pub fn agree<T: Encode + Decode + PartialEq>(
@@ -80,7 +80,7 @@ pub fn other<T>(
 #[test]
 fn numbers_are_kept(rt: HostRuntime) -> Result<(), Fail> {
     let alloc = rt.alloc();
-    let blue: KeptColor = KeptEnumeration::Known(Color::Blue);
+    let blue: KeptColor = KeptEnumeration::Known(Enum3Values::Blue);
     assert!(rt; agree(alloc, &blue, b"\x06")?);
     let nine: KeptColor = KeptEnumeration::Other(9);
     assert!(rt; agree(alloc, &nine, b"\x09")?);
@@ -106,7 +106,7 @@ fn numbers_are_read_leniently(rt: HostRuntime) -> Result<(), Fail> {
             DecodeErrorKind::NotValidCanonicalEncoding
         )?
     );
-    let blue: KeptColor = KeptEnumeration::Known(Color::Blue);
+    let blue: KeptColor = KeptEnumeration::Known(Enum3Values::Blue);
     assert!(rt;
         only_lenient(
             alloc,
@@ -130,7 +130,7 @@ fn a_known_number_is_no_other_value(rt: HostRuntime) -> Result<(), Fail> {
     assert!(rt; !blue.is_value());
     assert!(rt; why_unwritten(alloc, &blue) == Some(EncodeErrorKind::ValueConstraintNotSatisfied));
     let six: KeptColor = KeptEnumeration::from_number(6);
-    assert!(rt; matches!(six, KeptEnumeration::Known(Color::Blue)));
+    assert!(rt; matches!(six, KeptEnumeration::Known(Enum3Values::Blue)));
     let nine: KeptColor = KeptEnumeration::from_number(9);
     assert!(rt; matches!(nine, KeptEnumeration::Other(9)));
     assert!(rt; nine.number() == 9 && nine.is_value());
@@ -152,9 +152,9 @@ fn keeps(
 #[test]
 fn known_alternatives_are_read(rt: HostRuntime) -> Result<(), Fail> {
     let alloc = rt.alloc();
-    let normal = KeptChoice::Known(PriorityAlternatives::Normal(Integer::from_i128(5)));
+    let normal = KeptChoice::Known(PriorityChoiceAlternatives::Normal(Integer::from_i128(5)));
     assert!(rt; agree(alloc, &normal, b"\x80\x01\x05")?);
-    let medium = KeptChoice::Known(PriorityAlternatives::Medium(Integer::from_i128(5)));
+    let medium = KeptChoice::Known(PriorityChoiceAlternatives::Medium(Integer::from_i128(5)));
     assert!(rt; agree(alloc, &medium, b"\x82\x02\x01\x05")?);
     Ok(())
 }
@@ -172,7 +172,7 @@ fn alternatives_are_kept(rt: HostRuntime) -> Result<(), Fail> {
 #[test]
 fn alternatives_are_kept_in_lists(rt: HostRuntime) -> Result<(), Fail> {
     let alloc = rt.alloc();
-    let normal = KeptChoice::Known(PriorityAlternatives::Normal(Integer::from_i128(5)));
+    let normal = KeptChoice::Known(PriorityChoiceAlternatives::Normal(Integer::from_i128(5)));
     let third: KeptPriority = other(alloc, Class::Context, 3, b"\xAA")?;
     let list = ListOf(Vec::from_array(alloc, [third, normal])?);
     assert!(rt; agree(alloc, &list, b"\x01\x02\x83\x01\xAA\x80\x01\x05")?);

@@ -4,7 +4,7 @@ use crate::readme::{
     appended, as_first_version, as_second_version, canonical, few_levels, first_pair, name_of,
     pair_or_more, received, written,
 };
-use oer_types::{Sequence1, Sequence2, components};
+use oer_types::{Sequence1, Sequence2, Sequence2Components, components};
 use rasn_oer::prelude::*;
 use std::test::Fail;
 
@@ -34,14 +34,14 @@ fn lenient_octets_become_canonical(rt: HostRuntime) -> Result<(), Fail> {
 #[test]
 fn versions_read_each_other(rt: HostRuntime) -> Result<(), Fail> {
     let alloc = rt.alloc();
-    let newer: Sequence2 = Sequence(components::Sequence2 {
+    let newer: Sequence2 = Sequence(Sequence2Components {
         a: true,
         b: Some(false),
         c: None,
     });
     let older: Sequence1 = Sequence(components::Sequence1 { a: true });
     assert!(rt; as_first_version(alloc, &newer)? == older);
-    let as_newer: Sequence2 = Sequence(components::Sequence2 {
+    let as_newer: Sequence2 = Sequence(Sequence2Components {
         a: true,
         b: None,
         c: None,

@@ -7,7 +7,8 @@ use asn1_strings::{BitString, BmpString, OctetString};
 use asn1_times::{Date, GeneralizedTime, UtcTime};
 use jiff::civil;
 use oer_types::{
-    Bare, DeepDefault, HashedId3, ListOf, Negative, Nest, Positive, Sequence, Set, components,
+    Bare, DeepDefault, FooComponents, HashedId3, ListOf, Negative, Nest, Positive, Sequence, Set,
+    components,
 };
 use oer_write::enc::EncoderOptions;
 use oer_write::{Encode, Encoder};
@@ -250,7 +251,7 @@ fn append_set(
     lenient: &mut Vec<u8>,
     canonical: &mut Vec<u8>,
 ) -> Result<(), EncodeError> {
-    let set = Set(components::Foo {
+    let set = Set(FooComponents {
         a: Some(Integer::from_i128(5)),
         b: Some(Integer::from_i128(6)),
         c: Some(Integer::from_i128(7)),

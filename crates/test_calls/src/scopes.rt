@@ -11,7 +11,7 @@ ghost use Rattle.oer_read.specs.Law.{IsRear};
 
 use asn1_core::{AsnType, Class, Codec, Constraints, DecodeError, EncodeError, SetOf, Tag};
 use asn1_ints::Integer;
-use oer_types::{Foo, OneOf, PriorityAlternatives, PriorityChoice, Sequence4};
+use oer_types::{Foo, OneOf, PriorityChoice, PriorityChoiceAlternatives, Sequence4};
 use rasn_oer::oer::de::DecoderOptions;
 use rasn_oer::oer::enc::EncoderOptions;
 use rasn_oer::oer::{Decoder, Encoder};
@@ -262,7 +262,7 @@ fn a_list_is_read_by_a_closure(rt: HostRuntime) -> Result<(), Fail> {
 fn a_choice_is_read_by_a_closure(rt: HostRuntime) -> Result<(), Fail> {
     let mut decoder = Decoder::new(b"\x81\x02\x01\x4d", DecoderOptions::coer());
     let choice = read_choice(rt.alloc(), &mut decoder)?;
-    let high: PriorityChoice = OneOf(PriorityAlternatives::High(Integer::from_i128(333)));
+    let high: PriorityChoice = OneOf(PriorityChoiceAlternatives::High(Integer::from_i128(333)));
     assert!(rt; choice == high);
     assert!(rt; decoder.remaining().is_empty());
     Ok(())

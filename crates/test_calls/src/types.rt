@@ -4,8 +4,10 @@ use crate::own_types::agrees;
 use asn1_ints::Integer;
 use asn1_strings::OctetString;
 use oer_types::{
-    ListOf, Mixed, MixedComponents, OneOf, PriorityAlternatives, Sequence, Sure, SureComponents,
+    ListOf, Mixed, MixedComponents, OneOf, PriorityChoiceAlternatives, Sequence, Sure,
+    SureComponents,
 };
+use rasn_oer::prelude::Octets;
 use std::alloc::Global;
 use std::test::Fail;
 
@@ -25,14 +27,14 @@ fn a_required_addition_is_written_and_read(rt: HostRuntime) -> Result<(), Fail> 
 }
 
 /// A list of one value of two octets.
-fn names(alloc: Global) -> Result<Vec<OctetString>, Fail> {
-    let name = OctetString::from_slice(alloc, b"\xAA\xBB")?;
+fn names(alloc: Global) -> Result<Vec<Octets>, Fail> {
+    let name = Octets(OctetString::from_slice(alloc, b"\xAA\xBB")?);
     Ok(Vec::from_array(alloc, [name])?)
 }
 
 fn mixed_agrees(alloc: Global, octets: &[u8]) -> Result<bool, Fail> {
     let mixed: Mixed = Sequence(MixedComponents {
-        priority: OneOf(PriorityAlternatives::Normal(Integer::from_i128(7))),
+        priority: OneOf(PriorityChoiceAlternatives::Normal(Integer::from_i128(7))),
         names: ListOf(names(alloc)?),
     });
     agrees(alloc, &mixed, octets)

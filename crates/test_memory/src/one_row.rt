@@ -5,7 +5,7 @@ ghost use Rattle.oer_read.specs.Law.{IsRear};
 
 use asn1_core::{AsnType, Constructed, DecodeError, Field, FieldPresence, Fields, Tag};
 use asn1_ints::Integer;
-use oer_types::{Foo, Set, components};
+use oer_types::{Foo, FooComponents, Set};
 use rasn_oer::{Decode, Decoder};
 use std::alloc::Global;
 
@@ -319,7 +319,7 @@ type Numbered = (u32, Integer);
 
 /// The set of these components; `c` is each that is neither `a` nor `b`.
 fn foo_of(fields: Vec<Numbered>) -> Foo {
-    let mut foo = components::Foo {
+    let mut foo = FooComponents {
         a: None,
         b: None,
         c: None,

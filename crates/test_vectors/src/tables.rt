@@ -5,11 +5,11 @@ use asn1_core::{AsnType, Choice, Constraints, Constructed, Field, Tag};
 use oer_types::{
     AddDef, Adding, Addition7, AllDefault, AllOptional, Bare, BoolChoice, BushContent,
     ChainContent, ConstrainedOptions, DeepDefault, DefaultAndOptional, DefaultInteger, Empty,
-    EmptyExtensible, ExtendedOptional, Foo, Group6, Held, Holder1, Holder2, Holding, LinkChoice,
-    LinkContent, ListOf, ManyOptional, Mixed, MixedSet, MixedSet2, Nested, NodeContent, Omitted,
-    OneToEight, OnlyChoice, Outer, Pair, PriorityChoice, Sequence1, Sequence2, Sequence3,
-    Sequence4, Sequence5, Sequence6, Sequence7, SequenceDuplicatesExtended, Sure, TestChoice,
-    TopLevelContent, WideChoice,
+    EmptyExtensible, ExtendedOptional, Foo, Group6, Held, Holder1, Holder2, Holding,
+    LinkChoiceContent, LinkContent, ListOf, ManyOptional, Mixed, MixedSet, MixedSet2, Nested,
+    NodeContent, Omitted, OneToEight, OnlyChoice, Outer, Pair, PriorityChoice, Sequence1,
+    Sequence2, Sequence3, Sequence4, Sequence5, Sequence6, Sequence7, SequenceDuplicatesExtended,
+    Sure, TestChoiceContent, TopLevelContent, WideChoice,
 };
 use oer_write::Encode;
 use oertool_words::constrained::{UnderConstraints, with_word};
@@ -244,8 +244,8 @@ pub fn tags(alloc: Global, word: &str) -> Result<String> {
 
 fn recursive_tags(alloc: Global, word: &str) -> Result<String> {
     match word {
-        "LinkChoice" => tags_of::<LinkChoice<bool>>(alloc),
-        "TestChoice" => tags_of::<TestChoice<bool>>(alloc),
+        "LinkChoice" => tags_of::<LinkChoiceContent<bool>>(alloc),
+        "TestChoice" => tags_of::<TestChoiceContent<bool>>(alloc),
         _ => Err(Error::msg("no such choice")),
     }
 }

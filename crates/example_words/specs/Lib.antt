@@ -1,0 +1,5 @@
+pub mod BushWeights
+pub mod NodeWeights
+pub mod ChainWeights
+pub mod LinkWeights
+pub mod TopLevelWeights
