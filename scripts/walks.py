@@ -3,8 +3,8 @@
 
 usage: walks.py OERGEN [COUNT [SEED]]
 
-OERGEN is a built oergen, for the table of crates/oergen/data/words.asn and types.asn. The Python package jilgomt and its library have to be found. Of each
-input of a type of those modules, read leniently:
+OERGEN is a built oergen, for the table of crates/oergen/data/words.asn and types.asn. The Python package jilgomt and its library have
+to be found. Of each input of a type of those modules, read leniently:
 - where the codec reads a value, the walk ends behind it, without a refusal;
 - each node of such a walk has an end, and lies behind the one before it, in the part around it;
 - where the walk stops, the last node without an end is the part that it stopped in.
