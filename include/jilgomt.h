@@ -122,9 +122,9 @@ uint32_t jilgomt_convert(const uint8_t *from, size_t from_len, const uint8_t *to
     uint32_t jilgomt_##word##_check(uint32_t mode, size_t levels, const uint8_t *in, size_t in_len,                     \
                                     jilgomt_answer *JILGOMT_RESTRICT answer);
 #define JILGOMT_TYPES(X) X(bool) X(int) X(octets) X(bits) X(utf8) X(oid) X(utctime) X(gentime) X(date) X(posbig) \
-    X(small) X(enum4) X(empty) X(emptyext) X(seq1) X(seq2) X(seq5) X(seq7) X(seq3) X(seq6) X(outer) X(defint) \
-    X(defopt) X(deepdef) X(holder1) X(holder2) X(toplevel) X(foo) X(mixset) X(choice) X(tagmax) X(tag130) X(ints) \
-    X(nulls) X(nest) X(intset) X(bag1) X(bag2) X(bag3)
+    X(small) X(enum4) X(empty) X(emptyext) X(seq1) X(omitted) X(seq2) X(seq5) X(seq7) X(seq3) X(seq6) X(outer) \
+    X(dup) X(extopt) X(manyopt) X(defint) X(defopt) X(deepdef) X(holder1) X(holder2) X(toplevel) X(foo) X(mixset) \
+    X(mixset2) X(choice) X(tagmax) X(tag130) X(ints) X(nulls) X(nest) X(intset) X(bag1) X(bag2) X(bag3)
 JILGOMT_TYPES(JILGOMT_TYPE)
 uint32_t jilgomt_seq2_to_seq1(uint32_t mode, size_t levels, const uint8_t *JILGOMT_RESTRICT in, size_t in_len,
                               uint8_t *JILGOMT_RESTRICT out, size_t out_len, jilgomt_answer *JILGOMT_RESTRICT answer);

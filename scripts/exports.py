@@ -23,8 +23,6 @@ FILES = {
     "sets": ("Sequences with defaults, and sets.", "scopes", r"fn with_(default|holder|set)\b"),
     "lists": ("Choices and lists.", "scopes", r"fn with_(list_or_choice|list|unordered_list|further_bag)\b"),
 }
-# Types that have no functions of their own yet: they are called by their words alone.
-UNSTATED = {"Omitted", "SequenceDuplicatesExtended", "ExtendedOptional", "ManyOptional", "MixedSet2"}
 HEAD = """//! {what} This file is written by scripts/exports.py.
 ghost use Rattle.std.specs.Prelude.{{◌≡◌}};
 ghost use Rattle.oer_calls.specs.Answers.{{IsCanonicalisedBy, IsCheckedBy, options_for}};
@@ -74,8 +72,7 @@ def read(path):
 def words(held, pattern):
     """Words with their types, in the order of the functions whose names match the pattern."""
     functions = re.split(r"(?m)^(?=(?:pub\(super\) )?fn )", read(KNOWN / f"{held}.rt"))[1:]
-    found = [it for one in functions if re.search(pattern, one.split("<")[0]) for it in WORD.findall(one)]
-    return [(word, kind) for word, kind in found if kind not in UNSTATED]
+    return [it for one in functions if re.search(pattern, one.split("<")[0]) for it in WORD.findall(one)]
 
 
 def places(held):

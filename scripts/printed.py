@@ -114,6 +114,22 @@ NAMES = (
     ),
     ("Date ::= NULL DATe ::= BOOLEAN", ("pub type Date_ = ();", "pub type DATe__ = bool;")),
     ("A-B ::= NULL AB ::= BOOLEAN", ("pub type AB = ();", "pub type AB_ = bool;")),
+    ("Percent ::= INTEGER (0..100) Again ::= Percent", ("pub type Again = Percent;",)),
+    (
+        "A ::= CHOICE { a-b NULL, aB NULL } B ::= CHOICE { a-b [0] NULL, a CHOICE { b [1] NULL } }",
+        ("    AB_(()),", "        from_row!(value => AAlternatives: AB, AB_)", "        from_row!(value => BAlternatives: AB, AB_)", "pub returns-in-AB_ : goal.returns-in-AB_"),
+    ),
+    (
+        "A ::= SEQUENCE { a-b INTEGER DEFAULT 3, aB INTEGER DEFAULT 4, group-1 NULL, ..., [[ a-B NULL, aB2 NULL, a-B2 BOOLEAN ]] }",
+        (
+            "        pub a_b_: Integer,",
+            "impl DefaultValue<Integer> for AAB_Default {",
+            "        pub group_1_: (),",
+            "        pub group_1: Option<AGroup1>,",
+            "        pub a_b: (),",
+            "        pub a_b2_: bool,",
+        ),
+    ),
     (
         "Q ::= ENUMERATED { dB-1, dB0, dB1 } S ::= SEQUENCE { q Q DEFAULT dB1 }",
         ("    DB1 = 0,", "    DB1_ = 2,", "        Ok(Enumeration(QValues::DB1_))"),

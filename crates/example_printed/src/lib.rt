@@ -9,11 +9,12 @@ mod types_05;
 mod types_06;
 mod types_07;
 mod types_08;
+mod types_09;
 pub mod values;
 
 pub use types_01::{
-    Again, Bag, BagComponents, Below, Bits, Colour, ColourValues, Key, Name, Names, Narrow,
-    Percent, Row, RowComponents, RowGroup1, RowGroup1Components, RowInner, RowInnerComponents,
+    Bag, BagComponents, Below, Bits, Colour, ColourValues, Key, Name, Names, Narrow, Percent, Row,
+    RowComponents, RowGroup1, RowGroup1Components, RowInner, RowInnerComponents,
 };
 pub use types_02::{
     Letter, LetterComponents, LetterGroup1, LetterGroup1Components, LetterHead,
@@ -24,12 +25,19 @@ pub use types_04::{
     AreaRound, AreaRoundComponents, Labels, LabelsComponents, Spot, SpotComponents,
 };
 pub use types_05::{
-    Area, AreaAlternatives, AreaBoxes, AreaBoxesComponents, Colours, ColoursAlternatives, Level,
-    Named, Plain, PlainComponents, Then, ThenComponents,
+    Area, AreaAlternatives, AreaBoxes, AreaBoxesComponents, Event, EventAlternatives, EventPart1,
+    EventPart2, EventPart3, Named,
 };
-pub use types_06::{Numbers, NumbersComponents, Ranges, RangesComponents, Taken, TakenComponents};
+pub use types_06::{
+    Colours, ColoursAlternatives, Level, Plain, PlainComponents, Taken, TakenComponents, Then,
+    ThenComponents,
+};
 pub use types_07::{
-    Both, BothB, BothBAlternatives, BothComponents, Leaves, LeavesComponents, Marks, Reply,
-    ReplyAlternatives, Strings, StringsComponents,
+    Leaves, LeavesComponents, Numbers, NumbersComponents, Ranges, RangesComponents, Strings,
+    StringsComponents,
 };
-pub use types_08::{Card, CardComponents, Person, PersonComponents, Title, TitleAlternatives};
+pub use types_08::{
+    Both, BothB, BothBAlternatives, BothComponents, Card, CardComponents, Marks, Reply,
+    ReplyAlternatives, Title, TitleAlternatives,
+};
+pub use types_09::{Person, PersonComponents};

@@ -9,9 +9,6 @@ pub type Percent = Limited<u8, Between<0, 100>>;
 /// `Below ::= INTEGER (-5..MAX)`
 pub type Below = Limited<Integer, AtLeast<-5>>;
 
-/// `Again ::= Percent`
-pub type Again = Percent;
-
 /// `Narrow ::= Percent (0..9)`
 pub type Narrow = Limited<u8, Between<0, 9>>;
 

@@ -1,8 +1,262 @@
 //! Types of ASN.1 modules, as oergen printed them.
 
-use crate::{Level, Plain};
 use rasn_oer::prelude::*;
 use std::alloc::{AllocError, Global};
+
+/// `Then ::= SEQUENCE { at UTCTime, on GeneralizedTime, day DATE }`
+pub type Then = Sequence<ThenComponents, 3, 0>;
+
+pub use then_components::Then as ThenComponents;
+
+mod then_components {
+    use super::*;
+
+    /// The components of `Then`.
+    #[derive(Debug, PartialEq, Eq, Drop)]
+    pub struct Then {
+        pub at: UtcTime,
+        pub on: GeneralizedTime,
+        pub day: Date,
+    }
+}
+
+type ThenRow = Required<
+    Context<0>,
+    UtcTime,
+    Required<Context<1>, GeneralizedTime, Required<Context<2>, Date, End>>,
+>;
+
+impl Rowed for ThenComponents {
+    ghost use Rattle.rasn_oer.specs.Values.{both};
+
+    type Values = <ThenRow as Components>::Values;
+
+    ghost EXTENSIBLE = { ⟦<ThenRow as Components>⟧.EXTENSIBLE };
+
+    const EXTENSIBLE: bool = false;
+
+    ghost row_schema = { ⟦<ThenRow as Components>⟧.schema };
+
+    ghost row_is_schema = { ⟦<ThenRow as Components>⟧.is_schema };
+
+    ghost components = { λ v. both v.at (both v.on (both v.day tt)) };
+
+    fn from_row(row: Self::Values) -> Self {
+        built![ThenComponents from row:
+            at,
+            on,
+            day
+        ]
+    }
+}
+
+impl Takes for ThenComponents {
+    ghost Refuses = { ⟦<ThenRow as Reads>⟧.Refuses };
+
+    #[inline(always)]
+    fn take(alloc: Global, decoder: &mut Decoder<'_>) -> Result<Self, DecodeError> {
+        read_row::<Self, ThenRow>(alloc, decoder)
+    }
+}
+
+impl Tabled<3, 0> for ThenComponents {
+    ghost use Rattle.std.specs.Prelude.{refl};
+
+    const FIELDS: Fields<3> = Fields {
+        fields: fields![
+            0 Required Context 0 "at",
+            1 Required Context 1 "on",
+            2 Required Context 2 "day"
+        ],
+    };
+
+    const EXTENDED_FIELDS: Option<Fields<0>> = None;
+
+    fn root_fields() -> &'static [Field<'static>] {
+        Self::FIELDS.fields
+    }
+
+    fn addition_fields() -> &'static [Field<'static>] {
+        rows_of!(Self::EXTENDED_FIELDS)
+    }
+
+    #[inline(always)]
+    fn put(&self, encoder: &mut Encoder<'_>) -> Result<(), EncodeError> {
+        let view = views![self:
+            at,
+            on,
+            day
+        ];
+        ThenRow::write(&view, encoder)
+    }
+
+    ghost counts = { (refl, refl) };
+}
+
+/// `Level ::= [PRIVATE 2] EXPLICIT INTEGER (0..top)`
+pub type Level = u16;
+
+/// `Colours ::= CHOICE { one [1] NULL, two [UNIVERSAL 7] NULL, three INTEGER }`
+pub type Colours = OneOf<ColoursAlternatives>;
+
+/// The alternatives of `Colours`.
+#[derive(Debug, PartialEq, Eq, Drop)]
+pub enum ColoursAlternatives {
+    One(()),
+    Two(()),
+    Three(Integer),
+}
+
+type ColoursRow = Alternative<
+    Context<1>,
+    (),
+    Alternative<Universal<7>, (), Alternative<Universal<2>, Integer, End>>,
+>;
+
+const COLOURS_ROOTS: &'static [Tag] = tags![Context 1, Universal 7, Universal 2];
+
+impl Alternating for ColoursAlternatives {
+    ghost use Rattle.std.specs.Prelude.{refl};
+    ghost use Rattle.rasn_oer.specs.Alternative.{First, Rest};
+    ghost use Rattle.example_printed.specs.declared.types_06.ColoursAlternatives.TheVariants.{One, Two, Three};
+
+    type Values = <ColoursRow as Alternatives>::Values;
+
+    ghost row_choices = { ⟦<ColoursRow as Alternatives>⟧.choices };
+
+    ghost row_are_choices = { ⟦<ColoursRow as Alternatives>⟧.are_choices };
+
+    ghost alternative = { elim [ One held ↦ First held | Two held ↦ Rest (First held) | Three held ↦ Rest (Rest (First held)) ] };
+
+    const VARIANTS: &'static [Tag] = COLOURS_ROOTS;
+
+    const EXTENDED_VARIANTS: Option<&'static [Tag]> = None;
+
+    fn root_tags() -> &'static [Tag] {
+        Self::VARIANTS
+    }
+
+    fn addition_tags() -> Option<&'static [Tag]> {
+        Self::EXTENDED_VARIANTS
+    }
+
+    fn from_alternative(value: Self::Values) -> Self {
+        from_row!(value => ColoursAlternatives: One, Two, Three)
+    }
+
+    #[inline(always)]
+    fn put<E: Choice>(&self, encoder: &mut Encoder<'_>) -> Result<(), EncodeError> {
+        match self {
+            Self::One(held) => put_alternative::<E, _>(encoder, Context::<1>::tag(), held),
+            Self::Two(held) => put_alternative::<E, _>(encoder, Universal::<7>::tag(), held),
+            Self::Three(held) => put_alternative::<E, _>(encoder, Universal::<2>::tag(), held),
+        }
+    }
+
+    ghost apart = { refl };
+}
+
+impl TakesAlternative for ColoursAlternatives {
+    ghost Refuses = { ⟦<ColoursRow as ReadsAlternatives>⟧.Refuses };
+
+    fn take<D: Choice>(
+        alloc: Global,
+        decoder: &mut Decoder<'_>,
+        tag: Tag,
+    ) -> Result<Self, DecodeError> {
+        read_alternative::<Self, ColoursRow, D>(alloc, decoder, tag)
+    }
+}
+
+/// `Plain ::= SEQUENCE { a BOOLEAN, l Levels.Level, c Colours OPTIONAL }`
+pub type Plain = Sequence<PlainComponents, 3, 0>;
+
+pub use plain_components::Plain as PlainComponents;
+
+mod plain_components {
+    use super::*;
+
+    /// The components of `Plain`.
+    #[derive(Debug, PartialEq, Eq, Drop)]
+    pub struct Plain {
+        pub a: bool,
+        pub l: Level,
+        pub c: Option<Colours>,
+    }
+}
+
+type PlainRow = Required<
+    Universal<1>,
+    bool,
+    Required<Private<2>, Level, Optional<Universal<0>, Colours, End>>,
+>;
+
+impl Rowed for PlainComponents {
+    ghost use Rattle.rasn_oer.specs.Values.{both};
+
+    type Values = <PlainRow as Components>::Values;
+
+    ghost EXTENSIBLE = { ⟦<PlainRow as Components>⟧.EXTENSIBLE };
+
+    const EXTENSIBLE: bool = false;
+
+    ghost row_schema = { ⟦<PlainRow as Components>⟧.schema };
+
+    ghost row_is_schema = { ⟦<PlainRow as Components>⟧.is_schema };
+
+    ghost components = { λ v. both v.a (both v.l (both v.c tt)) };
+
+    fn from_row(row: Self::Values) -> Self {
+        built![PlainComponents from row:
+            a,
+            l,
+            c
+        ]
+    }
+}
+
+impl Takes for PlainComponents {
+    ghost Refuses = { ⟦<PlainRow as Reads>⟧.Refuses };
+
+    #[inline(always)]
+    fn take(alloc: Global, decoder: &mut Decoder<'_>) -> Result<Self, DecodeError> {
+        read_row::<Self, PlainRow>(alloc, decoder)
+    }
+}
+
+impl Tabled<3, 0> for PlainComponents {
+    ghost use Rattle.std.specs.Prelude.{refl};
+
+    const FIELDS: Fields<3> = Fields {
+        fields: fields![
+            0 Required Universal 1 "a",
+            1 Required Private 2 "l",
+            2 Optional Universal 0 "c"
+        ],
+    };
+
+    const EXTENDED_FIELDS: Option<Fields<0>> = None;
+
+    fn root_fields() -> &'static [Field<'static>] {
+        Self::FIELDS.fields
+    }
+
+    fn addition_fields() -> &'static [Field<'static>] {
+        rows_of!(Self::EXTENDED_FIELDS)
+    }
+
+    #[inline(always)]
+    fn put(&self, encoder: &mut Encoder<'_>) -> Result<(), EncodeError> {
+        let view = views![self:
+            a,
+            l,
+            c
+        ];
+        PlainRow::write(&view, encoder)
+    }
+
+    ghost counts = { (refl, refl) };
+}
 
 /// The default 3 of `TakenPart`.
 pub struct TakenPartDefault;
@@ -197,317 +451,6 @@ impl Tabled<6, 1> for TakenComponents {
             level
         ];
         TakenRow::write(&view, encoder)
-    }
-
-    ghost counts = { (refl, refl) };
-}
-
-/// The limits of `NumbersLong`.
-#[derive(Drop)]
-pub enum NumbersLongLimits {}
-
-impl Limits for NumbersLongLimits {
-    ghost use Rattle.std.specs.Prelude.{None, Some, false, negsuc, pos, refl};
-    ghost use Rattle.rasn_oer.specs.Bounded.{Range};
-
-    ghost LIMITS = { record { value = Some (Range (Some (pos 0)) (Some (pos 18446744073709551616)), false); size = None } };
-
-    const LIMITS: Constraints = Constraints {
-        value: Some((
-            Bounded::Range {
-                start: Some(0),
-                end: Some(18446744073709551616),
-            },
-            false,
-        )),
-        size: None,
-    };
-
-    ghost consistent = { refl };
-}
-
-/// `Numbers ::= SEQUENCE { none NULL, two INTEGER (0..256), wide INTEGER (-129..0), long INTEGER
-/// (0..18446744073709551616), extensible INTEGER (0..7, ..., 9), down INTEGER (MIN..top),
-/// named Named (0..MAX) }`
-pub type Numbers = Sequence<NumbersComponents, 7, 0>;
-
-pub use numbers_components::Numbers as NumbersComponents;
-
-mod numbers_components {
-    use super::*;
-
-    /// The components of `Numbers`.
-    #[derive(Debug, PartialEq, Eq, Drop)]
-    pub struct Numbers {
-        /// a comment within its line
-        pub none: (),
-        pub two: Limited<u16, Between<0, 256>>,
-        pub wide: Limited<i16, Between<-129, 0>>,
-        pub long: Limited<Integer, NumbersLongLimits>,
-        pub extensible: Integer,
-        pub down: Limited<Integer, AtMost<65535>>,
-        pub named: Limited<u8, Between<0, 3>>,
-    }
-}
-
-type NumbersRow = Required<
-    Context<0>,
-    (),
-    Required<
-        Context<1>,
-        Limited<u16, Between<0, 256>>,
-        Required<
-            Context<2>,
-            Limited<i16, Between<-129, 0>>,
-            Required<
-                Context<3>,
-                Limited<Integer, NumbersLongLimits>,
-                Required<Context<4>, Integer, NumbersFromDown>,
-            >,
-        >,
-    >,
->;
-
-/// The components of `Numbers` from `down` on.
-pub struct NumbersFromDown;
-
-type NumbersFromDownRow = Required<
-    Context<5>,
-    Limited<Integer, AtMost<65535>>,
-    Required<Context<6>, Limited<u8, Between<0, 3>>, End>,
->;
-
-impl Components for NumbersFromDown {
-    type Values = <NumbersFromDownRow as Components>::Values;
-
-    ghost EXTENSIBLE = { ⟦<NumbersFromDownRow as Components>⟧.EXTENSIBLE };
-
-    const EXTENSIBLE: bool = false;
-
-    ghost schema = { ⟦<NumbersFromDownRow as Components>⟧.schema };
-
-    ghost is_schema = { ⟦<NumbersFromDownRow as Components>⟧.is_schema };
-}
-
-impl Slotted for NumbersFromDown {
-    type Slots = <NumbersFromDownRow as Slotted>::Slots;
-
-    ghost filled = { ⟦<NumbersFromDownRow as Slotted>⟧.filled };
-
-    ghost filled_once = { ⟦<NumbersFromDownRow as Slotted>⟧.filled_once };
-
-    #[inline(always)]
-    fn empty() -> Self::Slots {
-        NumbersFromDownRow::empty()
-    }
-
-    #[inline(always)]
-    fn taken(slots: Self::Slots) -> Self::Values {
-        NumbersFromDownRow::taken(slots)
-    }
-}
-
-impl Reads for NumbersFromDown {
-    ghost Refuses = { ⟦<NumbersFromDownRow as Reads>⟧.Refuses };
-
-    #[inline(always)]
-    fn read(
-        alloc: Global,
-        decoder: &mut Decoder<'_>,
-        slots: &mut Self::Slots,
-    ) -> Result<(), DecodeError> {
-        <NumbersFromDownRow as Reads>::read(alloc, decoder, slots)
-    }
-}
-
-impl<'v> Views<'v> for NumbersFromDown {
-    type View = <NumbersFromDownRow as Views<'v>>::View;
-
-    ghost seen = { ⟦<NumbersFromDownRow as Views<'v>>⟧.seen };
-
-    #[inline(always)]
-    fn write(view: &Self::View, encoder: &mut Encoder<'_>) -> Result<(), EncodeError> {
-        NumbersFromDownRow::write(view, encoder)
-    }
-}
-
-impl Rowed for NumbersComponents {
-    ghost use Rattle.rasn_oer.specs.Values.{both};
-
-    type Values = <NumbersRow as Components>::Values;
-
-    ghost EXTENSIBLE = { ⟦<NumbersRow as Components>⟧.EXTENSIBLE };
-
-    const EXTENSIBLE: bool = false;
-
-    ghost row_schema = { ⟦<NumbersRow as Components>⟧.schema };
-
-    ghost row_is_schema = { ⟦<NumbersRow as Components>⟧.is_schema };
-
-    ghost components = { λ v. both v.none (both v.two (both v.wide (both v.long (both v.extensible (both v.down (both v.named tt)))))) };
-
-    fn from_row(row: Self::Values) -> Self {
-        built![NumbersComponents from row:
-            none,
-            two,
-            wide,
-            long,
-            extensible,
-            down,
-            named
-        ]
-    }
-}
-
-impl Takes for NumbersComponents {
-    ghost Refuses = { ⟦<NumbersRow as Reads>⟧.Refuses };
-
-    #[inline(always)]
-    fn take(alloc: Global, decoder: &mut Decoder<'_>) -> Result<Self, DecodeError> {
-        read_row::<Self, NumbersRow>(alloc, decoder)
-    }
-}
-
-impl Tabled<7, 0> for NumbersComponents {
-    ghost use Rattle.std.specs.Prelude.{refl};
-
-    const FIELDS: Fields<7> = Fields {
-        fields: fields![
-            0 Required Context 0 "none",
-            1 Required Context 1 "two",
-            2 Required Context 2 "wide",
-            3 Required Context 3 "long",
-            4 Required Context 4 "extensible",
-            5 Required Context 5 "down",
-            6 Required Context 6 "named"
-        ],
-    };
-
-    const EXTENDED_FIELDS: Option<Fields<0>> = None;
-
-    fn root_fields() -> &'static [Field<'static>] {
-        Self::FIELDS.fields
-    }
-
-    fn addition_fields() -> &'static [Field<'static>] {
-        rows_of!(Self::EXTENDED_FIELDS)
-    }
-
-    #[inline(always)]
-    fn put(&self, encoder: &mut Encoder<'_>) -> Result<(), EncodeError> {
-        let view = views![self:
-            none,
-            two,
-            wide,
-            long,
-            extensible,
-            down,
-            named
-        ];
-        NumbersRow::write(&view, encoder)
-    }
-
-    ghost counts = { (refl, refl) };
-}
-
-/// `Ranges ::= SEQUENCE { single INTEGER (5), gaps INTEGER (1..3 | 200), common INTEGER (0..300)
-/// (0..100 ^ 50..400), less INTEGER (0..9 EXCEPT 5) }`
-pub type Ranges = Sequence<RangesComponents, 4, 0>;
-
-pub use ranges_components::Ranges as RangesComponents;
-
-mod ranges_components {
-    use super::*;
-
-    /// The components of `Ranges`.
-    #[derive(Debug, PartialEq, Eq, Drop)]
-    pub struct Ranges {
-        pub single: Limited<u8, Between<5, 5>>,
-        pub gaps: Limited<u8, Between<1, 200>>,
-        pub common: Limited<u8, Between<50, 100>>,
-        pub less: Limited<u8, Between<0, 9>>,
-    }
-}
-
-type RangesRow = Required<
-    Context<0>,
-    Limited<u8, Between<5, 5>>,
-    Required<
-        Context<1>,
-        Limited<u8, Between<1, 200>>,
-        Required<
-            Context<2>,
-            Limited<u8, Between<50, 100>>,
-            Required<Context<3>, Limited<u8, Between<0, 9>>, End>,
-        >,
-    >,
->;
-
-impl Rowed for RangesComponents {
-    ghost use Rattle.rasn_oer.specs.Values.{both};
-
-    type Values = <RangesRow as Components>::Values;
-
-    ghost EXTENSIBLE = { ⟦<RangesRow as Components>⟧.EXTENSIBLE };
-
-    const EXTENSIBLE: bool = false;
-
-    ghost row_schema = { ⟦<RangesRow as Components>⟧.schema };
-
-    ghost row_is_schema = { ⟦<RangesRow as Components>⟧.is_schema };
-
-    ghost components = { λ v. both v.single (both v.gaps (both v.common (both v.less tt))) };
-
-    fn from_row(row: Self::Values) -> Self {
-        built![RangesComponents from row:
-            single,
-            gaps,
-            common,
-            less
-        ]
-    }
-}
-
-impl Takes for RangesComponents {
-    ghost Refuses = { ⟦<RangesRow as Reads>⟧.Refuses };
-
-    #[inline(always)]
-    fn take(alloc: Global, decoder: &mut Decoder<'_>) -> Result<Self, DecodeError> {
-        read_row::<Self, RangesRow>(alloc, decoder)
-    }
-}
-
-impl Tabled<4, 0> for RangesComponents {
-    ghost use Rattle.std.specs.Prelude.{refl};
-
-    const FIELDS: Fields<4> = Fields {
-        fields: fields![
-            0 Required Context 0 "single",
-            1 Required Context 1 "gaps",
-            2 Required Context 2 "common",
-            3 Required Context 3 "less"
-        ],
-    };
-
-    const EXTENDED_FIELDS: Option<Fields<0>> = None;
-
-    fn root_fields() -> &'static [Field<'static>] {
-        Self::FIELDS.fields
-    }
-
-    fn addition_fields() -> &'static [Field<'static>] {
-        rows_of!(Self::EXTENDED_FIELDS)
-    }
-
-    #[inline(always)]
-    fn put(&self, encoder: &mut Encoder<'_>) -> Result<(), EncodeError> {
-        let view = views![self:
-            single,
-            gaps,
-            common,
-            less
-        ];
-        RangesRow::write(&view, encoder)
     }
 
     ghost counts = { (refl, refl) };

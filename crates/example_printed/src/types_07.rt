@@ -1,8 +1,318 @@
 //! Types of ASN.1 modules, as oergen printed them.
 
-use crate::{Numbers, Ranges};
 use rasn_oer::prelude::*;
 use std::alloc::Global;
+
+/// The limits of `NumbersLong`.
+#[derive(Drop)]
+pub enum NumbersLongLimits {}
+
+impl Limits for NumbersLongLimits {
+    ghost use Rattle.std.specs.Prelude.{None, Some, false, negsuc, pos, refl};
+    ghost use Rattle.rasn_oer.specs.Bounded.{Range};
+
+    ghost LIMITS = { record { value = Some (Range (Some (pos 0)) (Some (pos 18446744073709551616)), false); size = None } };
+
+    const LIMITS: Constraints = Constraints {
+        value: Some((
+            Bounded::Range {
+                start: Some(0),
+                end: Some(18446744073709551616),
+            },
+            false,
+        )),
+        size: None,
+    };
+
+    ghost consistent = { refl };
+}
+
+/// `Numbers ::= SEQUENCE { none NULL, two INTEGER (0..256), wide INTEGER (-129..0), long INTEGER
+/// (0..18446744073709551616), extensible INTEGER (0..7, ..., 9), down INTEGER (MIN..top),
+/// named Named (0..MAX) }`
+pub type Numbers = Sequence<NumbersComponents, 7, 0>;
+
+pub use numbers_components::Numbers as NumbersComponents;
+
+mod numbers_components {
+    use super::*;
+
+    /// The components of `Numbers`.
+    #[derive(Debug, PartialEq, Eq, Drop)]
+    pub struct Numbers {
+        /// a comment within its line
+        pub none: (),
+        pub two: Limited<u16, Between<0, 256>>,
+        pub wide: Limited<i16, Between<-129, 0>>,
+        pub long: Limited<Integer, NumbersLongLimits>,
+        pub extensible: Integer,
+        pub down: Limited<Integer, AtMost<65535>>,
+        pub named: Limited<u8, Between<0, 3>>,
+    }
+}
+
+type NumbersRow = Required<
+    Context<0>,
+    (),
+    Required<
+        Context<1>,
+        Limited<u16, Between<0, 256>>,
+        Required<
+            Context<2>,
+            Limited<i16, Between<-129, 0>>,
+            Required<
+                Context<3>,
+                Limited<Integer, NumbersLongLimits>,
+                Required<Context<4>, Integer, NumbersFromDown>,
+            >,
+        >,
+    >,
+>;
+
+/// The components of `Numbers` from `down` on.
+pub struct NumbersFromDown;
+
+type NumbersFromDownRow = Required<
+    Context<5>,
+    Limited<Integer, AtMost<65535>>,
+    Required<Context<6>, Limited<u8, Between<0, 3>>, End>,
+>;
+
+impl Components for NumbersFromDown {
+    type Values = <NumbersFromDownRow as Components>::Values;
+
+    ghost EXTENSIBLE = { ⟦<NumbersFromDownRow as Components>⟧.EXTENSIBLE };
+
+    const EXTENSIBLE: bool = false;
+
+    ghost schema = { ⟦<NumbersFromDownRow as Components>⟧.schema };
+
+    ghost is_schema = { ⟦<NumbersFromDownRow as Components>⟧.is_schema };
+}
+
+impl Slotted for NumbersFromDown {
+    type Slots = <NumbersFromDownRow as Slotted>::Slots;
+
+    ghost filled = { ⟦<NumbersFromDownRow as Slotted>⟧.filled };
+
+    ghost filled_once = { ⟦<NumbersFromDownRow as Slotted>⟧.filled_once };
+
+    #[inline(always)]
+    fn empty() -> Self::Slots {
+        NumbersFromDownRow::empty()
+    }
+
+    #[inline(always)]
+    fn taken(slots: Self::Slots) -> Self::Values {
+        NumbersFromDownRow::taken(slots)
+    }
+}
+
+impl Reads for NumbersFromDown {
+    ghost Refuses = { ⟦<NumbersFromDownRow as Reads>⟧.Refuses };
+
+    #[inline(always)]
+    fn read(
+        alloc: Global,
+        decoder: &mut Decoder<'_>,
+        slots: &mut Self::Slots,
+    ) -> Result<(), DecodeError> {
+        <NumbersFromDownRow as Reads>::read(alloc, decoder, slots)
+    }
+}
+
+impl<'v> Views<'v> for NumbersFromDown {
+    type View = <NumbersFromDownRow as Views<'v>>::View;
+
+    ghost seen = { ⟦<NumbersFromDownRow as Views<'v>>⟧.seen };
+
+    #[inline(always)]
+    fn write(view: &Self::View, encoder: &mut Encoder<'_>) -> Result<(), EncodeError> {
+        NumbersFromDownRow::write(view, encoder)
+    }
+}
+
+impl Rowed for NumbersComponents {
+    ghost use Rattle.rasn_oer.specs.Values.{both};
+
+    type Values = <NumbersRow as Components>::Values;
+
+    ghost EXTENSIBLE = { ⟦<NumbersRow as Components>⟧.EXTENSIBLE };
+
+    const EXTENSIBLE: bool = false;
+
+    ghost row_schema = { ⟦<NumbersRow as Components>⟧.schema };
+
+    ghost row_is_schema = { ⟦<NumbersRow as Components>⟧.is_schema };
+
+    ghost components = { λ v. both v.none (both v.two (both v.wide (both v.long (both v.extensible (both v.down (both v.named tt)))))) };
+
+    fn from_row(row: Self::Values) -> Self {
+        built![NumbersComponents from row:
+            none,
+            two,
+            wide,
+            long,
+            extensible,
+            down,
+            named
+        ]
+    }
+}
+
+impl Takes for NumbersComponents {
+    ghost Refuses = { ⟦<NumbersRow as Reads>⟧.Refuses };
+
+    #[inline(always)]
+    fn take(alloc: Global, decoder: &mut Decoder<'_>) -> Result<Self, DecodeError> {
+        read_row::<Self, NumbersRow>(alloc, decoder)
+    }
+}
+
+impl Tabled<7, 0> for NumbersComponents {
+    ghost use Rattle.std.specs.Prelude.{refl};
+
+    const FIELDS: Fields<7> = Fields {
+        fields: fields![
+            0 Required Context 0 "none",
+            1 Required Context 1 "two",
+            2 Required Context 2 "wide",
+            3 Required Context 3 "long",
+            4 Required Context 4 "extensible",
+            5 Required Context 5 "down",
+            6 Required Context 6 "named"
+        ],
+    };
+
+    const EXTENDED_FIELDS: Option<Fields<0>> = None;
+
+    fn root_fields() -> &'static [Field<'static>] {
+        Self::FIELDS.fields
+    }
+
+    fn addition_fields() -> &'static [Field<'static>] {
+        rows_of!(Self::EXTENDED_FIELDS)
+    }
+
+    #[inline(always)]
+    fn put(&self, encoder: &mut Encoder<'_>) -> Result<(), EncodeError> {
+        let view = views![self:
+            none,
+            two,
+            wide,
+            long,
+            extensible,
+            down,
+            named
+        ];
+        NumbersRow::write(&view, encoder)
+    }
+
+    ghost counts = { (refl, refl) };
+}
+
+/// `Ranges ::= SEQUENCE { single INTEGER (5), gaps INTEGER (1..3 | 200), common INTEGER (0..300)
+/// (0..100 ^ 50..400), less INTEGER (0..9 EXCEPT 5) }`
+pub type Ranges = Sequence<RangesComponents, 4, 0>;
+
+pub use ranges_components::Ranges as RangesComponents;
+
+mod ranges_components {
+    use super::*;
+
+    /// The components of `Ranges`.
+    #[derive(Debug, PartialEq, Eq, Drop)]
+    pub struct Ranges {
+        pub single: Limited<u8, Between<5, 5>>,
+        pub gaps: Limited<u8, Between<1, 200>>,
+        pub common: Limited<u8, Between<50, 100>>,
+        pub less: Limited<u8, Between<0, 9>>,
+    }
+}
+
+type RangesRow = Required<
+    Context<0>,
+    Limited<u8, Between<5, 5>>,
+    Required<
+        Context<1>,
+        Limited<u8, Between<1, 200>>,
+        Required<
+            Context<2>,
+            Limited<u8, Between<50, 100>>,
+            Required<Context<3>, Limited<u8, Between<0, 9>>, End>,
+        >,
+    >,
+>;
+
+impl Rowed for RangesComponents {
+    ghost use Rattle.rasn_oer.specs.Values.{both};
+
+    type Values = <RangesRow as Components>::Values;
+
+    ghost EXTENSIBLE = { ⟦<RangesRow as Components>⟧.EXTENSIBLE };
+
+    const EXTENSIBLE: bool = false;
+
+    ghost row_schema = { ⟦<RangesRow as Components>⟧.schema };
+
+    ghost row_is_schema = { ⟦<RangesRow as Components>⟧.is_schema };
+
+    ghost components = { λ v. both v.single (both v.gaps (both v.common (both v.less tt))) };
+
+    fn from_row(row: Self::Values) -> Self {
+        built![RangesComponents from row:
+            single,
+            gaps,
+            common,
+            less
+        ]
+    }
+}
+
+impl Takes for RangesComponents {
+    ghost Refuses = { ⟦<RangesRow as Reads>⟧.Refuses };
+
+    #[inline(always)]
+    fn take(alloc: Global, decoder: &mut Decoder<'_>) -> Result<Self, DecodeError> {
+        read_row::<Self, RangesRow>(alloc, decoder)
+    }
+}
+
+impl Tabled<4, 0> for RangesComponents {
+    ghost use Rattle.std.specs.Prelude.{refl};
+
+    const FIELDS: Fields<4> = Fields {
+        fields: fields![
+            0 Required Context 0 "single",
+            1 Required Context 1 "gaps",
+            2 Required Context 2 "common",
+            3 Required Context 3 "less"
+        ],
+    };
+
+    const EXTENDED_FIELDS: Option<Fields<0>> = None;
+
+    fn root_fields() -> &'static [Field<'static>] {
+        Self::FIELDS.fields
+    }
+
+    fn addition_fields() -> &'static [Field<'static>] {
+        rows_of!(Self::EXTENDED_FIELDS)
+    }
+
+    #[inline(always)]
+    fn put(&self, encoder: &mut Encoder<'_>) -> Result<(), EncodeError> {
+        let view = views![self:
+            single,
+            gaps,
+            common,
+            less
+        ];
+        RangesRow::write(&view, encoder)
+    }
+
+    ghost counts = { (refl, refl) };
+}
 
 /// `Strings ::= SEQUENCE { blob OCTET STRING (SIZE(1..9, ...)), sizes OCTET STRING (SIZE(1 | 3)),
 /// content OCTET STRING (CONTAINING Named), letters PrintableString (FROM("A".."Z") ^ SIZE(2))
@@ -288,270 +598,3 @@ impl Tabled<7, 0> for LeavesComponents {
 
     ghost counts = { (refl, refl) };
 }
-
-/// `Reply ::= CHOICE { plain [0] BOOLEAN, other CHOICE { one [1] INTEGER (0..255), two [2] NULL,
-/// ..., more [4] BOOLEAN }, last [3] NULL }`
-pub type Reply = OneOf<ReplyAlternatives>;
-
-/// The alternatives of `Reply`.
-#[derive(Debug, PartialEq, Eq, Drop)]
-pub enum ReplyAlternatives {
-    Plain(bool),
-    OtherOne(u8),
-    OtherTwo(()),
-    Last(()),
-    OtherMore(bool),
-}
-
-type ReplyRow = Alternative<
-    Context<0>,
-    bool,
-    Alternative<
-        Context<1>,
-        u8,
-        Alternative<Context<2>, (), Alternative<Context<3>, (), Extensible<ReplyAdditions>>>,
-    >,
->;
-
-type ReplyAdditions = Alternative<Context<4>, bool, End>;
-
-const REPLY_ROOTS: &'static [Tag] = tags![Context 0, Context 1, Context 2, Context 3];
-
-const REPLY_ADDITIONS: &'static [Tag] = tags![Context 4];
-
-impl Alternating for ReplyAlternatives {
-    ghost use Rattle.std.specs.Prelude.{refl};
-    ghost use Rattle.rasn_oer.specs.Alternative.{First, Rest};
-    ghost use Rattle.example_printed.specs.declared.types_07.ReplyAlternatives.TheVariants.{Plain, OtherOne, OtherTwo, Last, OtherMore};
-
-    type Values = <ReplyRow as Alternatives>::Values;
-
-    ghost row_choices = { ⟦<ReplyRow as Alternatives>⟧.choices };
-
-    ghost row_are_choices = { ⟦<ReplyRow as Alternatives>⟧.are_choices };
-
-    ghost alternative = { elim [ Plain held ↦ First held | OtherOne held ↦ Rest (First held) | OtherTwo held ↦ Rest (Rest (First held)) | Last held ↦ Rest (Rest (Rest (First held))) | OtherMore held ↦ Rest (Rest (Rest (Rest (First held)))) ] };
-
-    const VARIANTS: &'static [Tag] = REPLY_ROOTS;
-
-    const EXTENDED_VARIANTS: Option<&'static [Tag]> = Some(REPLY_ADDITIONS);
-
-    fn root_tags() -> &'static [Tag] {
-        Self::VARIANTS
-    }
-
-    fn addition_tags() -> Option<&'static [Tag]> {
-        Self::EXTENDED_VARIANTS
-    }
-
-    fn from_alternative(value: Self::Values) -> Self {
-        from_row!(value => ReplyAlternatives: Plain, OtherOne, OtherTwo, Last, OtherMore)
-    }
-
-    #[inline(always)]
-    fn put<E: Choice>(&self, encoder: &mut Encoder<'_>) -> Result<(), EncodeError> {
-        match self {
-            Self::Plain(held) => put_alternative::<E, _>(encoder, Context::<0>::tag(), held),
-            Self::OtherOne(held) => put_alternative::<E, _>(encoder, Context::<1>::tag(), held),
-            Self::OtherTwo(held) => put_alternative::<E, _>(encoder, Context::<2>::tag(), held),
-            Self::Last(held) => put_alternative::<E, _>(encoder, Context::<3>::tag(), held),
-            Self::OtherMore(held) => put_alternative::<E, _>(encoder, Context::<4>::tag(), held),
-        }
-    }
-
-    ghost apart = { refl };
-}
-
-impl TakesAlternative for ReplyAlternatives {
-    ghost Refuses = { ⟦<ReplyRow as ReadsAlternatives>⟧.Refuses };
-
-    fn take<D: Choice>(
-        alloc: Global,
-        decoder: &mut Decoder<'_>,
-        tag: Tag,
-    ) -> Result<Self, DecodeError> {
-        read_alternative::<Self, ReplyRow, D>(alloc, decoder, tag)
-    }
-}
-
-/// `CHOICE { c [1] BOOLEAN, d [7] NULL }`
-pub type BothB = OneOf<BothBAlternatives>;
-
-/// The alternatives of `BothB`.
-#[derive(Debug, PartialEq, Eq, Drop)]
-pub enum BothBAlternatives {
-    C(bool),
-    D(()),
-}
-
-type BothBRow = Alternative<Context<1>, bool, Alternative<Context<7>, (), End>>;
-
-const BOTHB_ROOTS: &'static [Tag] = tags![Context 1, Context 7];
-
-impl Alternating for BothBAlternatives {
-    ghost use Rattle.std.specs.Prelude.{refl};
-    ghost use Rattle.rasn_oer.specs.Alternative.{First, Rest};
-    ghost use Rattle.example_printed.specs.declared.types_07.BothBAlternatives.TheVariants.{C, D};
-
-    type Values = <BothBRow as Alternatives>::Values;
-
-    ghost row_choices = { ⟦<BothBRow as Alternatives>⟧.choices };
-
-    ghost row_are_choices = { ⟦<BothBRow as Alternatives>⟧.are_choices };
-
-    ghost alternative = { elim [ C held ↦ First held | D held ↦ Rest (First held) ] };
-
-    const VARIANTS: &'static [Tag] = BOTHB_ROOTS;
-
-    const EXTENDED_VARIANTS: Option<&'static [Tag]> = None;
-
-    fn root_tags() -> &'static [Tag] {
-        Self::VARIANTS
-    }
-
-    fn addition_tags() -> Option<&'static [Tag]> {
-        Self::EXTENDED_VARIANTS
-    }
-
-    fn from_alternative(value: Self::Values) -> Self {
-        from_row!(value => BothBAlternatives: C, D)
-    }
-
-    #[inline(always)]
-    fn put<E: Choice>(&self, encoder: &mut Encoder<'_>) -> Result<(), EncodeError> {
-        match self {
-            Self::C(held) => put_alternative::<E, _>(encoder, Context::<1>::tag(), held),
-            Self::D(held) => put_alternative::<E, _>(encoder, Context::<7>::tag(), held),
-        }
-    }
-
-    ghost apart = { refl };
-}
-
-impl TakesAlternative for BothBAlternatives {
-    ghost Refuses = { ⟦<BothBRow as ReadsAlternatives>⟧.Refuses };
-
-    fn take<D: Choice>(
-        alloc: Global,
-        decoder: &mut Decoder<'_>,
-        tag: Tag,
-    ) -> Result<Self, DecodeError> {
-        read_alternative::<Self, BothBRow, D>(alloc, decoder, tag)
-    }
-}
-
-/// `Both ::= SET { a [5] INTEGER (0..255), b CHOICE { c [1] BOOLEAN, d [7] NULL }, e [0] NULL
-/// OPTIONAL }`
-pub type Both = Set<BothComponents, 3, 0>;
-
-pub use both_components::Both as BothComponents;
-
-mod both_components {
-    use super::*;
-
-    /// The components of `Both`.
-    #[derive(Debug, PartialEq, Eq, Drop)]
-    pub struct Both {
-        pub a: u8,
-        pub b: BothB,
-        pub e: Option<()>,
-    }
-}
-
-type BothRow = Optional<Context<0>, (), Required<Context<1>, BothB, Required<Context<5>, u8, End>>>;
-
-impl Rowed for BothComponents {
-    ghost use Rattle.rasn_oer.specs.Values.{both};
-
-    type Values = <BothRow as Components>::Values;
-
-    ghost EXTENSIBLE = { ⟦<BothRow as Components>⟧.EXTENSIBLE };
-
-    const EXTENSIBLE: bool = false;
-
-    ghost row_schema = { ⟦<BothRow as Components>⟧.schema };
-
-    ghost row_is_schema = { ⟦<BothRow as Components>⟧.is_schema };
-
-    ghost components = { λ v. both v.e (both v.b (both v.a tt)) };
-
-    fn from_row(row: Self::Values) -> Self {
-        built![BothComponents from row:
-            e,
-            b,
-            a
-        ]
-    }
-}
-
-impl Takes for BothComponents {
-    ghost Refuses = { ⟦<BothRow as Reads>⟧.Refuses };
-
-    #[inline(always)]
-    fn take(alloc: Global, decoder: &mut Decoder<'_>) -> Result<Self, DecodeError> {
-        read_row::<Self, BothRow>(alloc, decoder)
-    }
-}
-
-impl Tabled<3, 0> for BothComponents {
-    ghost use Rattle.std.specs.Prelude.{refl};
-
-    const FIELDS: Fields<3> = Fields {
-        fields: fields![
-            0 Optional Context 0 "e",
-            1 Required Context 1 "b",
-            2 Required Context 5 "a"
-        ],
-    };
-
-    const EXTENDED_FIELDS: Option<Fields<0>> = None;
-
-    fn root_fields() -> &'static [Field<'static>] {
-        Self::FIELDS.fields
-    }
-
-    fn addition_fields() -> &'static [Field<'static>] {
-        rows_of!(Self::EXTENDED_FIELDS)
-    }
-
-    #[inline(always)]
-    fn put(&self, encoder: &mut Encoder<'_>) -> Result<(), EncodeError> {
-        let view = views![self:
-            e,
-            b,
-            a
-        ];
-        BothRow::write(&view, encoder)
-    }
-
-    ghost counts = { (refl, refl) };
-}
-
-const BOTH_IN_TEXT_ORDER: &'static [Field<'static>] = fields![
-    0 Required Context 5 "a",
-    1 Required Context 1 "b",
-    2 Optional Context 0 "e"
-];
-
-impl TextOrder for BothComponents {
-    ghost use Rattle.std.specs.Prelude.{[], ◌∷◌};
-
-    ghost places = { 2 ∷ 1 ∷ 0 ∷ [] };
-}
-
-impl InTagOrder<3, 0> for BothComponents {
-    ghost use Rattle.std.specs.Prelude.{refl};
-
-    ghost in_order = { refl };
-
-    const SET_FIELDS: Fields<3> = Fields {
-        fields: BOTH_IN_TEXT_ORDER,
-    };
-
-    fn text_fields() -> &'static [Field<'static>] {
-        Self::SET_FIELDS.fields
-    }
-}
-
-/// `Marks ::= BIT STRING { urgent(0), sealed(1), read(9) }`
-pub type Marks = NamedBits;

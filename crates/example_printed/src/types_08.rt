@@ -1,8 +1,274 @@
 //! Types of ASN.1 modules, as oergen printed them.
 
-use crate::Marks;
 use rasn_oer::prelude::*;
 use std::alloc::{AllocError, Global};
+
+/// `Reply ::= CHOICE { plain [0] BOOLEAN, other CHOICE { one [1] INTEGER (0..255), two [2] NULL,
+/// ..., more [4] BOOLEAN }, last [3] NULL }`
+pub type Reply = OneOf<ReplyAlternatives>;
+
+/// The alternatives of `Reply`.
+#[derive(Debug, PartialEq, Eq, Drop)]
+pub enum ReplyAlternatives {
+    Plain(bool),
+    OtherOne(u8),
+    OtherTwo(()),
+    Last(()),
+    OtherMore(bool),
+}
+
+type ReplyRow = Alternative<
+    Context<0>,
+    bool,
+    Alternative<
+        Context<1>,
+        u8,
+        Alternative<Context<2>, (), Alternative<Context<3>, (), Extensible<ReplyAdditions>>>,
+    >,
+>;
+
+type ReplyAdditions = Alternative<Context<4>, bool, End>;
+
+const REPLY_ROOTS: &'static [Tag] = tags![Context 0, Context 1, Context 2, Context 3];
+
+const REPLY_ADDITIONS: &'static [Tag] = tags![Context 4];
+
+impl Alternating for ReplyAlternatives {
+    ghost use Rattle.std.specs.Prelude.{refl};
+    ghost use Rattle.rasn_oer.specs.Alternative.{First, Rest};
+    ghost use Rattle.example_printed.specs.declared.types_08.ReplyAlternatives.TheVariants.{Plain, OtherOne, OtherTwo, Last, OtherMore};
+
+    type Values = <ReplyRow as Alternatives>::Values;
+
+    ghost row_choices = { ⟦<ReplyRow as Alternatives>⟧.choices };
+
+    ghost row_are_choices = { ⟦<ReplyRow as Alternatives>⟧.are_choices };
+
+    ghost alternative = { elim [ Plain held ↦ First held | OtherOne held ↦ Rest (First held) | OtherTwo held ↦ Rest (Rest (First held)) | Last held ↦ Rest (Rest (Rest (First held))) | OtherMore held ↦ Rest (Rest (Rest (Rest (First held)))) ] };
+
+    const VARIANTS: &'static [Tag] = REPLY_ROOTS;
+
+    const EXTENDED_VARIANTS: Option<&'static [Tag]> = Some(REPLY_ADDITIONS);
+
+    fn root_tags() -> &'static [Tag] {
+        Self::VARIANTS
+    }
+
+    fn addition_tags() -> Option<&'static [Tag]> {
+        Self::EXTENDED_VARIANTS
+    }
+
+    fn from_alternative(value: Self::Values) -> Self {
+        from_row!(value => ReplyAlternatives: Plain, OtherOne, OtherTwo, Last, OtherMore)
+    }
+
+    #[inline(always)]
+    fn put<E: Choice>(&self, encoder: &mut Encoder<'_>) -> Result<(), EncodeError> {
+        match self {
+            Self::Plain(held) => put_alternative::<E, _>(encoder, Context::<0>::tag(), held),
+            Self::OtherOne(held) => put_alternative::<E, _>(encoder, Context::<1>::tag(), held),
+            Self::OtherTwo(held) => put_alternative::<E, _>(encoder, Context::<2>::tag(), held),
+            Self::Last(held) => put_alternative::<E, _>(encoder, Context::<3>::tag(), held),
+            Self::OtherMore(held) => put_alternative::<E, _>(encoder, Context::<4>::tag(), held),
+        }
+    }
+
+    ghost apart = { refl };
+}
+
+impl TakesAlternative for ReplyAlternatives {
+    ghost Refuses = { ⟦<ReplyRow as ReadsAlternatives>⟧.Refuses };
+
+    fn take<D: Choice>(
+        alloc: Global,
+        decoder: &mut Decoder<'_>,
+        tag: Tag,
+    ) -> Result<Self, DecodeError> {
+        read_alternative::<Self, ReplyRow, D>(alloc, decoder, tag)
+    }
+}
+
+/// `CHOICE { c [1] BOOLEAN, d [7] NULL }`
+pub type BothB = OneOf<BothBAlternatives>;
+
+/// The alternatives of `BothB`.
+#[derive(Debug, PartialEq, Eq, Drop)]
+pub enum BothBAlternatives {
+    C(bool),
+    D(()),
+}
+
+type BothBRow = Alternative<Context<1>, bool, Alternative<Context<7>, (), End>>;
+
+const BOTHB_ROOTS: &'static [Tag] = tags![Context 1, Context 7];
+
+impl Alternating for BothBAlternatives {
+    ghost use Rattle.std.specs.Prelude.{refl};
+    ghost use Rattle.rasn_oer.specs.Alternative.{First, Rest};
+    ghost use Rattle.example_printed.specs.declared.types_08.BothBAlternatives.TheVariants.{C, D};
+
+    type Values = <BothBRow as Alternatives>::Values;
+
+    ghost row_choices = { ⟦<BothBRow as Alternatives>⟧.choices };
+
+    ghost row_are_choices = { ⟦<BothBRow as Alternatives>⟧.are_choices };
+
+    ghost alternative = { elim [ C held ↦ First held | D held ↦ Rest (First held) ] };
+
+    const VARIANTS: &'static [Tag] = BOTHB_ROOTS;
+
+    const EXTENDED_VARIANTS: Option<&'static [Tag]> = None;
+
+    fn root_tags() -> &'static [Tag] {
+        Self::VARIANTS
+    }
+
+    fn addition_tags() -> Option<&'static [Tag]> {
+        Self::EXTENDED_VARIANTS
+    }
+
+    fn from_alternative(value: Self::Values) -> Self {
+        from_row!(value => BothBAlternatives: C, D)
+    }
+
+    #[inline(always)]
+    fn put<E: Choice>(&self, encoder: &mut Encoder<'_>) -> Result<(), EncodeError> {
+        match self {
+            Self::C(held) => put_alternative::<E, _>(encoder, Context::<1>::tag(), held),
+            Self::D(held) => put_alternative::<E, _>(encoder, Context::<7>::tag(), held),
+        }
+    }
+
+    ghost apart = { refl };
+}
+
+impl TakesAlternative for BothBAlternatives {
+    ghost Refuses = { ⟦<BothBRow as ReadsAlternatives>⟧.Refuses };
+
+    fn take<D: Choice>(
+        alloc: Global,
+        decoder: &mut Decoder<'_>,
+        tag: Tag,
+    ) -> Result<Self, DecodeError> {
+        read_alternative::<Self, BothBRow, D>(alloc, decoder, tag)
+    }
+}
+
+/// `Both ::= SET { a [5] INTEGER (0..255), b CHOICE { c [1] BOOLEAN, d [7] NULL }, e [0] NULL
+/// OPTIONAL }`
+pub type Both = Set<BothComponents, 3, 0>;
+
+pub use both_components::Both as BothComponents;
+
+mod both_components {
+    use super::*;
+
+    /// The components of `Both`.
+    #[derive(Debug, PartialEq, Eq, Drop)]
+    pub struct Both {
+        pub a: u8,
+        pub b: BothB,
+        pub e: Option<()>,
+    }
+}
+
+type BothRow = Optional<Context<0>, (), Required<Context<1>, BothB, Required<Context<5>, u8, End>>>;
+
+impl Rowed for BothComponents {
+    ghost use Rattle.rasn_oer.specs.Values.{both};
+
+    type Values = <BothRow as Components>::Values;
+
+    ghost EXTENSIBLE = { ⟦<BothRow as Components>⟧.EXTENSIBLE };
+
+    const EXTENSIBLE: bool = false;
+
+    ghost row_schema = { ⟦<BothRow as Components>⟧.schema };
+
+    ghost row_is_schema = { ⟦<BothRow as Components>⟧.is_schema };
+
+    ghost components = { λ v. both v.e (both v.b (both v.a tt)) };
+
+    fn from_row(row: Self::Values) -> Self {
+        built![BothComponents from row:
+            e,
+            b,
+            a
+        ]
+    }
+}
+
+impl Takes for BothComponents {
+    ghost Refuses = { ⟦<BothRow as Reads>⟧.Refuses };
+
+    #[inline(always)]
+    fn take(alloc: Global, decoder: &mut Decoder<'_>) -> Result<Self, DecodeError> {
+        read_row::<Self, BothRow>(alloc, decoder)
+    }
+}
+
+impl Tabled<3, 0> for BothComponents {
+    ghost use Rattle.std.specs.Prelude.{refl};
+
+    const FIELDS: Fields<3> = Fields {
+        fields: fields![
+            0 Optional Context 0 "e",
+            1 Required Context 1 "b",
+            2 Required Context 5 "a"
+        ],
+    };
+
+    const EXTENDED_FIELDS: Option<Fields<0>> = None;
+
+    fn root_fields() -> &'static [Field<'static>] {
+        Self::FIELDS.fields
+    }
+
+    fn addition_fields() -> &'static [Field<'static>] {
+        rows_of!(Self::EXTENDED_FIELDS)
+    }
+
+    #[inline(always)]
+    fn put(&self, encoder: &mut Encoder<'_>) -> Result<(), EncodeError> {
+        let view = views![self:
+            e,
+            b,
+            a
+        ];
+        BothRow::write(&view, encoder)
+    }
+
+    ghost counts = { (refl, refl) };
+}
+
+const BOTH_IN_TEXT_ORDER: &'static [Field<'static>] = fields![
+    0 Required Context 5 "a",
+    1 Required Context 1 "b",
+    2 Optional Context 0 "e"
+];
+
+impl TextOrder for BothComponents {
+    ghost use Rattle.std.specs.Prelude.{[], ◌∷◌};
+
+    ghost places = { 2 ∷ 1 ∷ 0 ∷ [] };
+}
+
+impl InTagOrder<3, 0> for BothComponents {
+    ghost use Rattle.std.specs.Prelude.{refl};
+
+    ghost in_order = { refl };
+
+    const SET_FIELDS: Fields<3> = Fields {
+        fields: BOTH_IN_TEXT_ORDER,
+    };
+
+    fn text_fields() -> &'static [Field<'static>] {
+        Self::SET_FIELDS.fields
+    }
+}
+
+/// `Marks ::= BIT STRING { urgent(0), sealed(1), read(9) }`
+pub type Marks = NamedBits;
 
 /// The default '1000'B of `CardUsual`.
 pub struct CardUsualDefault;
@@ -226,127 +492,4 @@ impl TakesAlternative for TitleAlternatives {
     ) -> Result<Self, DecodeError> {
         read_alternative::<Self, TitleRow, D>(alloc, decoder, tag)
     }
-}
-
-/// The default "é😀" of `PersonMark`.
-pub struct PersonMarkDefault;
-
-impl DefaultValue<UniversalText> for PersonMarkDefault {
-    ghost use Rattle.std.specs.Prelude.{◌∷◌, [], refl};
-    ghost use Rattle.rasn_oer.specs.Literals.{written};
-    ghost use Rattle.rasn_oer.specs.Texts as texts;
-
-    ghost value = { record { 0 = (0 ∷ 0 ∷ 0 ∷ 233 ∷ 0 ∷ 1 ∷ 246 ∷ 0 ∷ []) } };
-
-    fn value(alloc: Global) -> Result<UniversalText, AllocError> {
-        let octets: [u8; 8] = [0x00, 0x00, 0x00, 0xE9, 0x00, 0x01, 0xF6, 0x00];
-        universal_from(alloc, &octets)
-    }
-
-    fn is_value(other: &UniversalText) -> bool {
-        let octets: [u8; 8] = [0x00, 0x00, 0x00, 0xE9, 0x00, 0x01, 0xF6, 0x00];
-        other.0.as_bytes() == octets.as_slice()
-    }
-
-    ghost admitted = { written texts.Universal (0 ∷ 0 ∷ 0 ∷ 233 ∷ 0 ∷ 1 ∷ 246 ∷ 0 ∷ []) refl (2, refl) };
-}
-
-/// `Person ::= SEQUENCE { title Title, country UniversalString (SIZE(2)), mark UniversalString (SIZE(1..2))
-/// DEFAULT "é😀" }`
-pub type Person = Sequence<PersonComponents, 3, 0>;
-
-pub use person_components::Person as PersonComponents;
-
-mod person_components {
-    use super::*;
-
-    /// The components of `Person`.
-    #[derive(Debug, PartialEq, Eq, Drop)]
-    pub struct Person {
-        pub title: Title,
-        pub country: Limited<UniversalText, FixedSize<2>>,
-        pub mark: Limited<UniversalText, SizeBetween<1, 2>>,
-    }
-}
-
-type PersonRow = Required<
-    Context<0>,
-    Title,
-    Required<
-        Context<1>,
-        Limited<UniversalText, FixedSize<2>>,
-        Defaulted<
-            Context<2>,
-            Limited<UniversalText, SizeBetween<1, 2>>,
-            Within<PersonMarkDefault>,
-            End,
-        >,
-    >,
->;
-
-impl Rowed for PersonComponents {
-    ghost use Rattle.rasn_oer.specs.Values.{both};
-
-    type Values = <PersonRow as Components>::Values;
-
-    ghost EXTENSIBLE = { ⟦<PersonRow as Components>⟧.EXTENSIBLE };
-
-    const EXTENSIBLE: bool = false;
-
-    ghost row_schema = { ⟦<PersonRow as Components>⟧.schema };
-
-    ghost row_is_schema = { ⟦<PersonRow as Components>⟧.is_schema };
-
-    ghost components = { λ v. both v.title (both v.country (both v.mark tt)) };
-
-    fn from_row(row: Self::Values) -> Self {
-        built![PersonComponents from row:
-            title,
-            country,
-            mark
-        ]
-    }
-}
-
-impl Takes for PersonComponents {
-    ghost Refuses = { ⟦<PersonRow as Reads>⟧.Refuses };
-
-    #[inline(always)]
-    fn take(alloc: Global, decoder: &mut Decoder<'_>) -> Result<Self, DecodeError> {
-        read_row::<Self, PersonRow>(alloc, decoder)
-    }
-}
-
-impl Tabled<3, 0> for PersonComponents {
-    ghost use Rattle.std.specs.Prelude.{refl};
-
-    const FIELDS: Fields<3> = Fields {
-        fields: fields![
-            0 Required Context 0 "title",
-            1 Required Context 1 "country",
-            2 Default Context 2 "mark"
-        ],
-    };
-
-    const EXTENDED_FIELDS: Option<Fields<0>> = None;
-
-    fn root_fields() -> &'static [Field<'static>] {
-        Self::FIELDS.fields
-    }
-
-    fn addition_fields() -> &'static [Field<'static>] {
-        rows_of!(Self::EXTENDED_FIELDS)
-    }
-
-    #[inline(always)]
-    fn put(&self, encoder: &mut Encoder<'_>) -> Result<(), EncodeError> {
-        let view = views![self:
-            title,
-            country,
-            mark
-        ];
-        PersonRow::write(&view, encoder)
-    }
-
-    ghost counts = { (refl, refl) };
 }

@@ -35,11 +35,11 @@ no_choice_is = record { is = λ v i. absurd i; held = λ v i. absurd i; like = �
 
 -- ---- an alternative, before others
 
-either_true : (a b : Bool) → b ≡ true → (a || b) ≡ true
+pub either_true : (a b : Bool) → b ≡ true → (a || b) ≡ true
 either_true true b e = refl
 either_true false b e = e
 
-first_true : (a b : Bool) → a ≡ true → (a || b) ≡ true
+pub first_true : (a b : Bool) → a ≡ true → (a || b) ≡ true
 first_true true b e = refl
 first_true false b e = absurd (cc e)
 
@@ -176,7 +176,7 @@ holds_same : (x g : Tag) → same_tag x g ≡ true → (ys : List Tag) → holds
 holds_same x g e [] = refl
 holds_same x g e (y ∷ ys) = let a = same_of_same x g y e in let b = holds_same x g e ys in λ i. a i || b i
 
-times_once : (gs : List Tag) (g : Tag) → AreDistinct gs → holds gs g ≡ true → times_held gs g ≡ 1
+pub times_once : (gs : List Tag) (g : Tag) → AreDistinct gs → holds gs g ≡ true → times_held gs g ≡ 1
 times_once [] g d h = absurd (cc h)
 times_once (x ∷ xs) g (n, d) h = go (times_once xs g d) (same_tag x g) refl h
   where

@@ -1,5 +1,6 @@
 -- Why an alternative was not read.
-use Rattle.std.specs.Prelude.{◌≡◌, Bool, Result, Err}
+use Rattle.std.specs.Prelude.{◌≡◌, Bool, true, false, List, Result, Err}
+use Rattle.asn1_core.specs.Tags.{holds}
 use Rattle.asn1_core.specs.declared.error.DecodeError.{DecodeError}
 use Rattle.asn1_core.specs.declared.error.DecodeErrorKind.TheVariants.{InvalidTagVariantOnChoice}
 use Rattle.asn1_core.specs.declared.tag.Tag.{Tag}
@@ -13,3 +14,8 @@ NoAlternative g s e = (extensible : Bool) × (e ≡ record { kind = InvalidTagVa
 pub data AlternativeRefused {B : Type 0} (tag : Tag) (Answered : State → Result B DecodeError → State → Type 0) (Others : Tag → State → DecodeError → Type 0) (g : Tag) (s : State) (e : DecodeError) : Type 0 where
   First : tag ≡ g → (t : State) → Answered s (Err e) t → AlternativeRefused tag Answered Others g s e
   Other : (tag ≡ g → ⊥) → Others g s e → AlternativeRefused tag Answered Others g s e
+
+-- The tag is one of those, and the row that has them refused; or it isn't, and the other row refused.
+pub data HalfRefused (tags : List Tag) (Those Others : Tag → State → DecodeError → Type 0) (g : Tag) (s : State) (e : DecodeError) : Type 0 where
+  Here : holds tags g ≡ true → Those g s e → HalfRefused tags Those Others g s e
+  There : holds tags g ≡ false → Others g s e → HalfRefused tags Those Others g s e

@@ -11,10 +11,10 @@ use std::alloc::Global;
 use std::convert::Infallible;
 use std::marker::PhantomData;
 
-/// A value of the first alternative of a row, or of one of the others.
+/// A value of the first alternative of a row, or of one of the others; of a row of parts one of its first part, or of the others.
 #[derive(Debug, PartialEq, Eq, Drop)]
 pub enum Either<B, R> {
-    /// What the first alternative holds.
+    /// What the first alternative holds, or a value of the first part.
     First(B),
     /// A value of the row behind it.
     Rest(R),

@@ -127,6 +127,15 @@ fn camel_of(alloc: Global, owner: &str, name: &str) -> Text {
     out
 }
 
+/// A type's name with a component's behind it, and the `_` that tell its Rust name from another's.
+fn own_name(alloc: Global, owner: &str, part: &Part<'_>) -> Text {
+    let mut out = camel_of(alloc, owner, part.name.as_str());
+    let rust = part.rust_name.as_str();
+    let marks = rust.len().saturating_sub(rust.trim_end_matches('_').len());
+    out.push_times("_", marks);
+    out
+}
+
 /// The name of a variant: as a type's, with `R` in front of one of those words.
 pub fn variant_name(alloc: Global, name: &str, kept: &str) -> Text {
     let own = camel_of(alloc, "", name);
@@ -224,9 +233,7 @@ fn made_cell(
     }
     cell.entry.push(presence);
     push_tag(&mut cell.entry, tag, " ", "");
-    if place == Place::Alternative {
-        cell.camel = alternative_name(alloc, name);
-    } else {
+    if place != Place::Alternative {
         cell.camel.push_type_name(name);
         cell.entry.push_all(&[" \"", name, "\""]);
     }
@@ -244,7 +251,7 @@ pub fn cell_of<'m>(
     place: Place,
 ) -> Result<Cell, Refusal> {
     let name = part.name.as_str();
-    let own = camel_of(scope.alloc, owner, name).end()?;
+    let own = own_name(scope.alloc, owner, part).end()?;
     let rust = push_shape(scope, all, out, own.as_str(), part, row)?;
     let default = push_own_default(scope, all, out, own.as_str(), row, rust.as_str())?;
     let names = (name, part.rust_name.as_str());
@@ -274,7 +281,13 @@ pub fn group_cell(
     cell.end()
 }
 
-/// The name of an alternative's variant.
-pub fn alternative_name(alloc: Global, name: &str) -> Text {
-    variant_name(alloc, name, "Self First Rest")
+/// The cell of a part of a CHOICE's alternatives, by their cells and its name.
+pub fn part_cell(alloc: Global, cells: &[Cell], name: &Text) -> Result<Cell, AllocError> {
+    let mut cell = Cell::new(alloc, "Part");
+    if let Some(first) = cells.first() {
+        cell.field.push_text(&first.field);
+        cell.camel.push_text(&first.camel);
+    }
+    cell.arguments.push_text(name);
+    cell.end()
 }

@@ -11,6 +11,12 @@ const CELLS: usize = 5;
 /// How many characters a line has at most.
 const WIDTH: usize = 100;
 
+/// How many alternatives a row has at most that isn't one of parts.
+pub const FLAT: usize = 24;
+
+/// How many alternatives a part has.
+pub const PART: usize = 16;
+
 /// The row of a type: its cells, those of the root first, and whether it is extensible.
 #[derive(Clone, Copy)]
 pub struct Chain<'c> {
@@ -64,6 +70,21 @@ impl<'c> Chain<'c> {
     /// The cells of the additions.
     pub fn additions(&self) -> &'c [Cell] {
         self.cells.get(self.root_count..).unwrap_or(&[])
+    }
+
+    /// Whether the row is one of parts: that of a CHOICE of many alternatives.
+    pub fn has_parts(&self) -> bool {
+        self.is_choice && self.cells.len() > FLAT
+    }
+
+    /// How many parts stand in front of the one with a cell, and how many cells in front of it in its part: those of the root and those of
+    /// the additions have parts of their own.
+    pub fn place(&self, at: usize) -> (usize, usize) {
+        let roots = self.roots().chunks(PART).len();
+        match at.checked_sub(self.root_count) {
+            Some(addition) => (roots.saturating_add(addition / PART), addition % PART),
+            None => (at / PART, at % PART),
+        }
     }
 }
 
@@ -142,9 +163,9 @@ fn push_doc(out: &mut Text, of: Chain<'_>, cells: &[Cell]) {
 
 /// Cells of a row: the place of the first, and the one behind the last.
 #[derive(Clone, Copy)]
-struct Span {
-    from: usize,
-    to: usize,
+pub struct Span {
+    pub from: usize,
+    pub to: usize,
 }
 
 /// The name of the alias that begins at a place of a span; where the span begins or ends there, another.
@@ -180,7 +201,7 @@ fn push_piece(out: &mut Text, of: Chain<'_>, name: &Text, cells: &[Cell], end: &
 }
 
 /// Prints cells in aliases of few, of which the first is named, with `end` behind the last cell.
-fn push_aliases(out: &mut Text, of: Chain<'_>, span: Span, first: &Text, end: &Text) {
+pub fn push_aliases(out: &mut Text, of: Chain<'_>, span: Span, first: &Text, end: &Text) {
     let alloc = out.alloc();
     let cells = of.cells.get(span.from..span.to).unwrap_or(&[]);
     if cells.is_empty() {

@@ -1,11 +1,13 @@
 //! A CHOICE: its enum, its row, its tags and its conversions.
 
-use crate::cells::{Cell, Place, alternative_name, cell_of, see_name};
-use crate::chains::{Chain, push_row};
+use crate::cells::{Cell, Place, cell_of};
+use crate::chains::{Chain, FLAT, push_row};
 use crate::kept::choice_holder;
 use crate::knot_templates::KNOT_ALTERNATING;
 use crate::knots::{knot_name, owner_words};
 use crate::objects::objects_of;
+use crate::part_names::{require_identifiers, variant_names};
+use crate::parts::{push_case, push_part_names, push_part_uses, push_parts};
 use crate::templates::{CHOICE, CHOICE_IMPLS, PUT_ANSWER};
 use crate::text::{Text, Words};
 use oergen_layouts::definitions::Definition;
@@ -13,14 +15,14 @@ use oergen_layouts::rows::Position;
 use oergen_layouts::scope::Scope;
 use oergen_parse::ast::Body;
 use oergen_parse::refusal::Refusal;
-use std::alloc::Global;
-use std::collections::BTreeMap;
+use std::alloc::{AllocError, Global};
 
-/// How many alternatives a printed CHOICE has at most.
-const MAX_ALTERNATIVES: usize = 24;
+/// How many alternatives a printed CHOICE has at most: past some more the language doesn't cover a derived `==`.
+const MAX_ALTERNATIVES: usize = 100;
 
 /// What can be read where a CHOICE has too many alternatives, or none.
-pub const ALTERNATIVES: &str = "a CHOICE of 1 to 24 alternatives: others aren't printed yet";
+pub const ALTERNATIVES: &str =
+    "a CHOICE of 1 to 100 alternatives, in a cycle to 24: others aren't printed yet";
 
 /// Of how many alternatives of a CHOICE in a cycle the prover finds itself how `put` writes them: the tenth it doesn't.
 const MAX_FOUND: usize = 9;
@@ -66,16 +68,17 @@ fn push_names(out: &mut Text, cells: &[Cell], between: &str, behind: &str) {
 }
 
 /// What each variant is in the row.
-fn push_cases(out: &mut Text, cells: &[Cell]) {
-    for (at, cell) in cells.iter().enumerate() {
-        out.push_all(&[
-            if at == 0 { "" } else { " | " },
-            cell.camel.as_str(),
-            " held ↦ ",
-        ]);
-        out.push_times("Rest (", at);
-        out.push("First held");
-        out.push_times(")", at);
+fn push_cases(out: &mut Text, of: Chain<'_>) {
+    for (at, cell) in of.cells.iter().enumerate() {
+        let front = if at == 0 { "" } else { " | " };
+        out.push_all(&[front, cell.camel.as_str(), " held ↦ "]);
+        if of.has_parts() {
+            push_case(out, of, at);
+        } else {
+            out.push_times("Rest (", at);
+            out.push("First held");
+            out.push_times(")", at);
+        }
     }
 }
 
@@ -120,7 +123,15 @@ fn words_of(alloc: Global, doc: &str, of: Chain<'_>) -> Words {
     words.put("HOLDER", choice_holder(of.keeps_unknown));
     push_variants(words.begin("VARIANTS"), of.cells);
     push_names(words.begin("LIST"), of.cells, ", ", "");
-    push_cases(words.begin("CASES"), of.cells);
+    if of.has_parts() {
+        words.put("FROM", "from_parts!");
+        push_part_names(words.begin("NAMES"), of);
+    } else {
+        words.put("FROM", "from_row!");
+        push_names(words.begin("NAMES"), of.cells, ", ", "");
+    }
+    push_part_uses(words.begin("PARTS"), of);
+    push_cases(words.begin("CASES"), of);
     push_puts(words.begin("PUTS"), of.cells);
     push_names(words.begin("WEIGHED"), of.cells, " | ", " held ↦ refl");
     push_table_name(words.begin("ROOTS"), of.owner, "ROOTS");
@@ -130,10 +141,19 @@ fn words_of(alloc: Global, doc: &str, of: Chain<'_>) -> Words {
 }
 
 /// Prints a CHOICE by its cells.
-fn push_alternatives(alloc: Global, out: &mut Text, doc: &str, of: Chain<'_>) {
+fn push_alternatives(
+    alloc: Global,
+    out: &mut Text,
+    doc: &str,
+    of: Chain<'_>,
+) -> Result<(), AllocError> {
     let words = words_of(alloc, doc, of);
     out.fill(CHOICE, &words);
-    push_row(alloc, out, of);
+    if of.has_parts() {
+        push_parts(out, of)?;
+    } else {
+        push_row(alloc, out, of);
+    }
     push_constant(out, of.owner, "ROOTS", of.roots());
     if of.is_extensible {
         push_constant(out, of.owner, "ADDITIONS", of.additions());
@@ -147,6 +167,7 @@ fn push_alternatives(alloc: Global, out: &mut Text, doc: &str, of: Chain<'_>) {
         &words,
     );
     out.fill(CHOICE_IMPLS, &words);
+    Ok(())
 }
 
 /// Puts the cells of the root alternatives, or of the others, behind others.
@@ -159,24 +180,15 @@ pub fn push_cells<'m>(
     cells: &mut Vec<Cell>,
 ) -> Result<(), Refusal> {
     let owner = definition.rust_name.as_str();
-    for part in definition.parts.iter() {
+    let names = variant_names(scope.alloc, definition.parts.as_slice())?;
+    for (part, name) in definition.parts.iter().zip(names.iter()) {
         if let Some(row) = part.row {
             if (row.position == Position::Root) == are_roots {
-                cells.push(cell_of(scope, all, out, owner, part, row, Place::Alternative)?)?;
+                let mut cell = cell_of(scope, all, out, owner, part, row, Place::Alternative)?;
+                cell.camel = Text::of(scope.alloc, &[name.as_str()]);
+                cells.push(cell)?;
             }
         }
-    }
-    Ok(())
-}
-
-/// Refuses two alternatives whose variants have one name.
-fn require_names<'m>(scope: Scope<'m, '_>, definition: &Definition<'m>) -> Result<(), Refusal> {
-    const READS: &str = "alternatives whose Rust names differ";
-    let mut seen = BTreeMap::new(scope.alloc);
-    for part in definition.parts.iter() {
-        let name = alternative_name(scope.alloc, part.name.as_str()).end()?;
-        let named = (name, part.name.as_str());
-        see_name(scope, &mut seen, named, definition.of.first, READS)?;
     }
     Ok(())
 }
@@ -190,24 +202,29 @@ pub fn push_choice<'m>(
     doc: &str,
 ) -> Result<(), Refusal> {
     let alloc = scope.alloc;
-    if definition.parts.is_empty() || definition.parts.len() > MAX_ALTERNATIVES {
+    let knot = knot_name(all, definition);
+    let most = if knot.is_some() {
+        FLAT
+    } else {
+        MAX_ALTERNATIVES
+    };
+    if definition.parts.is_empty() || definition.parts.len() > most {
         return Err(scope.refused(definition.of.first, ALTERNATIVES));
     }
+    require_identifiers(scope, definition.parts.as_slice())?;
     let mut cells = Vec::new(alloc);
     push_cells(scope, all, out, definition, true, &mut cells)?;
     let root_count = cells.len();
     push_cells(scope, all, out, definition, false, &mut cells)?;
-    require_names(scope, definition)?;
     let of = Chain {
         root_count,
         is_extensible: definition.is_extensible,
         is_choice: true,
-        knot: knot_name(all, definition),
+        knot,
         keeps_unknown: definition.keeps_unknown,
         ..Chain::of(definition.rust_name.as_str(), cells.as_slice())
     };
-    push_alternatives(alloc, out, doc, of);
-    Ok(())
+    Ok(push_alternatives(alloc, out, doc, of)?)
 }
 
 /// What the prover is told of `put` of a CHOICE: how each variant is written. Nothing of a single one, of the first ones in a cycle, where
@@ -216,21 +233,21 @@ pub fn answers_of(
     scope: Scope<'_, '_>,
     all: &[Definition<'_>],
     definition: &Definition<'_>,
-) -> Text {
+) -> Result<Text, AllocError> {
     let alloc = scope.alloc;
     let mut out = Text::new(alloc);
     let is_choice = matches!(definition.of.body, Body::Choice(_));
     let is_set = objects_of(scope, definition).is_some();
     if !is_choice || is_set || definition.parts.len() < 2 {
-        return out;
+        return Ok(out);
     }
     let found = if knot_name(all, definition).is_some() {
         MAX_FOUND
     } else {
         0
     };
-    for (at, part) in definition.parts.iter().enumerate().skip(found) {
-        let name = alternative_name(alloc, part.name.as_str());
+    let names = variant_names(alloc, definition.parts.as_slice())?;
+    for (at, name) in names.iter().enumerate().skip(found) {
         let mut words = Words::new(alloc);
         words.put("VARIANT", name.as_str());
         let within = words.begin("IN");
@@ -238,7 +255,6 @@ pub fn answers_of(
             within.push_all(&["-in-", name.as_str()]);
         }
         out.fill(PUT_ANSWER, &words);
-        out.heed(&name);
     }
-    out
+    Ok(out)
 }

@@ -1,5 +1,6 @@
 //! How deep the structs, enums, tuples and references of printed types stand in one another: the language refuses more than 64.
 
+use crate::chains::{FLAT, PART};
 use crate::choices::ALTERNATIVES;
 use crate::sequences::{in_text_order, root_places};
 use crate::shapes::{drops_zeros, number_of_octets, sizes_of};
@@ -82,11 +83,15 @@ impl Row {
 
     /// The row with a further cell: each is a pair with those behind it.
     fn with(self, field: usize) -> Row {
-        let count = self.count.saturating_add(1);
-        let within = count.saturating_add(VIEW).saturating_add(field);
+        self.at(self.count.saturating_add(1), field)
+    }
+
+    /// The row with a cell so deep in it.
+    fn at(self, level: usize, field: usize) -> Row {
+        let within = level.saturating_add(VIEW).saturating_add(field);
         Row {
-            count,
-            most: self.most.max(count),
+            count: level,
+            most: self.most.max(level),
             own: self.own.max(field),
             within: self.within.max(within),
         }
@@ -264,10 +269,21 @@ fn choice_depth<'m>(
     if definition.keeps_unknown {
         row.own = KEPT;
     }
-    for part in definition.parts.iter() {
-        row = row.with(field_depth(scope, depths, part, false)?);
+    let has_parts = definition.parts.len() > FLAT;
+    for (at, part) in definition.parts.iter().enumerate() {
+        let field = field_depth(scope, depths, part, false)?;
+        row = if has_parts {
+            row.at(part_level(at), field)
+        } else {
+            row.with(field)
+        };
     }
     Ok(row.depth())
+}
+
+/// How deep an alternative stands at most in a row of parts, of which the last one of the root may not be full: a part is an enum too.
+fn part_level(at: usize) -> usize {
+    (at / PART).saturating_add(at % PART).saturating_add(4)
 }
 
 /// The depth of a name for a type, for a list or for a type without parts.
@@ -379,7 +395,7 @@ fn require_lists<'m>(
 }
 
 /// What can be read where a type has too many cells.
-fn few_of(definition: &Definition<'_>) -> &'static str {
+fn limit_of(definition: &Definition<'_>) -> &'static str {
     if matches!(definition.of.body, Body::Choice(_)) {
         ALTERNATIVES
     } else {
@@ -397,7 +413,7 @@ pub fn require_depth<'m>(
     require_lists(scope, all, definition)?;
     match depth {
         Some(depth) if depth.cells > MAX_CELLS => {
-            Err(scope.refused(definition.of.first, few_of(definition)))
+            Err(scope.refused(definition.of.first, limit_of(definition)))
         }
         Some(depth) if depth.within > MAX_DEPTH => Err(scope.refused(
             definition.of.first,

@@ -27,7 +27,7 @@ struct Variant {
 const READS: &str = "a value whose name no other has, and a number of 64 bits";
 
 /// The names of the variants of values, in their order: behind one that a value before has stands a `_`.
-fn names_of(scope: Scope<'_, '_>, items: &[Numbered]) -> Result<Vec<String>, AllocError> {
+fn value_names(scope: Scope<'_, '_>, items: &[Numbered]) -> Result<Vec<String>, AllocError> {
     let mut taken = BTreeMap::new(scope.alloc);
     let mut names = Vec::new(scope.alloc);
     for item in items.iter() {
@@ -43,7 +43,7 @@ pub fn value_name(
     items: &[Numbered],
     text: &str,
 ) -> Result<String, AllocError> {
-    let names = names_of(scope, items)?;
+    let names = value_names(scope, items)?;
     for (item, name) in items.iter().zip(names.iter()) {
         if scope.text(item.name) == text {
             return name.clone();
@@ -60,7 +60,7 @@ fn variants_of(
 ) -> Result<Vec<Variant>, Refusal> {
     let mut seen = BTreeMap::new(scope.alloc);
     let mut variants = Vec::new(scope.alloc);
-    let names = names_of(scope, items)?;
+    let names = value_names(scope, items)?;
     for ((id, number), name) in numbers.iter().zip(names.iter()) {
         if i64::try_from(*number).is_err() {
             return Err(scope.refused(*id, READS));

@@ -8,6 +8,7 @@ use crate::kept::{KEPT_LIBRARY, keep_unknown, use_kept};
 use crate::knot_files::{has_knots, push_definition_names, push_proof_files};
 use crate::knot_templates::KNOT_USES;
 use crate::outputs::{File, push_placed};
+use crate::part_names::free_parts;
 use crate::printer::{LeftOut, Outcome, Printed, free_names, print_types};
 use crate::sections::{Section, sections, types_of};
 use crate::sizes::hold_large;
@@ -465,6 +466,7 @@ fn crates_of_scope(scope: Scope<'_, '_>, wish: Wish<'_>) -> Result<Output, Refus
     if wish.keeps_unknown {
         keep_unknown(&mut all);
     }
+    free_parts(scope.alloc, &mut all)?;
     free_names(scope, &mut all)?;
     let (types, order) = (all.as_slice(), order.as_slice());
     let outcome = print_types(scope, types, order, wish.leaves_out, wish.clones)?;

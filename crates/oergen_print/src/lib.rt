@@ -25,6 +25,8 @@ pub mod notation;
 pub mod notes;
 pub mod objects;
 pub mod outputs;
+pub mod part_names;
+pub mod parts;
 pub mod printer;
 pub mod sections;
 pub mod sequences;

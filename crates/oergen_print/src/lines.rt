@@ -21,6 +21,7 @@ fn is_free(line: &str) -> bool {
         || text.starts_with("ensures ")
         || text.starts_with("tags!")
         || text.starts_with("from_row!")
+        || text.starts_with("from_parts!")
 }
 
 /// Whether a line is too long.

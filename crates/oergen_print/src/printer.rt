@@ -42,7 +42,7 @@ reads readsadditions readsalternatives readsknot readsknotalternatives required 
 schemed sequence set tabled takes takesalternative takesknot takesknotalternative textorder universal views writes \
 octets openoctets bmptext generaltext graphictext ia5text numerictext printabletext teletextext universaltext utf8text visibletext \
 within equalasspelled spelled encode encoder bare isemptylist utf8_from are_bits bits_from bmp_from universal_from built fields \
-from_row pairs rows_of table tags namedbits between atleast atmost fixedsize sizebetween sizeatleast decode_open_type other_octets";
+part choicepart readspart holdstags from_parts from_row pairs rows_of table tags namedbits between atleast atmost fixedsize sizebetween sizeatleast decode_open_type other_octets";
 
 /// How often names may be put right.
 const MAX_RENAMES: usize = 16;
@@ -402,7 +402,7 @@ fn print_one<'m>(
         cycle: definition.cycle.map(|cycle| cycle.number),
         weights: weights_of(scope, all, definition)?,
         knot: knot_of(scope.alloc, all, definition)?,
-        answers: answers_of(scope, all, definition),
+        answers: answers_of(scope, all, definition)?,
         is_coded: objects_of(scope, definition).is_none(),
     })
 }

@@ -2,11 +2,12 @@
 ghost use Rattle.std.specs.Prelude.{◌≡◌, false, true, IfOk};
 ghost use Rattle.oergen_print.specs.SetOrder.{AreInTagOrder, places_from, roots_from};
 
-use crate::cells::{Cell, Names, Place, cell_of, group_cell, see_name};
+use crate::cells::{Cell, Place, cell_of, group_cell};
 use crate::chains::{Chain, push_row};
 use crate::choices::push_table_name;
 use crate::knot_templates::KNOT_ROWED;
 use crate::knots::{knot_name, owner_words};
+use crate::part_names::require_identifiers;
 use crate::set_order::{put_set_order, text_order};
 use crate::templates::{IN_TAG_ORDER, MEMBERS, TABLES, TYPE, USES_BOTH};
 use crate::text::{Text, Words};
@@ -286,31 +287,6 @@ fn push_addition_cells<'m>(
     Ok(())
 }
 
-/// The names of the groups among the components, as fields, each with what it is called in a refusal.
-fn group_fields<'a>(scope: Scope<'_, 'a>, parts: &[Part<'_>]) -> Result<Names<'a>, AllocError> {
-    let mut names = BTreeMap::new(scope.alloc);
-    for part in parts.iter() {
-        if let Some(Position::Group(number)) = part.row.map(|row| row.position) {
-            names.insert(format!(in scope.alloc; "group_{number}")?, "[[")?;
-        }
-    }
-    Ok(names)
-}
-
-/// Refuses two components whose Rust names are the same.
-fn require_names<'m>(scope: Scope<'m, '_>, parts: &[Part<'m>]) -> Result<(), Refusal> {
-    const READS: &str = "a component whose Rust name no other has";
-    let mut seen = group_fields(scope, parts)?;
-    for part in parts.iter() {
-        if let Some(row) = part.row {
-            let name = part.rust_name.clone()?;
-            let named = (name, scope.text(row.name));
-            see_name(scope, &mut seen, named, row.name, READS)?;
-        }
-    }
-    Ok(())
-}
-
 /// The root components of a SEQUENCE or a SET in the order of the row, as places among all.
 pub fn root_places(
     alloc: Global,
@@ -337,7 +313,7 @@ pub fn push_sequence<'m>(
 ) -> Result<(), Refusal> {
     let owner = definition.rust_name.as_str();
     let parts = definition.parts.as_slice();
-    require_names(scope, parts)?;
+    require_identifiers(scope, parts)?;
     let is_set = matches!(definition.of.body, Body::Set(_));
     let places = root_places(scope.alloc, parts, is_set)?;
     let mut cells = cells_at(scope, all, out, owner, parts, places.as_slice())?;

@@ -238,7 +238,7 @@ pub const CHOICE_IMPLS: &str = r#"impl@WRITES@ Alternating for @NAME@Alternative
     ghost use Rattle.std.specs.Prelude.{refl};
     ghost use Rattle.rasn_oer.specs.Alternative.{First, Rest};
     ghost use Rattle.@HOME@.@NAME@Alternatives.TheVariants.{@LIST@};
-
+@PARTS@
     type Values = <@NAME@Row@K@ as Alternatives>::Values;
 
     ghost row_choices = { ⟦<@NAME@Row@K@ as Alternatives>⟧.choices };
@@ -260,7 +260,7 @@ pub const CHOICE_IMPLS: &str = r#"impl@WRITES@ Alternating for @NAME@Alternative
     }
 
     fn from_alternative(value: Self::Values) -> Self {
-        from_row!(value => @NAME@Alternatives: @LIST@)
+        @FROM@(value => @NAME@Alternatives: @NAMES@)
     }
 
     #[inline(always)]
@@ -281,6 +281,49 @@ impl@READS@ TakesAlternative for @NAME@Alternatives@K@ {
         tag: Tag,
     ) -> Result<Self, DecodeError> {
         read_alternative::<Self, @NAME@Row@K@, D>(alloc, decoder, tag)
+    }
+}
+
+"#;
+
+/// The enum of a part of a CHOICE's alternatives.
+pub const PART_TYPE: &str = r#"@DOC@#[derive(Drop)]
+pub enum @NAME@ {
+@VARIANTS@}
+
+"#;
+
+/// What a part has by its row.
+pub const PART_IMPLS: &str = r#"impl ChoicePart for @NAME@ {
+    ghost use Rattle.rasn_oer.specs.Alternative.{First, Rest};
+    ghost use Rattle.@HOME@.@NAME@.TheVariants.{@LIST@};
+
+    type Values = <@NAME@Row as Alternatives>::Values;
+
+    ghost row_choices = { ⟦<@NAME@Row as Alternatives>⟧.choices };
+
+    ghost row_are_choices = { ⟦<@NAME@Row as Alternatives>⟧.are_choices };
+
+    ghost alternative = { elim [ @CASES@ ] };
+
+    fn from_alternative(value: Self::Values) -> Self {
+        from_row!(value => @NAME@: @LIST@)
+    }
+}
+
+impl ReadsPart for @NAME@ {
+    ghost Refuses = { ⟦<@NAME@Row as ReadsAlternatives>⟧.Refuses };
+
+    fn has(tag: Tag) -> bool {
+        @NAME@Row::holds(tag)
+    }
+
+    fn take<D: Choice>(
+        alloc: Global,
+        decoder: &mut Decoder<'_>,
+        tag: Tag,
+    ) -> Result<Self, DecodeError> {
+        read_part::<Self, @NAME@Row, D>(alloc, decoder, tag)
     }
 }
 

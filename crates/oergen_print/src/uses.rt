@@ -22,6 +22,7 @@ fn code_of(line: &str) -> &str {
         || text.starts_with("ghost ")
         || text.starts_with("ensures ")
         || text.contains("_row!(")
+        || text.contains("from_parts!(")
         || line.starts_with("    type ");
     if is_other { "" } else { behind_variant(line) }
 }

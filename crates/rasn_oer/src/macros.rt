@@ -77,6 +77,21 @@ macro_rules! from_row {
     };
 }
 
+/// The value of an enum that a value of a row of parts is: `from_parts!(value => Alternatives: FirstPart [At_0 A, At_1 B], LastPart [At_2 C])`
+/// takes what each variant of a part holds to a variant of the enum.
+#[macro_export]
+macro_rules! from_parts {
+    ($value:expr => $choice:ident: ) => {
+        match $value {}
+    };
+    ($value:expr => $choice:ident: $part:ident [$($own:ident $name:ident),*] $(, $parts:ident [$($more:tt)*])*) => {
+        match $value {
+            $crate::Either::First(value) => match value { $($part::$own(held) => $choice::$name(held),)* },
+            $crate::Either::Rest(rest) => $crate::from_parts!(rest => $choice: $($parts [$($more)*]),*),
+        }
+    };
+}
+
 /// The view of a reference to an enum, by which its row writes it: `to_row!(self => Alternatives: A, B)`.
 #[macro_export]
 macro_rules! to_row {

@@ -2,6 +2,7 @@
 
 pub use crate::built;
 pub use crate::fields;
+pub use crate::from_parts;
 pub use crate::from_row;
 pub use crate::open::decode_open_type;
 pub use crate::open::other_octets;
@@ -54,14 +55,19 @@ pub use oer_choices::Alternating;
 pub use oer_choices::Alternative;
 pub use oer_choices::AlternativeViews;
 pub use oer_choices::Alternatives;
+pub use oer_choices::ChoicePart;
 pub use oer_choices::Either;
 pub use oer_choices::Enumeration;
+pub use oer_choices::HoldsTags;
 pub use oer_choices::Numbered;
 pub use oer_choices::OneOf;
+pub use oer_choices::Part;
 pub use oer_choices::ReadsAlternatives;
+pub use oer_choices::ReadsPart;
 pub use oer_choices::TakesAlternative;
 pub use oer_choices::put_alternative;
 pub use oer_choices::read_alternative;
+pub use oer_choices::read_part;
 pub use oer_knots::AlternativeKnot;
 pub use oer_knots::Bare;
 pub use oer_knots::DecodeInside;

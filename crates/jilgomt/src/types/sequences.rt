@@ -5,7 +5,8 @@ ghost use Rattle.oer_calls.specs.Answers.{IsCanonicalisedBy, IsCheckedBy, option
 use oer_calls::answer::Answer;
 use oer_calls::numbers::{canonicalise_by_numbers, check_by_numbers};
 use oer_types::{
-    Empty, EmptyExtensible, Outer, Sequence1, Sequence2, Sequence3, Sequence5, Sequence6, Sequence7,
+    Empty, EmptyExtensible, ExtendedOptional, ManyOptional, Omitted, Outer, Sequence1, Sequence2,
+    Sequence3, Sequence5, Sequence6, Sequence7, SequenceDuplicatesExtended,
 };
 use rasn_oer::prelude::*;
 use std::alloc::Global;
@@ -106,6 +107,39 @@ pub extern "C" fn jilgomt_seq1_check(
     ensures answered { IsCheckedBy (⟦<Sequence1 as Spelled>⟧.tree ⟦<Sequence1 as AsnType>⟧.CONSTRAINTS) ⟦<Sequence1 as Spelled>⟧.IsValue (⟦<Sequence1 as Decode>⟧.Answered ⟦<Sequence1 as AsnType>⟧.CONSTRAINTS) (options_for mode levels) input.now answer.new }
 {
     *answer = check_by_numbers::<Sequence1>(alloc, mode, levels, input);
+    answer.status
+}
+
+/// The canonical octets of an `omitted`.
+#[unsafe(no_mangle)]
+pub extern "C" fn jilgomt_omitted_canonicalise(
+    alloc: Global,
+    mode: u32,
+    levels: usize,
+    input: &[u8],
+    out: &mut [u8],
+    answer: &mut Answer,
+) -> u32
+    ensures status { result ≡ answer.new.status }
+    ensures answered { IsCanonicalisedBy (⟦<Omitted as Spelled>⟧.tree ⟦<Omitted as AsnType>⟧.CONSTRAINTS) ⟦<Omitted as Spelled>⟧.IsValue (⟦<Omitted as Decode>⟧.Answered ⟦<Omitted as AsnType>⟧.CONSTRAINTS) (options_for mode levels) input.now out.old answer.new out.new }
+{
+    *answer = canonicalise_by_numbers::<Omitted>(alloc, mode, levels, input, out);
+    answer.status
+}
+
+/// Whether octets begin with an `omitted`, and a canonical one.
+#[unsafe(no_mangle)]
+pub extern "C" fn jilgomt_omitted_check(
+    alloc: Global,
+    mode: u32,
+    levels: usize,
+    input: &[u8],
+    answer: &mut Answer,
+) -> u32
+    ensures status { result ≡ answer.new.status }
+    ensures answered { IsCheckedBy (⟦<Omitted as Spelled>⟧.tree ⟦<Omitted as AsnType>⟧.CONSTRAINTS) ⟦<Omitted as Spelled>⟧.IsValue (⟦<Omitted as Decode>⟧.Answered ⟦<Omitted as AsnType>⟧.CONSTRAINTS) (options_for mode levels) input.now answer.new }
+{
+    *answer = check_by_numbers::<Omitted>(alloc, mode, levels, input);
     answer.status
 }
 
@@ -304,5 +338,106 @@ pub extern "C" fn jilgomt_outer_check(
     ensures answered { IsCheckedBy (⟦<Outer as Spelled>⟧.tree ⟦<Outer as AsnType>⟧.CONSTRAINTS) ⟦<Outer as Spelled>⟧.IsValue (⟦<Outer as Decode>⟧.Answered ⟦<Outer as AsnType>⟧.CONSTRAINTS) (options_for mode levels) input.now answer.new }
 {
     *answer = check_by_numbers::<Outer>(alloc, mode, levels, input);
+    answer.status
+}
+
+/// The canonical octets of a `dup`.
+#[unsafe(no_mangle)]
+pub extern "C" fn jilgomt_dup_canonicalise(
+    alloc: Global,
+    mode: u32,
+    levels: usize,
+    input: &[u8],
+    out: &mut [u8],
+    answer: &mut Answer,
+) -> u32
+    ensures status { result ≡ answer.new.status }
+    ensures answered { IsCanonicalisedBy (⟦<SequenceDuplicatesExtended as Spelled>⟧.tree ⟦<SequenceDuplicatesExtended as AsnType>⟧.CONSTRAINTS) ⟦<SequenceDuplicatesExtended as Spelled>⟧.IsValue (⟦<SequenceDuplicatesExtended as Decode>⟧.Answered ⟦<SequenceDuplicatesExtended as AsnType>⟧.CONSTRAINTS) (options_for mode levels) input.now out.old answer.new out.new }
+{
+    *answer = canonicalise_by_numbers::<SequenceDuplicatesExtended>(
+        alloc, mode, levels, input, out,
+    );
+    answer.status
+}
+
+/// Whether octets begin with a `dup`, and a canonical one.
+#[unsafe(no_mangle)]
+pub extern "C" fn jilgomt_dup_check(
+    alloc: Global,
+    mode: u32,
+    levels: usize,
+    input: &[u8],
+    answer: &mut Answer,
+) -> u32
+    ensures status { result ≡ answer.new.status }
+    ensures answered { IsCheckedBy (⟦<SequenceDuplicatesExtended as Spelled>⟧.tree ⟦<SequenceDuplicatesExtended as AsnType>⟧.CONSTRAINTS) ⟦<SequenceDuplicatesExtended as Spelled>⟧.IsValue (⟦<SequenceDuplicatesExtended as Decode>⟧.Answered ⟦<SequenceDuplicatesExtended as AsnType>⟧.CONSTRAINTS) (options_for mode levels) input.now answer.new }
+{
+    *answer = check_by_numbers::<SequenceDuplicatesExtended>(alloc, mode, levels, input);
+    answer.status
+}
+
+/// The canonical octets of an `extopt`.
+#[unsafe(no_mangle)]
+pub extern "C" fn jilgomt_extopt_canonicalise(
+    alloc: Global,
+    mode: u32,
+    levels: usize,
+    input: &[u8],
+    out: &mut [u8],
+    answer: &mut Answer,
+) -> u32
+    ensures status { result ≡ answer.new.status }
+    ensures answered { IsCanonicalisedBy (⟦<ExtendedOptional as Spelled>⟧.tree ⟦<ExtendedOptional as AsnType>⟧.CONSTRAINTS) ⟦<ExtendedOptional as Spelled>⟧.IsValue (⟦<ExtendedOptional as Decode>⟧.Answered ⟦<ExtendedOptional as AsnType>⟧.CONSTRAINTS) (options_for mode levels) input.now out.old answer.new out.new }
+{
+    *answer = canonicalise_by_numbers::<ExtendedOptional>(alloc, mode, levels, input, out);
+    answer.status
+}
+
+/// Whether octets begin with an `extopt`, and a canonical one.
+#[unsafe(no_mangle)]
+pub extern "C" fn jilgomt_extopt_check(
+    alloc: Global,
+    mode: u32,
+    levels: usize,
+    input: &[u8],
+    answer: &mut Answer,
+) -> u32
+    ensures status { result ≡ answer.new.status }
+    ensures answered { IsCheckedBy (⟦<ExtendedOptional as Spelled>⟧.tree ⟦<ExtendedOptional as AsnType>⟧.CONSTRAINTS) ⟦<ExtendedOptional as Spelled>⟧.IsValue (⟦<ExtendedOptional as Decode>⟧.Answered ⟦<ExtendedOptional as AsnType>⟧.CONSTRAINTS) (options_for mode levels) input.now answer.new }
+{
+    *answer = check_by_numbers::<ExtendedOptional>(alloc, mode, levels, input);
+    answer.status
+}
+
+/// The canonical octets of a `manyopt`.
+#[unsafe(no_mangle)]
+pub extern "C" fn jilgomt_manyopt_canonicalise(
+    alloc: Global,
+    mode: u32,
+    levels: usize,
+    input: &[u8],
+    out: &mut [u8],
+    answer: &mut Answer,
+) -> u32
+    ensures status { result ≡ answer.new.status }
+    ensures answered { IsCanonicalisedBy (⟦<ManyOptional as Spelled>⟧.tree ⟦<ManyOptional as AsnType>⟧.CONSTRAINTS) ⟦<ManyOptional as Spelled>⟧.IsValue (⟦<ManyOptional as Decode>⟧.Answered ⟦<ManyOptional as AsnType>⟧.CONSTRAINTS) (options_for mode levels) input.now out.old answer.new out.new }
+{
+    *answer = canonicalise_by_numbers::<ManyOptional>(alloc, mode, levels, input, out);
+    answer.status
+}
+
+/// Whether octets begin with a `manyopt`, and a canonical one.
+#[unsafe(no_mangle)]
+pub extern "C" fn jilgomt_manyopt_check(
+    alloc: Global,
+    mode: u32,
+    levels: usize,
+    input: &[u8],
+    answer: &mut Answer,
+) -> u32
+    ensures status { result ≡ answer.new.status }
+    ensures answered { IsCheckedBy (⟦<ManyOptional as Spelled>⟧.tree ⟦<ManyOptional as AsnType>⟧.CONSTRAINTS) ⟦<ManyOptional as Spelled>⟧.IsValue (⟦<ManyOptional as Decode>⟧.Answered ⟦<ManyOptional as AsnType>⟧.CONSTRAINTS) (options_for mode levels) input.now answer.new }
+{
+    *answer = check_by_numbers::<ManyOptional>(alloc, mode, levels, input);
     answer.status
 }

@@ -5,7 +5,8 @@ ghost use Rattle.oer_calls.specs.Answers.{IsCanonicalisedBy, IsCheckedBy, option
 use oer_calls::answer::Answer;
 use oer_calls::numbers::{canonicalise_by_numbers, check_by_numbers};
 use oer_types::{
-    DeepDefault, DefaultAndOptional, DefaultInteger, Foo, Holder1, Holder2, MixedSet, TopLevel,
+    DeepDefault, DefaultAndOptional, DefaultInteger, Foo, Holder1, Holder2, MixedSet, MixedSet2,
+    TopLevel,
 };
 use rasn_oer::prelude::*;
 use std::alloc::Global;
@@ -271,5 +272,38 @@ pub extern "C" fn jilgomt_mixset_check(
     ensures answered { IsCheckedBy (⟦<MixedSet as Spelled>⟧.tree ⟦<MixedSet as AsnType>⟧.CONSTRAINTS) ⟦<MixedSet as Spelled>⟧.IsValue (⟦<MixedSet as Decode>⟧.Answered ⟦<MixedSet as AsnType>⟧.CONSTRAINTS) (options_for mode levels) input.now answer.new }
 {
     *answer = check_by_numbers::<MixedSet>(alloc, mode, levels, input);
+    answer.status
+}
+
+/// The canonical octets of a `mixset2`.
+#[unsafe(no_mangle)]
+pub extern "C" fn jilgomt_mixset2_canonicalise(
+    alloc: Global,
+    mode: u32,
+    levels: usize,
+    input: &[u8],
+    out: &mut [u8],
+    answer: &mut Answer,
+) -> u32
+    ensures status { result ≡ answer.new.status }
+    ensures answered { IsCanonicalisedBy (⟦<MixedSet2 as Spelled>⟧.tree ⟦<MixedSet2 as AsnType>⟧.CONSTRAINTS) ⟦<MixedSet2 as Spelled>⟧.IsValue (⟦<MixedSet2 as Decode>⟧.Answered ⟦<MixedSet2 as AsnType>⟧.CONSTRAINTS) (options_for mode levels) input.now out.old answer.new out.new }
+{
+    *answer = canonicalise_by_numbers::<MixedSet2>(alloc, mode, levels, input, out);
+    answer.status
+}
+
+/// Whether octets begin with a `mixset2`, and a canonical one.
+#[unsafe(no_mangle)]
+pub extern "C" fn jilgomt_mixset2_check(
+    alloc: Global,
+    mode: u32,
+    levels: usize,
+    input: &[u8],
+    answer: &mut Answer,
+) -> u32
+    ensures status { result ≡ answer.new.status }
+    ensures answered { IsCheckedBy (⟦<MixedSet2 as Spelled>⟧.tree ⟦<MixedSet2 as AsnType>⟧.CONSTRAINTS) ⟦<MixedSet2 as Spelled>⟧.IsValue (⟦<MixedSet2 as Decode>⟧.Answered ⟦<MixedSet2 as AsnType>⟧.CONSTRAINTS) (options_for mode levels) input.now answer.new }
+{
+    *answer = check_by_numbers::<MixedSet2>(alloc, mode, levels, input);
     answer.status
 }

@@ -3,7 +3,7 @@
 use crate::printed::reading::answer_of;
 use anyhow::{Error, Result};
 use example_printed::{
-    Again, Area, Bag, Below, Bits, Both, Card, Colour, Colours, Folder, Key, Labels, Leaves,
+    Area, Bag, Below, Bits, Both, Card, Colour, Colours, Event, Folder, Key, Labels, Leaves,
     Letter, Level, Name, Named, Names, Narrow, Percent, Permit, Person, Plain, Reply, Rights, Row,
     Signal, Spot, Taken, Then, Title,
 };
@@ -14,7 +14,6 @@ pub fn of_type(alloc: Global, name: &str, verb: &str, octets: &[u8]) -> Result<S
     match name {
         "Percent" => answer_of::<Percent>(alloc, verb, octets),
         "Below" => answer_of::<Below>(alloc, verb, octets),
-        "Again" => answer_of::<Again>(alloc, verb, octets),
         "Narrow" => answer_of::<Narrow>(alloc, verb, octets),
         "Key" => answer_of::<Key>(alloc, verb, octets),
         "Bits" => answer_of::<Bits>(alloc, verb, octets),
@@ -34,6 +33,7 @@ fn of_scope(alloc: Global, name: &str, verb: &str, octets: &[u8]) -> Result<Stri
         "Signal" => answer_of::<Signal>(alloc, verb, octets),
         "Colours" => answer_of::<Colours>(alloc, verb, octets),
         "Area" => answer_of::<Area>(alloc, verb, octets),
+        "Event" => answer_of::<Event>(alloc, verb, octets),
         "Reply" => answer_of::<Reply>(alloc, verb, octets),
         "Spot" => answer_of::<Spot>(alloc, verb, octets),
         "Then" => answer_of::<Then>(alloc, verb, octets),

@@ -1,4 +1,4 @@
-use Rattle.example_printed.proofs.types_05.ColoursAlternativesAlternating.put.Goals as goal
+use Rattle.example_printed.proofs.types_06.ColoursAlternativesAlternating.put.Goals as goal
 
 pub returns-in-One : goal.returns-in-One
 returns-in-One g c = rw c.in-One.is (rw c.tag.ensures at c.put_alternative.ensures)

@@ -1,4 +1,4 @@
-use Rattle.example_printed.proofs.types_07.BothBAlternativesAlternating.put.Goals as goal
+use Rattle.example_printed.proofs.types_08.BothBAlternativesAlternating.put.Goals as goal
 
 pub returns-in-C : goal.returns-in-C
 returns-in-C g c = rw c.in-C.is (rw c.tag.ensures at c.put_alternative.ensures)

@@ -1,4 +1,4 @@
-use Rattle.example_printed.proofs.types_07.ReplyAlternativesAlternating.put.Goals as goal
+use Rattle.example_printed.proofs.types_08.ReplyAlternativesAlternating.put.Goals as goal
 
 pub returns-in-Plain : goal.returns-in-Plain
 returns-in-Plain g c = rw c.in-Plain.is (rw c.tag.ensures at c.put_alternative.ensures)
