@@ -99,6 +99,9 @@ def misplaced(program):
 # a module of these types
 MADE = "M DEFINITIONS AUTOMATIC TAGS ::= BEGIN\n{}\nEND\n"
 
+# a hundred alternatives: the most that stand in one enum
+NULLS = ", ".join(f"c{at} NULL" for at in range(100))
+
 # modules with names that clash with one another's, with those that are printed of other types, or with the library's; and lines of
 # what is printed of each
 NAMES = (
@@ -128,6 +131,19 @@ NAMES = (
             "        pub group_1: Option<AGroup1>,",
             "        pub a_b: (),",
             "        pub a_b2_: bool,",
+        ),
+    ),
+    (f"Wide ::= CHOICE {{ {NULLS} }}", ("    At_99(()),", "            Self::C99(held) => put_alternative::<E, _>(encoder, Context::<99>::tag(), held),")),
+    (
+        f"Wide ::= CHOICE {{ {NULLS}, ..., added BOOLEAN }}",
+        (
+            "    Part8(WidePart8),",
+            "    Added(bool),",
+            "        from_row!(value => WideAlternatives: Part1, Part2, Part3, Part4, Part5, Part6, Part7, Part8)",
+            "            Self::Part8(held) => held.put::<E>(encoder),",
+            "            Self::Added(held) => put_alternative::<E, _>(encoder, Context::<100>::tag(), held),",
+            "pub returns-in-Part8 : goal.returns-in-Part8",
+            "pub returns-in-Added : goal.returns-in-Added",
         ),
     ),
     (

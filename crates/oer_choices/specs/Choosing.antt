@@ -25,6 +25,10 @@ pub record AreChoices {A : Type 0} (c : Choices A) : Type 0 where
   pub held : (v : A) → c.IsValue v → holds (c.roots ++ c.additions) (c.tag_of v) ≡ true
   pub like : AreDistinct (c.roots ++ c.additions) → (v w : A) → c.IsValue v → c.IsValue w → c.tag_of v ≡ c.tag_of w → Alike (c.child v) (c.child w)
 
+-- an admitted value, of the alternative with that tag
+abbrev pub HasTag : {A : Type 0} → Choices A → Tag → A → Type 0
+HasTag c g v = c.IsValue v × (c.tag_of v ≡ g)
+
 -- ---- no alternative
 
 abbrev pub no_choice : {A : Type 0} → Choices A

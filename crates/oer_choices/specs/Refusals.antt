@@ -16,6 +16,6 @@ pub data AlternativeRefused {B : Type 0} (tag : Tag) (Answered : State → Resul
   Other : (tag ≡ g → ⊥) → Others g s e → AlternativeRefused tag Answered Others g s e
 
 -- The tag is one of those, and the row that has them refused; or it isn't, and the other row refused.
-pub data HalfRefused (tags : List Tag) (Those Others : Tag → State → DecodeError → Type 0) (g : Tag) (s : State) (e : DecodeError) : Type 0 where
-  Here : holds tags g ≡ true → Those g s e → HalfRefused tags Those Others g s e
-  There : holds tags g ≡ false → Others g s e → HalfRefused tags Those Others g s e
+pub data PartRefused (tags : List Tag) (Those Others : Tag → State → DecodeError → Type 0) (g : Tag) (s : State) (e : DecodeError) : Type 0 where
+  First : holds tags g ≡ true → Those g s e → PartRefused tags Those Others g s e
+  Other : holds tags g ≡ false → Others g s e → PartRefused tags Those Others g s e

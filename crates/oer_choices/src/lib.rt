@@ -12,5 +12,5 @@ pub use alternatives::{Alternative, Alternatives, Either, ReadsAlternatives};
 pub use choices::{Alternating, OneOf, TakesAlternative, read_alternative};
 pub use enumerations::{Enumeration, Numbered};
 pub use oer_rows::{Application, Context, End, Extensible, Place, Private, Universal};
-pub use parts::{ChoicePart, HoldsTags, Part, ReadsPart, read_part};
+pub use parts::{ChoicePart, HoldsTags, Part, PutsPart, ReadsPart, read_part};
 pub use views::{AlternativeViews, put_alternative};

@@ -5,10 +5,11 @@ ghost use Rattle.asn1_core.specs.Tags.{AreDistinct};
 ghost use Rattle.oer_read.specs.Law.{Decodes};
 
 use crate::alternatives::{Alternative, Alternatives, Either, ReadsAlternatives};
-use asn1_core::{Choice, DecodeError, Tag};
+use asn1_core::{Choice, DecodeError, EncodeError, Tag};
 use oer_read::Decoder;
 use oer_rows::{End, Place};
 use oer_spec::Spelled;
+use oer_write::Encoder;
 use std::alloc::Global;
 use std::marker::PhantomData;
 
@@ -86,6 +87,17 @@ pub trait ReadsPart: ChoicePart {
         ensures refused { IfErr result (λ e. Self.Refuses tag decoder.old e) };
 }
 
+/// A part that is written where it stands: one that a choice of very many alternatives holds.
+pub trait PutsPart: ChoicePart {
+    ghost use Rattle.oer_choices.specs.Putting.{PutsOne};
+
+    /// Writes the alternative of the choice `E` that is there, as `Alternating::put` (X.696, 20): `Ok` only for an admitted value.
+    ///
+    /// Refused by what the value is refused by, or for want of memory.
+    fn put<E: Choice>(&self, encoder: &mut Encoder<'_>) -> Result<(), EncodeError>
+        ensures { PutsOne E.root_tags E.addition_tags (Self.row_choices.tag_of (Self.alternative self.now)) (Self.row_choices.child (Self.alternative self.now)) (Self.row_choices.IsValue (Self.alternative self.now)) encoder.old result encoder.new };
+}
+
 /// Reads what the alternative with that tag holds (X.696, 20), by the row `R` of `P`: what `ReadsPart::take` calls.
 ///
 /// Refused as `ReadsAlternatives::read` refuses.
@@ -106,7 +118,7 @@ pub fn read_part<P: ChoicePart, R: ReadsAlternatives<Values = P::Values>, D: Cho
 
 impl<P: ChoicePart, R: Alternatives> Alternatives for Part<P, R> {
     ghost use Rattle.oer_choices.specs.Choosing.{through, through_is};
-    ghost use Rattle.oer_choices.specs.Halves.{both_of, both_of_is};
+    ghost use Rattle.oer_choices.specs.Both.{both_of, both_of_is};
 
     type Values = Either<P, R::Values>;
 
@@ -117,9 +129,9 @@ impl<P: ChoicePart, R: Alternatives> Alternatives for Part<P, R> {
 
 impl<P: ReadsPart, R: ReadsAlternatives> ReadsAlternatives for Part<P, R> {
     ghost use Rattle.std.specs.Prelude.{◌++◌};
-    ghost use Rattle.oer_choices.specs.Refusals.{HalfRefused};
+    ghost use Rattle.oer_choices.specs.Refusals.{PartRefused};
 
-    ghost Refuses = { λ g s e. HalfRefused (P.row_choices.roots ++ P.row_choices.additions) P.Refuses R.Refuses g s e };
+    ghost Refuses = { λ g s e. PartRefused (P.row_choices.roots ++ P.row_choices.additions) P.Refuses R.Refuses g s e };
 
     fn read<D: Choice>(
         alloc: Global,

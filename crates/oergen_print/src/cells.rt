@@ -281,13 +281,31 @@ pub fn group_cell(
     cell.end()
 }
 
-/// The cell of a part of a CHOICE's alternatives, by their cells and its name.
-pub fn part_cell(alloc: Global, cells: &[Cell], name: &Text) -> Result<Cell, AllocError> {
+/// The cell of a part of a CHOICE's alternatives, by their cells, its name and its number.
+pub fn part_cell(
+    alloc: Global,
+    cells: &[Cell],
+    name: &Text,
+    number: usize,
+) -> Result<Cell, AllocError> {
     let mut cell = Cell::new(alloc, "Part");
     if let Some(first) = cells.first() {
         cell.field.push_text(&first.field);
-        cell.camel.push_text(&first.camel);
+        let first = first.field.as_str();
+        cell.note
+            .push_all(&[INDENT, "/// From `", first, "` on.\n"]);
     }
+    cell.field_type.push_text(name);
+    cell.camel.push("Part");
+    cell.camel.push_count(number.saturating_add(1));
     cell.arguments.push_text(name);
+    cell.end()
+}
+
+/// The variant of a part that is only read, by the alternative's cell and its name.
+pub fn own_cell(alloc: Global, of: &Cell, name: &Text) -> Result<Cell, AllocError> {
+    let mut cell = Cell::new(alloc, of.head);
+    cell.field_type.push_text(&of.field_type);
+    cell.camel.push_text(name);
     cell.end()
 }

@@ -17,6 +17,10 @@ pub const FLAT: usize = 24;
 /// How many alternatives a part has.
 pub const PART: usize = 16;
 
+/// How many alternatives the enum of a CHOICE has at most: of more it holds their parts, since past some more the language doesn't cover a
+/// derived `==`.
+pub const HOLDING: usize = 100;
+
 /// The row of a type: its cells, those of the root first, and whether it is extensible.
 #[derive(Clone, Copy)]
 pub struct Chain<'c> {
@@ -75,6 +79,11 @@ impl<'c> Chain<'c> {
     /// Whether the row is one of parts: that of a CHOICE of many alternatives.
     pub fn has_parts(&self) -> bool {
         self.is_choice && self.cells.len() > FLAT
+    }
+
+    /// Whether the enum of the CHOICE holds the parts, in place of the alternatives.
+    pub fn holds_parts(&self) -> bool {
+        self.is_choice && self.cells.len() > HOLDING
     }
 
     /// How many parts stand in front of the one with a cell, and how many cells in front of it in its part: those of the root and those of

@@ -5,27 +5,23 @@ use crate::chains::{Chain, FLAT, push_row};
 use crate::kept::choice_holder;
 use crate::knot_templates::KNOT_ALTERNATING;
 use crate::knots::{knot_name, owner_words};
-use crate::objects::objects_of;
 use crate::part_names::{require_identifiers, variant_names};
-use crate::parts::{push_case, push_part_names, push_part_uses, push_parts};
-use crate::templates::{CHOICE, CHOICE_IMPLS, PUT_ANSWER};
+use crate::parts::{push_part_cases, push_part_names, push_part_uses, push_parts};
+use crate::templates::{CHOICE, CHOICE_IMPLS};
 use crate::text::{Text, Words};
+use crate::variants::{push_cases, push_names, push_puts, push_variants};
 use oergen_layouts::definitions::Definition;
 use oergen_layouts::rows::Position;
 use oergen_layouts::scope::Scope;
-use oergen_parse::ast::Body;
 use oergen_parse::refusal::Refusal;
 use std::alloc::{AllocError, Global};
 
-/// How many alternatives a printed CHOICE has at most: past some more the language doesn't cover a derived `==`.
-const MAX_ALTERNATIVES: usize = 100;
+/// How many alternatives a printed CHOICE has at most: more weren't tried.
+const MAX_ALTERNATIVES: usize = 200;
 
 /// What can be read where a CHOICE has too many alternatives, or none.
 pub const ALTERNATIVES: &str =
-    "a CHOICE of 1 to 100 alternatives, in a cycle to 24: others aren't printed yet";
-
-/// Of how many alternatives of a CHOICE in a cycle the prover finds itself how `put` writes them: the tenth it doesn't.
-const MAX_FOUND: usize = 9;
+    "a CHOICE of 1 to 200 alternatives, in a cycle to 24: others aren't printed yet";
 
 /// Appends the name of the table of a CHOICE's tags.
 pub fn push_table_name(out: &mut Text, owner: &str, part: &str) {
@@ -43,56 +39,6 @@ fn push_constant(out: &mut Text, owner: &str, part: &str, cells: &[Cell]) {
         out.push_all(&[if at == 0 { "" } else { ", " }, cell.entry.as_str()]);
     }
     out.push("];\n\n");
-}
-
-/// The variants of an enum, each with what it holds, a line each.
-fn push_variants(out: &mut Text, cells: &[Cell]) {
-    for cell in cells.iter() {
-        out.push_text(&cell.note);
-        out.push_all(&[
-            "    ",
-            cell.camel.as_str(),
-            "(",
-            cell.field_type.as_str(),
-            "),\n",
-        ]);
-    }
-}
-
-/// The names of variants, each but the first with a text in front, and each with one behind it.
-fn push_names(out: &mut Text, cells: &[Cell], between: &str, behind: &str) {
-    for (at, cell) in cells.iter().enumerate() {
-        let front = if at == 0 { "" } else { between };
-        out.push_all(&[front, cell.camel.as_str(), behind]);
-    }
-}
-
-/// What each variant is in the row.
-fn push_cases(out: &mut Text, of: Chain<'_>) {
-    for (at, cell) in of.cells.iter().enumerate() {
-        let front = if at == 0 { "" } else { " | " };
-        out.push_all(&[front, cell.camel.as_str(), " held ↦ "]);
-        if of.has_parts() {
-            push_case(out, of, at);
-        } else {
-            out.push_times("Rest (", at);
-            out.push("First held");
-            out.push_times(")", at);
-        }
-    }
-}
-
-/// What writes each variant, a line each.
-fn push_puts(out: &mut Text, cells: &[Cell]) {
-    for cell in cells.iter() {
-        let (class, number) = cell.entry.as_str().split_once(' ').unwrap_or(("", ""));
-        out.push_all(&[
-            "            Self::",
-            cell.camel.as_str(),
-            "(held) => put_alternative::<E, _>",
-        ]);
-        out.push_all(&["(encoder, ", class, "::<", number, ">::tag(), held),\n"]);
-    }
 }
 
 /// What names the tags of the additions.
@@ -117,7 +63,7 @@ fn put_tag_names(words: &mut Words, of: Chain<'_>) {
     push_addition_name(words.begin("ADDITION_TAGS"), of);
 }
 
-/// What stands for the words of the templates of a CHOICE.
+/// What stands for the words of the templates of a CHOICE, by the chain of its enum's variants.
 fn words_of(alloc: Global, doc: &str, of: Chain<'_>) -> Words {
     let mut words = owner_words(alloc, doc, of.owner, of.knot);
     words.put("HOLDER", choice_holder(of.keeps_unknown));
@@ -126,12 +72,13 @@ fn words_of(alloc: Global, doc: &str, of: Chain<'_>) -> Words {
     if of.has_parts() {
         words.put("FROM", "from_parts!");
         push_part_names(words.begin("NAMES"), of);
+        push_part_cases(words.begin("CASES"), of);
     } else {
         words.put("FROM", "from_row!");
         push_names(words.begin("NAMES"), of.cells, ", ", "");
+        push_cases(words.begin("CASES"), of.cells);
     }
     push_part_uses(words.begin("PARTS"), of);
-    push_cases(words.begin("CASES"), of);
     push_puts(words.begin("PUTS"), of.cells);
     push_names(words.begin("WEIGHED"), of.cells, " | ", " held ↦ refl");
     push_table_name(words.begin("ROOTS"), of.owner, "ROOTS");
@@ -140,32 +87,35 @@ fn words_of(alloc: Global, doc: &str, of: Chain<'_>) -> Words {
     words
 }
 
-/// Prints a CHOICE by its cells.
+/// Prints a CHOICE by its cells: what stands for its enum, what for the parts of its row, and its row and tags.
 fn push_alternatives(
     alloc: Global,
     out: &mut Text,
     doc: &str,
     of: Chain<'_>,
 ) -> Result<(), AllocError> {
-    let words = words_of(alloc, doc, of);
-    out.fill(CHOICE, &words);
+    let mut parts = Vec::new(alloc);
+    let mut part_text = Text::new(alloc);
+    let mut row = of;
     if of.has_parts() {
-        push_parts(out, of)?;
-    } else {
-        push_row(alloc, out, of);
+        let root_count = push_parts(&mut part_text, of, &mut parts)?;
+        row = Chain {
+            cells: parts.as_slice(),
+            root_count,
+            ..of
+        };
     }
+    let words = words_of(alloc, doc, if of.holds_parts() { row } else { of });
+    out.fill(CHOICE, &words);
+    out.push_text(&part_text);
+    push_row(alloc, out, row);
     push_constant(out, of.owner, "ROOTS", of.roots());
     if of.is_extensible {
         push_constant(out, of.owner, "ADDITIONS", of.additions());
     }
-    out.fill(
-        if of.knot.is_some() {
-            KNOT_ALTERNATING
-        } else {
-            ""
-        },
-        &words,
-    );
+    if of.knot.is_some() {
+        out.fill(KNOT_ALTERNATING, &words);
+    }
     out.fill(CHOICE_IMPLS, &words);
     Ok(())
 }
@@ -225,36 +175,4 @@ pub fn push_choice<'m>(
         ..Chain::of(definition.rust_name.as_str(), cells.as_slice())
     };
     Ok(push_alternatives(alloc, out, doc, of)?)
-}
-
-/// What the prover is told of `put` of a CHOICE: how each variant is written. Nothing of a single one, of the first ones in a cycle, where
-/// what it would rewrite by that is too large, or of another type.
-pub fn answers_of(
-    scope: Scope<'_, '_>,
-    all: &[Definition<'_>],
-    definition: &Definition<'_>,
-) -> Result<Text, AllocError> {
-    let alloc = scope.alloc;
-    let mut out = Text::new(alloc);
-    let is_choice = matches!(definition.of.body, Body::Choice(_));
-    let is_set = objects_of(scope, definition).is_some();
-    if !is_choice || is_set || definition.parts.len() < 2 {
-        return Ok(out);
-    }
-    let found = if knot_name(all, definition).is_some() {
-        MAX_FOUND
-    } else {
-        0
-    };
-    let names = variant_names(alloc, definition.parts.as_slice())?;
-    for (at, name) in names.iter().enumerate().skip(found) {
-        let mut words = Words::new(alloc);
-        words.put("VARIANT", name.as_str());
-        let within = words.begin("IN");
-        if at != 0 {
-            within.push_all(&["-in-", name.as_str()]);
-        }
-        out.fill(PUT_ANSWER, &words);
-    }
-    Ok(out)
 }

@@ -1,6 +1,6 @@
 //! How deep the structs, enums, tuples and references of printed types stand in one another: the language refuses more than 64.
 
-use crate::chains::{FLAT, PART};
+use crate::chains::{FLAT, HOLDING, PART};
 use crate::choices::ALTERNATIVES;
 use crate::sequences::{in_text_order, root_places};
 use crate::shapes::{drops_zeros, number_of_octets, sizes_of};
@@ -269,10 +269,11 @@ fn choice_depth<'m>(
     if definition.keeps_unknown {
         row.own = KEPT;
     }
-    let has_parts = definition.parts.len() > FLAT;
+    let count = definition.parts.len();
+    let held = usize::from(count > HOLDING);
     for (at, part) in definition.parts.iter().enumerate() {
-        let field = field_depth(scope, depths, part, false)?;
-        row = if has_parts {
+        let field = field_depth(scope, depths, part, false)?.saturating_add(held);
+        row = if count > FLAT {
             row.at(part_level(at), field)
         } else {
             row.with(field)

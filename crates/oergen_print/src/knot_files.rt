@@ -1,5 +1,6 @@
 //! The files beside a crate's types: definitions and proofs of those that contain themselves, and answers of wide CHOICEs.
 
+use crate::answers::Answers;
 use crate::knot_templates::ANSWERS;
 use crate::knots::owner_words;
 use crate::outputs::{File, push_placed};
@@ -50,23 +51,26 @@ fn proof_file(alloc: Global, place: (&str, &str), knot: &Knot) -> Result<File, A
     File::at(alloc, &path, text.end()?)
 }
 
-/// The file of the answers of what writes a CHOICE.
-fn answers_file(alloc: Global, place: (&str, &str), choice: &Printed) -> Result<File, AllocError> {
+/// Puts the files of the answers of what writes a CHOICE behind others: none where there are no answers.
+fn push_answer_files(
+    alloc: Global,
+    files: &mut Vec<File>,
+    place: (&str, &str),
+    answers: &[Answers],
+) -> Result<(), AllocError> {
     let (library, module) = place;
-    let name = choice.name.as_str();
-    let front = ["use Rattle.", library, ".proofs.", module, ".", name];
-    let mut text = Text::of(alloc, &front);
-    text.push("AlternativesAlternating.put.Goals as goal\n");
-    text.push_text(&choice.answers);
-    let path = [
-        library,
-        "/proofs/",
-        module,
-        "/",
-        name,
-        "AlternativesAlternating/put/Answers.antt",
-    ];
-    File::at(alloc, &path, text.end()?)
+    for one in answers.iter() {
+        let name = one.name.as_str();
+        let front = ["use Rattle.", library, ".proofs.", module, ".", name];
+        let mut text = Text::of(alloc, &front);
+        text.push(".put.Goals as goal\n");
+        text.push_text(&one.text);
+        let path = [library, "/proofs/", module, "/", name, "/put/Answers.antt"];
+        if !one.text.is_empty() || !one.text.is_whole() {
+            files.push(File::at(alloc, &path, text.end()?)?)?;
+        }
+    }
+    Ok(())
 }
 
 /// Puts the files of definitions and proofs of the types of a module behind others.
@@ -79,9 +83,7 @@ pub fn push_proof_files(
     let mut uses = Text::new(alloc);
     let mut lines = Text::new(alloc);
     for one in types.iter() {
-        if !one.answers.is_empty() || !one.answers.is_whole() {
-            files.push(answers_file(alloc, place, one)?)?;
-        }
+        push_answer_files(alloc, files, place, one.answers.as_slice())?;
         uses.push_text(&one.weights.uses);
         lines.push_text(&one.weights.lines);
         if let Some(knot) = &one.knot {

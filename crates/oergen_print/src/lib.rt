@@ -1,6 +1,7 @@
 //! Prints ASN.1 types as Rattle crates: each type by the row of its components.
 #![tactic(auto)]
 
+pub mod answers;
 pub mod cells;
 pub mod chains;
 pub mod choices;
@@ -36,4 +37,5 @@ pub mod sizes;
 pub mod templates;
 pub mod text;
 pub mod uses;
+pub mod variants;
 pub mod weights;

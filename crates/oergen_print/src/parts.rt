@@ -1,120 +1,127 @@
-//! The parts of a CHOICE of many alternatives: enums of few, by whose rows they are read.
+//! The parts of a CHOICE of many alternatives: enums of few, by whose rows they are read. Of very many the CHOICE's own enum holds them.
 
-use crate::cells::{Cell, part_cell};
-use crate::chains::{Chain, PART, Span, push_aliases, push_row};
-use crate::templates::{PART_IMPLS, PART_TYPE};
+use crate::cells::{Cell, own_cell, part_cell};
+use crate::chains::{Chain, PART, Span, push_aliases};
+use crate::templates::{PART_IMPLS, PART_PUTS, PART_TYPE};
 use crate::text::{Text, Words};
-use std::alloc::AllocError;
+use crate::variants::{push_cases, push_names, push_puts, push_variants};
+use std::alloc::{AllocError, Global};
 
 /// Appends the name of a part by its number.
-fn push_part_name(out: &mut Text, owner: &str, part: usize) {
+pub fn push_part_name(out: &mut Text, owner: &str, part: usize) {
     out.push_all(&[owner, "Part"]);
     out.push_count(part.saturating_add(1));
 }
 
-/// Appends the variant of a part that stands for an alternative, by its place among all.
+/// Appends the variant of a part that is only read, by the place of its alternative among all.
 fn push_own(out: &mut Text, at: usize) {
     out.push("At_");
     out.push_count(at);
 }
 
-/// Appends the variants of the part of some cells, separated by commas.
-fn push_list(out: &mut Text, span: Span) {
-    for at in span.from..span.to {
-        out.push(if at == span.from { "" } else { ", " });
-        push_own(out, at);
+/// The variants of a part that is only read.
+fn own_cells(alloc: Global, cells: &[Cell], from: usize) -> Result<Vec<Cell>, AllocError> {
+    let mut own = Vec::new(alloc);
+    for (within, cell) in cells.iter().enumerate() {
+        let mut name = Text::new(alloc);
+        push_own(&mut name, from.saturating_add(within));
+        own.push(own_cell(alloc, cell, &name)?)?;
     }
+    Ok(own)
 }
 
-/// The words of the part of some cells, by its name.
-fn words_of(of: Chain<'_>, cells: &[Cell], span: Span, name: &Text) -> Words {
+/// The words of a part, by its name, the first of its alternatives and its variants.
+fn words_of(of: Chain<'_>, name: &Text, first: &str, variants: &[Cell]) -> Words {
+    let (derives, behind) = if of.holds_parts() {
+        ("Debug, PartialEq, Eq, Drop", " on.\n")
+    } else {
+        ("Drop", " on, as they are read.\n")
+    };
     let mut words = Words::new(name.alloc());
     words.put("NAME", name.as_str());
     words.put("HOME", "@HOME@");
+    words.put("DERIVES", derives);
     let doc = words.begin("DOC");
-    if let Some(first) = cells.first() {
-        doc.push_all(&[
-            "/// Alternatives of `",
-            of.owner,
-            "` from `",
-            first.field.as_str(),
-        ]);
-        doc.push("` on, as they are read.\n");
-    }
-    let variants = words.begin("VARIANTS");
-    for (within, cell) in cells.iter().enumerate() {
-        variants.push("    ");
-        push_own(variants, span.from.saturating_add(within));
-        variants.push_all(&["(", cell.field_type.as_str(), "),\n"]);
-    }
-    push_list(words.begin("LIST"), span);
-    let cases = words.begin("CASES");
-    for within in 0..cells.len() {
-        cases.push(if within == 0 { "" } else { " | " });
-        push_own(cases, span.from.saturating_add(within));
-        cases.push(" held ↦ ");
-        cases.push_times("Rest (", within);
-        cases.push("First held");
-        cases.push_times(")", within);
-    }
+    doc.push_all(&["/// Alternatives of `", of.owner, "` from `", first, "`"]);
+    doc.push(behind);
+    push_variants(words.begin("VARIANTS"), variants);
+    push_names(words.begin("LIST"), variants, ", ", "");
+    push_cases(words.begin("CASES"), variants);
+    push_puts(words.begin("PUTS"), variants);
     words
 }
 
-/// Prints the parts of some cells, the first of them at a place, and puts the cell of each behind others.
+/// Prints a part of some cells, and answers its own cell.
+fn push_part(out: &mut Text, of: Chain<'_>, span: Span, part: usize) -> Result<Cell, AllocError> {
+    let alloc = out.alloc();
+    let cells = of.cells.get(span.from..span.to).unwrap_or(&[]);
+    let mut name = Text::new(alloc);
+    push_part_name(&mut name, of.owner, part);
+    let cell = part_cell(alloc, cells, &name, part)?;
+    let own = own_cells(alloc, cells, span.from)?;
+    let variants = if of.holds_parts() {
+        cells
+    } else {
+        own.as_slice()
+    };
+    let words = words_of(of, &name, cell.field.as_str(), variants);
+    out.fill(PART_TYPE, &words);
+    let row = Text::of(alloc, &[name.as_str(), "Row"]);
+    push_aliases(out, of, span, &row, &Text::of(alloc, &["End"]));
+    out.fill(PART_IMPLS, &words);
+    out.fill(if of.holds_parts() { PART_PUTS } else { "" }, &words);
+    Ok(cell)
+}
+
+/// Prints the parts of the cells of a span, and puts the cell of each behind others.
 fn push_some(
     out: &mut Text,
     of: Chain<'_>,
-    start: usize,
-    cells: &[Cell],
+    span: Span,
     parts: &mut Vec<Cell>,
 ) -> Result<(), AllocError> {
-    let alloc = out.alloc();
-    let end = Text::of(alloc, &["End"]);
-    for (at, part) in cells.chunks(PART).enumerate() {
-        let from = start.saturating_add(at.saturating_mul(PART));
-        let span = Span {
-            from,
-            to: from.saturating_add(part.len()),
-        };
-        let mut name = Text::new(alloc);
-        push_part_name(&mut name, of.owner, parts.len());
-        let row = Text::of(alloc, &[name.as_str(), "Row"]);
-        let words = words_of(of, part, span, &name);
-        out.fill(PART_TYPE, &words);
-        push_aliases(out, of, span, &row, &end);
-        out.fill(PART_IMPLS, &words);
-        parts.push(part_cell(alloc, part, &name)?)?;
+    let count = span.to.saturating_sub(span.from).div_ceil(PART);
+    for part in 0..count {
+        let from = span.from.saturating_add(part.saturating_mul(PART));
+        let to = from.saturating_add(PART).min(span.to);
+        let cell = push_part(out, of, Span { from, to }, parts.len())?;
+        parts.push(cell)?;
     }
     Ok(())
 }
 
-/// Prints the row of a CHOICE of many alternatives, a row of parts, behind these.
-pub fn push_parts(out: &mut Text, of: Chain<'_>) -> Result<(), AllocError> {
-    let alloc = out.alloc();
-    let mut parts = Vec::new(alloc);
-    push_some(out, of, 0, of.roots(), &mut parts)?;
-    let root_count = parts.len();
-    push_some(out, of, of.root_count, of.additions(), &mut parts)?;
-    let chain = Chain {
-        cells: parts.as_slice(),
-        root_count,
-        ..of
+/// Prints the parts of a CHOICE of many alternatives, puts the cell of each behind others, and answers how many are of the root.
+pub fn push_parts(
+    out: &mut Text,
+    of: Chain<'_>,
+    parts: &mut Vec<Cell>,
+) -> Result<usize, AllocError> {
+    let roots = of.roots().len();
+    push_some(out, of, Span { from: 0, to: roots }, parts)?;
+    let root_parts = parts.len();
+    let additions = Span {
+        from: roots,
+        to: of.cells.len(),
     };
-    push_row(alloc, out, chain);
-    Ok(())
+    push_some(out, of, additions, parts)?;
+    Ok(root_parts)
 }
 
-/// Appends the value of the row of parts that an alternative is.
-pub fn push_case(out: &mut Text, of: Chain<'_>, at: usize) {
-    let (part, _) = of.place(at);
-    out.push_times("Rest (", part);
-    out.push("First (");
-    push_own(out, at);
-    out.push(" held)");
-    out.push_times(")", part);
+/// What each alternative is in a row of parts that are only read.
+pub fn push_part_cases(out: &mut Text, of: Chain<'_>) {
+    for (at, cell) in of.cells.iter().enumerate() {
+        let (part, _) = of.place(at);
+        let front = if at == 0 { "" } else { " | " };
+        out.push_all(&[front, cell.camel.as_str(), " held ↦ "]);
+        out.push_times("Rest (", part);
+        out.push("First (");
+        push_own(out, at);
+        out.push(" held)");
+        out.push_times(")", part);
+    }
 }
 
-/// Appends what names the variants of each part, a line each: nothing where there are no parts.
+/// Appends what names the variants of each part that is only read, a line each: nothing where there are none.
 pub fn push_part_uses(out: &mut Text, of: Chain<'_>) {
     if !of.has_parts() {
         return;

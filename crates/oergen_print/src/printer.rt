@@ -1,7 +1,8 @@
 //! All types in order of use, each printed or left out.
 ghost use Rattle.std.specs.Prelude.{◌≡◌, ◌+◌, [], Err, false, IfOk, length};
 
-use crate::choices::{answers_of, push_choice};
+use crate::answers::{Answers, answers_of};
+use crate::choices::push_choice;
 use crate::cycles::{again, require_cycle, run_of};
 use crate::depths::{Depth, depths_of, require_depth};
 use crate::derives::with_clone;
@@ -60,7 +61,7 @@ pub struct Printed {
     /// What they have of it as their knot, which is the last of its cycle.
     pub knot: Option<Knot>,
     /// The answers of what writes a CHOICE, where the prover asks for them.
-    pub answers: Text,
+    pub answers: Vec<Answers>,
     /// Whether values of it have octets: it is no set of objects.
     pub is_coded: bool,
 }

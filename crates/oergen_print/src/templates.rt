@@ -287,7 +287,7 @@ impl@READS@ TakesAlternative for @NAME@Alternatives@K@ {
 "#;
 
 /// The enum of a part of a CHOICE's alternatives.
-pub const PART_TYPE: &str = r#"@DOC@#[derive(Drop)]
+pub const PART_TYPE: &str = r#"@DOC@#[derive(@DERIVES@)]
 pub enum @NAME@ {
 @VARIANTS@}
 
@@ -327,6 +327,22 @@ impl ReadsPart for @NAME@ {
     }
 }
 
+"#;
+
+/// What writes a part that a CHOICE's own enum holds.
+pub const PART_PUTS: &str = r#"impl PutsPart for @NAME@ {
+    fn put<E: Choice>(&self, encoder: &mut Encoder<'_>) -> Result<(), EncodeError> {
+        match self {
+@PUTS@        }
+    }
+}
+
+"#;
+
+/// The answer of the goal of a variant that holds a part in `put`.
+pub const PART_ANSWER: &str = r#"
+pub returns-in-@VARIANT@ : goal.returns-in-@VARIANT@
+returns-in-@VARIANT@ g c = rw c.in-@VARIANT@.is c.put@IN@.ensures
 "#;
 
 /// The answer of a variant's goal in `put`.

@@ -62,6 +62,7 @@ pub use oer_choices::HoldsTags;
 pub use oer_choices::Numbered;
 pub use oer_choices::OneOf;
 pub use oer_choices::Part;
+pub use oer_choices::PutsPart;
 pub use oer_choices::ReadsAlternatives;
 pub use oer_choices::ReadsPart;
 pub use oer_choices::TakesAlternative;

@@ -1,6 +1,7 @@
 -- The alternatives of two rows, as those of one.
 use Rattle.std.specs.Prelude.{◌≡◌, ◌++◌, ◌||◌, Bool, true, false, List, [], ◌∷◌, refl}
 use Rattle.std.proofs.Common.{sym, ap, ◌∙◌, subst, arith}
+use Rattle.std.proofs.lemmas.List.{append_assoc}
 use Rattle.asn1_core.specs.Tags.{AreDistinct, holds, same_tag}
 use Rattle.asn1_core.specs.declared.tag.Tag.{Tag}
 use Rattle.oer_spec.specs.Encoding.{IsTree}
@@ -10,7 +11,7 @@ use Rattle.oer_choices.specs.Choosing.{Choices, AreChoices, times_of_both, times
 use Rattle.oer_choices.specs.declared.alternatives.Either.{Either}
 use Rattle.oer_choices.specs.declared.alternatives.Either.TheVariants.{First, Rest}
 
--- ---- tags of lists behind one another
+-- ---- tags of lists append_assoc one another
 
 or_of_three : (a b c : Bool) → (a || (b || c)) ≡ ((a || b) || c)
 or_of_three true b c = refl
@@ -26,10 +27,6 @@ or_crossed false true true d = refl
 or_crossed false true false d = refl
 or_crossed false false true d = refl
 or_crossed false false false d = refl
-
-behind : (x y z : List Tag) → (x ++ y) ++ z ≡ x ++ (y ++ z)
-behind [] y z = refl
-behind (h ∷ x) y z = ap (λ (r : List Tag). h ∷ r) (behind x y z)
 
 -- ---- distinct tags, of which some are left out
 
@@ -69,11 +66,11 @@ module _ (a₁ b₁ a₂ b₂ : List Tag) where
 
   pub left_distinct : AreDistinct all → AreDistinct (a₁ ++ a₂)
   left_distinct d =
-      let e = without a₁ b₁ (a₂ ++ b₂) (subst AreDistinct (behind a₁ b₁ (a₂ ++ b₂)) d) in
-      front (a₁ ++ a₂) b₂ (subst AreDistinct (sym (behind a₁ a₂ b₂)) e)
+      let e = without a₁ b₁ (a₂ ++ b₂) (subst AreDistinct (append_assoc a₁ b₁ (a₂ ++ b₂)) d) in
+      front (a₁ ++ a₂) b₂ (subst AreDistinct (sym (append_assoc a₁ a₂ b₂)) e)
 
   pub right_distinct : AreDistinct all → AreDistinct (b₁ ++ b₂)
-  right_distinct d = without b₁ a₂ b₂ (without [] a₁ (b₁ ++ (a₂ ++ b₂)) (subst AreDistinct (behind a₁ b₁ (a₂ ++ b₂)) d))
+  right_distinct d = without b₁ a₂ b₂ (without [] a₁ (b₁ ++ (a₂ ++ b₂)) (subst AreDistinct (append_assoc a₁ b₁ (a₂ ++ b₂)) d))
 
   -- none is a tag of both
   pub not_in_both : AreDistinct all → (g : Tag) → holds (a₁ ++ a₂) g ≡ true → holds (b₁ ++ b₂) g ≡ true → ⊥
@@ -91,41 +88,41 @@ module _ (a₁ b₁ a₂ b₂ : List Tag) where
 -- ---- two rows
 
 module _ {A B : Type 0} (a : Choices A) (b : Choices B) where
-  abbrev pub half_tag : Either A B → Tag
-  half_tag (First v) = a.tag_of v
-  half_tag (Rest w) = b.tag_of w
+  abbrev pub either_tag : Either A B → Tag
+  either_tag (First v) = a.tag_of v
+  either_tag (Rest w) = b.tag_of w
 
-  abbrev pub half_child : Either A B → Tree
-  half_child (First v) = a.child v
-  half_child (Rest w) = b.child w
+  abbrev pub either_child : Either A B → Tree
+  either_child (First v) = a.child v
+  either_child (Rest w) = b.child w
 
-  abbrev pub HalfValue : Either A B → Type 0
-  HalfValue (First v) = a.IsValue v
-  HalfValue (Rest w) = b.IsValue w
+  abbrev pub EitherValue : Either A B → Type 0
+  EitherValue (First v) = a.IsValue v
+  EitherValue (Rest w) = b.IsValue w
 
   -- roots of either are roots, and additions of either additions
   abbrev pub both_of : Choices (Either A B)
-  both_of = record { roots = a.roots ++ b.roots; additions = a.additions ++ b.additions; is_extensible = a.is_extensible || b.is_extensible; tag_of = half_tag; child = half_child; IsValue = HalfValue }
+  both_of = record { roots = a.roots ++ b.roots; additions = a.additions ++ b.additions; is_extensible = a.is_extensible || b.is_extensible; tag_of = either_tag; child = either_child; IsValue = EitherValue }
 
-  abbrev pub tags : List Tag
-  tags = (a.roots ++ b.roots) ++ (a.additions ++ b.additions)
+  abbrev tags : List Tag
+  tags = all a.roots b.roots a.additions b.additions
 
-  both_is : AreChoices a → AreChoices b → (v : Either A B) → HalfValue v → IsTree (half_child v)
+  both_is : AreChoices a → AreChoices b → (v : Either A B) → EitherValue v → IsTree (either_child v)
   both_is k l (First v) i = k.is v i
   both_is k l (Rest w) i = l.is w i
 
-  both_held : AreChoices a → AreChoices b → (v : Either A B) → HalfValue v → holds tags (half_tag v) ≡ true
+  both_held : AreChoices a → AreChoices b → (v : Either A B) → EitherValue v → holds tags (either_tag v) ≡ true
   both_held k l (First v) i = holds_crossed a.roots b.roots a.additions b.additions (a.tag_of v) ∙ first_true (holds (a.roots ++ a.additions) (a.tag_of v)) (holds (b.roots ++ b.additions) (a.tag_of v)) (k.held v i)
   both_held k l (Rest w) i = holds_crossed a.roots b.roots a.additions b.additions (b.tag_of w) ∙ either_true (holds (a.roots ++ a.additions) (b.tag_of w)) (holds (b.roots ++ b.additions) (b.tag_of w)) (l.held w i)
 
   -- a value of the one hasn't the tag of a value of the other
-  pub halves_apart : AreChoices a → AreChoices b → AreDistinct tags → (v : A) (w : B) → a.IsValue v → b.IsValue w → a.tag_of v ≡ b.tag_of w → ⊥
-  halves_apart k l d v w i j e = not_in_both a.roots b.roots a.additions b.additions d (b.tag_of w) (subst (λ (g : Tag). holds (a.roots ++ a.additions) g ≡ true) e (k.held v i)) (l.held w j)
+  pub rows_apart : AreChoices a → AreChoices b → AreDistinct tags → (v : A) (w : B) → a.IsValue v → b.IsValue w → a.tag_of v ≡ b.tag_of w → ⊥
+  rows_apart k l d v w i j e = not_in_both a.roots b.roots a.additions b.additions d (b.tag_of w) (subst (λ (g : Tag). holds (a.roots ++ a.additions) g ≡ true) e (k.held v i)) (l.held w j)
 
-  both_like : AreChoices a → AreChoices b → AreDistinct tags → (v w : Either A B) → HalfValue v → HalfValue w → half_tag v ≡ half_tag w → Alike (half_child v) (half_child w)
+  both_like : AreChoices a → AreChoices b → AreDistinct tags → (v w : Either A B) → EitherValue v → EitherValue w → either_tag v ≡ either_tag w → Alike (either_child v) (either_child w)
   both_like k l d (First v) (First w) i j e = k.like (left_distinct a.roots b.roots a.additions b.additions d) v w i j e
-  both_like k l d (First v) (Rest w) i j e = absurd (halves_apart k l d v w i j e)
-  both_like k l d (Rest v) (First w) i j e = absurd (halves_apart k l d w v j i (sym e))
+  both_like k l d (First v) (Rest w) i j e = absurd (rows_apart k l d v w i j e)
+  both_like k l d (Rest v) (First w) i j e = absurd (rows_apart k l d w v j i (sym e))
   both_like k l d (Rest v) (Rest w) i j e = l.like (right_distinct a.roots b.roots a.additions b.additions d) v w i j e
 
   pub both_of_is : AreChoices a → AreChoices b → AreChoices both_of
