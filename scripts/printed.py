@@ -135,7 +135,7 @@ NAMES = (
     ),
     (f"Wide ::= CHOICE {{ {NULLS} }}", ("    At_99(()),", "            Self::C99(held) => put_alternative::<E, _>(encoder, Context::<99>::tag(), held),")),
     (
-        f"Wide ::= CHOICE {{ {NULLS}, ..., added BOOLEAN }}",
+        f"Wide ::= CHOICE {{ {NULLS}, ..., added BOOLEAN, other NULL }}",
         (
             "    Part8(WidePart8),",
             "    Added(bool),",

@@ -16,7 +16,7 @@ use Rattle.example_closures.specs.declared.reports.Report.{Report}
 
 -- what a type has to have for a component with a default
 pub default_is_known : IsDefault boolean IsAny beq false
-default_is_known = record { value = tt; is_tree = λ v i. boolean_is v; alike = λ v w i j. booleans_alike v w; decides = λ v w i j. booleans_same v w }
+default_is_known = record { value = tt; is_tree = λ v i. boolean_is v; alike = λ v w i j. booleans_alike v w; decides = λ v i. booleans_same v false }
 
 -- the slot of `urgent`: absent where it is FALSE
 abbrev pub urgent_slot : Bool → Slot

@@ -147,6 +147,7 @@ pub struct RowPercentDefault;
 
 impl DefaultValue<u8> for RowPercentDefault {
     ghost use Rattle.std.specs.Prelude.{negsuc, pos, refl};
+    ghost use Rattle.rasn_oer.specs.Spelled.{naturals_same};
 
     ghost value = { 3 };
 
@@ -159,6 +160,8 @@ impl DefaultValue<u8> for RowPercentDefault {
     }
 
     ghost admitted = { refl };
+
+    ghost decides = { λ c k v i. naturals_same c v _ };
 }
 
 /// The default -2 of `RowType`.
@@ -166,6 +169,7 @@ pub struct RowTypeDefault;
 
 impl DefaultValue<Integer> for RowTypeDefault {
     ghost use Rattle.std.specs.Prelude.{negsuc, pos, refl};
+    ghost use Rattle.rasn_oer.specs.Spelled.{integers_same};
 
     ghost value = { (negsuc 1) };
 
@@ -178,6 +182,8 @@ impl DefaultValue<Integer> for RowTypeDefault {
     }
 
     ghost admitted = { refl };
+
+    ghost decides = { λ c k v i. integers_same c v _ };
 }
 
 /// The addition group 1 of `Row`.

@@ -10,6 +10,7 @@ pub struct PermitRightsDefault;
 impl DefaultValue<BitString> for PermitRightsDefault {
     ghost use Rattle.std.specs.Prelude.{◌∷◌, [], take};
     ghost use Rattle.rasn_oer.specs.Octets.{bits_of};
+    ghost use Rattle.rasn_oer.specs.Spelled.{bit_strings_same};
 
     ghost value = { take 8 (bits_of (128 ∷ [])) };
 
@@ -24,6 +25,8 @@ impl DefaultValue<BitString> for PermitRightsDefault {
     }
 
     ghost admitted = { tt };
+
+    ghost decides = { λ c k v i. bit_strings_same c v _ };
 }
 
 /// The default 'AB01'H of `PermitMark`.
@@ -32,6 +35,7 @@ pub struct PermitMarkDefault;
 impl DefaultValue<Octets> for PermitMarkDefault {
     ghost use Rattle.std.specs.Prelude.{◌∷◌, [], refl};
     ghost use Rattle.rasn_oer.specs.Literals.{written};
+    ghost use Rattle.rasn_oer.specs.Spelled.{texts_same};
     ghost use Rattle.rasn_oer.specs.Texts as texts;
 
     ghost value = { record { 0 = (171 ∷ 1 ∷ []) } };
@@ -48,6 +52,8 @@ impl DefaultValue<Octets> for PermitMarkDefault {
     }
 
     ghost admitted = { written texts.AnyOctets (171 ∷ 1 ∷ []) refl tt };
+
+    ghost decides = { λ c k v i. texts_same texts.AnyOctets c v.0 _ };
 }
 
 /// The default "home" of `PermitPlace`.
@@ -56,6 +62,7 @@ pub struct PermitPlaceDefault;
 impl DefaultValue<Ia5Text> for PermitPlaceDefault {
     ghost use Rattle.std.specs.Prelude.{◌∷◌, [], refl};
     ghost use Rattle.rasn_oer.specs.Literals.{written};
+    ghost use Rattle.rasn_oer.specs.Spelled.{texts_same};
     ghost use Rattle.rasn_oer.specs.Texts as texts;
 
     ghost value = { record { 0 = (104 ∷ 111 ∷ 109 ∷ 101 ∷ []) } };
@@ -72,6 +79,8 @@ impl DefaultValue<Ia5Text> for PermitPlaceDefault {
     }
 
     ghost admitted = { written texts.Ia5 (104 ∷ 111 ∷ 109 ∷ 101 ∷ []) refl refl };
+
+    ghost decides = { λ c k v i. texts_same texts.Ia5 c v.0 _ };
 }
 
 /// The default green of `PermitColour`.
@@ -79,6 +88,7 @@ pub struct PermitColourDefault;
 
 impl DefaultValue<Colour> for PermitColourDefault {
     ghost use Rattle.example_printed.specs.declared.types_01.ColourValues.TheVariants.{Green};
+    ghost use Rattle.rasn_oer.specs.Numbered.{numbers_same};
 
     ghost value = { record { 0 = Green } };
 
@@ -91,6 +101,8 @@ impl DefaultValue<Colour> for PermitColourDefault {
     }
 
     ghost admitted = { tt };
+
+    ghost decides = { λ c k v i. numbers_same _ _ };
 }
 
 /// The default '101'B of `PermitBits`.
@@ -99,6 +111,7 @@ pub struct PermitBitsDefault;
 impl DefaultValue<BitString> for PermitBitsDefault {
     ghost use Rattle.std.specs.Prelude.{◌∷◌, [], take};
     ghost use Rattle.rasn_oer.specs.Octets.{bits_of};
+    ghost use Rattle.rasn_oer.specs.Spelled.{bit_strings_same};
 
     ghost value = { take 3 (bits_of (160 ∷ [])) };
 
@@ -113,6 +126,8 @@ impl DefaultValue<BitString> for PermitBitsDefault {
     }
 
     ghost admitted = { tt };
+
+    ghost decides = { λ c k v i. bit_strings_same c v _ };
 }
 
 /// The default "Hi" of `PermitSeal`.
@@ -121,6 +136,7 @@ pub struct PermitSealDefault;
 impl DefaultValue<BmpText> for PermitSealDefault {
     ghost use Rattle.std.specs.Prelude.{◌∷◌, [], refl};
     ghost use Rattle.rasn_oer.specs.Literals.{written};
+    ghost use Rattle.rasn_oer.specs.Spelled.{texts_same};
     ghost use Rattle.rasn_oer.specs.Texts as texts;
 
     ghost value = { record { 0 = (0 ∷ 72 ∷ 0 ∷ 105 ∷ []) } };
@@ -136,6 +152,8 @@ impl DefaultValue<BmpText> for PermitSealDefault {
     }
 
     ghost admitted = { written texts.Bmp (0 ∷ 72 ∷ 0 ∷ 105 ∷ []) refl (2, refl) };
+
+    ghost decides = { λ c k v i. texts_same texts.Bmp c v.0 _ };
 }
 
 /// The default {write} of `PermitMore`.
@@ -144,6 +162,7 @@ pub struct PermitMoreDefault;
 impl DefaultValue<BitString> for PermitMoreDefault {
     ghost use Rattle.std.specs.Prelude.{◌∷◌, [], take};
     ghost use Rattle.rasn_oer.specs.Octets.{bits_of};
+    ghost use Rattle.rasn_oer.specs.Spelled.{bit_strings_same};
 
     ghost value = { take 8 (bits_of (64 ∷ [])) };
 
@@ -158,6 +177,8 @@ impl DefaultValue<BitString> for PermitMoreDefault {
     }
 
     ghost admitted = { tt };
+
+    ghost decides = { λ c k v i. bit_strings_same c v _ };
 }
 
 /// `Permit ::= SEQUENCE { rights Rights DEFAULT usual, mark OCTET STRING (SIZE(2)) DEFAULT 'AB01'H,

@@ -9,6 +9,7 @@ pub struct LabelsTitleDefault;
 impl DefaultValue<Utf8Text> for LabelsTitleDefault {
     ghost use Rattle.std.specs.Prelude.{◌∷◌, [], refl};
     ghost use Rattle.rasn_oer.specs.Literals.{written, spelled};
+    ghost use Rattle.rasn_oer.specs.Spelled.{texts_same};
     ghost use Rattle.rasn_oer.specs.Texts as texts;
 
     ghost value = { (104 ∷ 34 ∷ 195 ∷ 169 ∷ []) };
@@ -24,6 +25,8 @@ impl DefaultValue<Utf8Text> for LabelsTitleDefault {
     }
 
     ghost admitted = { written texts.Utf8 (104 ∷ 34 ∷ 195 ∷ 169 ∷ []) refl (spelled (104 ∷ 34 ∷ 195 ∷ 169 ∷ []) refl) };
+
+    ghost decides = { λ c k v i. texts_same texts.Utf8 c v _ };
 }
 
 /// The default "0 1" of `LabelsDigits`.
@@ -32,6 +35,7 @@ pub struct LabelsDigitsDefault;
 impl DefaultValue<NumericText> for LabelsDigitsDefault {
     ghost use Rattle.std.specs.Prelude.{◌∷◌, [], refl};
     ghost use Rattle.rasn_oer.specs.Literals.{written};
+    ghost use Rattle.rasn_oer.specs.Spelled.{texts_same};
     ghost use Rattle.rasn_oer.specs.Texts as texts;
 
     ghost value = { record { 0 = (48 ∷ 32 ∷ 49 ∷ []) } };
@@ -48,6 +52,8 @@ impl DefaultValue<NumericText> for LabelsDigitsDefault {
     }
 
     ghost admitted = { written texts.Numeric (48 ∷ 32 ∷ 49 ∷ []) refl refl };
+
+    ghost decides = { λ c k v i. texts_same texts.Numeric c v.0 _ };
 }
 
 /// The default "A." of `LabelsPlain`.
@@ -56,6 +62,7 @@ pub struct LabelsPlainDefault;
 impl DefaultValue<PrintableText> for LabelsPlainDefault {
     ghost use Rattle.std.specs.Prelude.{◌∷◌, [], refl};
     ghost use Rattle.rasn_oer.specs.Literals.{written};
+    ghost use Rattle.rasn_oer.specs.Spelled.{texts_same};
     ghost use Rattle.rasn_oer.specs.Texts as texts;
 
     ghost value = { record { 0 = (65 ∷ 46 ∷ []) } };
@@ -72,6 +79,8 @@ impl DefaultValue<PrintableText> for LabelsPlainDefault {
     }
 
     ghost admitted = { written texts.Printable (65 ∷ 46 ∷ []) refl refl };
+
+    ghost decides = { λ c k v i. texts_same texts.Printable c v.0 _ };
 }
 
 /// The default "~" of `LabelsSeen`.
@@ -80,6 +89,7 @@ pub struct LabelsSeenDefault;
 impl DefaultValue<VisibleText> for LabelsSeenDefault {
     ghost use Rattle.std.specs.Prelude.{◌∷◌, [], refl};
     ghost use Rattle.rasn_oer.specs.Literals.{written};
+    ghost use Rattle.rasn_oer.specs.Spelled.{texts_same};
     ghost use Rattle.rasn_oer.specs.Texts as texts;
 
     ghost value = { record { 0 = (126 ∷ []) } };
@@ -96,6 +106,8 @@ impl DefaultValue<VisibleText> for LabelsSeenDefault {
     }
 
     ghost admitted = { written texts.Visible (126 ∷ []) refl refl };
+
+    ghost decides = { λ c k v i. texts_same texts.Visible c v.0 _ };
 }
 
 /// The default "" of `LabelsGeneral`.
@@ -104,6 +116,7 @@ pub struct LabelsGeneralDefault;
 impl DefaultValue<GeneralText> for LabelsGeneralDefault {
     ghost use Rattle.std.specs.Prelude.{◌∷◌, [], refl};
     ghost use Rattle.rasn_oer.specs.Literals.{written};
+    ghost use Rattle.rasn_oer.specs.Spelled.{texts_same};
     ghost use Rattle.rasn_oer.specs.Texts as texts;
 
     ghost value = { record { 0 = ([]) } };
@@ -120,6 +133,8 @@ impl DefaultValue<GeneralText> for LabelsGeneralDefault {
     }
 
     ghost admitted = { written texts.General ([]) refl tt };
+
+    ghost decides = { λ c k v i. texts_same texts.General c v.0 _ };
 }
 
 /// The default "g" of `LabelsGraphic`.
@@ -128,6 +143,7 @@ pub struct LabelsGraphicDefault;
 impl DefaultValue<GraphicText> for LabelsGraphicDefault {
     ghost use Rattle.std.specs.Prelude.{◌∷◌, [], refl};
     ghost use Rattle.rasn_oer.specs.Literals.{written};
+    ghost use Rattle.rasn_oer.specs.Spelled.{texts_same};
     ghost use Rattle.rasn_oer.specs.Texts as texts;
 
     ghost value = { record { 0 = (103 ∷ []) } };
@@ -144,6 +160,8 @@ impl DefaultValue<GraphicText> for LabelsGraphicDefault {
     }
 
     ghost admitted = { written texts.Graphic (103 ∷ []) refl tt };
+
+    ghost decides = { λ c k v i. texts_same texts.Graphic c v.0 _ };
 }
 
 /// The default "t" of `LabelsTeletex`.
@@ -152,6 +170,7 @@ pub struct LabelsTeletexDefault;
 impl DefaultValue<TeletexText> for LabelsTeletexDefault {
     ghost use Rattle.std.specs.Prelude.{◌∷◌, [], refl};
     ghost use Rattle.rasn_oer.specs.Literals.{written};
+    ghost use Rattle.rasn_oer.specs.Spelled.{texts_same};
     ghost use Rattle.rasn_oer.specs.Texts as texts;
 
     ghost value = { record { 0 = (116 ∷ []) } };
@@ -168,6 +187,8 @@ impl DefaultValue<TeletexText> for LabelsTeletexDefault {
     }
 
     ghost admitted = { written texts.Teletex (116 ∷ []) refl tt };
+
+    ghost decides = { λ c k v i. texts_same texts.Teletex c v.0 _ };
 }
 
 /// `Labels ::= SEQUENCE { title UTF8String DEFAULT "h""é", digits NumericString (SIZE(1..4))

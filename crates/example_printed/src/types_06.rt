@@ -263,6 +263,7 @@ pub struct TakenPartDefault;
 
 impl DefaultValue<u16> for TakenPartDefault {
     ghost use Rattle.std.specs.Prelude.{negsuc, pos, refl};
+    ghost use Rattle.rasn_oer.specs.Spelled.{naturals_same};
 
     ghost value = { 3 };
 
@@ -275,6 +276,8 @@ impl DefaultValue<u16> for TakenPartDefault {
     }
 
     ghost admitted = { refl };
+
+    ghost decides = { λ c k v i. naturals_same c v _ };
 }
 
 /// `Taken ::= SEQUENCE { COMPONENTS OF Then, part INTEGER (0..top) DEFAULT three, plain Plain OPTIONAL,

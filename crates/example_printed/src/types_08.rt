@@ -276,6 +276,7 @@ pub struct CardUsualDefault;
 impl DefaultValue<NamedBits> for CardUsualDefault {
     ghost use Rattle.std.specs.Prelude.{◌∷◌, [], take, refl};
     ghost use Rattle.rasn_oer.specs.Octets.{bits_of};
+    ghost use Rattle.rasn_oer.specs.Spelled.{named_bit_strings_same};
 
     ghost value = { take 1 (bits_of (128 ∷ [])) };
 
@@ -291,6 +292,8 @@ impl DefaultValue<NamedBits> for CardUsualDefault {
     }
 
     ghost admitted = { refl };
+
+    ghost decides = { λ c k v i. named_bit_strings_same c v _ };
 }
 
 /// `Card ::= SEQUENCE { marks Marks, least Marks (SIZE(4..12)), more Marks OPTIONAL, usual Marks

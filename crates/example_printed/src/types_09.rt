@@ -10,6 +10,7 @@ pub struct PersonMarkDefault;
 impl DefaultValue<UniversalText> for PersonMarkDefault {
     ghost use Rattle.std.specs.Prelude.{◌∷◌, [], refl};
     ghost use Rattle.rasn_oer.specs.Literals.{written};
+    ghost use Rattle.rasn_oer.specs.Spelled.{texts_same};
     ghost use Rattle.rasn_oer.specs.Texts as texts;
 
     ghost value = { record { 0 = (0 ∷ 0 ∷ 0 ∷ 233 ∷ 0 ∷ 1 ∷ 246 ∷ 0 ∷ []) } };
@@ -25,6 +26,8 @@ impl DefaultValue<UniversalText> for PersonMarkDefault {
     }
 
     ghost admitted = { written texts.Universal (0 ∷ 0 ∷ 0 ∷ 233 ∷ 0 ∷ 1 ∷ 246 ∷ 0 ∷ []) refl (2, refl) };
+
+    ghost decides = { λ c k v i. texts_same texts.Universal c v.0 _ };
 }
 
 /// `Person ::= SEQUENCE { title Title, country UniversalString (SIZE(2)), mark UniversalString (SIZE(1..2))

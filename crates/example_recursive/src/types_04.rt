@@ -83,6 +83,7 @@ pub struct PostStateDefault;
 impl DefaultValue<State> for PostStateDefault {
     ghost use Rattle.example_recursive.specs.declared.types_03.StateValues.TheVariants.{Sent};
     ghost use Rattle.std.specs.Prelude.{refl};
+    ghost use Rattle.oer_kept.specs.KeptNumbers.{kept_same};
     ghost use Rattle.oer_kept.specs.declared.enumerations.KeptEnumeration.TheVariants.{Known};
 
     ghost value = { Known Sent };
@@ -96,6 +97,8 @@ impl DefaultValue<State> for PostStateDefault {
     }
 
     ghost admitted = { (refl, refl) };
+
+    ghost decides = { λ c k v i. kept_same ⟦<StateValues as Numbered>⟧.number ⟦<StateValues as Numbered>⟧.values v _ i (refl, refl) };
 }
 
 /// Beside a cycle. Newer versions may have other states and ways.

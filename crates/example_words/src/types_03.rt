@@ -468,6 +468,7 @@ pub struct DefaultIntegerADefault;
 
 impl DefaultValue<Integer> for DefaultIntegerADefault {
     ghost use Rattle.std.specs.Prelude.{negsuc, pos, refl};
+    ghost use Rattle.rasn_oer.specs.Spelled.{integers_same};
 
     ghost value = { (pos 0) };
 
@@ -480,6 +481,8 @@ impl DefaultValue<Integer> for DefaultIntegerADefault {
     }
 
     ghost admitted = { refl };
+
+    ghost decides = { λ c k v i. integers_same c v _ };
 }
 
 /// `DefaultInteger ::= SEQUENCE { a INTEGER DEFAULT 0 }`

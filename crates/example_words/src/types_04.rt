@@ -8,6 +8,7 @@ pub struct DefaultAndOptionalADefault;
 
 impl DefaultValue<Integer> for DefaultAndOptionalADefault {
     ghost use Rattle.std.specs.Prelude.{negsuc, pos, refl};
+    ghost use Rattle.rasn_oer.specs.Spelled.{integers_same};
 
     ghost value = { (pos 0) };
 
@@ -20,6 +21,8 @@ impl DefaultValue<Integer> for DefaultAndOptionalADefault {
     }
 
     ghost admitted = { refl };
+
+    ghost decides = { λ c k v i. integers_same c v _ };
 }
 
 /// `DefaultAndOptional ::= SEQUENCE { a INTEGER DEFAULT 0, b INTEGER OPTIONAL }`
@@ -114,6 +117,7 @@ pub struct AllDefaultADefault;
 
 impl DefaultValue<Integer> for AllDefaultADefault {
     ghost use Rattle.std.specs.Prelude.{negsuc, pos, refl};
+    ghost use Rattle.rasn_oer.specs.Spelled.{integers_same};
 
     ghost value = { (pos 0) };
 
@@ -126,6 +130,8 @@ impl DefaultValue<Integer> for AllDefaultADefault {
     }
 
     ghost admitted = { refl };
+
+    ghost decides = { λ c k v i. integers_same c v _ };
 }
 
 /// The default 1 of `AllDefaultB`.
@@ -133,6 +139,7 @@ pub struct AllDefaultBDefault;
 
 impl DefaultValue<Integer> for AllDefaultBDefault {
     ghost use Rattle.std.specs.Prelude.{negsuc, pos, refl};
+    ghost use Rattle.rasn_oer.specs.Spelled.{integers_same};
 
     ghost value = { (pos 1) };
 
@@ -145,6 +152,8 @@ impl DefaultValue<Integer> for AllDefaultBDefault {
     }
 
     ghost admitted = { refl };
+
+    ghost decides = { λ c k v i. integers_same c v _ };
 }
 
 /// `AllDefault ::= SEQUENCE { a INTEGER DEFAULT 0, b INTEGER DEFAULT 1 }`

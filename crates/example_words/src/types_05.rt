@@ -347,6 +347,7 @@ pub struct AddDefBDefault;
 
 impl DefaultValue<Integer> for AddDefBDefault {
     ghost use Rattle.std.specs.Prelude.{negsuc, pos, refl};
+    ghost use Rattle.rasn_oer.specs.Spelled.{integers_same};
 
     ghost value = { (pos 7) };
 
@@ -359,6 +360,8 @@ impl DefaultValue<Integer> for AddDefBDefault {
     }
 
     ghost admitted = { refl };
+
+    ghost decides = { λ c k v i. integers_same c v _ };
 }
 
 /// `AddDef ::= SEQUENCE { a BOOLEAN, ..., b INTEGER DEFAULT 7 }`

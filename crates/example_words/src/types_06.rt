@@ -338,6 +338,7 @@ pub struct MixedSetZDefault;
 
 impl DefaultValue<Integer> for MixedSetZDefault {
     ghost use Rattle.std.specs.Prelude.{negsuc, pos, refl};
+    ghost use Rattle.rasn_oer.specs.Spelled.{integers_same};
 
     ghost value = { (pos 0) };
 
@@ -350,6 +351,8 @@ impl DefaultValue<Integer> for MixedSetZDefault {
     }
 
     ghost admitted = { refl };
+
+    ghost decides = { λ c k v i. integers_same c v _ };
 }
 
 /// `MixedSet ::= SET { x [2] BOOLEAN, y [1] INTEGER OPTIONAL, z [APPLICATION 1] INTEGER DEFAULT 0,

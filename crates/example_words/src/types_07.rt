@@ -8,6 +8,7 @@ pub struct MixedSet2ZDefault;
 
 impl DefaultValue<Integer> for MixedSet2ZDefault {
     ghost use Rattle.std.specs.Prelude.{negsuc, pos, refl};
+    ghost use Rattle.rasn_oer.specs.Spelled.{integers_same};
 
     ghost value = { (pos 0) };
 
@@ -20,6 +21,8 @@ impl DefaultValue<Integer> for MixedSet2ZDefault {
     }
 
     ghost admitted = { refl };
+
+    ghost decides = { λ c k v i. integers_same c v _ };
 }
 
 /// `MixedSet2 ::= SET { x [2] BOOLEAN, y [1] INTEGER OPTIONAL, z [APPLICATION 1] INTEGER DEFAULT 0,

@@ -7,7 +7,7 @@ use oer_rows::{
     AdditionGroup, Additions, Both, DefaultValue, DefaultedAddition, Place, ReadsAdditions,
     RequiredAddition,
 };
-use oer_spec::{EqualAsSpelled, Spelled};
+use oer_spec::Spelled;
 use std::alloc::Global;
 
 impl<K, G: Place, B: Spelled, R: Additions> KnotAdditions<K> for RequiredAddition<G, B, R> {
@@ -40,7 +40,7 @@ impl<K: Spelled, G: Place, B: Decode, R: ReadsAdditions> ReadsKnotAdditions<K>
     }
 }
 
-impl<K, G: Place, B: EqualAsSpelled, D: DefaultValue<B>, R: Additions> KnotAdditions<K>
+impl<K, G: Place, B: Spelled + PartialEq, D: DefaultValue<B>, R: Additions> KnotAdditions<K>
     for DefaultedAddition<G, B, D, R> {
     ghost use Rattle.oer_rows.specs.Schema.{typed, defaulted, defaulted_is};
     ghost use Rattle.oer_knots.specs.Rows.{no_weight};
@@ -58,7 +58,7 @@ impl<K, G: Place, B: EqualAsSpelled, D: DefaultValue<B>, R: Additions> KnotAddit
 impl<
     K: Spelled,
     G: Place,
-    B: Decode + EqualAsSpelled,
+    B: Decode + PartialEq,
     D: DefaultValue<B>,
     R: ReadsAdditions,
 > ReadsKnotAdditions<K> for DefaultedAddition<G, B, D, R> {

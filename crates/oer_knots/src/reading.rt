@@ -14,7 +14,7 @@ use oer_read::{Decode, Decoder};
 use oer_rows::{
     DefaultValue, Defaulted, End, Extensible, Optional, Place, Required, Slotted, read_default,
 };
-use oer_spec::{EqualAsSpelled, Spelled};
+use oer_spec::Spelled;
 use std::alloc::Global;
 
 /// A row whose components are read, each knot in them by what is handed in.
@@ -127,13 +127,8 @@ impl<K: Spelled, G: Place, B: Decode, R: ReadsKnot<K>> ReadsKnot<K> for Optional
     }
 }
 
-impl<
-    K: Spelled,
-    G: Place,
-    B: Decode + EqualAsSpelled,
-    D: DefaultValue<B>,
-    R: ReadsKnot<K>,
-> ReadsKnot<K> for Defaulted<G, B, D, R> {
+impl<K: Spelled, G: Place, B: Decode + PartialEq, D: DefaultValue<B>, R: ReadsKnot<K>> ReadsKnot<K>
+    for Defaulted<G, B, D, R> {
     ghost use Rattle.oer_knots.specs.Answering.{plain, before};
     ghost use Rattle.oer_rows.specs.DefaultValues.{AsksDefaultValue};
 

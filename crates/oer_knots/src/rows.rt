@@ -6,7 +6,7 @@ use crate::ties::HoldsKnot;
 use oer_rows::{
     Both, Components, DefaultValue, Defaulted, End, Extensible, Optional, Place, Required,
 };
-use oer_spec::{EqualAsSpelled, Spelled};
+use oer_spec::Spelled;
 
 /// A row by the values of `K` that its components hold.
 pub trait KnotRow<K> {
@@ -100,7 +100,7 @@ impl<K, G: Place, B: Spelled, R: KnotRow<K>> KnotRow<K> for Optional<G, B, R> {
     ghost ties = { optional_ties G.tag (typed B.tree B.CONSTRAINTS B.IsValue) R.schema R.EXTENSIBLE R.weight R.ties (typed_is B.tree B.IsValue B.is_tree B.alike B.CONSTRAINTS B.consistent) };
 }
 
-impl<K, G: Place, B: EqualAsSpelled, D: DefaultValue<B>, R: KnotRow<K>> KnotRow<K>
+impl<K, G: Place, B: Spelled + PartialEq, D: DefaultValue<B>, R: KnotRow<K>> KnotRow<K>
     for Defaulted<G, B, D, R> {
     ghost use Rattle.oer_rows.specs.Schema.{typed, default_then};
     ghost use Rattle.oer_knots.specs.Rows.{default_ties};

@@ -37,10 +37,10 @@ module _ {B : Type 0} (tree : B → Tree) (IsPart : B → Type 0) (Says : State 
   -- ---- a value and its default
 
   equal_is_same : (v : B) → IsPart v → eq v def ≡ true → Same (tree v) (tree def)
-  equal_is_same v i e = (known.decides v def i known.value).0 e
+  equal_is_same v i e = (known.decides v i).0 e
 
   same_is_equal : (v : B) → IsPart v → Same (tree v) (tree def) → eq v def ≡ true
-  same_is_equal v i x = (known.decides v def i known.value).1 x
+  same_is_equal v i x = (known.decides v i).1 x
 
   -- octets of a value that is equal to the default are octets of the default
   spells_default : (s : State) (o : Octets) (v : B) → IsPart v → eq v def ≡ true → IsEncoding (mode_of s.codec) s.levels o (tree v) → IsEncoding (mode_of s.codec) s.levels o (tree def)

@@ -48,4 +48,4 @@ pub record IsDefault {A : Type 0} (tree : A → Tree) (IsValue : A → Type 0) (
   pub value : IsValue default
   pub is_tree : (v : A) → IsValue v → IsTree (tree v)
   pub alike : (v w : A) → IsValue v → IsValue w → Alike (tree v) (tree w)
-  pub decides : (v w : A) → IsValue v → IsValue w → Decides (eq v w) (Same (tree v) (tree w))
+  pub decides : (v : A) → IsValue v → Decides (eq v default) (Same (tree v) (tree default))

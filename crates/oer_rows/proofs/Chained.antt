@@ -85,7 +85,7 @@ module _ {B : Type 0} (tree : B → Tree) (IsPart : B → Type 0) (Says : State 
 -- what makes a value a default, of what its type promises
 pub default_known : {B : Type 0} (tree : Constraints → B → Tree) (IsPart : B → Type 0) (eq : B → B → Bool) (def : B) → ((c : Constraints) → IsConsistent c → (v : B) → IsPart v → IsTree (tree c v))
     → ((c : Constraints) → IsConsistent c → (v w : B) → IsPart v → IsPart w → Alike (tree c v) (tree c w))
-    → ((c : Constraints) → IsConsistent c → (v w : B) → IsPart v → IsPart w → Decides (eq v w) (Same (tree c v) (tree c w)))
+    → ((c : Constraints) → IsConsistent c → (v : B) → IsPart v → Decides (eq v def) (Same (tree c v) (tree c def)))
     → (c : Constraints) → IsConsistent c → IsPart def → IsDefault (tree c) IsPart eq def
 default_known tree IsPart eq def is like decides c k i = record { value = i; is_tree = is c k; alike = like c k; decides = decides c k }
 

@@ -26,7 +26,7 @@ module _ {A : Type 0} (tree : A → Tree) (IsValue : A → Type 0) (eq : A → A
   present_differs : (b : Bool) (v : A) → (b ≡ false → IsValue v) → eq v default ≡ b → SameSlot (present_unless b (tree v)) (Present (tree default)) → ⊥
   unfolding Rattle.oer_spec.specs.Same.Same
   present_differs true v i e x = x
-  present_differs false v i e x = absurd (cc (e, (known.decides v default (i refl) known.value).1 x))
+  present_differs false v i e x = absurd (cc (e, (known.decides v (i refl)).1 x))
 
   pub default_slot_differs : (v : A) → IfOther v → SameSlot (default_slot v) (Present (tree default)) → ⊥
   default_slot_differs v i x = present_differs (eq v default) v i refl x

@@ -8,7 +8,7 @@ use crate::places::{DefaultValue, Place};
 use crate::slots::Slotted;
 use asn1_core::DecodeError;
 use oer_read::{Decode, Decoder};
-use oer_spec::{EqualAsSpelled, Spelled};
+use oer_spec::Spelled;
 use std::alloc::Global;
 use std::marker::PhantomData;
 
@@ -226,7 +226,7 @@ impl<G: Place, B: Decode, R: Reads> Reads for Optional<G, B, R> {
     }
 }
 
-impl<G: Place, B: EqualAsSpelled, D: DefaultValue<B>, R: Components> Components
+impl<G: Place, B: Spelled + PartialEq, D: DefaultValue<B>, R: Components> Components
     for Defaulted<G, B, D, R> {
     ghost use Rattle.oer_rows.specs.Schema.{typed, default_then, default_then_is};
 
@@ -241,7 +241,7 @@ impl<G: Place, B: EqualAsSpelled, D: DefaultValue<B>, R: Components> Components
     ghost is_schema = { default_then_is G.tag (typed B.tree B.CONSTRAINTS B.IsValue) B.eq D.value R.schema R.EXTENSIBLE R.is_schema };
 }
 
-impl<G: Place, B: EqualAsSpelled, D: DefaultValue<B>, R: Slotted> Slotted
+impl<G: Place, B: Spelled + PartialEq, D: DefaultValue<B>, R: Slotted> Slotted
     for Defaulted<G, B, D, R> {
     ghost use Rattle.oer_rows.specs.Slots.{with_required, required_once};
 
@@ -263,7 +263,7 @@ impl<G: Place, B: EqualAsSpelled, D: DefaultValue<B>, R: Slotted> Slotted
     }
 }
 
-impl<G: Place, B: Decode + EqualAsSpelled, D: DefaultValue<B>, R: Reads> Reads
+impl<G: Place, B: Decode + PartialEq, D: DefaultValue<B>, R: Reads> Reads
     for Defaulted<G, B, D, R> {
     ghost use Rattle.oer_rows.specs.DefaultValues.{AsksDefaultValue};
     ghost use Rattle.oer_rows.specs.Refusals.{RowRefused};

@@ -5,7 +5,7 @@ use crate::additions::read_addition;
 use crate::places::DefaultValue;
 use asn1_core::{Codec, DecodeError, DecodeErrorKind, Tag};
 use oer_read::{Decode, Decoder};
-use oer_spec::EqualAsSpelled;
+use oer_spec::Spelled;
 use std::alloc::Global;
 
 /// What a component's value is, of what is spelled: the default `D` where that is nothing.
@@ -13,7 +13,7 @@ use std::alloc::Global;
 /// Refused: the default, for want of memory where it takes any; a value that is equal to it in canonical mode, as `NotValidCanonicalEncoding` (X.696, 16.2
 /// and 18).
 #[inline(always)]
-fn settled<D: DefaultValue<B>, B: EqualAsSpelled>(
+fn settled<D: DefaultValue<B>, B: Spelled + PartialEq>(
     alloc: Global,
     codec: Codec,
     spelled: Option<B>,
@@ -42,7 +42,7 @@ fn settled<D: DefaultValue<B>, B: EqualAsSpelled>(
 ///
 /// Refused as an optional component is; then as `settled` refuses.
 #[inline(always)]
-pub fn read_default<D: DefaultValue<B>, B: Decode + EqualAsSpelled>(
+pub fn read_default<D: DefaultValue<B>, B: Decode + PartialEq>(
     alloc: Global,
     decoder: &mut Decoder<'_>,
     tag: Tag,
@@ -58,7 +58,7 @@ pub fn read_default<D: DefaultValue<B>, B: Decode + EqualAsSpelled>(
 ///
 /// Refused as an optional addition is; then as `settled` refuses.
 #[inline(always)]
-pub(crate) fn read_default_addition<D: DefaultValue<B>, B: Decode + EqualAsSpelled>(
+pub(crate) fn read_default_addition<D: DefaultValue<B>, B: Decode + PartialEq>(
     alloc: Global,
     decoder: &mut Decoder<'_>,
     tag: Tag,

@@ -4,7 +4,6 @@
 
 mod additions;
 mod both;
-mod compared;
 mod components;
 mod defaults;
 mod held_octets;
@@ -26,7 +25,6 @@ mod writing;
 
 pub use additions::{Additions, Extensible, OptionalAddition, ReadsAdditions, read_addition};
 pub use both::Both;
-pub use compared::Compared;
 pub use components::{Components, Defaulted, End, Optional, Reads, Required};
 pub use defaults::read_default;
 pub use held_octets::{Octets, OpenOctets};

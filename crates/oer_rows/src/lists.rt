@@ -142,8 +142,9 @@ impl<T: Decode> Decode for ListOf<T> {
 /// The default `{}` of a list.
 pub struct IsEmptyList;
 
-impl<T: EqualAsSpelled> DefaultValue<ListOf<T>> for IsEmptyList {
+impl<T: Spelled + PartialEq> DefaultValue<ListOf<T>> for IsEmptyList {
     ghost use Rattle.std.specs.Prelude.{[], false};
+    ghost use Rattle.oer_rows.specs.EmptyLists.{empty_listed};
 
     ghost value = { [] };
 
@@ -153,16 +154,19 @@ impl<T: EqualAsSpelled> DefaultValue<ListOf<T>> for IsEmptyList {
         Ok(ListOf(Vec::new(alloc)))
     }
 
-    #[tactic(auto, using(crate::proofs::EmptyLists::none_listed))]
+    #[tactic(auto, using(crate::specs::EmptyLists::none_listed))]
     fn is_value(other: &ListOf<T>) -> bool {
         other.is_empty()
     }
 
     ghost admitted = { tt };
+
+    ghost decides = { λ c k vs i. empty_listed (T.tree T.CONSTRAINTS) T.eq vs };
 }
 
-impl<T: EqualAsSpelled + Eq> DefaultValue<SetOf<T>> for IsEmptyList {
+impl<T: Spelled + Eq> DefaultValue<SetOf<T>> for IsEmptyList {
     ghost use Rattle.std.specs.Prelude.{[], false};
+    ghost use Rattle.oer_rows.specs.EmptyLists.{empty_gathered};
 
     ghost value = { [] };
 
@@ -172,10 +176,12 @@ impl<T: EqualAsSpelled + Eq> DefaultValue<SetOf<T>> for IsEmptyList {
         Ok(SetOf::from_vec(Vec::new(alloc)))
     }
 
-    #[tactic(auto, using(crate::proofs::EmptyLists::none_gathered))]
+    #[tactic(auto, using(crate::specs::EmptyLists::none_gathered))]
     fn is_value(other: &SetOf<T>) -> bool {
         other.is_empty()
     }
 
     ghost admitted = { tt };
+
+    ghost decides = { λ c k vs i. empty_gathered (T.tree T.CONSTRAINTS) T.eq T.Eq.laws vs };
 }

@@ -6,7 +6,7 @@ use crate::places::{DefaultValue, Place};
 use crate::slots::SlottedAdditions;
 use asn1_core::{Constructed, DecodeError, DecodeErrorKind};
 use oer_read::{Decode, Decoder};
-use oer_spec::{EqualAsSpelled, Spelled};
+use oer_spec::Spelled;
 use std::alloc::Global;
 use std::marker::PhantomData;
 
@@ -79,7 +79,7 @@ impl<G: Place, B: Decode, R: ReadsAdditions> ReadsAdditions for RequiredAddition
     }
 }
 
-impl<G: Place, B: EqualAsSpelled, D: DefaultValue<B>, R: Additions> Additions
+impl<G: Place, B: Spelled + PartialEq, D: DefaultValue<B>, R: Additions> Additions
     for DefaultedAddition<G, B, D, R> {
     ghost use Rattle.oer_rows.specs.Schema.{typed, defaulted, defaulted_is};
 
@@ -90,7 +90,7 @@ impl<G: Place, B: EqualAsSpelled, D: DefaultValue<B>, R: Additions> Additions
     ghost is_table = { defaulted_is G.tag (typed B.tree B.CONSTRAINTS B.IsValue) B.eq D.value (λ v. v.0) (λ v. v.1) R.table R.is_table };
 }
 
-impl<G: Place, B: EqualAsSpelled, D: DefaultValue<B>, R: SlottedAdditions> SlottedAdditions
+impl<G: Place, B: Spelled + PartialEq, D: DefaultValue<B>, R: SlottedAdditions> SlottedAdditions
     for DefaultedAddition<G, B, D, R> {
     ghost use Rattle.oer_rows.specs.Slots.{with_required, required_once};
 
@@ -112,7 +112,7 @@ impl<G: Place, B: EqualAsSpelled, D: DefaultValue<B>, R: SlottedAdditions> Slott
     }
 }
 
-impl<G: Place, B: Decode + EqualAsSpelled, D: DefaultValue<B>, R: ReadsAdditions> ReadsAdditions
+impl<G: Place, B: Decode + PartialEq, D: DefaultValue<B>, R: ReadsAdditions> ReadsAdditions
     for DefaultedAddition<G, B, D, R> {
     ghost use Rattle.oer_rows.specs.DefaultValues.{AddsDefaultValue};
     ghost use Rattle.oer_rows.specs.Refusals.{RowRefused};

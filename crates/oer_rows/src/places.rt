@@ -4,7 +4,7 @@ ghost use Rattle.std.specs.Prelude.{◌≡◌, IfOk};
 use crate::limited::{Limited, Limits};
 use asn1_core::{Class, Tag};
 use asn1_ints::Integer;
-use oer_spec::EqualAsSpelled;
+use oer_spec::Spelled;
 use std::alloc::{AllocError, Global};
 use std::marker::PhantomData;
 
@@ -72,8 +72,12 @@ impl<const N: u32> Place for Private<N> {
 }
 
 /// What a component's DEFAULT is, as a type: a value that the component's type admits.
-pub trait DefaultValue<B: EqualAsSpelled> {
+pub trait DefaultValue<B: Spelled + PartialEq> {
+    ghost use Rattle.std.specs.Bool.{Decides};
     ghost use Rattle.std.specs.Prelude.{◌≡◌, Bool, true, IfOk, IfErr};
+    ghost use Rattle.asn1_core.specs.declared.constraints.Constraints.{Constraints};
+    ghost use Rattle.oer_spec.specs.Same.{Same};
+    ghost use Rattle.oer_spec.specs.Spelled.{IsConsistent};
 
     ghost value: { B };
 
@@ -90,6 +94,9 @@ pub trait DefaultValue<B: EqualAsSpelled> {
         ensures { result ≡ B.eq other.now value };
 
     ghost admitted: { B.IsValue value };
+
+    /// The values that are equal to it are just those that have its abstract value: for a type with `EqualAsSpelled` by that.
+    ghost decides: { (c : Constraints) → IsConsistent c → (v : B) → B.IsValue v → Decides (B.eq v value) (Same (B.tree c v) (B.tree c value)) };
 }
 
 /// The default FALSE.
@@ -109,6 +116,7 @@ pub struct Within<D>(PhantomData<D>);
 
 impl DefaultValue<bool> for IsFalse {
     ghost use Rattle.std.specs.Prelude.{false};
+    ghost use Rattle.oer_spec.specs.Spelled.{booleans_same};
 
     ghost value = { false };
 
@@ -123,10 +131,13 @@ impl DefaultValue<bool> for IsFalse {
     }
 
     ghost admitted = { tt };
+
+    ghost decides = { λ c k v i. booleans_same v false };
 }
 
 impl DefaultValue<bool> for IsTrue {
     ghost use Rattle.std.specs.Prelude.{true, false};
+    ghost use Rattle.oer_spec.specs.Spelled.{booleans_same};
 
     ghost value = { true };
 
@@ -141,10 +152,13 @@ impl DefaultValue<bool> for IsTrue {
     }
 
     ghost admitted = { tt };
+
+    ghost decides = { λ c k v i. booleans_same v true };
 }
 
 impl DefaultValue<()> for IsNull {
-    ghost use Rattle.std.specs.Prelude.{false};
+    ghost use Rattle.std.specs.Prelude.{false, refl};
+    ghost use Rattle.oer_spec.specs.Spelled.{nulls_same};
 
     ghost value = { tt };
 
@@ -159,10 +173,13 @@ impl DefaultValue<()> for IsNull {
     }
 
     ghost admitted = { tt };
+
+    ghost decides = { λ c k v i. (λ e. nulls_same v tt, λ s. refl) };
 }
 
 impl<const N: i64> DefaultValue<Integer> for IsNumber<N> {
     ghost use Rattle.std.specs.Prelude.{false, refl};
+    ghost use Rattle.oer_spec.specs.Spelled.{integers_same};
 
     ghost value = { N };
 
@@ -177,9 +194,14 @@ impl<const N: i64> DefaultValue<Integer> for IsNumber<N> {
     }
 
     ghost admitted = { refl };
+
+    ghost decides = { λ c k v i. integers_same c v N };
 }
 
-impl<T: EqualAsSpelled, L: Limits, D: DefaultValue<T>> DefaultValue<Limited<T, L>> for Within<D> {
+impl<T: Spelled + PartialEq, L: Limits, D: DefaultValue<T>> DefaultValue<Limited<T, L>>
+    for Within<D> {
+    ghost use Rattle.oer_spec.specs.Spelled.{beside_nothing};
+
     ghost value = { record { 0 = D.value; 1 = record {} } };
 
     ghost wants_memory = { D.wants_memory };
@@ -193,4 +215,6 @@ impl<T: EqualAsSpelled, L: Limits, D: DefaultValue<T>> DefaultValue<Limited<T, L
     }
 
     ghost admitted = { D.admitted };
+
+    ghost decides = { λ c k v i. beside_nothing (T.eq v.0 D.value) (D.decides L.LIMITS L.consistent v.0 i) };
 }

@@ -13,7 +13,7 @@ use crate::writing::{
     put_default, put_default_addition, put_group, put_optional_addition, put_required_addition,
 };
 use asn1_core::{Constructed, EncodeError};
-use oer_spec::EqualAsSpelled;
+use oer_spec::Spelled;
 use oer_write::{Encode, Encoder};
 
 /// A row whose components are written from references to their values.
@@ -69,7 +69,7 @@ impl<'v, G: Place, B: Encode + 'v, R: Views<'v>> Views<'v> for Optional<G, B, R>
     }
 }
 
-impl<'v, G: Place, B: Encode + EqualAsSpelled + 'v, D: DefaultValue<B>, R: Views<'v>> Views<'v>
+impl<'v, G: Place, B: Encode + PartialEq + 'v, D: DefaultValue<B>, R: Views<'v>> Views<'v>
     for Defaulted<G, B, D, R> {
     type View = Both<&'v B, R::View>;
 
@@ -144,7 +144,7 @@ impl<'v, G: Place, B: Encode + 'v, R: AdditionViews<'v>> AdditionViews<'v>
 impl<
     'v,
     G: Place,
-    B: Encode + EqualAsSpelled + 'v,
+    B: Encode + PartialEq + 'v,
     D: DefaultValue<B>,
     R: AdditionViews<'v>,
 > AdditionViews<'v> for DefaultedAddition<G, B, D, R> {

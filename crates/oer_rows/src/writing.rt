@@ -7,7 +7,7 @@ ghost use Rattle.oer_write.specs.Rows.{WritesRows, InSequence, InSet, required, 
 
 use crate::places::DefaultValue;
 use asn1_core::{Constructed, EncodeError, Tag};
-use oer_spec::{EqualAsSpelled, Spelled};
+use oer_spec::Spelled;
 use oer_write::{Encode, Encoder};
 
 /// Writes a required component (X.696, 16).
@@ -51,7 +51,7 @@ pub fn put_optional<E: Encode>(
 /// It doesn't ask what scope is open: as a set closes, what it wrote is dropped. Refused by what the value is refused by,
 /// or for want of memory; the octets of before and the open scopes stay.
 #[inline(always)]
-pub fn put_default<D: DefaultValue<E>, E: Encode + EqualAsSpelled>(
+pub fn put_default<D: DefaultValue<E>, E: Encode + PartialEq>(
     encoder: &mut Encoder<'_>,
     tag: Tag,
     value: &E,
@@ -99,7 +99,7 @@ pub fn put_required_addition<E: Encode>(
 ///
 /// Refused by what the value is refused by.
 #[inline(always)]
-pub fn put_default_addition<D: DefaultValue<E>, E: Encode + EqualAsSpelled>(
+pub fn put_default_addition<D: DefaultValue<E>, E: Encode + PartialEq>(
     encoder: &mut Encoder<'_>,
     tag: Tag,
     value: &E,

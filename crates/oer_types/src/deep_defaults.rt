@@ -51,6 +51,7 @@ fn item_of(nest: &Nest) -> Option<&Nest>
 
 impl DefaultValue<Nest> for IsDeep {
     ghost use Rattle.oer_types.specs.Nests.{each_nest};
+    ghost use Rattle.oer_types.specs.SameNests.{nests_same};
 
     ghost value = { deep_nest 127 };
 
@@ -71,6 +72,8 @@ impl DefaultValue<Nest> for IsDeep {
     }
 
     ghost admitted = { each_nest (deep_nest 127) };
+
+    ghost decides = { λ c k v i. nests_same v (deep_nest 127) };
 }
 
 impl Rowed for components::DeepDefault {

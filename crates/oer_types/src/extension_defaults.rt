@@ -30,11 +30,8 @@ impl DefaultValue<Sequence1> for IsTrueSequence1 {
     }
 
     ghost admitted = { ((tt, tt), tt) };
-}
 
-/// Equal where `a` is.
-impl Compared<1, 0> for components::Sequence1 {
-    ghost decides = { λ v w i j. roots_same _ _ _ _ (required_same _ _ _ _ (booleans_same v.a w.a)) };
+    ghost decides = { λ c k v i. roots_same _ _ _ _ (required_same _ _ _ _ (booleans_same v.0.a true)) };
 }
 
 impl Rowed for components::Holder1 {
@@ -105,11 +102,8 @@ impl DefaultValue<Sequence5> for IsTrueSequence5 {
     }
 
     ghost admitted = { ((tt, tt), (tt, tt)) };
-}
 
-/// Equal where `a` and `b` are.
-impl Compared<1, 1> for components::Sequence5 {
-    ghost decides = { λ v w i j. tables_same _ _ _ _ _ _ _ (required_same _ _ _ _ (booleans_same v.a w.a)) (optional_same boolean IsAny beq (λ a b k l. booleans_same a b) _ _ _ i.1.0 j.1.0) };
+    ghost decides = { λ c k v i. tables_same _ _ _ _ _ _ _ (required_same _ _ _ _ (booleans_same v.0.a true)) (optional_same boolean IsAny beq (λ a b k l. booleans_same a b) _ _ None i.1.0 tt) };
 }
 
 impl Rowed for components::Holder2 {

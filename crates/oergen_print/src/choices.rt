@@ -87,27 +87,19 @@ fn words_of(alloc: Global, doc: &str, of: Chain<'_>) -> Words {
     words
 }
 
-/// Prints a CHOICE by its cells: what stands for its enum, what for the parts of its row, and its row and tags.
-fn push_alternatives(
-    alloc: Global,
+/// Prints a CHOICE, by the chains of its alternatives, of its enum's variants and of its row, with the parts of that row.
+fn push_type(
     out: &mut Text,
     doc: &str,
     of: Chain<'_>,
-) -> Result<(), AllocError> {
-    let mut parts = Vec::new(alloc);
-    let mut part_text = Text::new(alloc);
-    let mut row = of;
-    if of.has_parts() {
-        let root_count = push_parts(&mut part_text, of, &mut parts)?;
-        row = Chain {
-            cells: parts.as_slice(),
-            root_count,
-            ..of
-        };
-    }
-    let words = words_of(alloc, doc, if of.holds_parts() { row } else { of });
+    variants: Chain<'_>,
+    row: Chain<'_>,
+    parts: &Text,
+) {
+    let alloc = out.alloc();
+    let words = words_of(alloc, doc, variants);
     out.fill(CHOICE, &words);
-    out.push_text(&part_text);
+    out.push_text(parts);
     push_row(alloc, out, row);
     push_constant(out, of.owner, "ROOTS", of.roots());
     if of.is_extensible {
@@ -117,6 +109,32 @@ fn push_alternatives(
         out.fill(KNOT_ALTERNATING, &words);
     }
     out.fill(CHOICE_IMPLS, &words);
+}
+
+/// Prints a CHOICE by its cells.
+fn push_alternatives(
+    alloc: Global,
+    out: &mut Text,
+    doc: &str,
+    of: Chain<'_>,
+) -> Result<(), AllocError> {
+    let mut text = Text::new(alloc);
+    if !of.has_parts() {
+        push_type(out, doc, of, of, of, &text);
+        return Ok(());
+    }
+    let mut parts = Vec::new(alloc);
+    let root_count = push_parts(&mut text, of, &mut parts)?;
+    let row = Chain {
+        cells: parts.as_slice(),
+        root_count,
+        ..of
+    };
+    if of.holds_parts() {
+        push_type(out, doc, of, row, row, &text);
+    } else {
+        push_type(out, doc, of, of, row, &text);
+    }
     Ok(())
 }
 

@@ -24,10 +24,6 @@ use std::alloc::Global;
 const PRINTED: &str =
     "a default that is a boolean, NULL, a number, an enumerated value, bits, octets, characters or an empty list: others aren't printed yet";
 
-/// What can be read where an empty list isn't printed.
-const COMPARED: &str =
-    "an empty list of elements that aren't sequences, sets or choices, as a default: others aren't printed yet";
-
 /// What can be read where a default is no value of its type.
 const ALLOWED: &str = "a default that the type's constraints allow";
 
@@ -82,11 +78,21 @@ fn words_of(alloc: Global, name: &str, rust: &str, takes_memory: bool) -> Words 
 
 /// The words of a number.
 fn number_words(alloc: Global, name: &str, number: i128, base: &str) -> Words {
-    const USES: &str = "ghost use Rattle.std.specs.Prelude.{negsuc, pos, refl};";
+    const USES: &str = "ghost use Rattle.std.specs.Prelude.{negsuc, pos, refl};
+    ghost use Rattle.rasn_oer.specs.Spelled.{@SAME@};";
+    let is_natural = base.starts_with('u');
     let mut words = words_of(alloc, name, base, false);
-    words.put("USES", USES);
+    words.put(
+        "SAME",
+        if is_natural {
+            "naturals_same"
+        } else {
+            "integers_same"
+        },
+    );
+    words.put_filled("USES", USES);
     words.begin("TEXT").push_number(number);
-    push_defined(words.begin("GHOST"), number, !base.starts_with('u'));
+    push_defined(words.begin("GHOST"), number, !is_natural);
     let literal = if base == "Integer" {
         "Integer::from_i128(@TEXT@)"
     } else {
@@ -96,6 +102,7 @@ fn number_words(alloc: Global, name: &str, number: i128, base: &str) -> Words {
     words.put_filled("CODE", "Ok(@LITERAL@)");
     words.put_filled("TEST", "*other == @LITERAL@");
     words.put("ADMITTED", "refl");
+    words.put_filled("DECIDES", "@SAME@ c v _");
     words
 }
 
@@ -121,8 +128,8 @@ fn put_octets(words: &mut Words, octets: &[u8]) {
     push_list(words.begin("LIST"), octets);
 }
 
-/// How a default of bits is written: its Rust type, what its ghost members take from std, how it is made, what of a value is compared, and
-/// what shows that it is a value.
+/// How a default of bits is written: its Rust type, what its ghost members take from std, how it is made, what of a value is compared,
+/// what shows that it is a value, and what says which values are equal to it.
 #[derive(Clone, Copy)]
 struct BitsText {
     rust: &'static str,
@@ -130,6 +137,7 @@ struct BitsText {
     made: &'static str,
     compared: &'static str,
     admitted: &'static str,
+    same: &'static str,
 }
 
 const PLAIN_BITS: BitsText = BitsText {
@@ -138,6 +146,7 @@ const PLAIN_BITS: BitsText = BitsText {
     made: "bits_from(alloc, &octets, @COUNT@)",
     compared: "other",
     admitted: "tt",
+    same: "bit_strings_same",
 };
 
 const NAMED_BITS: BitsText = BitsText {
@@ -146,14 +155,16 @@ const NAMED_BITS: BitsText = BitsText {
     made: "let bits = bits_from(alloc, &octets, @COUNT@)?;\n        Ok(NamedBits::new(bits))",
     compared: "other.as_bits()",
     admitted: "refl",
+    same: "named_bit_strings_same",
 };
 
 /// The words of a bit string, but for its text.
 fn bits_words(alloc: Global, name: &str, text: BitsText, octets: &[u8], count: usize) -> Words {
     const USES: &str =
-        "ghost use Rattle.std.specs.Prelude.{◌∷◌, [], @STD@};\n    ghost use Rattle.rasn_oer.specs.Octets.{bits_of};";
+        "ghost use Rattle.std.specs.Prelude.{◌∷◌, [], @STD@};\n    ghost use Rattle.rasn_oer.specs.Octets.{bits_of};\n    ghost use Rattle.rasn_oer.specs.Spelled.{@SAME@};";
     let mut words = words_of(alloc, name, text.rust, true);
     words.put("STD", text.uses);
+    words.put("SAME", text.same);
     words.put_filled("USES", USES);
     put_octets(&mut words, octets);
     words.begin("COUNT").push_count(count);
@@ -163,6 +174,7 @@ fn bits_words(alloc: Global, name: &str, text: BitsText, octets: &[u8], count: u
     words.put("COMPARED", text.compared);
     words.put_filled("TEST", "@OCTETS@are_bits(@COMPARED@, &octets, @COUNT@)");
     words.put("ADMITTED", text.admitted);
+    words.put_filled("DECIDES", "@SAME@ c v _");
     words
 }
 
@@ -280,6 +292,7 @@ fn held_of(simple: Simple) -> Option<Held> {
 fn held_words(alloc: Global, name: &str, held: Held, octets: &[u8]) -> Words {
     const USES: &str = "ghost use Rattle.std.specs.Prelude.{◌∷◌, [], refl};
     ghost use Rattle.rasn_oer.specs.Literals.{written@SPELLED@};
+    ghost use Rattle.rasn_oer.specs.Spelled.{texts_same};
     ghost use Rattle.rasn_oer.specs.Texts as texts;";
     const MADE: &str = "let content = @FROM@(alloc, &octets)?;\n        Ok(@TYPE@(content))";
     const RECORD: &str = "record { 0 = @LIST@ }";
@@ -313,6 +326,8 @@ fn held_words(alloc: Global, name: &str, held: Held, octets: &[u8]) -> Words {
     words.put_filled("TEST", "@OCTETS@other.0.as_bytes() == octets.as_slice()");
     words.put_filled("OBEYS", obeys);
     words.put_filled("ADMITTED", "written texts.@RULE@ @LIST@ refl @OBEYS@");
+    words.put("OWN", if spelled.is_empty() { "v.0" } else { "v" });
+    words.put_filled("DECIDES", "texts_same texts.@RULE@ c @OWN@ _");
     words
 }
 
@@ -374,29 +389,37 @@ fn definition_of<'d>(all: &'d [Definition<'_>], base: &Type) -> (&'d str, bool) 
 fn put_enumerated(words: &mut Words, owner: &str, variant: &str, keeps_unknown: bool) {
     const KEPT: &str = "
     ghost use Rattle.std.specs.Prelude.{refl};
+    ghost use Rattle.oer_kept.specs.KeptNumbers.{kept_same};
     ghost use Rattle.oer_kept.specs.declared.enumerations.KeptEnumeration.TheVariants.{Known};";
+    const KNOWN: &str = "
+    ghost use Rattle.rasn_oer.specs.Numbered.{numbers_same};";
+    const KEPT_SAME: &str =
+        "kept_same ⟦<@OWNER@Values as Numbered>⟧.number ⟦<@OWNER@Values as Numbered>⟧.values v _ i (refl, refl)";
     words.put("OWNER", owner);
     words.put("VARIANT", variant);
     let uses = words.begin("USES");
     uses.push_all(&["ghost use Rattle.@HOME:", owner, "Values@.", owner]);
     uses.push_all(&["Values.TheVariants.{", variant, "};"]);
-    uses.push(if keeps_unknown { KEPT } else { "" });
-    let (value, code, admitted) = if keeps_unknown {
+    uses.push(if keeps_unknown { KEPT } else { KNOWN });
+    let (value, code, admitted, decides) = if keeps_unknown {
         (
             "Known @VARIANT@",
             "KeptEnumeration::Known(@OWNER@Values::@VARIANT@)",
             "(refl, refl)",
+            KEPT_SAME,
         )
     } else {
         (
             "record { 0 = @VARIANT@ }",
             "Enumeration(@OWNER@Values::@VARIANT@)",
             "tt",
+            "numbers_same _ _",
         )
     };
     words.put_filled("GHOST", value);
     words.put_filled("VALUE", code);
     words.put("ADMITTED", admitted);
+    words.put_filled("DECIDES", decides);
 }
 
 /// The words of an enumerated value, by the names of the value, of its enum's owner, with whether that keeps unknown values, and of its
@@ -433,35 +456,11 @@ fn push_enumerated<'m>(
     Ok(push_words(scope.alloc, out, named.0, false, &words))
 }
 
-/// Whether the library compares the elements of a list, also of lists in it: not sequences, sets and choices.
-fn compares<'m>(scope: Scope<'m, '_>, list: &'m Type) -> Result<bool, Refusal> {
-    // more lists than may stand in one another (`depths`)
-    const LISTS: usize = 64;
-    let mut at = list;
-    for _ in 0..LISTS {
-        at = match &at.body {
-            Body::SequenceOf(element) | Body::SetOf(element) => scope.base_of(&**element)?,
-            Body::Sequence(_) | Body::Set(_) | Body::Choice(_) => return Ok(false),
-            Body::Simple(_) | Body::Integer(_) | Body::BitString(_) => return Ok(true),
-            Body::Enumerated(_, _) | Body::Reference(_) => return Ok(true),
-        };
-    }
-    Ok(false)
-}
-
 /// The default of a list, which is empty. As everywhere, no size of a list is looked at.
-fn list_default<'m>(
-    scope: Scope<'m, '_>,
-    row: Row<'m>,
-    spot: Spot<'m>,
-    base: &'m Type,
-) -> Result<Text, Refusal> {
+fn list_default<'m>(scope: Scope<'m, '_>, row: Row<'m>, spot: Spot<'m>) -> Result<Text, Refusal> {
     let is_empty = matches!(spot.value, Value::Names(_, names) if names.is_empty());
     if !is_empty {
         return Err(scope.refused(row.name, PRINTED));
-    }
-    if !compares(scope, base)? {
-        return Err(scope.refused(row.name, COMPARED));
     }
     Ok(Text::of(scope.alloc, &["IsEmptyList"]))
 }
@@ -506,12 +505,7 @@ pub fn push_default<'m>(
         Body::Enumerated(_, _) => push_enumerated(scope, all, out, base, spot, named),
         Body::BitString(_) => push_bits(scope, out, row, settled(scope, spot)?, name),
         Body::Simple(simple) => push_simple(scope, out, row, spot, *simple, name),
-        Body::SequenceOf(_) | Body::SetOf(_) => list_default(
-            scope,
-            row,
-            settled(scope, spot)?,
-            base,
-        ),
+        Body::SequenceOf(_) | Body::SetOf(_) => list_default(scope, row, settled(scope, spot)?),
         Body::Sequence(_) | Body::Set(_) | Body::Choice(_) | Body::Reference(_) => {
             Err(scope.refused(row.name, PRINTED))
         }

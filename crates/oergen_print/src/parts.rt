@@ -51,6 +51,21 @@ fn words_of(of: Chain<'_>, name: &Text, first: &str, variants: &[Cell]) -> Words
     words
 }
 
+/// The words of a part of some cells, the first of them at a place.
+fn part_words(
+    of: Chain<'_>,
+    name: &Text,
+    first: &str,
+    cells: &[Cell],
+    from: usize,
+) -> Result<Words, AllocError> {
+    if of.holds_parts() {
+        return Ok(words_of(of, name, first, cells));
+    }
+    let own = own_cells(name.alloc(), cells, from)?;
+    Ok(words_of(of, name, first, own.as_slice()))
+}
+
 /// Prints a part of some cells, and answers its own cell.
 fn push_part(out: &mut Text, of: Chain<'_>, span: Span, part: usize) -> Result<Cell, AllocError> {
     let alloc = out.alloc();
@@ -58,13 +73,7 @@ fn push_part(out: &mut Text, of: Chain<'_>, span: Span, part: usize) -> Result<C
     let mut name = Text::new(alloc);
     push_part_name(&mut name, of.owner, part);
     let cell = part_cell(alloc, cells, &name, part)?;
-    let own = own_cells(alloc, cells, span.from)?;
-    let variants = if of.holds_parts() {
-        cells
-    } else {
-        own.as_slice()
-    };
-    let words = words_of(of, &name, cell.field.as_str(), variants);
+    let words = part_words(of, &name, cell.field.as_str(), cells, span.from)?;
     out.fill(PART_TYPE, &words);
     let row = Text::of(alloc, &[name.as_str(), "Row"]);
     push_aliases(out, of, span, &row, &Text::of(alloc, &["End"]));

@@ -214,6 +214,8 @@ impl DefaultValue<@TYPE@> for @NAME@Default {
     }
 
     ghost admitted = { @ADMITTED@ };
+
+    ghost decides = { λ c k v i. @DECIDES@ };
 }
 
 "#;

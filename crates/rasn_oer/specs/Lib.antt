@@ -11,7 +11,10 @@ pub use Rattle.oer_knots.specs.Knots as Knots
 pub use Rattle.oer_knots.specs.Answering as Answering
 pub use Rattle.oer_knots.specs.Ties as Ties
 pub use Rattle.oer_knots.specs.Choices as KnotChoices
--- what a default of octets or bits names
+-- what a default names
 pub use Rattle.oer_rows.specs.Literals as Literals
+pub use Rattle.oer_rows.specs.Compared as Compared
+pub use Rattle.oer_spec.specs.Spelled as Spelled
+pub use Rattle.oer_choices.specs.Numbered as Numbered
 pub use Rattle.asn1_core.specs.Octets as Octets
 pub use Rattle.asn1_core.specs.Texts as Texts

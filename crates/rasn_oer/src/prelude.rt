@@ -108,7 +108,6 @@ pub use oer_rows::AtMost;
 pub use oer_rows::Between;
 pub use oer_rows::BmpText;
 pub use oer_rows::Both;
-pub use oer_rows::Compared;
 pub use oer_rows::Components;
 pub use oer_rows::Context;
 pub use oer_rows::DefaultValue;

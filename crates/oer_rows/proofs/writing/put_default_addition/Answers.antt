@@ -2,4 +2,4 @@ use Rattle.oer_rows.proofs.Chained.{default_known}
 use Rattle.oer_rows.proofs.writing.put_default_addition.Goals as goal
 
 pub returns-clause-known : goal.returns-clause-known
-returns-clause-known g c = default_known _ _ _ _ g.E.Spelled.is_tree g.E.Spelled.alike g.met.E.EqualAsSpelled.eq_is_same g.E.AsnType.CONSTRAINTS g.E.AsnType.consistent g.met.D.DefaultValue.admitted
+returns-clause-known g c = default_known _ _ _ _ g.E.Spelled.is_tree g.E.Spelled.alike g.met.D.DefaultValue.decides g.E.AsnType.CONSTRAINTS g.E.AsnType.consistent g.met.D.DefaultValue.admitted
