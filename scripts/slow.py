@@ -1,10 +1,10 @@
 #!/usr/bin/env python3
-"""Which functions of a crate's last check took longest, by when each part of what it kept was written.
+"""Which functions of a crate's last check cost most, by the megabytes of what it kept of each: half a second of processor each.
 
-usage: slow.py CRATE [NUMBER], behind `rt check --jobs 1` of a crate that had no out/incremental
+usage: slow.py CRATE [NUMBER], behind `rt check` of a crate, with any number of jobs
 
-Prints the seconds by the clock of each function, the longest first, and of which of its parts: `Lts` is what the borrow checker looks
-at, `Tie` what joins it to the proof. More jobs, or other work on the machine, make the seconds mean less.
+Prints the megabytes of each function, the most first, and of which of its parts: `Lts` is what the borrow checker looks at, with each
+local at each step, so it grows with the square of a function's calls; `Tie` joins it to the proof.
 """
 import collections
 import pathlib
@@ -16,24 +16,23 @@ PART = re.compile(r"Rattle-\w+-proofs\.(.+)\.(\w+)\.oantt")
 
 
 def parts(crate):
-    """The seconds of each part, by its function and its own name."""
-    files = [it for it in (top / "crates" / crate / "out/incremental").rglob("*") if it.is_file()]
-    times = sorted((it.stat().st_mtime_ns, it.name) for it in files)
+    """The megabytes of each part, by its function and its own name."""
     found = collections.defaultdict(collections.Counter)
-    for (before, _), (now, name) in zip(times, times[1:]):
-        part = PART.fullmatch(name.replace(".decls.oantt", ".oantt"))
-        found[part[1] if part else "all else"][part[2] if part else name] += (now - before) / 1e9
-    return found
+    for file in (top / "crates" / crate / "out/incremental").rglob("*.oantt"):
+        part = PART.fullmatch(file.name.replace(".decls.oantt", ".oantt"))
+        if part:
+            found[part[1]][part[2]] += file.stat().st_size / 1e6
+    return {function: sizes for function, sizes in found.items() if "Lts" in sizes}
 
 
 def main(crate, number="20"):
     found = parts(crate)
     if not found:
-        raise SystemExit(f"slow: {crate} has no kept check: run rt check --jobs 1 in crates/{crate}")
-    print(f"{sum(sum(it.values()) for it in found.values()):7.1f} s, {len(found)} functions and other parts")
-    for function, seconds in sorted(found.items(), key=lambda it: -sum(it[1].values()))[: int(number)]:
-        most = ", ".join(f"{part} {took:.1f}" for part, took in seconds.most_common(3))
-        print(f"{sum(seconds.values()):7.1f} s {function}: {most}")
+        raise SystemExit(f"slow: {crate} has no kept check: run rt check in crates/{crate}")
+    print(f"{sum(sum(it.values()) for it in found.values()):7.1f} MB, {len(found)} functions")
+    for function, sizes in sorted(found.items(), key=lambda it: -sum(it[1].values()))[: int(number)]:
+        most = ", ".join(f"{part} {size:.1f}" for part, size in sizes.most_common(3))
+        print(f"{sum(sizes.values()):7.1f} MB {function}: {most}")
 
 
 if __name__ == "__main__":

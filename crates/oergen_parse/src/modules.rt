@@ -333,6 +333,24 @@ fn require_next(reader: &Reader<'_>) -> Result<(), Refusal> {
     }
 }
 
+/// Passes over the words of a macro in front of a type, up to its SYNTAX, as `TEXTUAL-CONVENTION STATUS current SYNTAX` (X.208; RFC 2579).
+fn skip_macro_words(reader: &mut Reader<'_>) {
+    let first = reader.peek();
+    if first.kind != Kind::Name || is_reserved(first.text) || reader.second().kind != Kind::Name {
+        return;
+    }
+    for (at, token) in reader.rest().iter().enumerate() {
+        match token.text {
+            "SYNTAX" => {
+                reader.skip(at.saturating_add(1));
+                return;
+            }
+            "::=" | "END" => return,
+            _ => {}
+        }
+    }
+}
+
 /// `Name ::= Type`
 fn read_type_assignment(reader: &mut Reader<'_>) -> Result<TypeAssignment, Refusal> {
     if is_reserved(reader.peek().text) {
@@ -340,6 +358,7 @@ fn read_type_assignment(reader: &mut Reader<'_>) -> Result<TypeAssignment, Refus
     }
     let name = reader.takes(Kind::Name, NAME)?;
     reader.expects("::=")?;
+    skip_macro_words(reader);
     let of = read_whole_type(reader)?;
     require_next(reader)?;
     Ok(TypeAssignment { name, of })

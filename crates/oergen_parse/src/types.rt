@@ -264,8 +264,13 @@ fn is_nameless(reader: &Reader<'_>) -> bool {
     first.kind == Kind::Name && (begins_type(first.text) || is_whole && is_type(first.text))
 }
 
-/// The name of a component; the first word of its type where it has none, which is left.
+/// The name of a component; the first word of its type behind the tags where it has none, which is left with these.
 fn read_name(reader: &mut Reader<'_>) -> Result<TokenId, Refusal> {
+    if reader.is("[") {
+        let mut ahead = *reader;
+        let _ = read_tags(&mut ahead)?;
+        return Ok(ahead.id());
+    }
     if is_nameless(reader) {
         return Ok(reader.id());
     }
