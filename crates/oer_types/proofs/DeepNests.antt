@@ -2,7 +2,7 @@
 use Rattle.std.proofs.Common.{◌≡◌, ◌<◌, ℕ, zero, suc, ◌+◌, ◌-◌, ◌==◌, add-one, Bool, true, false, ◌&&◌, List, [], ◌∷◌, length, Option, Some, None, refl, ap, sym, ◌∙◌, arith}
 use Rattle.std.proofs.Math.Bool.{and-true, and-false}
 use Rattle.std.specs.Cmp.Lexicographic.{pointwise}
-use Rattle.oer_rows.proofs.EmptyLists.{none_listed}
+use Rattle.oer_rows.specs.EmptyLists.{none_listed}
 use Rattle.oer_knots.specs.declared.held.Bare.{Bare}
 use Rattle.oer_types.specs.DeepDefaults.{deep_nest, only_item}
 use Rattle.oer_types.specs.Nests.{nest_items}
