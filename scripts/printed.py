@@ -133,6 +133,10 @@ NAMES = (
             "        pub a_b2_: bool,",
         ),
     ),
+    (
+        "A ::= SEQUENCE { [0] INTEGER, [1] INTEGER, B } B ::= CHOICE { [0] NULL, [1] EXPLICIT NULL }",
+        ("        pub integer: Integer,", "        pub integer_: Integer,", "        pub b: B,", "    NULL(()),", "    NULL_(()),"),
+    ),
     (f"Wide ::= CHOICE {{ {NULLS} }}", ("    At_99(()),", "            Self::C99(held) => put_alternative::<E, _>(encoder, Context::<99>::tag(), held),")),
     (
         f"Wide ::= CHOICE {{ {NULLS}, ..., added BOOLEAN, other NULL }}",

@@ -98,7 +98,7 @@ impl DefaultValue<State> for PostStateDefault {
 
     ghost admitted = { (refl, refl) };
 
-    ghost decides = { λ c k v i. kept_same ⟦<StateValues as Numbered>⟧.number ⟦<StateValues as Numbered>⟧.values v _ i (refl, refl) };
+    ghost decides = { λ c k v i. kept_same ⟦<StateValues as Numbered>⟧.number ⟦<StateValues as Numbered>⟧.values v (Known Sent) i (refl, refl) };
 }
 
 /// Beside a cycle. Newer versions may have other states and ways.

@@ -394,7 +394,7 @@ fn put_enumerated(words: &mut Words, owner: &str, variant: &str, keeps_unknown: 
     const KNOWN: &str = "
     ghost use Rattle.rasn_oer.specs.Numbered.{numbers_same};";
     const KEPT_SAME: &str =
-        "kept_same ⟦<@OWNER@Values as Numbered>⟧.number ⟦<@OWNER@Values as Numbered>⟧.values v _ i (refl, refl)";
+        "kept_same ⟦<@OWNER@Values as Numbered>⟧.number ⟦<@OWNER@Values as Numbered>⟧.values v (Known @VARIANT@) i (refl, refl)";
     words.put("OWNER", owner);
     words.put("VARIANT", variant);
     let uses = words.begin("USES");

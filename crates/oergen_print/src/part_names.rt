@@ -4,6 +4,7 @@ use crate::cells::variant_name;
 use oergen_layouts::definitions::{Definition, Part, free_name};
 use oergen_layouts::rows::Position;
 use oergen_layouts::scope::Scope;
+use oergen_parse::lexer::Kind;
 use oergen_parse::refusal::Refusal;
 use std::alloc::{AllocError, Global};
 use std::collections::{BTreeMap, BTreeSet};
@@ -51,14 +52,15 @@ pub fn free_parts(alloc: Global, all: &mut Vec<Definition<'_>>) -> Result<(), Al
     Ok(())
 }
 
-/// Refuses two components, or two alternatives, of one identifier (X.680, clauses 25 and 29).
+/// Refuses two components, or two alternatives, of one identifier (X.680, clauses 25 and 29): not those without one (X.208).
 pub fn require_identifiers<'m>(scope: Scope<'m, '_>, parts: &[Part<'m>]) -> Result<(), Refusal> {
     const READS: &str = "an identifier that no other component or alternative has";
     let mut seen = BTreeSet::new(scope.alloc);
     for part in parts.iter() {
         if let Some(row) = part.row {
             let (name, text) = (part.name.as_str(), scope.text(row.name));
-            if !seen.insert(format!(in scope.alloc; "{name} {text}")?)? {
+            let is_new = seen.insert(format!(in scope.alloc; "{name} {text}")?)?;
+            if !is_new && scope.token(row.name).kind == Kind::Word {
                 return Err(scope.refused(row.name, READS));
             }
         }
