@@ -34,7 +34,7 @@ pub trait Spelled: AsnType + Drop {
     ghost alike: { (c : Constraints) → IsConsistent c → (v w : Self) → IsValue v → IsValue w → Alike (tree c v) (tree c w) };
 }
 
-/// A type whose `==` is equality of trees: what each component with a default has to have.
+/// A type whose `==` is equality of trees.
 pub trait EqualAsSpelled: Spelled + PartialEq {
     ghost use Rattle.asn1_core.specs.declared.constraints.Constraints.{Constraints};
     ghost use Rattle.oer_spec.specs.Same.{Same};
