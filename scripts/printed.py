@@ -99,9 +99,6 @@ def misplaced(program):
 # a module of these types
 MADE = "M DEFINITIONS AUTOMATIC TAGS ::= BEGIN\n{}\nEND\n"
 
-# a hundred alternatives: the most that stand in one enum
-NULLS = ", ".join(f"c{at} NULL" for at in range(100))
-
 # modules with names that clash with one another's, with those that are printed of other types, or with the library's; and lines of
 # what is printed of each
 NAMES = (
@@ -137,19 +134,6 @@ NAMES = (
         "A ::= SEQUENCE { [0] INTEGER, [1] INTEGER, B } B ::= CHOICE { [0] NULL, [1] EXPLICIT NULL }",
         ("        pub integer: Integer,", "        pub integer_: Integer,", "        pub b: B,", "    NULL(()),", "    NULL_(()),"),
     ),
-    (f"Wide ::= CHOICE {{ {NULLS} }}", ("    At_99(()),", "            Self::C99(held) => put_alternative::<E, _>(encoder, Context::<99>::tag(), held),")),
-    (
-        f"Wide ::= CHOICE {{ {NULLS}, ..., added BOOLEAN, other NULL }}",
-        (
-            "    Part8(WidePart8),",
-            "    Added(bool),",
-            "        from_row!(value => WideAlternatives: Part1, Part2, Part3, Part4, Part5, Part6, Part7, Part8)",
-            "            Self::Part8(held) => held.put::<E>(encoder),",
-            "            Self::Added(held) => put_alternative::<E, _>(encoder, Context::<100>::tag(), held),",
-            "pub returns-in-Part8 : goal.returns-in-Part8",
-            "pub returns-in-Added : goal.returns-in-Added",
-        ),
-    ),
     (
         "Q ::= ENUMERATED { dB-1, dB0, dB1 } S ::= SEQUENCE { q Q DEFAULT dB1 }",
         ("    DB1 = 0,", "    DB1_ = 2,", "        Ok(Enumeration(QValues::DB1_))"),
@@ -168,6 +152,9 @@ NAMES = (
     ),
 )
 
+
+# a hundred alternatives: the most that stand in one enum
+NULLS = ", ".join(f"c{at} NULL" for at in range(100))
 
 # comments, constants, what newer versions may have, and parts of large types; and lines of what is printed of each
 NOTED = """-- What lamps do.
@@ -202,6 +189,20 @@ A ::= SEQUENCE { code OP, text CHARACTER STRING (WITH COMPONENTS { identificatio
 version Version DEFAULT V1, kind Kind DEFAULT V1 } Version ::= INTEGER { V0(0), V1(1) } (0..7) Kind ::= ENUMERATED { V0, V1 }
 Bits ::= BIT STRING { High(7) }"""
 LINES = (
+    ((), f"Wide ::= CHOICE {{ {NULLS} }}", ("    At_99(()),", "            Self::C99(held) => put_alternative::<E, _>(encoder, Context::<99>::tag(), held),")),
+    (
+        (),
+        f"Wide ::= CHOICE {{ {NULLS}, ..., added BOOLEAN, other NULL }}",
+        (
+            "    Part8(WidePart8),",
+            "    Added(bool),",
+            "        from_row!(value => WideAlternatives: Part1, Part2, Part3, Part4, Part5, Part6, Part7, Part8)",
+            "            Self::Part8(held) => held.put::<E>(encoder),",
+            "            Self::Added(held) => put_alternative::<E, _>(encoder, Context::<100>::tag(), held),",
+            "pub returns-in-Part8 : goal.returns-in-Part8",
+            "pub returns-in-Added : goal.returns-in-Added",
+        ),
+    ),
     (
         ("--keep-unknown",),
         OPEN,
