@@ -25,8 +25,9 @@ PUBLISHED = sorted(str(it) for it in (top / "scripts/v2x.d").glob("*.asn"))
 ABSENT = "oershow: NoModule: absent.asn: No such file or directory (os error 2)\n"
 
 # modules, and their tables: an addition in a group of a CHOICE; a choice without a tag in another; a SET, whose root is in the order of
-# tags, with a group; lists; names of numbers that a type has from the one that it is a name of; defaults, with words in them that stand in
-# lists of layouts too; named bits of a fixed size and of others, with as many 0 bits in defaults as the least size wants
+# tags, with a group, and an addition, which may always be absent; lists; names of numbers that a type has from the one that it is a name
+# of; defaults, with words in them that stand in lists of layouts too; named bits of a fixed size and of others, with as many 0 bits in
+# defaults as the least size wants
 TABLES = (
     (
         "A ::= CHOICE { a NULL, ..., [[ b BOOLEAN ]] }",
@@ -44,7 +45,7 @@ TABLES = (
     ),
     (
         "A ::= SET { a [1] NULL, b [APPLICATION 0] BOOLEAN, ..., [[ c NULL, d NULL OPTIONAL ]], e NULL }",
-        "words 7 8 24 25 26 27 28 29 11 1 2 2 1 0 2 0 0 1 5 1 6 4 0 5 1 0 1 1 1 11 0 2 0 2 0 3 3 1 4",
+        "words 7 8 24 25 26 27 28 29 11 1 2 2 1 0 2 0 0 1 5 1 6 4 1 5 1 0 1 1 1 11 0 2 0 2 0 3 3 1 4",
         (*"abcde", "[[1]]"),
         ("A", "NULL", "BOOLEAN", "NULL", "NULL", "NULL", "group"),
         (),

@@ -34,7 +34,7 @@ NAMES = {
     "empty": "Empty", "Pair": "Pair", "Nested": "Nested", "defint": "DefaultInteger", "defopt": "DefaultAndOptional",
     "AllDefault": "AllDefault", "AllOptional": "AllOptional", "ConstrainedOptions": "ConstrainedOptions",
     "manyopt": "ManyOptional", "emptyext": "EmptyExtensible", "seq1": "Sequence1", "seq2": "Sequence2", "seq3": "Sequence3",
-    "seq5": "Sequence5", "seq6": "Sequence6", "seq7": "Sequence7", "outer": "Outer", "omitted": "Omitted", "AddDef": "AddDef",
+    "seq5": "Sequence5", "holder1": "Holder1", "holder2": "Holder2", "seq6": "Sequence6", "seq7": "Sequence7", "outer": "Outer", "omitted": "Omitted", "AddDef": "AddDef",
     "extopt": "ExtendedOptional", "dup": "SequenceDuplicatesExtended", "foo": "Foo", "mixset": "MixedSet",
     "MixedSet": "MixedSet", "mixset2": "MixedSet2", "choice": "PriorityChoice", "tagmax": "WideChoice", "tag130": "OnlyChoice",
     "BoolChoice": "BoolChoice", "ints": "Integers", "nulls": "Nulls", "intset": "IntegerBag", "SetOfOctets": "OctetsBag",

@@ -5,6 +5,7 @@ mod types_01;
 mod types_02;
 mod types_03;
 mod types_04;
+mod types_05;
 pub mod values;
 
 pub use types_01::{
@@ -20,5 +21,10 @@ pub use types_03::{
     QueryContent, State, StateValues,
 };
 pub use types_04::{
-    Extra, ExtraComponents, ExtraId, Extras, Post, PostComponents, Way, WayAlternatives,
+    Mark, MarkAlternatives, Post, PostComponents, Range, RangeComponents, RangeKindDefault, Way,
+    WayAlternatives,
+};
+pub use types_05::{
+    Extra, ExtraComponents, ExtraId, Extras, Setting, SettingComponents,
+    SettingLastDefaultKindDefault, SettingMarkDefault, SettingRangeDefaultKindDefault,
 };

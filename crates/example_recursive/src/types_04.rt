@@ -1,6 +1,6 @@
 //! Types of ASN.1 modules, as oergen printed them.
 
-use crate::{Body, Envelope, Node, Serial, State, StateValues};
+use crate::{Body, Envelope, State, StateValues};
 use oer_kept::{KeptChoice, KeptEnumeration};
 use rasn_oer::prelude::*;
 use std::alloc::{AllocError, Global};
@@ -202,68 +202,179 @@ impl Tabled<4, 0> for PostComponents {
     ghost counts = { (refl, refl) };
 }
 
-/// `ExtraId ::= INTEGER (0..255)`
-pub type ExtraId = u8;
+/// `Mark ::= CHOICE { none NULL, text UTF8String, number INTEGER (0..255) }`
+pub type Mark = OneOf<MarkAlternatives>;
 
-/// An open type, whose id says what it holds.
-///
-/// `Extra ::= SEQUENCE { id ExtraId, content ANY }`
-pub type Extra = Sequence<ExtraComponents, 2, 0>;
+/// The alternatives of `Mark`.
+#[derive(Clone, Debug, PartialEq, Eq, Drop)]
+pub enum MarkAlternatives {
+    None(()),
+    Text(Utf8Text),
+    Number(u8),
+}
 
-pub use extra_components::Extra as ExtraComponents;
+type MarkRow = Alternative<
+    Context<0>,
+    (),
+    Alternative<Context<1>, Utf8Text, Alternative<Context<2>, u8, End>>,
+>;
 
-mod extra_components {
-    use super::*;
+const MARK_ROOTS: &'static [Tag] = tags![Context 0, Context 1, Context 2];
 
-    /// The components of `Extra`.
-    #[derive(Clone, Debug, PartialEq, Eq, Drop)]
-    pub struct Extra {
-        pub id: ExtraId,
-        pub content: OpenOctets,
+impl Alternating for MarkAlternatives {
+    ghost use Rattle.std.specs.Prelude.{refl};
+    ghost use Rattle.rasn_oer.specs.Alternative.{First, Rest};
+    ghost use Rattle.example_recursive.specs.declared.types_04.MarkAlternatives.TheVariants.{None, Text, Number};
+
+    type Values = <MarkRow as Alternatives>::Values;
+
+    ghost row_choices = { ⟦<MarkRow as Alternatives>⟧.choices };
+
+    ghost row_are_choices = { ⟦<MarkRow as Alternatives>⟧.are_choices };
+
+    ghost alternative = { elim [ None held ↦ First held | Text held ↦ Rest (First held) | Number held ↦ Rest (Rest (First held)) ] };
+
+    const VARIANTS: &'static [Tag] = MARK_ROOTS;
+
+    const EXTENDED_VARIANTS: Option<&'static [Tag]> = None;
+
+    fn root_tags() -> &'static [Tag] {
+        Self::VARIANTS
+    }
+
+    fn addition_tags() -> Option<&'static [Tag]> {
+        Self::EXTENDED_VARIANTS
+    }
+
+    fn from_alternative(value: Self::Values) -> Self {
+        from_row!(value => MarkAlternatives: None, Text, Number)
+    }
+
+    #[inline(always)]
+    fn put<E: Choice>(&self, encoder: &mut Encoder<'_>) -> Result<(), EncodeError> {
+        match self {
+            Self::None(held) => put_alternative::<E, _>(encoder, Context::<0>::tag(), held),
+            Self::Text(held) => put_alternative::<E, _>(encoder, Context::<1>::tag(), held),
+            Self::Number(held) => put_alternative::<E, _>(encoder, Context::<2>::tag(), held),
+        }
+    }
+
+    ghost apart = { refl };
+}
+
+impl TakesAlternative for MarkAlternatives {
+    ghost Refuses = { ⟦<MarkRow as ReadsAlternatives>⟧.Refuses };
+
+    fn take<D: Choice>(
+        alloc: Global,
+        decoder: &mut Decoder<'_>,
+        tag: Tag,
+    ) -> Result<Self, DecodeError> {
+        read_alternative::<Self, MarkRow, D>(alloc, decoder, tag)
     }
 }
 
-type ExtraRow = Required<Context<0>, ExtraId, Required<Context<1>, OpenOctets, End>>;
+/// The default none : NULL of `RangeKind`.
+pub struct RangeKindDefault<const ALTERNATIVE: usize>;
 
-impl Rowed for ExtraComponents {
+impl DefaultValue<Mark> for RangeKindDefault<0> {
+    ghost use Rattle.std.specs.Prelude.{◌∷◌, [], None, Some, false, true, refl};
+    ghost use Rattle.rasn_oer.specs.Chosen.{alternative_same, chosen_same, other_alternative};
+    ghost use Rattle.rasn_oer.specs.Compared.{absent_same, also_same, default_by, given_same, no_rows_by, nothing_same, omitted_same, optional_by, parts_same, present_same, required_by, struct_by};
+    ghost use Rattle.rasn_oer.specs.EmptyLists.{empty_listed};
+    ghost use Rattle.rasn_oer.specs.Literals.{spelled, written};
+    ghost use Rattle.rasn_oer.specs.Numbered.{numbers_same};
+    ghost use Rattle.rasn_oer.specs.Spelled.{beside_nothing, bit_strings_same, booleans_same, integers_same, named_bit_strings_same, naturals_same, nulls_same, texts_same};
+    ghost use Rattle.rasn_oer.specs.Texts as texts;
+    ghost use Rattle.example_recursive.specs.declared.types_04.MarkAlternatives.TheVariants as MarkAlternatives;
+
+    ghost value = { record { 0 = MarkAlternatives.None (tt) } };
+
+    fn value(alloc: Global) -> Result<Mark, AllocError> {
+        alternative_value![OneOf MarkAlternatives::None in alloc: IsNull as ()]
+    }
+
+    fn is_value(other: &Mark) -> bool {
+        is_alternative![other: MarkAlternatives::None IsNull as ()]
+    }
+
+    ghost admitted = { (refl, tt) };
+
+    ghost decides = { λ c k. chosen_same (⟦<Mark as Spelled>⟧.tree c) ⟦<Mark as Spelled>⟧.IsValue ⟦<Mark as PartialEq>⟧.eq (record { 0 = MarkAlternatives.None (tt) }) (elim [ MarkAlternatives.None held ↦ λ (e, i). alternative_same _ _ _ _ _ _ (given_same (⟦<() as Spelled>⟧.tree ⟦<() as AsnType>⟧.CONSTRAINTS) ⟦<() as Spelled>⟧.IsValue ⟦<() as PartialEq>⟧.eq (tt) (λ v i. (λ e. nulls_same v tt, λ s. refl)) held i) | MarkAlternatives.Text held ↦ λ i. other_alternative _ _ _ _ _ _ refl | MarkAlternatives.Number held ↦ λ i. other_alternative _ _ _ _ _ _ refl ]) };
+}
+
+/// `Range ::= SET { high [1] INTEGER (0..255) OPTIONAL, low [0] INTEGER (-8..7), state [2]
+/// State, kind [3] Mark DEFAULT none : NULL }`
+pub type Range = Set<RangeComponents, 4, 0>;
+
+pub use range_components::Range as RangeComponents;
+
+mod range_components {
+    use super::*;
+
+    /// The components of `Range`.
+    #[derive(Clone, Debug, PartialEq, Eq, Drop)]
+    pub struct Range {
+        pub high: Option<u8>,
+        pub low: Limited<i8, Between<-8, 7>>,
+        pub state: State,
+        pub kind: Mark,
+    }
+}
+
+type RangeRow = Required<
+    Context<0>,
+    Limited<i8, Between<-8, 7>>,
+    Optional<
+        Context<1>,
+        u8,
+        Required<Context<2>, State, Defaulted<Context<3>, Mark, RangeKindDefault<0>, End>>,
+    >,
+>;
+
+impl Rowed for RangeComponents {
     ghost use Rattle.rasn_oer.specs.Values.{both};
 
-    type Values = <ExtraRow as Components>::Values;
+    type Values = <RangeRow as Components>::Values;
 
-    ghost EXTENSIBLE = { ⟦<ExtraRow as Components>⟧.EXTENSIBLE };
+    ghost EXTENSIBLE = { ⟦<RangeRow as Components>⟧.EXTENSIBLE };
 
     const EXTENSIBLE: bool = false;
 
-    ghost row_schema = { ⟦<ExtraRow as Components>⟧.schema };
+    ghost row_schema = { ⟦<RangeRow as Components>⟧.schema };
 
-    ghost row_is_schema = { ⟦<ExtraRow as Components>⟧.is_schema };
+    ghost row_is_schema = { ⟦<RangeRow as Components>⟧.is_schema };
 
-    ghost components = { λ v. both v.id (both v.content tt) };
+    ghost components = { λ v. both v.low (both v.high (both v.state (both v.kind tt))) };
 
     fn from_row(row: Self::Values) -> Self {
-        built![ExtraComponents from row:
-            id,
-            content
+        built![RangeComponents from row:
+            low,
+            high,
+            state,
+            kind
         ]
     }
 }
 
-impl Takes for ExtraComponents {
-    ghost Refuses = { ⟦<ExtraRow as Reads>⟧.Refuses };
+impl Takes for RangeComponents {
+    ghost Refuses = { ⟦<RangeRow as Reads>⟧.Refuses };
 
     #[inline(always)]
     fn take(alloc: Global, decoder: &mut Decoder<'_>) -> Result<Self, DecodeError> {
-        read_row::<Self, ExtraRow>(alloc, decoder)
+        read_row::<Self, RangeRow>(alloc, decoder)
     }
 }
 
-impl Tabled<2, 0> for ExtraComponents {
+impl Tabled<4, 0> for RangeComponents {
     ghost use Rattle.std.specs.Prelude.{refl};
 
-    const FIELDS: Fields<2> = Fields {
+    const FIELDS: Fields<4> = Fields {
         fields: fields![
-            0 Required Context 0 "id",
-            1 Required Context 1 "content"
+            0 Required Context 0 "low",
+            1 Optional Context 1 "high",
+            2 Required Context 2 "state",
+            3 Default Context 3 "kind"
         ],
     };
 
@@ -280,68 +391,40 @@ impl Tabled<2, 0> for ExtraComponents {
     #[inline(always)]
     fn put(&self, encoder: &mut Encoder<'_>) -> Result<(), EncodeError> {
         let view = views![self:
-            id,
-            content
+            low,
+            high,
+            state,
+            kind
         ];
-        ExtraRow::write(&view, encoder)
+        RangeRow::write(&view, encoder)
     }
 
     ghost counts = { (refl, refl) };
 }
 
-/// What newer versions may add to.
-///
-/// What an open type of the objects `Extras` holds, by the id beside it.
-#[derive(Clone, Debug, PartialEq, Eq, Drop)]
-pub enum Extras {
-    /// Under the id 1.
-    Node(Node),
-    /// Under the id 7.
-    Stamp(Serial),
-    /// how often it was sent
-    ///
-    /// Under the id 9.
-    Id9(u8),
-    /// The octets under an id that the set doesn't have.
-    Other(OpenOctets),
+const RANGE_IN_TEXT_ORDER: &'static [Field<'static>] = fields![
+    0 Optional Context 1 "high",
+    1 Required Context 0 "low",
+    2 Required Context 2 "state",
+    3 Default Context 3 "kind"
+];
+
+impl TextOrder for RangeComponents {
+    ghost use Rattle.std.specs.Prelude.{[], ◌∷◌};
+
+    ghost places = { 1 ∷ 0 ∷ 2 ∷ 3 ∷ [] };
 }
 
-impl Extras {
-    ghost use Rattle.std.specs.Prelude.{◌≡◌, ◌≢◌};
-    ghost use Rattle.rasn_oer.specs.Open.{IsObject, IsOther};
-    ghost use Rattle.example_recursive.specs.declared.types_04.Extras.TheVariants as Extras;
+impl InTagOrder<4, 0> for RangeComponents {
+    ghost use Rattle.std.specs.Prelude.{refl};
 
-    /// Reads the octets of an open type as the type that the id stands for, all of them in canonical reading.
-    ///
-    /// Refused as `decode_open_type` refuses them, and for want of memory.
-    pub fn read(
-        alloc: Global,
-        options: DecoderOptions,
-        id: u32,
-        octets: &OpenOctets,
-    ) -> Result<Extras, DecodeError>
-        ensures in_Node { id ≡ 1 → IsObject (⟦<Node as Spelled>⟧.tree ⟦<Node as AsnType>⟧.CONSTRAINTS) ⟦<Node as Spelled>⟧.IsValue Extras.Node (⟦<Node as Decode>⟧.Answered ⟦<Node as AsnType>⟧.CONSTRAINTS) options.codec options.levels octets.now.0 result }
-        ensures in_Stamp { id ≡ 7 → IsObject (⟦<Serial as Spelled>⟧.tree ⟦<Serial as AsnType>⟧.CONSTRAINTS) ⟦<Serial as Spelled>⟧.IsValue Extras.Stamp (⟦<Serial as Decode>⟧.Answered ⟦<Serial as AsnType>⟧.CONSTRAINTS) options.codec options.levels octets.now.0 result }
-        ensures in_Id9 { id ≡ 9 → IsObject (⟦<u8 as Spelled>⟧.tree ⟦<u8 as AsnType>⟧.CONSTRAINTS) ⟦<u8 as Spelled>⟧.IsValue Extras.Id9 (⟦<u8 as Decode>⟧.Answered ⟦<u8 as AsnType>⟧.CONSTRAINTS) options.codec options.levels octets.now.0 result }
-        ensures other { id ≢ 1 → id ≢ 7 → id ≢ 9 → IsOther Extras.Other octets.now options.codec result }
-    {
-        match id {
-            1 => match decode_open_type(alloc, options, octets) {
-                Ok(value) => Ok(Extras::Node(value)),
-                Err(e) => Err(e),
-            },
-            7 => match decode_open_type(alloc, options, octets) {
-                Ok(value) => Ok(Extras::Stamp(value)),
-                Err(e) => Err(e),
-            },
-            9 => match decode_open_type(alloc, options, octets) {
-                Ok(value) => Ok(Extras::Id9(value)),
-                Err(e) => Err(e),
-            },
-            _ => match other_octets(options, octets) {
-                Ok(octets) => Ok(Extras::Other(octets)),
-                Err(e) => Err(e),
-            },
-        }
+    ghost in_order = { refl };
+
+    const SET_FIELDS: Fields<4> = Fields {
+        fields: RANGE_IN_TEXT_ORDER,
+    };
+
+    fn text_fields() -> &'static [Field<'static>] {
+        Self::SET_FIELDS.fields
     }
 }

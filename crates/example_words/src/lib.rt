@@ -8,6 +8,7 @@ mod types_04;
 mod types_05;
 mod types_06;
 mod types_07;
+mod types_08;
 
 pub use types_01::{Bush, BushComponents, BushContent, Node, NodeComponents, NodeContent};
 pub use types_02::{
@@ -34,4 +35,8 @@ pub use types_07::{
     BoolChoice, BoolChoiceAlternatives, Mixed, MixedComponents, MixedSet2, MixedSet2Components,
     OnlyChoice, OnlyChoiceAlternatives, PriorityChoice, PriorityChoiceAlternatives, WideChoice,
     WideChoiceAlternatives,
+};
+pub use types_08::{
+    Holder1, Holder1Components, Holder2, Holder2Components, Sequence1, Sequence1Components,
+    Sequence5, Sequence5Components,
 };

@@ -11,7 +11,7 @@ use Rattle.oer_choices.specs.Choosing.{Choices, AreChoices, times_of_both, times
 use Rattle.oer_choices.specs.declared.alternatives.Either.{Either}
 use Rattle.oer_choices.specs.declared.alternatives.Either.TheVariants.{First, Rest}
 
--- ---- tags of lists append_assoc one another
+-- ---- tags of lists behind one another
 
 or_of_three : (a b c : Bool) → (a || (b || c)) ≡ ((a || b) || c)
 or_of_three true b c = refl

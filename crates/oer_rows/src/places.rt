@@ -95,7 +95,7 @@ pub trait DefaultValue<B: Spelled + PartialEq> {
 
     ghost admitted: { B.IsValue value };
 
-    /// The values that are equal to it are just those that have its abstract value: for a type with `EqualAsSpelled` by that.
+    /// The values that are equal to it are just those that have its abstract value.
     ghost decides: { (c : Constraints) → IsConsistent c → (v : B) → B.IsValue v → Decides (B.eq v value) (Same (B.tree c v) (B.tree c value)) };
 }
 

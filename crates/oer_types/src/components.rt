@@ -1,9 +1,9 @@
 //! The components of each sequence and set that is written by its row.
 
+use crate::groups;
 use crate::nests::Nest;
 use crate::pairs::Pair;
 use crate::wrappers::HashedId3;
-use crate::{extensible, groups};
 use rasn_oer::prelude::*;
 
 /// The components of a `Nested` of this crate.
@@ -11,31 +11,6 @@ use rasn_oer::prelude::*;
 pub struct Nested {
     pub a: bool,
     pub b: Pair,
-}
-
-/// The components of a `Sequence1` of this crate.
-#[derive(Debug, PartialEq, Eq, Drop)]
-pub struct Sequence1 {
-    pub a: bool,
-}
-
-/// The components of a `Sequence5` of this crate.
-#[derive(Debug, PartialEq, Eq, Drop)]
-pub struct Sequence5 {
-    pub a: bool,
-    pub b: Option<bool>,
-}
-
-/// The components of a `Holder1` of this crate.
-#[derive(Debug, PartialEq, Eq, Drop)]
-pub struct Holder1 {
-    pub a: extensible::Sequence1,
-}
-
-/// The components of a `Holder2` of this crate.
-#[derive(Debug, PartialEq, Eq, Drop)]
-pub struct Holder2 {
-    pub a: extensible::Sequence5,
 }
 
 /// The components of a `Sequence4` of this crate.

@@ -3,7 +3,7 @@
 //!
 //! - a name twice in a type, or a group's name and tags: `Sequence3`, `Sequence6`, `Sequence7`
 //! - a required addition, which is printed as one that older senders leave out: `Sure`, `SequenceDuplicatesExtended`
-//! - a default with parts, and its type, which says how it is compared: `Holder1`, `Holder2`, `Sequence1`, `Sequence5`, `DeepDefault`, `Nest`
+//! - a default of a type that contains itself, and that type, which says how it is compared: `DeepDefault`, `Nest`
 //! - a struct around a type of the library, and what holds one: `Positive`, `Negative`, `HashedId3`, `ConstrainedOptions`
 //! - a number of a range that is an `Integer`: `GreatPositive`, `Small`
 //! - any type as a parameter: `Holding`, `Adding`
@@ -13,8 +13,6 @@
 pub mod components;
 mod constrained;
 mod deep_defaults;
-mod extensible;
-mod extension_defaults;
 mod groups;
 mod holders;
 mod nested;
@@ -57,6 +55,10 @@ pub use example_words::ExtendedOptional;
 pub use example_words::ExtendedOptionalComponents;
 pub use example_words::Foo;
 pub use example_words::FooComponents;
+pub use example_words::Holder1;
+pub use example_words::Holder1Components;
+pub use example_words::Holder2;
+pub use example_words::Holder2Components;
 pub use example_words::Link;
 pub use example_words::LinkChoice;
 pub use example_words::LinkChoiceAlternatives;
@@ -83,8 +85,12 @@ pub use example_words::Outer;
 pub use example_words::OuterComponents;
 pub use example_words::PriorityChoice;
 pub use example_words::PriorityChoiceAlternatives;
+pub use example_words::Sequence1;
+pub use example_words::Sequence1Components;
 pub use example_words::Sequence2;
 pub use example_words::Sequence2Components;
+pub use example_words::Sequence5;
+pub use example_words::Sequence5Components;
 pub use example_words::TestChoice;
 pub use example_words::TestChoiceAlternatives;
 pub use example_words::TestChoiceContent;
@@ -93,10 +99,6 @@ pub use example_words::TopLevelComponents;
 pub use example_words::TopLevelContent;
 pub use example_words::WideChoice;
 pub use example_words::WideChoiceAlternatives;
-pub use extensible::Sequence1;
-pub use extensible::Sequence5;
-pub use extension_defaults::Holder1;
-pub use extension_defaults::Holder2;
 pub use groups::Group6;
 pub use groups::Sequence3;
 pub use groups::Sequence4;

@@ -184,8 +184,8 @@ fn make_part<'m>(
     })
 }
 
-/// The components or alternatives of a type; none of another.
-fn rows_in<'m>(scope: Scope<'m, '_>, of: &'m Type) -> Result<Vec<Row<'m>>, Refusal>
+/// The components or alternatives of a type, a CHOICE without a tag among them without one; none of another.
+pub fn rows_in<'m>(scope: Scope<'m, '_>, of: &'m Type) -> Result<Vec<Row<'m>>, Refusal>
     ensures rows { IfOk result (λ rows. (members : List Member) → AreMembers of.now.body members → AreRowsOf members rows.items) }
     ensures others { has_members of.now.body ≡ false → IfOk result (λ rows. rows.items ≡ []) }
 {

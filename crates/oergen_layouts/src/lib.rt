@@ -15,6 +15,7 @@ pub mod numbers;
 pub mod objects;
 pub mod order;
 pub mod parameters;
+pub mod parts;
 pub mod rows;
 pub mod scope;
 mod sets;

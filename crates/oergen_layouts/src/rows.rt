@@ -110,11 +110,13 @@ fn first_of(member: &Member) -> TokenId {
     }
 }
 
-/// The components as they are written, with those that COMPONENTS OF takes over, and with the tags that are in front of their types.
+/// The components of a SET, or of another type, as they are written, with those that COMPONENTS OF takes over, and with the tags that are in
+/// front of their types.
 #[cycle(rows)]
 fn written_rows<'m>(
     scope: Scope<'m, '_>,
     members: &'m [Member],
+    is_set: bool,
     levels: u32,
 ) -> Result<Vec<Row<'m>>, Refusal>
     ensures rows { IfOk result (λ rows. AreRowsOf members.now rows.items) }
@@ -136,7 +138,7 @@ fn written_rows<'m>(
                 tag: None,
             })?,
             Member::ComponentsOf(of) => {
-                let taken = taken_rows(scope, of, levels)?;
+                let taken = taken_rows(scope, of, is_set, levels)?;
                 push_roots(&mut rows, taken.as_slice(), walk.position())?;
             }
             other => {
@@ -166,23 +168,33 @@ fn push_roots<'m>(
     Ok(())
 }
 
-/// The components of the type behind COMPONENTS OF.
+/// The components of the type behind COMPONENTS OF: of a SET in a SET, else of a SEQUENCE (X.680, 25.5 and 27.2).
 #[cycle(rows)]
 fn taken_rows<'m>(
     scope: Scope<'m, '_>,
     of: &'m Type,
+    is_set: bool,
     levels: u32,
 ) -> Result<Vec<Row<'m>>, Refusal> {
-    const READS: &str = "a SEQUENCE or a SET that doesn't take over its own components";
+    const READS: &str =
+        "a SEQUENCE in a SEQUENCE, or a SET in a SET, that doesn't take over its own components";
     let base = scope.base_of(of)?;
     let Some(levels) = levels.checked_sub(1) else {
         return Err(scope.refused(of.first, READS));
     };
-    match members_of(base) {
-        Some(members) if !matches!(base.body, Body::Choice(_)) => {
-            written_rows(scope, members, levels)
-        }
-        _ => Err(scope.refused(of.first, READS)),
+    match &base.body {
+        Body::Sequence(members) if !is_set => written_rows(scope, members, is_set, levels),
+        Body::Set(members) if is_set => written_rows(scope, members, is_set, levels),
+        Body::Sequence(_)
+        | Body::Set(_)
+        | Body::Choice(_)
+        | Body::SequenceOf(_)
+        | Body::SetOf(_)
+        | Body::Simple(_)
+        | Body::Integer(_)
+        | Body::BitString(_)
+        | Body::Enumerated(_, _)
+        | Body::Reference(_) => Err(scope.refused(of.first, READS)),
     }
 }
 
@@ -502,6 +514,13 @@ fn is_choice(of: &Type) -> bool
     matches!(of.body, Body::Choice(_))
 }
 
+/// Whether a type is a SET.
+fn is_set(of: &Type) -> bool
+    ensures { result ≡ is_set of.now.body }
+{
+    matches!(of.body, Body::Set(_))
+}
+
 /// The members of a CHOICE or a SET; nothing of another type.
 fn choice_or_set<'m>(of: &'m Type) -> Option<&'m [Member]>
     ensures members { IfSome result (λ members. AreMembers of.now.body members.now) }
@@ -528,7 +547,7 @@ pub fn untagged_rows<'m>(
     let Some(members) = choice_or_set(of) else {
         return Ok(None);
     };
-    let found = written_rows(scope, members, MAX_COMPONENTS_OF)?;
+    let found = written_rows(scope, members, is_set(of), MAX_COMPONENTS_OF)?;
     let rows = with_tags(scope, of, members, found.as_slice())?;
     let is_choice = is_choice(of);
     if !have_untagged_choice(scope, rows.as_slice(), is_choice)? {
@@ -551,7 +570,7 @@ pub fn rows_of<'m>(scope: Scope<'m, '_>, of: &'m Type) -> Result<Vec<Row<'m>>, R
     let Some(members) = members_of(of) else {
         return Ok(Vec::new(scope.alloc));
     };
-    let written = written_rows(scope, members, MAX_COMPONENTS_OF)?;
+    let written = written_rows(scope, members, is_set(of), MAX_COMPONENTS_OF)?;
     let rows = with_tags(scope, of, members, written.as_slice())?;
     require_rows(scope, of, members, rows.as_slice())?;
     Ok(rows)

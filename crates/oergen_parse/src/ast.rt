@@ -27,6 +27,8 @@ pub struct Module {
     pub first: TokenId,
     pub types: Vec<TypeAssignment>,
     pub values: Vec<ValueAssignment>,
+    /// The components and the alternatives of the values that are assigned or defaults, and of those within them.
+    pub parts: Vec<NamedValue>,
     /// The assignments that can't be read and were left out; none unless that was asked for.
     pub unread: Vec<Unread>,
 }
@@ -190,6 +192,14 @@ pub enum Value {
     Names(TokenId, Vec<TokenId>),
     /// Another value between braces, or one of a CHOICE or an open type, by its first token.
     Braces(TokenId),
+}
+
+/// A component of a value between braces, or the alternative of one: the first token of that value, its own name, and its own value.
+#[derive(Drop)]
+pub struct NamedValue {
+    pub of: TokenId,
+    pub name: TokenId,
+    pub value: Value,
 }
 
 /// A constraint between parentheses.

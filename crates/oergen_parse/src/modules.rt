@@ -6,7 +6,7 @@ use crate::reader::Reader;
 use crate::refusal::Refusal;
 use crate::skips::{defines_macro, skip_assignment};
 use crate::types::read_whole_type;
-use crate::values::read_any_value;
+use crate::values::{read_any_value, read_parts};
 use crate::words::is_reserved;
 use std::alloc::Global;
 
@@ -78,11 +78,13 @@ fn read_module(reader: &mut Reader<'_>, leaves_out: bool) -> Result<Module, Refu
     let exports = read_exports(reader)?;
     let imports = read_imports(reader)?;
     let first = reader.id();
+    let start = *reader;
     let Assignments {
         types,
         values,
         unread,
     } = read_assignments(reader, imports.as_slice(), leaves_out)?;
+    let parts = read_parts(start, start.left().saturating_sub(reader.left()))?;
     Ok(Module {
         name,
         tagging,
@@ -91,6 +93,7 @@ fn read_module(reader: &mut Reader<'_>, leaves_out: bool) -> Result<Module, Refu
         first,
         types,
         values,
+        parts,
         unread,
     })
 }

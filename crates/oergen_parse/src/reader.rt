@@ -24,6 +24,14 @@ impl<'a> Reader<'a> {
         }
     }
 
+    /// It at another token.
+    pub fn at(&self, id: TokenId) -> Reader<'a> {
+        Reader {
+            taken: id.index.min(self.tokens.len()),
+            ..*self
+        }
+    }
+
     /// How many tokens are left.
     pub fn left(&self) -> usize {
         self.tokens.len().saturating_sub(self.taken)

@@ -1,6 +1,6 @@
 //! Reads values (X.680, clause 17).
 
-use crate::ast::{Numbered, Reference, Value};
+use crate::ast::{NamedValue, Numbered, Reference, Value};
 use crate::lengths::choices_length;
 use crate::lexer::{Kind, TokenId};
 use crate::reader::Reader;
@@ -9,6 +9,9 @@ use crate::words::is_reserved;
 
 const VALUE: &str =
     "a number, a string, TRUE, FALSE, NULL, a value's name, or names between braces";
+
+/// How deep the parts of a value are read.
+const MAX_LEVELS: u32 = 64;
 
 /// A value.
 pub fn read_value(reader: &mut Reader<'_>) -> Result<Value, Refusal> {
@@ -40,6 +43,50 @@ pub fn read_any_value(reader: &mut Reader<'_>) -> Result<Value, Refusal> {
     } else {
         Value::Braces(first)
     })
+}
+
+/// The parts of the values that are assigned or defaults among so many tokens, and of those within them.
+pub fn read_parts(start: Reader<'_>, count: usize) -> Result<Vec<NamedValue>, Refusal> {
+    let mut reader = start;
+    let mut all = Vec::new(reader.alloc);
+    for _ in 0..count {
+        let is_before = reader.is("DEFAULT") || reader.is("::=");
+        let _ = reader.next();
+        if is_before {
+            push_parts(reader, &mut all, MAX_LEVELS)?;
+        }
+    }
+    Ok(all)
+}
+
+/// The components of the next value, or its alternative.
+fn parts_of(reader: &mut Reader<'_>) -> Result<Vec<NamedValue>, Refusal> {
+    if reader.is("{") {
+        return read_components(reader);
+    }
+    let mut one = Vec::new(reader.alloc);
+    one.push(read_alternative(reader)?)?;
+    Ok(one)
+}
+
+/// Puts the parts of the next value to others, with those within them, as deep as stated: none where it has no such form.
+fn push_parts(reader: Reader<'_>, all: &mut Vec<NamedValue>, levels: u32) -> Result<(), Refusal> {
+    let Some(inside) = levels.checked_sub(1) else {
+        return Ok(());
+    };
+    let mut ahead = reader;
+    let parts = match parts_of(&mut ahead) {
+        Ok(parts) => parts,
+        Err(Refusal::OutOfMemory) => return Err(Refusal::OutOfMemory),
+        Err(_) => return Ok(()),
+    };
+    for part in parts {
+        if let Value::Braces(first) = part.value {
+            push_parts(reader.at(first), all, inside)?;
+        }
+        all.push(part)?;
+    }
+    Ok(())
 }
 
 /// The value of a DEFAULT, of the component of that name.
@@ -122,6 +169,34 @@ fn read_names(reader: &mut Reader<'_>) -> Result<Option<Vec<TokenId>>, Refusal> 
         }
     }
     Ok(None)
+}
+
+/// The components of a value of a SEQUENCE or a SET, between braces (X.680, clauses 25 and 27).
+fn read_components(reader: &mut Reader<'_>) -> Result<Vec<NamedValue>, Refusal> {
+    let of = reader.id();
+    let mut all = Vec::new(reader.alloc);
+    reader.expects("{")?;
+    if reader.eats("}") {
+        return Ok(all);
+    }
+    for _ in 0..reader.left() {
+        let name = reader.takes(Kind::Word, "a component's name")?;
+        let value = read_default_value(reader)?;
+        all.push(NamedValue { of, name, value })?;
+        if !goes_on(reader)? {
+            return Ok(all);
+        }
+    }
+    Err(reader.refused("'}'"))
+}
+
+/// The alternative of a value of a CHOICE, as `name:value` (X.680, clause 29).
+fn read_alternative(reader: &mut Reader<'_>) -> Result<NamedValue, Refusal> {
+    let of = reader.id();
+    let name = reader.takes(Kind::Word, "an alternative's name")?;
+    reader.expects(":")?;
+    let value = read_default_value(reader)?;
+    Ok(NamedValue { of, name, value })
 }
 
 /// Named numbers or bits between braces, where there are any (X.680, 19.3 and 22.2).

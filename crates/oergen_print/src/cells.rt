@@ -1,6 +1,6 @@
 //! A component as a cell of a row.
 
-use crate::defaults::push_default;
+use crate::defaults::{Wish, push_default};
 use crate::items::push_limits;
 use crate::notes::push_note;
 use crate::shapes::shape_of;
@@ -17,6 +17,9 @@ use std::collections::BTreeMap;
 
 /// What stands in front of a field or a variant.
 const INDENT: &str = "    ";
+
+/// How many defaults may stand in one another.
+const MAX_LEVELS: u32 = 64;
 
 /// A cell of a row, as it is printed.
 #[derive(Drop)]
@@ -128,7 +131,7 @@ fn camel_of(alloc: Global, owner: &str, name: &str) -> Text {
 }
 
 /// A type's name with a component's behind it, and the `_` that tell its Rust name from another's.
-fn own_name(alloc: Global, owner: &str, part: &Part<'_>) -> Text {
+pub fn own_name(alloc: Global, owner: &str, part: &Part<'_>) -> Text {
     let mut out = camel_of(alloc, owner, part.name.as_str());
     let rust = part.rust_name.as_str();
     let marks = rust.len().saturating_sub(rust.trim_end_matches('_').len());
@@ -200,7 +203,14 @@ fn push_own_default<'m>(
     rust: &str,
 ) -> Result<Option<Text>, Refusal> {
     match row.need {
-        Need::Default(value) => Ok(Some(push_default(scope, all, out, row, value, (own, rust))?)),
+        Need::Default(value) => {
+            let wish = Wish {
+                name: own,
+                rust,
+                levels: MAX_LEVELS,
+            };
+            Ok(Some(push_default(scope, all, out, row, value, wish)?.name))
+        }
         Need::Required | Need::Optional => Ok(None),
     }
 }

@@ -67,6 +67,16 @@ fn put_tag_names(words: &mut Words, of: Chain<'_>) {
 fn words_of(alloc: Global, doc: &str, of: Chain<'_>) -> Words {
     let mut words = owner_words(alloc, doc, of.owner, of.knot);
     words.put("HOLDER", choice_holder(of.keeps_unknown));
+    put_cells(&mut words, of);
+    push_part_uses(words.begin("PARTS"), of);
+    push_table_name(words.begin("ROOTS"), of.owner, "ROOTS");
+    push_addition_name(words.begin("ADDITIONS"), of);
+    put_tag_names(&mut words, of);
+    words
+}
+
+/// Says what each alternative is in the enum, its row and what writes it.
+fn put_cells(words: &mut Words, of: Chain<'_>) {
     push_variants(words.begin("VARIANTS"), of.cells);
     push_names(words.begin("LIST"), of.cells, ", ", "");
     if of.has_parts() {
@@ -78,13 +88,8 @@ fn words_of(alloc: Global, doc: &str, of: Chain<'_>) -> Words {
         push_names(words.begin("NAMES"), of.cells, ", ", "");
         push_cases(words.begin("CASES"), of.cells);
     }
-    push_part_uses(words.begin("PARTS"), of);
     push_puts(words.begin("PUTS"), of.cells);
     push_names(words.begin("WEIGHED"), of.cells, " | ", " held ↦ refl");
-    push_table_name(words.begin("ROOTS"), of.owner, "ROOTS");
-    push_addition_name(words.begin("ADDITIONS"), of);
-    put_tag_names(&mut words, of);
-    words
 }
 
 /// Prints a CHOICE, by the chains of its alternatives, of its enum's variants and of its row, with the parts of that row.

@@ -1,6 +1,7 @@
 //! The defaults of components, each printed as a type of its own but where the library has one.
 ghost use Rattle.std.specs.Prelude.{◌≡◌, false, true, int_le, IfOk, IfSome};
 
+use crate::default_parts::push_parts;
 use crate::enumerations::value_name;
 use crate::items::push_defined;
 use crate::literals::{bits_of_names, octets_of_text, push_array, push_list, push_written};
@@ -22,7 +23,7 @@ use std::alloc::Global;
 
 /// What can be read where a default isn't printed.
 const PRINTED: &str =
-    "a default that is a boolean, NULL, a number, an enumerated value, bits, octets, characters or an empty list: others aren't printed yet";
+    "a default that is a boolean, NULL, a number, an enumerated value, bits, octets, characters, an empty list, or a SEQUENCE, a SET or a CHOICE of these: others aren't printed yet";
 
 /// What can be read where a default is no value of its type.
 const ALLOWED: &str = "a default that the type's constraints allow";
@@ -54,55 +55,118 @@ fn allows(limits: Limits, number: i128) -> bool
         || limits.low.unwrap_or(number) <= number && number <= limits.high.unwrap_or(number)
 }
 
-/// Prints a default by its words, and answers its name: where the component's type stands within limits, of a default within these.
-fn push_words(alloc: Global, out: &mut Text, name: &str, is_limited: bool, words: &Words) -> Text {
-    out.fill(DEFAULT, words);
-    let mut own = Text::new(alloc);
-    let around = if is_limited {
-        ("Within<", ">")
+/// The value of a default, in definitions.
+const VALUE: &str = "⟦<@NAME@Default@ARGUMENT@ as DefaultValue<@TYPE@>>⟧.value";
+
+/// What a default is printed as: its name, its Rust type, and how many defaults may stand in one another within it.
+#[derive(Clone, Copy)]
+pub struct Wish<'n, 'r> {
+    pub name: &'n str,
+    pub rust: &'r str,
+    pub levels: u32,
+}
+
+/// A default: the type that stands for it, and what a default that it is a part of says of it.
+#[derive(Drop)]
+pub struct Default {
+    /// The type that stands for it.
+    pub name: Text,
+    /// Its value in definitions.
+    pub value: Text,
+    /// What shows that its type admits it.
+    pub admitted: Text,
+    /// What shows which values are equal to it: a function.
+    pub decides: Text,
+    /// What definitions take from elsewhere for the two, but for what they take for any default.
+    pub uses: Text,
+}
+
+impl Default {
+    /// One of the library's, by its texts.
+    pub fn of(alloc: Global, name: &str, value: &str, decides: &str) -> Default {
+        Default {
+            name: Text::of(alloc, &[name]),
+            value: Text::of(alloc, &[value]),
+            admitted: Text::of(alloc, &["tt"]),
+            decides: Text::of(alloc, &["λ v i. ", decides]),
+            uses: Text::new(alloc),
+        }
+    }
+}
+
+/// Prints a default by its words, and answers what is said of it: where the component's type stands within limits, of one within these.
+pub fn push_words(alloc: Global, out: &mut Text, is_limited: bool, words: &Words) -> Default {
+    let (name, value, decides) = if is_limited {
+        (
+            "Within<@NAME@Default>",
+            "record { 0 = @VALUE@; 1 = record {} }",
+            "λ v i. beside_nothing _ (let v = v.0 in @INSIDE@)",
+        )
+    } else if words.text_of("VALUES").is_empty() {
+        ("@NAME@Default@ARGUMENT@", "@VALUE@", "@INSIDE@")
     } else {
-        ("", "")
+        ("@NAME@Default", "@VALUE@", "λ v i. @INSIDE@")
     };
-    own.push_all(&[around.0, name, "Default", around.1]);
-    own
+    out.fill(DEFAULT, words);
+    let mut quoted = Words::new(alloc);
+    quoted.begin("VALUE").push_text(&words.filled(VALUE));
+    Default {
+        name: words.filled(name),
+        value: quoted.filled(value),
+        admitted: words.filled("@ADMITTED@"),
+        decides: words.filled(decides),
+        uses: words.filled("@OTHERS@"),
+    }
 }
 
 /// The words that each default has: its name, its Rust type without limits, and the name of the allocator, which is used or isn't.
-fn words_of(alloc: Global, name: &str, rust: &str, takes_memory: bool) -> Words {
+pub fn words_of(alloc: Global, name: &str, rust: &str, takes_memory: bool) -> Words {
     let mut words = Words::new(alloc);
+    words.put("VALUES", " v i");
     words.put("NAME", name);
     words.put("TYPE", rust);
     words.put("ALLOC", if takes_memory { "alloc" } else { "_alloc" });
     words
 }
 
+/// Says what shows which values are equal to it, by a template: of the default alone, and of that of a part, where other words stand at `AT`.
+pub fn put_decides(words: &mut Words, template: &'static str, at: (&str, &str)) {
+    words.put("AT", at.0);
+    words.put_filled("DECIDES", template);
+    words.put("AT", at.1);
+    words.put_filled("INSIDE", template);
+}
+
 /// The words of a number.
 fn number_words(alloc: Global, name: &str, number: i128, base: &str) -> Words {
     const USES: &str = "ghost use Rattle.std.specs.Prelude.{negsuc, pos, refl};
     ghost use Rattle.rasn_oer.specs.Spelled.{@SAME@};";
+    const TEXTS: &[(&str, &str)] = &[
+        ("USES", USES),
+        ("CODE", "Ok(@LITERAL@)"),
+        ("TEST", "*other == @LITERAL@"),
+        ("ADMITTED", "refl"),
+    ];
     let is_natural = base.starts_with('u');
     let mut words = words_of(alloc, name, base, false);
-    words.put(
-        "SAME",
+    words.begin("TEXT").push_number(number);
+    push_defined(words.begin("GHOST"), number, !is_natural);
+    let (same, literal) = (
         if is_natural {
             "naturals_same"
         } else {
             "integers_same"
         },
+        if base == "Integer" {
+            "Integer::from_i128(@TEXT@)"
+        } else {
+            "@TEXT@"
+        },
     );
-    words.put_filled("USES", USES);
-    words.begin("TEXT").push_number(number);
-    push_defined(words.begin("GHOST"), number, !is_natural);
-    let literal = if base == "Integer" {
-        "Integer::from_i128(@TEXT@)"
-    } else {
-        "@TEXT@"
-    };
+    words.put("SAME", same);
     words.put_filled("LITERAL", literal);
-    words.put_filled("CODE", "Ok(@LITERAL@)");
-    words.put_filled("TEST", "*other == @LITERAL@");
-    words.put("ADMITTED", "refl");
-    words.put_filled("DECIDES", "@SAME@ c v _");
+    words.fill_all(TEXTS);
+    put_decides(&mut words, "@SAME@ @AT@ v _", ("c", "_"));
     words
 }
 
@@ -113,11 +177,11 @@ fn push_number<'m>(
     row: Row<'m>,
     spot: Spot<'m>,
     name: &str,
-) -> Result<Text, Refusal> {
+) -> Result<Default, Refusal> {
     let (base, is_limited, limits) = number_of_octets(scope, row.of)?;
     let number = default_number(scope, spot, row.name, limits)?;
     let words = number_words(scope.alloc, name, number, base);
-    Ok(push_words(scope.alloc, out, name, is_limited, &words))
+    Ok(push_words(scope.alloc, out, is_limited, &words))
 }
 
 /// Says what stands for octets: the line of an array of the code, and a list of definitions.
@@ -162,19 +226,22 @@ const NAMED_BITS: BitsText = BitsText {
 fn bits_words(alloc: Global, name: &str, text: BitsText, octets: &[u8], count: usize) -> Words {
     const USES: &str =
         "ghost use Rattle.std.specs.Prelude.{◌∷◌, [], @STD@};\n    ghost use Rattle.rasn_oer.specs.Octets.{bits_of};\n    ghost use Rattle.rasn_oer.specs.Spelled.{@SAME@};";
+    const TEXTS: &[(&str, &str)] = &[
+        ("USES", USES),
+        ("GHOST", "take @COUNT@ (bits_of @LIST@)"),
+        ("CODE", "@OCTETS@@MADE@"),
+        ("TEST", "@OCTETS@are_bits(@COMPARED@, &octets, @COUNT@)"),
+    ];
     let mut words = words_of(alloc, name, text.rust, true);
-    words.put("STD", text.uses);
-    words.put("SAME", text.same);
-    words.put_filled("USES", USES);
     put_octets(&mut words, octets);
     words.begin("COUNT").push_count(count);
-    words.put_filled("GHOST", "take @COUNT@ (bits_of @LIST@)");
+    words.put("STD", text.uses);
+    words.put("SAME", text.same);
     words.put_filled("MADE", text.made);
-    words.put_filled("CODE", "@OCTETS@@MADE@");
     words.put("COMPARED", text.compared);
-    words.put_filled("TEST", "@OCTETS@are_bits(@COMPARED@, &octets, @COUNT@)");
     words.put("ADMITTED", text.admitted);
-    words.put_filled("DECIDES", "@SAME@ c v _");
+    words.fill_all(TEXTS);
+    put_decides(&mut words, "@SAME@ @AT@ v _", ("c", "_"));
     words
 }
 
@@ -225,7 +292,7 @@ fn push_bits<'m>(
     row: Row<'m>,
     spot: Spot<'m>,
     name: &str,
-) -> Result<Text, Refusal> {
+) -> Result<Default, Refusal> {
     let (is_limited, limits) = sizes_of(scope, row.of)?;
     let bits = default_bits(scope, row, spot, limits)?;
     let octets = packed(scope.alloc, bits.as_slice())?;
@@ -236,7 +303,7 @@ fn push_bits<'m>(
     };
     let mut words = bits_words(scope.alloc, name, text, octets.as_slice(), bits.len());
     push_written(scope, words.begin("TEXT"), spot.value);
-    Ok(push_words(scope.alloc, out, name, is_limited, &words))
+    Ok(push_words(scope.alloc, out, is_limited, &words))
 }
 
 /// What shows that octets obey a type's rule.
@@ -295,7 +362,14 @@ fn held_words(alloc: Global, name: &str, held: Held, octets: &[u8]) -> Words {
     ghost use Rattle.rasn_oer.specs.Spelled.{texts_same};
     ghost use Rattle.rasn_oer.specs.Texts as texts;";
     const MADE: &str = "let content = @FROM@(alloc, &octets)?;\n        Ok(@TYPE@(content))";
+    const BARE: &str = "@FROM@(alloc, &octets)";
     const RECORD: &str = "record { 0 = @LIST@ }";
+    const TEXTS: &[(&str, &str)] = &[
+        ("USES", USES),
+        ("CODE", "@OCTETS@@MADE@"),
+        ("TEST", "@OCTETS@other.0.as_bytes() == octets.as_slice()"),
+        ("ADMITTED", "written texts.@RULE@ @LIST@ refl @OBEYS@"),
+    ];
     let mut words = words_of(alloc, name, held.holder, true);
     put_octets(&mut words, octets);
     let unit = match held.evidence {
@@ -305,29 +379,25 @@ fn held_words(alloc: Global, name: &str, held: Held, octets: &[u8]) -> Words {
     words
         .begin("COUNT")
         .push_count(octets.len().checked_div(unit).unwrap_or(0));
-    words.put("RULE", held.rule);
-    words.put_filled("FROM", held.from);
     let (spelled, value, made, obeys) = match held.evidence {
         Evidence::Any => ("", RECORD, MADE, "tt"),
         Evidence::Each => ("", RECORD, MADE, "refl"),
-        Evidence::Units(_) => ("", RECORD, "@FROM@(alloc, &octets)", "(@COUNT@, refl)"),
-        Evidence::Utf8 => (
-            ", spelled",
-            "@LIST@",
-            "@FROM@(alloc, &octets)",
-            "(spelled @LIST@ refl)",
-        ),
+        Evidence::Units(_) => ("", RECORD, BARE, "(@COUNT@, refl)"),
+        Evidence::Utf8 => (", spelled", "@LIST@", BARE, "(spelled @LIST@ refl)"),
     };
+    words.put("RULE", held.rule);
+    words.put_filled("FROM", held.from);
     words.put("SPELLED", spelled);
-    words.put_filled("USES", USES);
     words.put_filled("GHOST", value);
     words.put_filled("MADE", made);
-    words.put_filled("CODE", "@OCTETS@@MADE@");
-    words.put_filled("TEST", "@OCTETS@other.0.as_bytes() == octets.as_slice()");
     words.put_filled("OBEYS", obeys);
-    words.put_filled("ADMITTED", "written texts.@RULE@ @LIST@ refl @OBEYS@");
     words.put("OWN", if spelled.is_empty() { "v.0" } else { "v" });
-    words.put_filled("DECIDES", "texts_same texts.@RULE@ c @OWN@ _");
+    words.fill_all(TEXTS);
+    put_decides(
+        &mut words,
+        "texts_same texts.@RULE@ @AT@ @OWN@ _",
+        ("c", "_"),
+    );
     words
 }
 
@@ -363,7 +433,7 @@ fn push_held<'m>(
     spot: Spot<'m>,
     of: (Simple, Held),
     name: &str,
-) -> Result<Text, Refusal> {
+) -> Result<Default, Refusal> {
     let (simple, held) = of;
     let octets = default_octets(scope, row, spot, simple)?;
     let (is_limited, limits) = sizes_of(scope, row.of)?;
@@ -372,7 +442,7 @@ fn push_held<'m>(
     }
     let mut words = held_words(scope.alloc, name, held, octets.as_slice());
     push_written(scope, words.begin("TEXT"), spot.value);
-    Ok(push_words(scope.alloc, out, name, is_limited, &words))
+    Ok(push_words(scope.alloc, out, is_limited, &words))
 }
 
 /// The Rust name of the definition of a type, and whether that keeps unknown values; no name where it has none.
@@ -393,33 +463,43 @@ fn put_enumerated(words: &mut Words, owner: &str, variant: &str, keeps_unknown: 
     ghost use Rattle.oer_kept.specs.declared.enumerations.KeptEnumeration.TheVariants.{Known};";
     const KNOWN: &str = "
     ghost use Rattle.rasn_oer.specs.Numbered.{numbers_same};";
+    const KEPT_USES: &str = "
+    ghost use Rattle.oer_kept.specs.KeptNumbers.{kept_same};";
+    const KEPT_CODE: &str = "KeptEnumeration::Known(@OWNER@Values::@VARIANT@)";
+    const KNOWN_CODE: &str = "Enumeration(@OWNER@Values::@VARIANT@)";
     const KEPT_SAME: &str =
-        "kept_same ⟦<@OWNER@Values as Numbered>⟧.number ⟦<@OWNER@Values as Numbered>⟧.values v (Known @VARIANT@) i (refl, refl)";
-    words.put("OWNER", owner);
-    words.put("VARIANT", variant);
-    let uses = words.begin("USES");
-    uses.push_all(&["ghost use Rattle.@HOME:", owner, "Values@.", owner]);
-    uses.push_all(&["Values.TheVariants.{", variant, "};"]);
-    uses.push(if keeps_unknown { KEPT } else { KNOWN });
-    let (value, code, admitted, decides) = if keeps_unknown {
+        "kept_same ⟦<@OWNER@Values as Numbered>⟧.number ⟦<@OWNER@Values as Numbered>⟧.values v @AT@ i (refl, refl)";
+    let (uses, others, value, code, admitted, decides) = if keeps_unknown {
         (
+            KEPT,
+            KEPT_USES,
             "Known @VARIANT@",
-            "KeptEnumeration::Known(@OWNER@Values::@VARIANT@)",
+            KEPT_CODE,
             "(refl, refl)",
             KEPT_SAME,
         )
     } else {
         (
+            KNOWN,
+            "",
             "record { 0 = @VARIANT@ }",
-            "Enumeration(@OWNER@Values::@VARIANT@)",
+            KNOWN_CODE,
             "tt",
             "numbers_same _ _",
         )
     };
+    words.put("OWNER", owner);
+    words.put("VARIANT", variant);
+    words.put("OTHERS", others);
+    let text = words.begin("USES");
+    text.push_all(&["ghost use Rattle.@HOME:", owner, "Values@.", owner]);
+    text.push_all(&["Values.TheVariants.{", variant, "};", uses]);
     words.put_filled("GHOST", value);
     words.put_filled("VALUE", code);
     words.put("ADMITTED", admitted);
-    words.put_filled("DECIDES", decides);
+    let known = words.filled("(Known @VARIANT@)");
+    let value = words.filled(VALUE);
+    put_decides(words, decides, (known.as_str(), value.as_str()));
 }
 
 /// The words of an enumerated value, by the names of the value, of its enum's owner, with whether that keeps unknown values, and of its
@@ -448,21 +528,25 @@ fn push_enumerated<'m>(
     base: &'m Type,
     spot: Spot<'m>,
     named: (&str, &str),
-) -> Result<Text, Refusal> {
+) -> Result<Default, Refusal> {
     let text = scope.text(enumerated_default(scope, spot)?);
     let variant = value_name(scope, spot.names, text)?;
     let owner = definition_of(all, base);
     let words = enumerated_words(scope.alloc, named, text, owner, variant.as_str());
-    Ok(push_words(scope.alloc, out, named.0, false, &words))
+    Ok(push_words(scope.alloc, out, false, &words))
 }
 
 /// The default of a list, which is empty. As everywhere, no size of a list is looked at.
-fn list_default<'m>(scope: Scope<'m, '_>, row: Row<'m>, spot: Spot<'m>) -> Result<Text, Refusal> {
+fn list_default<'m>(
+    scope: Scope<'m, '_>,
+    row: Row<'m>,
+    spot: Spot<'m>,
+) -> Result<Default, Refusal> {
     let is_empty = matches!(spot.value, Value::Names(_, names) if names.is_empty());
     if !is_empty {
         return Err(scope.refused(row.name, PRINTED));
     }
-    Ok(Text::of(scope.alloc, &["IsEmptyList"]))
+    Ok(Default::of(scope.alloc, "IsEmptyList", "[]", "empty_listed _ _ v"))
 }
 
 /// The default of a type without parts: printed, but where the library has a type for it.
@@ -473,54 +557,58 @@ fn push_simple<'m>(
     spot: Spot<'m>,
     simple: Simple,
     name: &str,
-) -> Result<Text, Refusal> {
+) -> Result<Default, Refusal> {
     if let Some(held) = held_of(simple) {
         return push_held(scope, out, row, settled(scope, spot)?, (simple, held), name);
     }
     if !matches!(simple, Simple::Boolean | Simple::Null) {
         return Err(scope.refused(row.name, PRINTED));
     }
-    let constant = constant_of(scope, settled(scope, spot)?);
-    Ok(Text::of(scope.alloc, &[constant]))
+    Ok(constant_of(scope, settled(scope, spot)?))
 }
 
 /// The type that stands for a default: printed, but where the library has one. Refused where its type's defaults aren't printed, or its
 /// constraints don't allow it.
+#[cycle(defaults)]
 pub fn push_default<'m>(
     scope: Scope<'m, '_>,
     all: &[Definition<'m>],
     out: &mut Text,
     row: Row<'m>,
     value: &'m Value,
-    named: (&str, &str),
-) -> Result<Text, Refusal> {
+    wish: Wish<'_, '_>,
+) -> Result<Default, Refusal> {
     let base = scope.base_of(row.of)?;
     let spot = Spot {
         value,
         names: names_of(base),
     };
-    let (name, _) = named;
+    let name = wish.name;
     match &base.body {
         Body::Integer(_) => push_number(scope, out, row, spot, name),
-        Body::Enumerated(_, _) => push_enumerated(scope, all, out, base, spot, named),
+        Body::Enumerated(_, _) => {
+            push_enumerated(scope, all, out, base, spot, (name, wish.rust))
+        }
         Body::BitString(_) => push_bits(scope, out, row, settled(scope, spot)?, name),
         Body::Simple(simple) => push_simple(scope, out, row, spot, *simple, name),
         Body::SequenceOf(_) | Body::SetOf(_) => list_default(scope, row, settled(scope, spot)?),
-        Body::Sequence(_) | Body::Set(_) | Body::Choice(_) | Body::Reference(_) => {
-            Err(scope.refused(row.name, PRINTED))
+        Body::Sequence(_) | Body::Set(_) | Body::Choice(_) => {
+            push_parts(scope, all, out, row, settled(scope, spot)?.value, wish)
         }
+        Body::Reference(_) => Err(scope.refused(row.name, PRINTED)),
     }
 }
 
-/// The library's type for TRUE, FALSE or NULL.
-fn constant_of(scope: Scope<'_, '_>, spot: Spot<'_>) -> &'static str {
+/// The library's default for TRUE, FALSE or NULL.
+fn constant_of(scope: Scope<'_, '_>, spot: Spot<'_>) -> Default {
     let text = match spot.value {
         Value::Literal(id) => scope.text(*id),
         _ => "",
     };
-    match text {
-        "TRUE" => "IsTrue",
-        "NULL" => "IsNull",
-        _ => "IsFalse",
-    }
+    let (name, value, decides) = match text {
+        "TRUE" => ("IsTrue", "true", "booleans_same v true"),
+        "NULL" => ("IsNull", "tt", "(λ e. nulls_same v tt, λ s. refl)"),
+        _ => ("IsFalse", "false", "booleans_same v false"),
+    };
+    Default::of(scope.alloc, name, value, decides)
 }

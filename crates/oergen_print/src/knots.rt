@@ -27,11 +27,18 @@ pub fn push_components_module(out: &mut Text, owner: &str) {
 /// What stands for the words that the templates of a type have in common: of one that holds knots its parameter and that one's bounds too,
 /// and in front of its type a struct of the knot, else what it is with the knot in the parameter's place.
 pub fn owner_words(alloc: Global, doc: &str, owner: &str, knot: Option<&str>) -> Words {
+    const INSIDE: &[(&str, &str)] = &[
+        ("K", "<K>"),
+        ("TURBO", "::<K>"),
+        ("WRITES", "<K: Encode>"),
+        ("READS", "<K: Encode + Decode>"),
+        ("CONTENT", "Content<K>"),
+    ];
     let mut words = Words::new(alloc);
     words.put("NAME", owner);
+    words.put("DOC", doc);
     words.put("HOME", "@HOME@");
     words.put("CRATE", "@CRATE@");
-    words.put("DOC", doc);
     words.begin("SNAKE").push_component_name(owner);
     push_components_module(words.begin("COMPONENTS"), owner);
     let Some(knot) = knot else {
@@ -39,11 +46,7 @@ pub fn owner_words(alloc: Global, doc: &str, owner: &str, knot: Option<&str>) ->
         return words;
     };
     words.put("KNOT", knot);
-    words.put("K", "<K>");
-    words.put("TURBO", "::<K>");
-    words.put("WRITES", "<K: Encode>");
-    words.put("READS", "<K: Encode + Decode>");
-    words.put("CONTENT", "Content<K>");
+    words.fill_all(INSIDE);
     words.put_filled("HEAD", if owner == knot { KNOT } else { MEMBER });
     words
 }

@@ -198,9 +198,9 @@ impl Limits for @NAME@Limits {
 
 /// The default of a component, as a type.
 pub const DEFAULT: &str = r#"/// The default @TEXT@ of `@NAME@`.
-pub struct @NAME@Default;
+pub struct @NAME@Default@PARAMETER@;
 
-impl DefaultValue<@TYPE@> for @NAME@Default {
+impl DefaultValue<@TYPE@> for @NAME@Default@ARGUMENT@ {
     @USES@
 
     ghost value = { @GHOST@ };
@@ -215,7 +215,7 @@ impl DefaultValue<@TYPE@> for @NAME@Default {
 
     ghost admitted = { @ADMITTED@ };
 
-    ghost decides = { λ c k v i. @DECIDES@ };
+    ghost decides = { λ c k@VALUES@. @DECIDES@ };
 }
 
 "#;

@@ -213,15 +213,33 @@ impl Words {
         self.begin(word).push(text);
     }
 
-    /// Says what stands for a word: a template with the words before put in.
-    pub fn put_filled(&mut self, word: &'static str, template: &str) {
+    /// Says what stands for words: templates with the words before put in, in turn. By a constant, a function has few steps to check.
+    pub fn fill_all(&mut self, all: &[(&'static str, &'static str)]) {
+        for (word, template) in all.iter() {
+            self.put_filled(*word, *template);
+        }
+    }
+
+    /// A template with the words put in.
+    pub fn filled(&self, template: &str) -> Text {
         let mut text = Text::new(self.text.alloc);
         text.fill(template, self);
+        text
+    }
+
+    /// Says what stands for a word: a template with the words before put in.
+    pub fn put_filled(&mut self, word: &'static str, template: &str) {
+        let text = self.filled(template);
         self.begin(word).push_text(&text);
     }
 
+    /// Where its memory comes from.
+    pub fn alloc(&self) -> Global {
+        self.text.alloc
+    }
+
     /// What stands for a word; nothing where there is none.
-    fn text_of(&self, name: &str) -> &str {
+    pub fn text_of(&self, name: &str) -> &str {
         let mut end = self.text.len();
         for (word, start) in self.starts.iter().rev() {
             if *word == name {

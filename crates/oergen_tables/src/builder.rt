@@ -39,6 +39,11 @@ fn has_parts(body: &Body) -> bool {
     }
 }
 
+/// Whether a component may be absent: an addition always, which older senders don't have.
+fn may_be_absent(row: Row<'_>) -> bool {
+    row.position == Position::Addition || !matches!(row.need, Need::Required)
+}
+
 impl<'m, 'a, 'd> Builder<'m, 'a, 'd> {
     /// A table of definitions that have no form yet, in this order of their places.
     pub fn new(
@@ -192,7 +197,7 @@ impl<'m, 'a, 'd> Builder<'m, 'a, 'd> {
         Ok(Field {
             name: self.name_number(part.rust_name.as_str())?,
             type_number: self.type_number(part, row.of)?,
-            may_be_absent: !matches!(row.need, Need::Required),
+            may_be_absent: may_be_absent(row),
             default_value: default_text(self.scope, row)?,
             position: row.position,
             tag: row.tag,

@@ -5,15 +5,24 @@ ghost use Rattle.hex.specs.Hex.{encode_upper};
 
 use crate::leaves::named_number;
 use oergen_layouts::bits::{drop_zeros, fill_up, literal_bits, packed};
-use oergen_layouts::numbers::{Spot, named, names_of, settled};
+use oergen_layouts::definitions::rows_in;
+use oergen_layouts::numbers::{Spot, first_of, named, names_of, settled};
+use oergen_layouts::parts::{alternative_of, components_of, require_components, row_named};
 use oergen_layouts::rows::Row;
 use oergen_layouts::scope::Scope;
 use oergen_layouts::values::{default_of, has_parts};
 use oergen_layouts::visible::{Limits, Purpose, limits_of};
-use oergen_parse::ast::{Body, Need, Numbered, Simple, Type, Value};
+use oergen_parse::ast::{Body, NamedValue, Need, Numbered, Simple, Type, Value};
 use oergen_parse::lexer::TokenId;
 use oergen_parse::refusal::Refusal;
 use std::alloc::{AllocError, Global};
+
+/// How many values may stand in one another.
+const MAX_LEVELS: u32 = 64;
+
+/// What can be read where a part isn't.
+const PART: &str =
+    "a default that is no OBJECT IDENTIFIER, of no open type and no choice without a tag, and whose lists are empty: of others there is no table yet";
 
 /// The most bits of a default that is filled up.
 const MAX_BITS: i128 = 65536;
@@ -189,28 +198,104 @@ fn json_of_octets<'m>(scope: Scope<'m, '_>, value: &'m Value) -> Result<Option<S
     }
 }
 
-/// A component's default in JSON; nothing where it has none, or a text of several lines. Refused where it has parts.
-pub fn default_text<'m>(scope: Scope<'m, '_>, row: Row<'m>) -> Result<Option<String>, Refusal> {
-    let Need::Default(value) = row.need else {
-        return Ok(None);
-    };
+/// The values of named parts in JSON, by the components or the alternatives that they are of; nothing where one has no such text.
+#[cycle(values)]
+fn json_of_parts<'m>(
+    scope: Scope<'m, '_>,
+    rows: &[Row<'m>],
+    values: &[&'m NamedValue],
+    levels: u32,
+) -> Result<Option<String>, Refusal> {
     let alloc = scope.alloc;
-    let text = default_of(scope, row, value)?;
-    if has_parts(scope, row, value)? {
-        return Err(scope.refused(
-            row.name,
-            "a default without parts: of others there is no table yet",
-        ));
+    let mut text = String::from_str(alloc, "{")?;
+    for (at, it) in values.iter().enumerate() {
+        let row = match row_named(scope, rows, it.name) {
+            Some(row) if row.tag.is_some() => row,
+            _ => return Err(scope.refused(it.name, PART)),
+        };
+        let Some(value) = json_of(scope, row, &it.value, levels)? else {
+            return Ok(None);
+        };
+        let between = if at == 0 { "" } else { ", " };
+        let name = scope.text(row.name);
+        text.push_str(format!(in alloc; "{between}\"{name}\": {value}")?.as_str())?;
     }
+    text.push('}')?;
+    Ok(Some(text))
+}
+
+/// A value of a SEQUENCE, a SET or a CHOICE in JSON; nothing where a part has no such text.
+#[cycle(values)]
+fn json_of_structure<'m>(
+    scope: Scope<'m, '_>,
+    base: &'m Type,
+    value: &'m Value,
+    levels: u32,
+) -> Result<Option<String>, Refusal> {
+    let first = first_of(value);
+    let Some(levels) = levels.checked_sub(1) else {
+        return Err(scope.refused(first, PART));
+    };
+    let rows = rows_in(scope, base)?;
+    let rows = rows.as_slice();
+    if matches!(base.body, Body::Choice(_)) {
+        let alternative = alternative_of(scope, value)?;
+        return json_of_parts(scope, rows, &[alternative], levels);
+    }
+    let values = components_of(scope, value)?;
+    let values = values.as_slice();
+    require_components(scope, rows, values, first)?;
+    json_of_parts(scope, rows, values, levels)
+}
+
+/// A value of a component in JSON; nothing where it is a text of several lines. Refused where it has parts that aren't read.
+#[cycle(values)]
+fn json_of<'m>(
+    scope: Scope<'m, '_>,
+    row: Row<'m>,
+    value: &'m Value,
+    levels: u32,
+) -> Result<Option<String>, Refusal> {
+    let text = default_of(scope, row, value)?;
     let base = scope.base_of(row.of)?;
+    if matches!(
+        base.body,
+        Body::Sequence(_) | Body::Set(_) | Body::Choice(_)
+    ) {
+        let spot = settled(scope, Spot { value, names: &[] })?;
+        return json_of_structure(scope, base, spot.value, levels);
+    }
+    if has_parts(scope, row, value)? {
+        return Err(scope.refused(first_of(value), PART));
+    }
+    json_of_leaf(scope, row, base, value, text.as_str())
+}
+
+/// A value without parts in JSON, by its text in a module; nothing where it is a text of several lines.
+fn json_of_leaf<'m>(
+    scope: Scope<'m, '_>,
+    row: Row<'m>,
+    base: &'m Type,
+    value: &'m Value,
+    text: &str,
+) -> Result<Option<String>, Refusal> {
+    let alloc = scope.alloc;
     match &base.body {
-        Body::Integer(_) => Ok(Some(text)),
-        Body::Enumerated(_, _) => Ok(Some(quoted(alloc, text.as_str())?)),
+        Body::Integer(_) => Ok(Some(String::from_str(alloc, text)?)),
+        Body::Enumerated(_, _) => Ok(Some(quoted(alloc, text)?)),
         Body::BitString(names) => json_of_bits(scope, row.of, names.as_slice(), value),
-        Body::Simple(Simple::Boolean | Simple::Null) => Ok(Some(small(alloc, text.as_str())?)),
+        Body::Simple(Simple::Boolean | Simple::Null) => Ok(Some(small(alloc, text)?)),
         Body::Simple(Simple::OctetString) => json_of_octets(scope, value),
-        Body::Simple(_) => Ok(json_of_text(alloc, text.as_str())?),
+        Body::Simple(_) => Ok(json_of_text(alloc, text)?),
         Body::SequenceOf(_) | Body::SetOf(_) => Ok(Some(String::from_str(alloc, "[]")?)),
         Body::Sequence(_) | Body::Set(_) | Body::Choice(_) | Body::Reference(_) => Ok(None),
+    }
+}
+
+/// A component's default in JSON; nothing where it has none, or a text of several lines. Refused where it has parts that aren't read.
+pub fn default_text<'m>(scope: Scope<'m, '_>, row: Row<'m>) -> Result<Option<String>, Refusal> {
+    match row.need {
+        Need::Default(value) => json_of(scope, row, value, MAX_LEVELS),
+        Need::Required | Need::Optional => Ok(None),
     }
 }

@@ -14,7 +14,9 @@ pub use Rattle.oer_knots.specs.Choices as KnotChoices
 -- what a default names
 pub use Rattle.oer_rows.specs.Literals as Literals
 pub use Rattle.oer_rows.specs.Compared as Compared
+pub use Rattle.oer_rows.specs.EmptyLists as EmptyLists
 pub use Rattle.oer_spec.specs.Spelled as Spelled
+pub use Rattle.oer_choices.specs.Chosen as Chosen
 pub use Rattle.oer_choices.specs.Numbered as Numbered
 pub use Rattle.asn1_core.specs.Octets as Octets
 pub use Rattle.asn1_core.specs.Texts as Texts

@@ -17,6 +17,6 @@ pub use asn1_base::{Class, Field, FieldPresence, Fields, Tag};
 pub use oer_choices::Either;
 pub use oer_read::{Decode, DecodeChoice, Decoder, DecoderOptions, de};
 #[doc(hidden)]
-pub use oer_rows::Both;
+pub use oer_rows::{Both, DefaultValue};
 pub use oer_spec::{Spelled, laws};
 pub use oer_write::{Encode, Encoder, enc};

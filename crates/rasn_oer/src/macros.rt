@@ -114,3 +114,51 @@ macro_rules! to_row {
         $crate::to_row!(@arms $value $choice [] [] $($name)*)
     };
 }
+
+/// What a default with parts has for a field: behind `none` nothing, behind `some` the default of an optional component, else that of another.
+#[macro_export]
+macro_rules! part_value {
+    ($alloc:ident; none $of:ty) => { None::<$of> };
+    ($alloc:ident; some $default:ty as $of:ty) => { Some(<$default as $crate::DefaultValue<$of>>::value($alloc)?) };
+    ($alloc:ident; $default:ty as $of:ty) => { <$default as $crate::DefaultValue<$of>>::value($alloc)? };
+}
+
+/// A default with parts: of `parts_value![Sequence T in alloc: a [D as u8], b [none bool]]` the field `a` is the default `D` of a `u8`, and `b` is absent.
+#[macro_export]
+macro_rules! parts_value {
+    ($holder:ident $made:ident in $alloc:ident: $($name:ident [$($default:tt)*]),*) => {
+        Ok($holder($made { $($name: $crate::part_value![$alloc; $($default)*]),* }))
+    };
+}
+
+/// A default that is an alternative: `alternative_value![OneOf T::A in alloc: D as u8]`.
+#[macro_export]
+macro_rules! alternative_value {
+    ($holder:ident $made:ident::$name:ident in $alloc:ident: $($default:tt)*) => {
+        Ok($holder($made::$name($crate::part_value![$alloc; $($default)*])))
+    };
+}
+
+/// Whether a field is what a default with parts has for it.
+#[macro_export]
+macro_rules! is_part {
+    ($part:expr; none $of:ty) => { $part.is_none() };
+    ($part:expr; some $default:ty as $of:ty) => {
+        matches!(&$part, Some(held) if <$default as $crate::DefaultValue<$of>>::is_value(held))
+    };
+    ($part:expr; $default:ty as $of:ty) => { <$default as $crate::DefaultValue<$of>>::is_value(&$part) };
+}
+
+/// Whether a value is a default with parts, which are written as for `parts_value`: `parts_are![other: a [D as u8], b [none bool]]`.
+#[macro_export]
+macro_rules! parts_are {
+    ($of:ident: $($name:ident [$($default:tt)*]),*) => { true $(&& $crate::is_part![$of.0.$name; $($default)*])* };
+}
+
+/// Whether a value is a default that is an alternative: `is_alternative![other: T::A D as u8]`.
+#[macro_export]
+macro_rules! is_alternative {
+    ($of:ident: $made:ident::$name:ident $($default:tt)*) => {
+        matches!(&$of.0, $made::$name(held) if $crate::is_part![*held; $($default)*])
+    };
+}

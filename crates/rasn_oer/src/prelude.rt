@@ -1,12 +1,18 @@
 //! What a type of messages names, by its row or by closures: `use rasn_oer::prelude::*;`.
 
+pub use crate::alternative_value;
 pub use crate::built;
 pub use crate::fields;
 pub use crate::from_parts;
 pub use crate::from_row;
+pub use crate::is_alternative;
+pub use crate::is_part;
 pub use crate::open::decode_open_type;
 pub use crate::open::other_octets;
 pub use crate::pairs;
+pub use crate::part_value;
+pub use crate::parts_are;
+pub use crate::parts_value;
 pub use crate::rows_of;
 pub use crate::table;
 pub use crate::tags;

@@ -10,6 +10,8 @@ mod clones;
 #[cfg(test)]
 mod closures;
 #[cfg(test)]
+mod defaults;
+#[cfg(test)]
 mod kept;
 #[cfg(test)]
 mod kept_cycles;

@@ -4,7 +4,7 @@ use crate::readme::{
     appended, as_first_version, as_second_version, canonical, few_levels, first_pair, name_of,
     pair_or_more, received, written,
 };
-use oer_types::{Sequence1, Sequence2, Sequence2Components, components};
+use oer_types::{Sequence1, Sequence1Components, Sequence2, Sequence2Components};
 use rasn_oer::prelude::*;
 use std::test::Fail;
 
@@ -39,7 +39,7 @@ fn versions_read_each_other(rt: HostRuntime) -> Result<(), Fail> {
         b: Some(false),
         c: None,
     });
-    let older: Sequence1 = Sequence(components::Sequence1 { a: true });
+    let older: Sequence1 = Sequence(Sequence1Components { a: true });
     assert!(rt; as_first_version(alloc, &newer)? == older);
     let as_newer: Sequence2 = Sequence(Sequence2Components {
         a: true,
