@@ -64,6 +64,7 @@ class Type(NamedTuple):
 
 class Component(NamedTuple):
     name: str
+    member: str
     of: Type
     need: str
 
@@ -88,6 +89,12 @@ class Maker:
     def name(self, front):
         self.count += 1
         return f"{front}{self.count}"
+
+    def part(self, front):
+        """The name of a component or an alternative, and the one that it has in Rust and in JSON."""
+        name = self.name(front)
+        count = name.removeprefix(front)
+        return self.rng.choice(((name, name), (f"{front}-{count}", f"{front}_{count}"), (f"{front}X{count}", f"{front}_x{count}")))
 
     def assign(self, text):
         name = self.name("T")
@@ -162,9 +169,9 @@ class Maker:
         return Type(self.assign(made.text), made.value) if self.rng.random() < 0.5 else made
 
     def component(self, levels):
-        name, of, need = self.name("c"), self.type(levels), self.rng.choice(("", "", " OPTIONAL", " DEFAULT "))
+        (name, member), of, need = self.part("c"), self.type(levels), self.rng.choice(("", "", " OPTIONAL", " DEFAULT "))
         text = of.value(True)[0] if need == " DEFAULT " else ""
-        return Component(name, of, need), f"{name} {of.text}{need}{text}"
+        return Component(name, member, of, need), f"{name} {of.text}{need}{text}"
 
     def structure(self, levels):
         """A SEQUENCE or a SET, with additions or without."""
@@ -178,22 +185,22 @@ class Maker:
             for it in components:
                 is_left_out = it.need == " DEFAULT " and is_default or it.need and self.rng.random() < 0.5
                 if not is_left_out:
-                    text, members[it.name] = it.of.value(is_default)
+                    text, members[it.member] = it.of.value(is_default)
                     found.append(f"{it.name} {text}")
             return f"{{ {', '.join(found)} }}" if found else "{}", members
 
         return Type(f"{self.rng.choice(('SEQUENCE', 'SEQUENCE', 'SET'))} {{ {', '.join(texts)} }}", value)
 
     def choice(self, levels):
-        made = [(self.name("a"), self.type(levels)) for _ in range(self.rng.randint(1, 4))]
-        texts = [f"{name} {of.text}" for name, of in made]
+        made = [(*self.part("a"), self.type(levels)) for _ in range(self.rng.randint(1, 4))]
+        texts = [f"{name} {of.text}" for name, _, of in made]
         if self.rng.random() < 0.4:
             texts.insert(self.rng.randint(1, len(texts)), "...")
 
         def value(is_default):
-            name, of = self.rng.choice(made)
+            name, member, of = self.rng.choice(made)
             text, inside = of.value(is_default)
-            return f"{name} : {text}", {name: inside}
+            return f"{name} : {text}", {member: inside}
 
         return Type(f"CHOICE {{ {', '.join(texts)} }}", value)
 

@@ -26,8 +26,8 @@ ABSENT = "oershow: NoModule: absent.asn: No such file or directory (os error 2)\
 
 # modules, and their tables: an addition in a group of a CHOICE; a choice without a tag in another; a SET, whose root is in the order of
 # tags, with a group, and an addition, which may always be absent; lists; names of numbers that a type has from the one that it is a name
-# of; defaults, with words in them that stand in lists of layouts too; named bits of a fixed size and of others, with as many 0 bits in
-# defaults as the least size wants
+# of; defaults, with words in them that stand in lists of layouts too; one with parts, which go by their names in the table; named bits of a
+# fixed size and of others, with as many 0 bits in defaults as the least size wants
 TABLES = (
     (
         "A ::= CHOICE { a NULL, ..., [[ b BOOLEAN ]] }",
@@ -76,6 +76,13 @@ TABLES = (
                 )
             ),
         ),
+    ),
+    (
+        "A ::= SEQUENCE { a-b B DEFAULT { type c-d : NULL } } B ::= SEQUENCE { type C } C ::= CHOICE { c-d NULL }",
+        "words 4 5 13 20 27 12 0 1 0 0 2 0 3 11 0 1 0 1 0 0 11 0 1 0 2 1 1 1",
+        ("c_d", "r_type", "a_b"),
+        ("C", "B", "A", "NULL"),
+        ('default 2 0 {"r_type": {"c_d": null}}',),
     ),
     (
         "B ::= BIT STRING { x(1), y(9) } A ::= SEQUENCE { a B DEFAULT '1000'B, b B (SIZE(4..12)) DEFAULT {x}, c B (SIZE(8)) }",

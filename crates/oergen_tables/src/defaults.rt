@@ -6,6 +6,7 @@ ghost use Rattle.hex.specs.Hex.{encode_upper};
 use crate::leaves::named_number;
 use oergen_layouts::bits::{drop_zeros, fill_up, literal_bits, packed};
 use oergen_layouts::definitions::rows_in;
+use oergen_layouts::names::component_name;
 use oergen_layouts::numbers::{Spot, first_of, named, names_of, settled};
 use oergen_layouts::parts::{alternative_of, components_of, require_components, row_named};
 use oergen_layouts::rows::Row;
@@ -217,7 +218,7 @@ fn json_of_parts<'m>(
             return Ok(None);
         };
         let between = if at == 0 { "" } else { ", " };
-        let name = scope.text(row.name);
+        let name = component_name(alloc, scope.text(row.name))?;
         text.push_str(format!(in alloc; "{between}\"{name}\": {value}")?.as_str())?;
     }
     text.push('}')?;
