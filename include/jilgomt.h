@@ -138,7 +138,8 @@ typedef struct jilgomt_node {
     size_t around;         /* the place, among the nodes, of the part around it; SIZE_MAX of the value itself */
     size_t start;          /* the place of its first octet, of an addition that of the length in front of it; */
     size_t content;        /* of the first behind lengths, a tag or a preamble; */
-    size_t end;            /* and behind its last; SIZE_MAX if the walk stopped inside it */
+    size_t end;            /* and behind its last, of an addition behind its value, where lenient reading passes over more octets;
+                              SIZE_MAX if the walk stopped inside it */
 } jilgomt_node;
 
 enum {

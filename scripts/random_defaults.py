@@ -221,7 +221,7 @@ def run(words, folder):
 
 
 def build(oergen, tree):
-    """Prints the module's types in a tree with the repository's crates, and builds what calls their functions."""
+    """Prints the types of the tree's m.asn beside the repository's crates, and builds what calls their functions, m. Answers their names."""
     (tree / "crates").mkdir()
     (tree / "scripts").mkdir()
     for it in ("archive.py", "unproved.py"):
@@ -235,6 +235,7 @@ def build(oergen, tree):
     types = re.findall(r"m_(\w+)_canonicalise\(", (tree / "crates/m_c/include/m_c.h").read_text(encoding="utf-8"))
     (tree / "m.c").write_text(DRIVER.replace("CALLS", "\n".join(map(CALL.format, types))), encoding="utf-8")
     run(["cc", "-O1", "-Wall", f"-I{top}/include", "-Icrates/m_c/include", "m.c", "libm_c.a", "-o", "m"], tree)
+    return types
 
 
 class Comparison:

@@ -17,6 +17,12 @@ LIST, SEQUENCE, CHOICE = 10, 11, 12
 TEXTS = {1: "utf-8", 9: "utf-16-be", 10: "utf-32-be", **dict.fromkeys((2, 3, 4, 5, 6, 7, 8, 21, 22, 23), "latin-1")}
 
 
+def _used(octets: bytes, bits: int) -> bytes:
+    """Octets with zeros behind so many bits: lenient reading takes any unused ones."""
+    unused = -bits % 8
+    return octets[:-1] + bytes([octets[-1] >> unused << unused]) if octets else octets
+
+
 class Part(NamedTuple):
     """A part of a value: its path, as `content.signedData`, its type, and where it lies."""
 
@@ -135,7 +141,10 @@ class Module:
             number = content[0] if content[0] < 128 else int.from_bytes(content[1:], "big", signed=True)
             return self._values.get(node.type_number, {}).get(number, number)
         if node.kind in (BITS, NAMED_BITS):
-            return {"value": content[1:].hex(), "length": 8 * len(content) - 8 - content[0] if content else 0}
+            length = 8 * len(content) - 8 - content[0] if content else 0
+            return {"value": _used(content[1:], length).hex(), "length": length}
+        if node.kind == FIXED_BITS:
+            return _used(content, self._form(node)[1]).hex()
         return self._text(node, content)
 
     def _text(self, node: Node, content: bytes) -> str:

@@ -11,7 +11,7 @@ use Rattle.oer_spec.specs.Reading.{quantity_at}
 use Rattle.oer_spec.specs.ReadingBits.{preamble_at, bitmap_at}
 use Rattle.oer_walk.specs.Parts.{IsUnfinished, IsInside, HasPlace, ArePlaced, node_at, blank}
 use Rattle.oer_walk.specs.Tables.{nothing, form_of, component_of, alternative_at, optionals}
-use Rattle.oer_walk.specs.Walks.{Walk, PartWalk, ValueWalk, done, stopped, reads, scope_of, inside, noded, is_nothing, leaving, open_content, open_by, within_by, part_by, part_if, with_empty, if_few, elements_by, extension_count, is_present, later_bits, components_by, unknown_by, known_by, additions_by, body_by, sequence_by, tagged_at, chosen, choice_by, list_by, is_leaf, leaf_at, scope_by, value_by, value_at, part_at, behind_length_at, overlay, Came, most_of, outermost, walk_of, IsAnswer}
+use Rattle.oer_walk.specs.Walks.{Walk, PartWalk, ValueWalk, done, stopped, reads, scope_of, inside, noded, is_nothing, ending, open_content, open_by, within_by, part_by, part_if, with_empty, if_few, elements_by, extension_count, is_present, later_bits, components_by, unknown_by, known_by, additions_by, body_by, sequence_by, tagged_at, chosen, choice_by, list_by, is_leaf, leaf_at, scope_by, value_by, value_at, part_at, behind_length_at, overlay, Came, most_of, outermost, walk_of, IsAnswer}
 use Rattle.oer_walk.specs.declared.nodes.Node.{Node}
 use Rattle.oer_walk.specs.declared.places.Place.{Place}
 use Rattle.oer_walk.specs.declared.places.Scope.{Scope}
@@ -20,7 +20,7 @@ use Rattle.oer_walk.specs.declared.table.Form.{Form}
 use Rattle.oer_walk.specs.declared.table.Form.TheVariants.{Fixed, Counted, Enumerated, List as ListForm, Sequence, Choice, Nothing}
 use Rattle.oer_walk.specs.declared.table.Parts.{Parts}
 use Rattle.oer_walk.specs.declared.walks.Walked.{Walked}
-use Rattle.oer_walk.proofs.Placed.{Base, Left, Good, Claim, claim_done, claim_stopped, claim_behind, claim_read, ValueClaim, value_stopped, value_done, value_read, from_claim, value_leaving, PartClaim, part_claim, part_stopped, claim_of_part, stand_all}
+use Rattle.oer_walk.proofs.Placed.{Base, Left, Good, Claim, claim_done, claim_stopped, claim_behind, claim_read, ValueClaim, value_stopped, value_done, value_read, from_claim, ExtentClaim, extent_read, extent_closed, extent_opened, PartClaim, part_claim, part_stopped, claim_of_part, stand_all}
 use Rattle.oer_walk.proofs.Suffixes.{IsRear, rear_length, rear_read, behind_split, leaf_rears, tagged_rear}
 
 module _ (xs : List Node) (most : ℕ) (ws : List ℕ) where
@@ -120,24 +120,24 @@ module _ (xs : List Node) (most : ℕ) (ws : List ℕ) where
       at false = h form s n input
 
   module _ (value : ValueWalk) (placed : (s : Scope) (n : ℕ) (input : Octets) → ValueClaim xs most s n input (value s n input)) where
-    open_claim : (s : Scope) (n : ℕ) (input : Octets) → ValueClaim xs most s n input (open_by value ws s n input)
+    open_claim : (s : Scope) (n : ℕ) (input : Octets) → ExtentClaim xs most s n input (open_by value ws s n input)
     unfolding open_by open_content
-    open_claim s n input = value_read xs most s n input (behind_length_at input) (λ x. open_content value ws s n (s.end - length x.1) x.0 x.2) (λ x e. at x e (is_nothing (form_of ws s.type_number)))
+    open_claim s n input = extent_read xs most s n input (behind_length_at input) (λ x. open_content value ws s n (s.end - length x.1) x.0 x.2) (λ x e. at x e (is_nothing (form_of ws s.type_number)))
       where
-        at : (x : Octets × Octets × Octets) → behind_length_at input ≡ Ok x → (b : Bool) → ValueClaim xs most s n input (cond b (done (s.end - length x.1, x.2)) (leaving x.2 (value (record s { end = s.end - length x.2 }) n x.0)))
-        at x e true = value_done xs most s n input x.1 x.2 (λ a. let p = behind_split input x a e in (p.0, (x.0, p.1)))
-        at x e false = value_leaving xs most s n input x.1 x.0 x.2 (value (record s { end = s.end - length x.2 }) n x.0) (λ a. behind_split input x a e) (placed (record s { end = s.end - length x.2 }) n x.0)
+        at : (x : Octets × Octets × Octets) → behind_length_at input ≡ Ok x → (b : Bool) → ExtentClaim xs most s n input (cond b (done (s.end - length x.1, s.end - length x.2, x.2)) (ending (s.end - length x.2) (λ left. x.2) (value (record s { end = s.end - length x.2 }) n x.0)))
+        at x e true = extent_closed xs most s n input (done (s.end - length x.1, x.2)) (value_done xs most s n input x.1 x.2 (λ a. let p = behind_split input x a e in (p.0, (x.0, p.1))))
+        at x e false = extent_opened xs most s n input x.1 x.0 x.2 (value (record s { end = s.end - length x.2 }) n x.0) (λ a. behind_split input x a e) (placed (record s { end = s.end - length x.2 }) n x.0)
 
-    within_claim : (p : Place) (n : ℕ) (input : Octets) → ValueClaim xs most (scope_of p n (p.end - length input)) (n + 1) input (within_by value ws p n input)
+    within_claim : (p : Place) (n : ℕ) (input : Octets) → ExtentClaim xs most (scope_of p n (p.end - length input)) (n + 1) input (within_by value ws p n input)
     unfolding within_by
     within_claim p n input = at p.is_open
       where
         s : Scope
         s = scope_of p n (p.end - length input)
 
-        at : (b : Bool) → ValueClaim xs most (scope_of p n (p.end - length input)) (n + 1) input (cond b (open_by value ws (scope_of p n (p.end - length input)) (n + 1) input) (value (scope_of p n (p.end - length input)) (n + 1) input))
+        at : (b : Bool) → ExtentClaim xs most (scope_of p n (p.end - length input)) (n + 1) input (cond b (open_by value ws (scope_of p n (p.end - length input)) (n + 1) input) (ending p.end (λ rest. rest) (value (scope_of p n (p.end - length input)) (n + 1) input)))
         at true = open_claim (scope_of p n (p.end - length input)) (n + 1) input
-        at false = placed (scope_of p n (p.end - length input)) (n + 1) input
+        at false = extent_closed xs most (scope_of p n (p.end - length input)) (n + 1) input (value (scope_of p n (p.end - length input)) (n + 1) input) (placed (scope_of p n (p.end - length input)) (n + 1) input)
 
     node_claim : (p : Place) (n : ℕ) (input : Octets) → PartClaim xs most ws p n input (part_by value ws p n input)
     unfolding part_by

@@ -17,34 +17,42 @@ use Rattle.oer_spec.specs.Tree.{Content, InOctets, Civil, Leaf, Boolean, Null, E
 use Rattle.oer_spec.proofs.Named.{whole_size}
 use Rattle.oer_spec.proofs.Steps.{bind_ok, octets_again}
 use Rattle.oer_walk.specs.Forms.{width_form, bits_form, units_form, leaf_form}
+use Rattle.oer_walk.specs.Shown.{IsContentBy}
 use Rattle.oer_walk.specs.Walks.{behind_length_at, leaf_at}
 use Rattle.oer_walk.specs.declared.table.Form.{Form}
 use Rattle.oer_walk.specs.declared.table.Form.TheVariants.{Fixed, Counted}
+use Rattle.oer_walk.proofs.Suffixes.{octets_split}
 
--- what is answered, but for what is behind the length
-abbrev TakenBy : Form → Octets → Octets → Type 0
-TakenBy form input rest = (content : Octets) × (leaf_at form input ≡ Ok (content, rest))
+-- What is answered: where the content begins. A length may be in front of it.
+pub record IsTaken (form : Form) (o rest : Octets) : Type 0 where
+  pub front : Octets
+  pub content : Octets
+  pub split : o ≡ front ++ content
+  pub is : IsContentBy form o content
+  pub taken : leaf_at form (o ++ rest) ≡ Ok (content ++ rest, rest)
 
-fixed_taken : (k : ℕ) (o rest : Octets) → length o ≡ k → TakenBy (Fixed k) (o ++ rest) rest
+fixed_taken : (k : ℕ) (o rest : Octets) → length o ≡ k → IsTaken (Fixed k) o rest
 unfolding leaf_at
-fixed_taken k o rest e = (o ++ rest, rw (octets_again o rest k e) refl)
+fixed_taken k o rest e = record { front = []; content = o; split = refl; is = refl; taken = rw (octets_again o rest k e) refl }
 
 -- octets behind a length, with what is behind the length
-pub behind_length_is : (input c rest : Octets) → content_at Oer input ≡ Ok (c, rest) → (b : Octets) × (behind_length_at input ≡ Ok (c, b, rest))
+pub behind_length_is : (input c rest : Octets) → content_at Oer input ≡ Ok (c, rest) → (b : Octets) × (b ≡ c ++ rest) × (behind_length_at input ≡ Ok (c, b, rest))
 unfolding content_at behind_length_at
 behind_length_is input c rest e =
     let a = bind_ok (length_at Oer input) (λ count. octets_at count.0 count.1) (c, rest) e in
-    (a.0.1, ap (λ (r : Result (ℕ × Octets) DecodeErrorKind). r >>= λ (k : ℕ × Octets). octets_at k.0 k.1 >>= λ (x : Octets × Octets). Ok (x.0, k.1, x.1)) a.1 ∙ ap (λ (r : Result (Octets × Octets) DecodeErrorKind). r >>= λ (x : Octets × Octets). Ok (x.0, a.0.1, x.1)) a.2)
+    (a.0.1, octets_split a.0.0 a.0.1 (c, rest) a.2, ap (λ (r : Result (ℕ × Octets) DecodeErrorKind). r >>= λ (k : ℕ × Octets). octets_at k.0 k.1 >>= λ (x : Octets × Octets). Ok (x.0, k.1, x.1)) a.1 ∙ ap (λ (r : Result (Octets × Octets) DecodeErrorKind). r >>= λ (x : Octets × Octets). Ok (x.0, a.0.1, x.1)) a.2)
 
-counted_taken : (o c rest : Octets) → IsBehindLength Lenient o c → TakenBy Counted (o ++ rest) rest
+counted_taken : (o c rest : Octets) → IsBehindLength Lenient o c → IsTaken Counted o rest
 unfolding leaf_at
-counted_taken o c rest h = let b = behind_length_is (o ++ rest) c rest ((content_reads Oer).again o rest c h) in (b.0, rw b.1 refl)
+counted_taken o c rest h =
+    let b = behind_length_is (o ++ rest) c rest ((content_reads Oer).again o rest c h) in
+    record { front = h.0; content = c; split = h.1; is = h; taken = rw b.2 (ap (λ (z : Octets). Ok (z, rest)) b.1) }
 
-width_taken : (w : Width) (n : _) (o rest : Octets) → IsInteger Lenient o w n → TakenBy (width_form w) (o ++ rest) rest
+width_taken : (w : Width) (n : _) (o rest : Octets) → IsInteger Lenient o w n → IsTaken (width_form w) o rest
 width_taken (FixedWidth sign k) n o rest h = fixed_taken k o rest h.0
 width_taken (CountedWidth sign) n o rest h = counted_taken o h.0 rest h.1
 
-bits_taken : (f : Option ℕ) (b : List Bool) (o rest : Octets) → ((n : ℕ) → f ≡ Some n → length b ≡ n) → IsBitString Lenient o f b → TakenBy (bits_form f) (o ++ rest) rest
+bits_taken : (f : Option ℕ) (b : List Bool) (o rest : Octets) → ((n : ℕ) → f ≡ Some n → length b ≡ n) → IsBitString Lenient o f b → IsTaken (bits_form f) o rest
 bits_taken (Some n) b o rest size (octets, unused, few, split, strict) = fixed_taken (octets_for n) o rest ((fewest_octets o b unused few split).0 ∙ ap octets_for (size n refl))
 bits_taken None b o rest size (inl (unused, (c, behind, few, split), strict)) = counted_taken o (length unused ∷ c) rest behind
 bits_taken None b o rest size (inr (lenient, behind, none)) = counted_taken o [] rest behind
@@ -67,17 +75,17 @@ units Utc c n o e = omega (arith, e)
 units Generalized c n o e = omega (arith, e)
 units Date c n o e = omega (arith, e)
 
-text_taken : (f : Option ℕ) (unit : ℕ) (c : Content) (o rest : Octets) → ((n : ℕ) (d : Octets) → f ≡ Some n → c ≡ InOctets d → length d ≡ n * unit) → IsText Lenient o f c → TakenBy (units_form unit f) (o ++ rest) rest
+text_taken : (f : Option ℕ) (unit : ℕ) (c : Content) (o rest : Octets) → ((n : ℕ) (d : Octets) → f ≡ Some n → c ≡ InOctets d → length d ≡ n * unit) → IsText Lenient o f c → IsTaken (units_form unit f) o rest
 text_taken (Some n) unit (InOctets c) o rest size h = fixed_taken (n * unit) o rest (ap length h.0 ∙ size n c refl refl)
 text_taken None unit (InOctets c) o rest size h = counted_taken o c rest h
 text_taken (Some n) unit (Civil fields) o rest size h = absurd h
 text_taken None unit (Civil fields) o rest size h = absurd h
 
-pub leaf_taken : (l : Leaf) (o rest : Octets) → IsLeaf l → IsLeafEncoding Lenient o l → (content : Octets) × (leaf_at (leaf_form l) (o ++ rest) ≡ Ok (content, rest))
+pub leaf_taken : (l : Leaf) (o rest : Octets) → IsLeaf l → IsLeafEncoding Lenient o l → IsTaken (leaf_form l) o rest
 unfolding leaf_at
 leaf_taken (Boolean b) o rest i h = fixed_taken 1 o rest (ap length h.1.1)
 leaf_taken Null o rest i h = fixed_taken 0 o rest (ap length h.1)
-leaf_taken (Enum n) o rest i h = (o ++ rest, rw ((enumerated_reads Oer).again o rest n (i, h)) refl)
+leaf_taken (Enum n) o rest i h = record { front = []; content = o; split = refl; is = refl; taken = rw ((enumerated_reads Oer).again o rest n (i, h)) refl }
 leaf_taken (Int r n) o rest i h = width_taken (width_of r) n o rest h.1
 leaf_taken (Bits s b) o rest i h = bits_taken (fixed_size s) b o rest (λ n f. fixed_only s n (length b) f (not_not (size_fits s (length b)) (h.0 BadSize))) h.1
 leaf_taken (Named s b) o rest i h =

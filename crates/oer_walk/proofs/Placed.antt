@@ -5,7 +5,7 @@ use Rattle.asn1_core.specs.Octets.{Octets, AreOctets}
 use Rattle.asn1_core.specs.declared.error.DecodeErrorKind.{DecodeErrorKind}
 use Rattle.oer_spec.proofs.Steps.{front_octets}
 use Rattle.oer_walk.specs.Parts.{IsUnfinished, HasPlace, node_at}
-use Rattle.oer_walk.specs.Walks.{Walk, done, stopped, reads, goes_on, behind, scope_of, node_of, left_of, noded, left_behind, leaving, content_at, from}
+use Rattle.oer_walk.specs.Walks.{Walk, done, stopped, reads, goes_on, behind, scope_of, Extent, node_of, left_of, noded, ends_before, ending, content_at, from}
 use Rattle.oer_walk.specs.declared.nodes.Node.{Node}
 use Rattle.oer_walk.specs.declared.places.Place.{Place}
 use Rattle.oer_walk.specs.declared.places.Scope.{Scope}
@@ -225,21 +225,49 @@ module _ (xs : List Node) (most : ℕ) where
   from_claim s n input (Ok x) mid body rear c = from_ok s n input (mid x) (body x) (rear x refl) (c x)
   from_claim s n input (Err kind) mid body rear c = value_stopped s n s.start kind input
 
+  -- ---- what is in a part
+  abbrev pub ExtentLeft : Scope → ℕ → Octets → Result Extent Stop → Type 0
+  ExtentLeft s m input (Ok x) = IsRear input x.2 × Before m (s.end - length x.2) × (s.end - length input ≤ x.0) × (x.0 ≤ x.1) × (x.1 ≤ s.end - length x.2)
+  ExtentLeft s m input (Err e) = Unit {0}
+
+  -- the part's own node
+  abbrev pub IsOwnExtent : Scope → Node → Result Extent Stop → Type 0
+  IsOwnExtent s x (Ok y) = (x.content ≤ y.0) × (IsUnfinished x ⊎ (y.1 ≤ x.end))
+  IsOwnExtent s x (Err e) = (x.content ≤ s.start) × IsUnfinished x
+
+  pub record ExtentClaim (s : Scope) (n : ℕ) (input : Octets) (w : Walk Extent) : Type 0 where
+    pub left : ValueBase s n input w.nodes → ExtentLeft s (n + length w.nodes) input w.answer
+    pub good : ValueBase s n input w.nodes → s.end ≤ most → IsOwnExtent s (node_at xs s.node) w.answer → Good n (n + length w.nodes)
+
+  pub extent_read : {A : Type 0} (s : Scope) (n : ℕ) (input : Octets) (read : Result A DecodeErrorKind) (body : A → Walk Extent) → ((x : A) → read ≡ Ok x → ExtentClaim s n input (body x)) → ExtentClaim s n input (reads s.start read body)
+  extent_read s n input (Ok x) body c = c x refl
+  extent_read s n input (Err kind) body c = record { left = λ b. tt; good = λ b w p. good_none n (n + 0) (omega arith) }
+
+  closed_left : (s : Scope) (m : ℕ) (input : Octets) (r : Result (ℕ × Octets) Stop) → ValueLeft s m input r → ExtentLeft s m input (ends_before s.end (λ rest. rest) r)
+  closed_left s m input (Ok x) l = (l.0, l.1, l.2, l.3, omega arith)
+  closed_left s m input (Err e) l = tt
+
+  closed_own : (s : Scope) (x : Node) (r : Result (ℕ × Octets) Stop) → IsOwnExtent s x (ends_before s.end (λ rest. rest) r) → IsOwn s x r
+  closed_own s x (Ok y) h = h
+  closed_own s x (Err e) h = h
+
+  pub extent_closed : (s : Scope) (n : ℕ) (input : Octets) (w : Walk (ℕ × Octets)) → ValueClaim s n input w → ExtentClaim s n input (ending s.end (λ rest. rest) w)
+  extent_closed s n input w c = record { left = λ b. closed_left s (n + length w.nodes) input w.answer (c.left b); good = λ b l p. c.good b l (closed_own s (node_at xs s.node) w.answer p) }
+
   -- an open type's content, in octets of which some may be left
-  leaving_left : (s : Scope) (m : ℕ) (input octets after : Octets) (r : Result (ℕ × Octets) Stop) → IsRear input after → length octets + length after ≤ length input → length input ≤ s.end → ValueLeft (record s { end = s.end - length after }) m octets r → ValueLeft s m input (left_behind after r)
-  leaving_left s m input octets after (Ok x) h i f l =
+  opened_left : (s : Scope) (m : ℕ) (input octets after : Octets) (r : Result (ℕ × Octets) Stop) → IsRear input after → length octets + length after ≤ length input → length input ≤ s.end → ValueLeft (record s { end = s.end - length after }) m octets r → ExtentLeft s m input (ends_before (s.end - length after) (λ left. after) r)
+  opened_left s m input octets after (Ok x) h i f l =
       let b = l.2 in
       let d = l.3 in
-      (h, before_later m m ((s.end - length after) - length x.1) (s.end - length after) refl (omega arith) l.1, omega arith, omega arith)
-  leaving_left s m input octets after (Err e) h i f l = tt
+      (h, before_later m m ((s.end - length after) - length x.1) (s.end - length after) refl (omega arith) l.1, omega arith, d, omega arith)
+  opened_left s m input octets after (Err e) h i f l = tt
 
-  leaving_own : (s : Scope) (after : Octets) (x : Node) (r : Result (ℕ × Octets) Stop) → IsOwn s x (left_behind after r) → IsOwn (record s { end = s.end - length after }) x r
-  leaving_own s after x (Ok y) (i, inl u) = (i, inl u)
-  leaving_own s after x (Ok y) (i, inr e) = (i, inr (omega arith))
-  leaving_own s after x (Err e) h = h
+  opened_own : (s : Scope) (after : Octets) (x : Node) (r : Result (ℕ × Octets) Stop) → IsOwnExtent s x (ends_before (s.end - length after) (λ left. after) r) → IsOwn (record s { end = s.end - length after }) x r
+  opened_own s after x (Ok y) h = h
+  opened_own s after x (Err e) h = h
 
-  pub value_leaving : (s : Scope) (n : ℕ) (input mid octets after : Octets) (w : Walk (ℕ × Octets)) → (AreOctets input → IsRear input mid × (mid ≡ octets ++ after)) → ValueClaim (record s { end = s.end - length after }) n octets w → ValueClaim s n input (leaving after w)
-  value_leaving s n input mid octets after w split c = record { left = left; good = good }
+  pub extent_opened : (s : Scope) (n : ℕ) (input mid octets after : Octets) (w : Walk (ℕ × Octets)) → (AreOctets input → IsRear input mid × (mid ≡ octets ++ after)) → ValueClaim (record s { end = s.end - length after }) n octets w → ExtentClaim s n input (ending (s.end - length after) (λ left. after) w)
+  extent_opened s n input mid octets after w split c = record { left = left; good = good }
     where
       short : AreOctets input → length octets + length after ≤ length input
       short a = let p = split a in let i = rear_length input mid p.0 in omega (arith, ap length p.1, length-append octets after)
@@ -258,34 +286,39 @@ module _ (xs : List Node) (most : ℕ) where
             begins = omega arith;
           }
 
-      left : ValueBase s n input w.nodes → ValueLeft s (n + length w.nodes) input (left_behind after w.answer)
+      left : ValueBase s n input w.nodes → ExtentLeft s (n + length w.nodes) input (ends_before (s.end - length after) (λ left. after) w.answer)
       left b =
           let p = split b.octets in
           let r : IsRear mid after = (octets, p.1) in
-          leaving_left s (n + length w.nodes) input octets after w.answer (rear_of_rear input mid after p.0 r) (short b.octets) b.fits (c.left (base b))
+          opened_left s (n + length w.nodes) input octets after w.answer (rear_of_rear input mid after p.0 r) (short b.octets) b.fits (c.left (base b))
 
-      good : ValueBase s n input w.nodes → s.end ≤ most → IsOwn s (node_at xs s.node) (left_behind after w.answer) → Good n (n + length w.nodes)
-      good b l p = c.good (base b) (omega arith) (leaving_own s after (node_at xs s.node) w.answer p)
+      good : ValueBase s n input w.nodes → s.end ≤ most → IsOwnExtent s (node_at xs s.node) (ends_before (s.end - length after) (λ left. after) w.answer) → Good n (n + length w.nodes)
+      good b l p = c.good (base b) (omega arith) (opened_own s after (node_at xs s.node) w.answer p)
 
   -- ---- parts
   module _ (ws : List ℕ) where
-    own_node : (p : Place) (n : ℕ) (input : Octets) (r : Result (ℕ × Octets) Stop) → IsOwn (scope_of p n (p.end - length input)) (node_of ws p (p.end - length input) r) r
+    own_node : (p : Place) (n : ℕ) (input : Octets) (r : Result Extent Stop) → IsOwnExtent (scope_of p n (p.end - length input)) (node_of ws p (p.end - length input) r) r
     own_node p n input (Ok x) = (omega arith, inr (omega arith))
     own_node p n input (Err s) = (omega arith, refl)
 
-    starts : (p : Place) (start : ℕ) (r : Result (ℕ × Octets) Stop) → (node_of ws p start r).start ≡ start
+    starts : (p : Place) (start : ℕ) (r : Result Extent Stop) → (node_of ws p start r).start ≡ start
     starts p start (Ok x) = refl
     starts p start (Err s) = refl
 
-    part_left : (p : Place) (n m : ℕ) (input : Octets) (r : Result (ℕ × Octets) Stop) → ValueLeft (scope_of p n (p.end - length input)) m input r → Left p.end m input (left_of r)
+    part_left : (p : Place) (n m : ℕ) (input : Octets) (r : Result Extent Stop) → ExtentLeft (scope_of p n (p.end - length input)) m input r → Left p.end m input (left_of r)
     part_left p n m input (Ok x) l = (l.0, l.1)
     part_left p n m input (Err s) l = tt
 
-    part_placed : (p : Place) (n m : ℕ) (input : Octets) (r : Result (ℕ × Octets) Stop) → node_at xs n ≡ node_of ws p (p.end - length input) r → ValueLeft (scope_of p n (p.end - length input)) m input r → Before n (p.end - length input) → p.end ≤ most → (p.around < n → IsAround p.end (p.end - length input) (node_at xs p.around) (left_of r)) → IsUnfinished (node_at xs n) ⊎ HasPlace most xs n (node_at xs n)
+    ends_inside : (at end : ℕ) (x : Node) → end ≤ at → IsUnfinished x ⊎ (at ≤ x.end) → IsUnfinished x ⊎ (end ≤ x.end)
+    ends_inside at end x le (inl u) = inl u
+    ends_inside at end x le (inr h) = inr (omega arith)
+
+    part_placed : (p : Place) (n m : ℕ) (input : Octets) (r : Result Extent Stop) → node_at xs n ≡ node_of ws p (p.end - length input) r → ExtentLeft (scope_of p n (p.end - length input)) m input r → Before n (p.end - length input) → p.end ≤ most → (p.around < n → IsAround p.end (p.end - length input) (node_at xs p.around) (left_of r)) → IsUnfinished (node_at xs n) ⊎ HasPlace most xs n (node_at xs n)
     part_placed p n m input (Ok x) e l b w a =
         let c = l.2 in
         let d = l.3 in
-        subst (λ (z : Node). IsUnfinished z ⊎ HasPlace most xs n z) (sym e) (inr (record { begins = c; ends = d; within = omega arith; inside = λ lt. let q = a lt in (q.begins, q.ends); behind = b }))
+        let f = l.4 in
+        subst (λ (z : Node). IsUnfinished z ⊎ HasPlace most xs n z) (sym e) (inr (record { begins = c; ends = d; within = omega arith; inside = λ lt. let q = a lt in (q.begins, ends_inside (p.end - length x.2) x.1 (node_at xs p.around) f q.ends); behind = b }))
     part_placed p n m input (Err s) e l b w a = inl (ap (λ (z : Node). z.end) e)
 
     -- a part with its node, whatever is around the outermost
@@ -293,7 +326,7 @@ module _ (xs : List Node) (most : ℕ) where
       pub left : Base p.end n input w.nodes → Left p.end (n + length w.nodes) input w.answer
       pub good : Base p.end n input w.nodes → p.end ≤ most → (p.around < n → IsAround p.end (p.end - length input) (node_at xs p.around) w.answer) → Good n (n + length w.nodes)
 
-    pub part_claim : (p : Place) (n : ℕ) (input : Octets) (w : Walk (ℕ × Octets)) → ValueClaim (scope_of p n (p.end - length input)) (n + 1) input w → PartClaim p n input (noded ws p (p.end - length input) w)
+    pub part_claim : (p : Place) (n : ℕ) (input : Octets) (w : Walk Extent) → ExtentClaim (scope_of p n (p.end - length input)) (n + 1) input w → PartClaim p n input (noded ws p (p.end - length input) w)
     part_claim p n input w c = record { left = left; good = good }
       where
         start : ℕ
@@ -324,7 +357,7 @@ module _ (xs : List Node) (most : ℕ) where
         good b l a =
             subst (λ (k : ℕ). Good n k) total (good_join n (n + 1) ((n + 1) + length w.nodes)
             (good_one n (part_placed p n ((n + 1) + length w.nodes) input w.answer b.stand.0 (c.left (base b)) b.before l a))
-            (c.good (base b) l (subst (λ (z : Node). IsOwn s z w.answer) (sym b.stand.0) (own_node p n input w.answer))))
+            (c.good (base b) l (subst (λ (z : Node). IsOwnExtent s z w.answer) (sym b.stand.0) (own_node p n input w.answer))))
 
     pub part_stopped : (p : Place) (n at : ℕ) (kind : DecodeErrorKind) (input : Octets) → PartClaim p n input (stopped at kind)
     part_stopped p n at kind input = record { left = λ b. tt; good = λ b w a. good_none n (n + 0) (omega arith) }

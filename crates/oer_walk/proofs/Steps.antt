@@ -5,7 +5,7 @@ use Rattle.asn1_core.specs.Octets.{Octets}
 use Rattle.asn1_core.specs.declared.error.DecodeErrorKind.{DecodeErrorKind}
 use Rattle.asn1_core.specs.declared.error.DecodeErrorKind.TheVariants.{ExceedsMaxParseDepth}
 use Rattle.oer_walk.specs.Tables.{form_of}
-use Rattle.oer_walk.specs.Walks.{Walk, done, stopped, reads, onto, goes_on, behind, node_of, noded, left_of, left_behind, leaving, from, content_at, overlay, IsWalk, Resumes, is_leaf, leaf_at, scope_by, value_at, within_by, part_by, part_at}
+use Rattle.oer_walk.specs.Walks.{Walk, Extent, done, stopped, reads, onto, goes_on, behind, node_of, noded, left_of, from, content_at, overlay, IsWalk, Resumes, is_leaf, leaf_at, scope_by, value_at, within_by, part_by, part_at}
 use Rattle.oer_walk.specs.declared.nodes.Node.{Node}
 use Rattle.oer_walk.specs.declared.places.Place.{Place}
 use Rattle.oer_walk.specs.declared.places.Scope.{Scope}
@@ -65,15 +65,8 @@ walk_from view view' x y n m at a b w e g = record { answer = ap (content_at at)
 pub walk_from_cut : {X Y : Type 0} (view : X → Octets) (view' : Y → ℕ × Octets) (s : Stop) (n m at : ℕ) (a b : List Node) (w : Walk Octets) → IsWalk view (Err s) n m a b w → IsWalk view' (Err s) n m a b (from at w)
 walk_from_cut view view' s n m at a b w g = record { answer = ap (content_at at) g.answer; count = g.count; nodes = g.nodes }
 
--- what is behind an open type
-pub walk_leaving : {X Y : Type 0} (view : X → ℕ × Octets) (view' : Y → ℕ × Octets) (x : X) (y : Y) (n m : ℕ) (after : Octets) (a b : List Node) (w : Walk (ℕ × Octets)) → view' y ≡ ((view x).0, after) → IsWalk view (Ok x) n m a b w → IsWalk view' (Ok y) n m a b (leaving after w)
-walk_leaving view view' x y n m after a b w e g = record { answer = ap (left_behind after) g.answer ∙ ap (λ (z : ℕ × Octets). Ok z) (sym e); count = g.count; nodes = g.nodes }
-
-pub walk_leaving_cut : {X Y : Type 0} (view : X → ℕ × Octets) (view' : Y → ℕ × Octets) (s : Stop) (n m : ℕ) (after : Octets) (a b : List Node) (w : Walk (ℕ × Octets)) → IsWalk view (Err s) n m a b w → IsWalk view' (Err s) n m a b (leaving after w)
-walk_leaving_cut view view' s n m after a b w g = record { answer = ap (left_behind after) g.answer; count = g.count; nodes = g.nodes }
-
 -- a part's own node, in front of those inside it
-pub walk_noded : {X Y : Type 0} (view : X → ℕ × Octets) (view' : Y → Octets) (x : X) (y : Y) (ws : List ℕ) (p : Place) (n m at : ℕ) (a b c : List Node) (w : Walk (ℕ × Octets)) (node : Node) → view' y ≡ (view x).1 → node ≡ node_of ws p at (Ok (view x)) → c ≡ set b n node → IsWalk view (Ok x) (n + 1) m a b w → IsWalk view' (Ok y) n m a c (noded ws p at w)
+pub walk_noded : {X Y : Type 0} (view : X → Extent) (view' : Y → Octets) (x : X) (y : Y) (ws : List ℕ) (p : Place) (n m at : ℕ) (a b c : List Node) (w : Walk Extent) (node : Node) → view' y ≡ (view x).2 → node ≡ node_of ws p at (Ok (view x)) → c ≡ set b n node → IsWalk view (Ok x) (n + 1) m a b w → IsWalk view' (Ok y) n m a c (noded ws p at w)
 walk_noded view view' x y ws p n m at a b c w node e f put g =
     let s : node_of ws p at w.answer ≡ node = ap (node_of ws p at) g.answer ∙ sym f in
     record {
@@ -82,7 +75,7 @@ walk_noded view view' x y ws p n m at a b c w node e f put g =
       nodes = put ∙ ap (λ (z : List Node). set z n node) g.nodes ∙ overlay_put a n (n + 1) node w.nodes (omega arith) ∙ ap (λ (z : Node). overlay (set a n z) (n + 1) w.nodes) (sym s);
     }
 
-pub walk_noded_cut : {X Y : Type 0} (view : X → ℕ × Octets) (view' : Y → Octets) (s : Stop) (ws : List ℕ) (p : Place) (n m at : ℕ) (a b c : List Node) (w : Walk (ℕ × Octets)) (node : Node) → node ≡ node_of ws p at (Err s) → c ≡ set b n node → IsWalk view (Err s) (n + 1) m a b w → IsWalk view' (Err s) n m a c (noded ws p at w)
+pub walk_noded_cut : {X Y : Type 0} (view : X → Extent) (view' : Y → Octets) (s : Stop) (ws : List ℕ) (p : Place) (n m at : ℕ) (a b c : List Node) (w : Walk Extent) (node : Node) → node ≡ node_of ws p at (Err s) → c ≡ set b n node → IsWalk view (Err s) (n + 1) m a b w → IsWalk view' (Err s) n m a c (noded ws p at w)
 walk_noded_cut view view' s ws p n m at a b c w node f put g =
     let is : node_of ws p at w.answer ≡ node = ap (node_of ws p at) g.answer ∙ sym f in
     record {
@@ -146,13 +139,13 @@ module _ (ws : List ℕ) (d : ℕ) where
   unfolding part_by
   part_few p n input lt = rw (lt-ltb n p.most lt) refl
 
-  pub part_walked : {X Y : Type 0} (view : X → ℕ × Octets) (view' : Y → Octets) (r : Result X Stop) (x : X) (y : Y) (p : Place) (n m o : ℕ) (a b c : List Node) (input : Octets) (node : Node) → n < p.most → o ≡ n → r ≡ Ok x → view' y ≡ (view x).1 → node ≡ node_of ws p (p.end - length input) (Ok (view x)) → c ≡ set b n node → IsWalk view r (n + 1) m a b (within_by (value_at ws d) ws p o input) → IsWalk view' (Ok y) n m a c (part_at ws d p n input)
+  pub part_walked : {X Y : Type 0} (view : X → Extent) (view' : Y → Octets) (r : Result X Stop) (x : X) (y : Y) (p : Place) (n m o : ℕ) (a b c : List Node) (input : Octets) (node : Node) → n < p.most → o ≡ n → r ≡ Ok x → view' y ≡ (view x).2 → node ≡ node_of ws p (p.end - length input) (Ok (view x)) → c ≡ set b n node → IsWalk view r (n + 1) m a b (within_by (value_at ws d) ws p o input) → IsWalk view' (Ok y) n m a c (part_at ws d p n input)
   part_walked {X} view view' r x y p n m o a b c input node lt same ok is e f g =
       subst (IsWalk view' (Ok y) n m a c) (sym (part_few p n input lt))
       (walk_noded view view' x y ws p n m (p.end - length input) a b c (within_by (value_at ws d) ws p n input) node is e f
       (subst (λ (z : ℕ). IsWalk view (Ok x) (n + 1) m a b (within_by (value_at ws d) ws p z input)) same (subst (λ (z : Result X Stop). IsWalk view z (n + 1) m a b (within_by (value_at ws d) ws p o input)) ok g)))
 
-  pub part_cut : {X Y : Type 0} (view : X → ℕ × Octets) (view' : Y → Octets) (r : Result X Stop) (stop : Stop) (p : Place) (n m o : ℕ) (a b c : List Node) (input : Octets) (node : Node) → n < p.most → o ≡ n → r ≡ Err stop → node ≡ node_of ws p (p.end - length input) (Err stop) → c ≡ set b n node → IsWalk view r (n + 1) m a b (within_by (value_at ws d) ws p o input) → IsWalk view' (Err stop) n m a c (part_at ws d p n input)
+  pub part_cut : {X Y : Type 0} (view : X → Extent) (view' : Y → Octets) (r : Result X Stop) (stop : Stop) (p : Place) (n m o : ℕ) (a b c : List Node) (input : Octets) (node : Node) → n < p.most → o ≡ n → r ≡ Err stop → node ≡ node_of ws p (p.end - length input) (Err stop) → c ≡ set b n node → IsWalk view r (n + 1) m a b (within_by (value_at ws d) ws p o input) → IsWalk view' (Err stop) n m a c (part_at ws d p n input)
   part_cut {X} view view' r stop p n m o a b c input node lt same err e f g =
       subst (IsWalk view' (Err stop) n m a c) (sym (part_few p n input lt))
       (walk_noded_cut view view' stop ws p n m (p.end - length input) a b c (within_by (value_at ws d) ws p n input) node e f

@@ -1,6 +1,6 @@
 -- A walk takes the encodings of the trees that its table describes, and its parts are encodings: by induction on the tree.
 use Rattle.std.proofs.Common.{◌≡◌, ℕ, zero, suc, ◌+◌, ◌-◌, ◌^◌, ◌<◌, ◌≤◌, Bool, true, false, cond, List, [], ◌∷◌, ◌++◌, length, take, drop, get_or, set, Some, None, Option, Result, Ok, Err, refl, sym, ap, ap₂, subst, ◌∙◌, arith, inl, inr, ◌⊎◌, append_assoc, length-append, append-nil, Fits, w32}
-use Rattle.std.specs.Prelude.{nat_lt, nat_le, not, min, ◌&&◌}
+use Rattle.std.specs.Prelude.{⊤, nat_lt, nat_le, not, min, ◌&&◌, slice_range}
 use Rattle.std.proofs.lemmas.List.{ext_get_or, get_or-take, length-take, length-set}
 use Rattle.std.proofs.lemmas.Bool.{lt-leb, le-leb, le-ltb, ltb-true, ltb-false}
 use Rattle.asn1_core.specs.Octets.{Octets, joined}
@@ -30,9 +30,9 @@ use Rattle.oer_spec.proofs.Trees.{EachRow, by_parts}
 use Rattle.oer_walk.specs.Described.{Describes, DescribesRoots, DescribesAdditions, DescribesSlot, DescribesTrees}
 use Rattle.oer_walk.specs.Forms.{width_form, bits_form, units_form, leaf_form}
 use Rattle.oer_walk.specs.Parts.{blank}
-use Rattle.oer_walk.specs.Shown.{IsIn, IsRoot, IsAddition as IsAdditionOf, IsElement, IsPartOf, LiesAt, AreNodes, Whole, AreInside, NoPart, Part, Unknown}
+use Rattle.oer_walk.specs.Shown.{IsIn, IsRoot, IsAddition as IsAdditionOf, IsElement, IsPartOf, LiesAt, IsContentBy, IsContent, AreNodes, Whole, AreInside, NoPart, Part, Unknown}
 use Rattle.oer_walk.specs.Tables.{nothing, word, place_of, form_if, form_of, component_of, alternative_at, alternative_of, optionals}
-use Rattle.oer_walk.specs.Walks.{Walk, done, from, inside, elements_by, components_by, known_by, additions_by, extension_count, body_by, sequence_by, found, tagged_at, chosen, choice_by, list_by, is_leaf, leaf_at, scope_by, part_at, overlay}
+use Rattle.oer_walk.specs.Walks.{Walk, done, from, inside, elements_by, components_by, known_by, additions_by, extension_count, body_by, sequence_by, found, tagged_at, chosen, choice_by, list_by, is_leaf, is_nothing, leaf_at, scope_by, part_at, overlay}
 use Rattle.oer_walk.specs.declared.nodes.Node.{Node}
 use Rattle.oer_walk.specs.declared.places.Place.{Place}
 use Rattle.oer_walk.specs.declared.places.Scope.{Scope}
@@ -43,7 +43,7 @@ use Rattle.oer_walk.specs.declared.table.Parts.{Parts}
 use Rattle.oer_walk.proofs.Everywhere.{shown_at}
 use Rattle.oer_walk.proofs.Leaves.{leaf_taken}
 use Rattle.oer_walk.proofs.Steps.{value_leaf, value_scope}
-use Rattle.oer_walk.proofs.Takes.{IsAt, at_later, Joins, AnyUnknown, Owns, TakesPart, TakesValue, Takes, takes_behind, takes_read, takes_read_part, takes_from, takes_closed, takes_open}
+use Rattle.oer_walk.proofs.Takes.{IsAt, at_later, range_is, Joins, AnyUnknown, Owns, TakesPart, TakesValue, Takes, takes_behind, takes_read, takes_read_part, takes_from, takes_closed, takes_open}
 use Rattle.oer_walk.proofs.TagOrder.{PlacedRoots, placed_none, placed_more, roots_in_order, spelled_in_order}
 use Rattle.oer_walk.proofs.TakesRows.{PartTaken, BodyTaken, AllTaken, elements_taken, RootTaken, RootsTaken, roots_counted, roots_taken, AdditionsTaken, additions_taken}
 
@@ -68,6 +68,27 @@ leaf_is (Int r n) = width_is (width_of r)
 leaf_is (Bits s b) = bits_is _
 leaf_is (Named s b) = bits_is _
 leaf_is (Text r s c) = units_is (unit_of r) _
+
+width_known : (w : Width) → is_nothing (width_form w) ≡ false
+width_known (FixedWidth sign k) = refl
+width_known (CountedWidth sign) = refl
+
+bits_known : (o : Option ℕ) → is_nothing (bits_form o) ≡ false
+bits_known (Some n) = refl
+bits_known None = refl
+
+units_known : (k : ℕ) (o : Option ℕ) → is_nothing (units_form k o) ≡ false
+units_known k (Some n) = refl
+units_known k None = refl
+
+leaf_known : (l : Leaf) → is_nothing (leaf_form l) ≡ false
+leaf_known (Boolean b) = refl
+leaf_known Null = refl
+leaf_known (Enum n) = refl
+leaf_known (Int r n) = width_known (width_of r)
+leaf_known (Bits s b) = bits_known _
+leaf_known (Named s b) = bits_known _
+leaf_known (Text r s c) = units_known (unit_of r) _
 
 -- as many elements have no octets as are written without
 empty_of : (o : Octets) (os : List Octets) → empties (o ∷ os) ≡ cond (is_nil o) (suc (empties os)) (empties os)
@@ -100,28 +121,42 @@ module _ (all : Octets) (ws : List ℕ) (none : form_of ws nothing ≡ Nothing) 
   any : (m : ℕ) (t : Tree) → AnyUnknown (AreInside ws all m t)
   any m t x e = Unknown m t x [] e (NoPart m t)
 
-  -- a value of the tree is taken, and the nodes inside it are those of the tree
-  abbrev Taken : Tree → Type 0
-  Taken t = (d m : ℕ) (o rest : Octets) → IsTree t → Describes ws m t → IsEncoding Lenient d o t → Takes all (AreInside ws all m t) (AreInside ws all m t) ws d m (o ++ rest) rest
+  -- the table has the type of a tree that it describes
+  is_known : (m : ℕ) (t : Tree) → Describes ws m t → is_nothing (form_of ws m) ≡ false
+  unfolding Rattle.oer_walk.specs.Described.Describes
+  is_known m (Primitive l) f = ap is_nothing f ∙ leaf_known l
+  is_known m (Struct set extensible r a) f = ap is_nothing f.1
+  is_known m (ListOf ordered ts) f = ap is_nothing f.1
+  is_known m (ChoiceTree roots additions g t) f = ap is_nothing f.2
 
-  whole_nodes : (d m : ℕ) (v : Tree) (o : Octets) (x : Node) (inner : List Node) → x.type_number ≡ m → Describes ws m v → IsEncoding Lenient d o v → LiesAt all x o → AreInside ws all m v inner → AreNodes ws all m v (x ∷ inner)
-  whole_nodes d m v o x inner e f h l r = Whole m v x inner e (record { described = subst (λ (z : ℕ). Describes ws z v) (sym e) f; levels = d; octets = o; spelled = h; place = l }) r
+  -- a value of the tree is taken, and the nodes inside it are those of the tree
+  abbrev Shows : Tree → Octets → ℕ → ℕ → Type 0
+  Shows t o begin end = IsContent t o (slice_range all begin end)
+
+  abbrev Taken : Tree → Type 0
+  Taken t = (d m : ℕ) (o rest : Octets) → IsTree t → Describes ws m t → IsEncoding Lenient d o t → Takes all (AreInside ws all m t) (AreInside ws all m t) (Shows t o) ws d m (o ++ rest) rest
+
+  whole_nodes : (d m : ℕ) (v : Tree) (o : Octets) (x : Node) (inner : List Node) → x.type_number ≡ m → Describes ws m v → IsEncoding Lenient d o v → LiesAt all x o → Shows v o x.content x.end → AreInside ws all m v inner → AreNodes ws all m v (x ∷ inner)
+  whole_nodes d m v o x inner e f h l c r = Whole m v x inner e (record { described = subst (λ (z : ℕ). Describes ws z v) (sym e) f; levels = d; octets = o; spelled = h; place = l; content = c }) r
 
   single : (l : Leaf) → Taken (Primitive l)
   unfolding Rattle.oer_spec.specs.Encoding.IsTree Rattle.oer_spec.specs.Encoding.IsEncoding Rattle.oer_walk.specs.Described.Describes
   single l d m o rest i f h = λ s n e at.
       let form : form_of ws s.type_number ≡ leaf_form l = ap (form_of ws) e ∙ f in
       let t = leaf_taken l o rest i h in
-      let read : leaf_at (form_of ws s.type_number) (o ++ rest) ≡ Ok (t.0, rest) = ap (λ (z : Form). leaf_at z (o ++ rest)) form ∙ t.1 in
-      subst (λ (z : Walk (ℕ × Octets)). TakesValue (AreInside ws all m (Primitive l)) s.most n z rest) (sym (value_leaf ws d s n (o ++ rest) (ap is_leaf form ∙ leaf_is l)))
-      (takes_read (AreInside ws all m (Primitive l)) s.most n s.start (leaf_at (form_of ws s.type_number) (o ++ rest)) (t.0, rest) (λ x. done (s.end - length x.0, x.1)) rest read (inl (s.end - length t.0, refl, NoPart m (Primitive l))))
+      let regrouped : o ++ rest ≡ t.front ++ (t.content ++ rest) = ap (λ (z : Octets). z ++ rest) t.split ∙ append_assoc t.front t.content rest in
+      let range : slice_range all (s.end - length (t.content ++ rest)) (s.end - length rest) ≡ t.content = range_is all s.end t.content rest (at_later all s.end t.front (t.content ++ rest) (subst (IsAt all s.end) regrouped at)) in
+      let read : leaf_at (form_of ws s.type_number) (o ++ rest) ≡ Ok (t.content ++ rest, rest) = ap (λ (z : Form). leaf_at z (o ++ rest)) form ∙ t.taken in
+      subst (λ (z : Walk (ℕ × Octets)). TakesValue (AreInside ws all m (Primitive l)) (λ c. Shows (Primitive l) o c (s.end - length rest)) s.most n z rest) (sym (value_leaf ws d s n (o ++ rest) (ap is_leaf form ∙ leaf_is l)))
+      (takes_read (AreInside ws all m (Primitive l)) (λ c. Shows (Primitive l) o c (s.end - length rest)) s.most n s.start (leaf_at (form_of ws s.type_number) (o ++ rest)) (t.content ++ rest, rest) (λ x. done (s.end - length x.0, x.1)) rest read
+      (inl (s.end - length (t.content ++ rest), refl, NoPart m (Primitive l), subst (IsContentBy (leaf_form l) o) (sym range) t.is)))
 
   -- what is inside a list, a sequence or a choice
-  scope_taken : (t : Tree) (d m : ℕ) (form : Form) (input rest : Octets) → form_of ws m ≡ form → is_leaf form ≡ false → 1 ≤ d → ((s : Scope) (n : ℕ) → IsAt all s.end input → TakesValue (AreInside ws all m t) s.most n (scope_by (part_at ws (d - 1)) ws form s n input) rest) → Takes all (AreInside ws all m t) (AreInside ws all m t) ws d m input rest
-  scope_taken t d m form input rest f leaf deep h = λ s n e at.
+  scope_taken : (t : Tree) (C : ℕ → ℕ → Type 0) (d m : ℕ) (form : Form) (input rest : Octets) → form_of ws m ≡ form → is_leaf form ≡ false → 1 ≤ d → ((s : Scope) (n : ℕ) → IsAt all s.end input → TakesValue (AreInside ws all m t) (λ c. C c (s.end - length rest)) s.most n (scope_by (part_at ws (d - 1)) ws form s n input) rest) → Takes all (AreInside ws all m t) (AreInside ws all m t) C ws d m input rest
+  scope_taken t C d m form input rest f leaf deep h = λ s n e at.
       let is : form_of ws s.type_number ≡ form = ap (form_of ws) e ∙ f in
-      subst (λ (z : Walk (ℕ × Octets)). TakesValue (AreInside ws all m t) s.most n z rest) (sym (value_scope ws d (d - 1) s n input (ap is_leaf is ∙ leaf) (omega arith)))
-      (subst (λ (z : Form). TakesValue (AreInside ws all m t) s.most n (scope_by (part_at ws (d - 1)) ws z s n input) rest) (sym is) (h s n at))
+      subst (λ (z : Walk (ℕ × Octets)). TakesValue (AreInside ws all m t) (λ c. C c (s.end - length rest)) s.most n z rest) (sym (value_scope ws d (d - 1) s n input (ap is_leaf is ∙ leaf) (omega arith)))
+      (subst (λ (z : Form). TakesValue (AreInside ws all m t) (λ c. C c (s.end - length rest)) s.most n (scope_by (part_at ws (d - 1)) ws z s n input) rest) (sym is) (h s n at))
 
   -- ---- the parts of a tree, of the type with that number
   module _ (number : ℕ) (tree : Tree) where
@@ -133,17 +168,17 @@ module _ (all : Octets) (ws : List ℕ) (none : form_of ws nothing ≡ Nothing) 
 
     body_of : (d name m : ℕ) (v : Tree) (o : Octets) → Taken v → ((x : Node) → x.name ≡ name → x.type_number ≡ m → IsPartOf ws number tree x v) → IsTree v → Describes ws m v → IsEncoding Lenient d o v → PartTaken all Q j ws d name m o
     body_of d name m v o p has i f h = record {
-      closed = λ q n rest closed en em at. takes_closed all Q (AreInside ws all m v) ws d q n o rest closed (own q en em) at (subst (λ (z : ℕ). Takes all Q (AreInside ws all m v) ws d z (o ++ rest) rest) (sym em) (p d m o rest i f h));
-      opened = λ q n g rest left is_open en em behind at. takes_open all Q (AreInside ws all m v) ws d q n g rest o left (NoPart m v) is_open behind (own q en em) at (subst (λ (z : ℕ). Takes all Q (AreInside ws all m v) ws d z (o ++ left) left) (sym em) (p d m o left i f h));
+      closed = λ q n rest closed en em at. takes_closed all Q (AreInside ws all m v) (Shows v o) ws d q n o rest closed (own q en em) at (subst (λ (z : ℕ). Takes all Q (AreInside ws all m v) (Shows v o) ws d z (o ++ rest) rest) (sym em) (p d m o rest i f h));
+      opened = λ q n g rest left is_open en em behind at. takes_open all Q (AreInside ws all m v) (Shows v o) ws d q n g rest o left (ap (λ (z : ℕ). is_nothing (form_of ws z)) em ∙ is_known m v f) is_open behind (own q en em) at (subst (λ (z : ℕ). Takes all Q (AreInside ws all m v) (Shows v o) ws d z (o ++ left) left) (sym em) (p d m o left i f h));
     }
       where
-        part : (x : Node) (inner : List Node) → x.name ≡ name → x.type_number ≡ m → LiesAt all x o → AreInside ws all m v inner → Q (x ∷ inner)
-        part x inner a b l r =
+        part : (x : Node) (inner : List Node) → x.name ≡ name → x.type_number ≡ m → LiesAt all x o → Shows v o x.content x.end → AreInside ws all m v inner → Q (x ∷ inner)
+        part x inner a b l c r =
             subst Q (append-nil (x ∷ inner))
-            (Part number tree v x inner [] (has x a b) (subst (λ (z : ℕ). AreNodes ws all z v (x ∷ inner)) (sym b) (whole_nodes d m v o x inner b f h l r)) (NoPart number tree))
+            (Part number tree v x inner [] (has x a b) (subst (λ (z : ℕ). AreNodes ws all z v (x ∷ inner)) (sym b) (whole_nodes d m v o x inner b f h l c r)) (NoPart number tree))
 
-        own : (q : Place) → q.name ≡ name → q.type_number ≡ m → Owns all Q (AreInside ws all m v) ws d q.name q.type_number o
-        own q en em x inner a b l r = part x inner (a ∙ en) (b ∙ em) l r
+        own : (q : Place) → q.name ≡ name → q.type_number ≡ m → Owns all Q (AreInside ws all m v) (Shows v o) ws d q.name q.type_number o
+        own q en em x inner a b l c r = part x inner (a ∙ en) (b ∙ em) l c r
 
     -- ---- lists
     each_taken : (ts : Trees) (d m : ℕ) (own : List Octets) → EachTree Taken ts → ((x : Node) (v : Tree) → x.name ≡ nothing → x.type_number ≡ m → IsElement ts v → IsPartOf ws number tree x v) → AreTrees ts → DescribesTrees ws m ts → AreElements Lenient d own ts → AllTaken all Q j ws d m own
@@ -152,12 +187,12 @@ module _ (all : Octets) (ws : List ℕ) (none : form_of ws nothing ≡ Nothing) 
     each_taken (More t ts) d m [] p has i f h = absurd h
     each_taken (More t ts) d m (o ∷ own) p has i f h = (body_of d nothing m t o p.0 (λ x a b. has x t a b (inl refl)) i.0 f.0 h.0, each_taken ts d m own p.1 (λ x v a b k. has x v a b (inr k)) i.1 f.1 h.1)
 
-    list_taken : (d m : ℕ) (q : Octets) (own : List Octets) (rest : Octets) (s : Scope) (n : ℕ) → IsQuantity Lenient q (length own) → AllTaken all Q j ws d m own → empties own ≤ 65536 → IsAt all s.end (q ++ (joined own ++ rest)) → TakesValue Q s.most n (list_by (part_at ws d) m s n (q ++ (joined own ++ rest))) rest
+    list_taken : (d m : ℕ) (q : Octets) (own : List Octets) (rest : Octets) (s : Scope) (n : ℕ) → IsQuantity Lenient q (length own) → AllTaken all Q j ws d m own → empties own ≤ 65536 → IsAt all s.end (q ++ (joined own ++ rest)) → TakesValue Q (λ c. ⊤) s.most n (list_by (part_at ws d) m s n (q ++ (joined own ++ rest))) rest
     unfolding list_by
     list_taken d m q own rest s n h each few at =
-        takes_read Q s.most n s.start (quantity_at Oer (q ++ (joined own ++ rest))) (length own, joined own ++ rest) (λ x. from (s.end - length x.1) (elements_by (part_at ws d) s (inside s m nothing false) x.0 0 n x.1)) rest
+        takes_read Q (λ c. ⊤) s.most n s.start (quantity_at Oer (q ++ (joined own ++ rest))) (length own, joined own ++ rest) (λ x. from (s.end - length x.1) (elements_by (part_at ws d) s (inside s m nothing false) x.0 0 n x.1)) rest
         ((quantity_reads Oer).again q (joined own ++ rest) (length own) h)
-        (takes_from Q s.most n (s.end - length (joined own ++ rest)) (elements_by (part_at ws d) s (inside s m nothing false) (length own) 0 n (joined own ++ rest)) rest (elements_taken all Q j ws d s m own 0 n rest each (omega arith) (at_later all s.end q (joined own ++ rest) at)))
+        (takes_from Q (λ c. ⊤) s.most n (s.end - length (joined own ++ rest)) (elements_by (part_at ws d) s (inside s m nothing false) (length own) 0 n (joined own ++ rest)) rest tt (elements_taken all Q j ws d s m own 0 n rest each (omega arith) (at_later all s.end q (joined own ++ rest) at)))
 
     -- ---- sequences
     item_body : (d name m : ℕ) (g : Tag) (x : Item) (b : Bool) → x.bit ≡ b → BodyTaken all Q j ws d name m b x.octets → BodyTaken all Q j ws d name m x.bit x.octets
@@ -251,16 +286,16 @@ module _ (all : Octets) (ws : List ℕ) (none : form_of ws nothing ≡ Nothing) 
         (roots_taken all Q j ws d ps s 0 ps.roots is (drop (extension_count ps) (extension_bit e x ++ presence is)) [] n (o ++ rest) roots (front_dropped ps e x (presence is) ext ∙ sym (append-nil (presence is))) at)
         (λ m. subst (λ (z : Bool). TakesPart Q s.most m (cond z (additions_by (part_at ws d) ws ps s m (o ++ rest)) (done (o ++ rest))) rest) (sym (front_bit ps e x (presence is) ext only)) (rest_taken d ps s x o js m rest adds h (at_later all s.end (bodies is) (o ++ rest) at)))
 
-    sequence_taken : (d : ℕ) (ps : Parts) (s : Scope) (e : Bool) (is js : List Item) (o : Octets) (n : ℕ) (rest : Octets) → ps.is_extensible ≡ e → RootsTaken all Q j ws d ps 0 ps.roots is → AdditionsTaken all Q j ws d ps 0 ps.additions js → SpellsStruct Lenient o false e is js → IsAt all s.end (o ++ rest) → TakesValue Q s.most n (sequence_by (part_at ws d) ws ps s n (o ++ rest)) rest
+    sequence_taken : (d : ℕ) (ps : Parts) (s : Scope) (e : Bool) (is js : List Item) (o : Octets) (n : ℕ) (rest : Octets) → ps.is_extensible ≡ e → RootsTaken all Q j ws d ps 0 ps.roots is → AdditionsTaken all Q j ws d ps 0 ps.additions js → SpellsStruct Lenient o false e is js → IsAt all s.end (o ++ rest) → TakesValue Q (λ c. ⊤) s.most n (sequence_by (part_at ws d) ws ps s n (o ++ rest)) rest
     unfolding sequence_by
     sequence_taken d ps s e is js o n rest ext roots adds h at =
         let regrouped : o ++ rest ≡ h.preamble ++ (bodies is ++ (h.extension ++ rest)) = ap (λ (z : Octets). z ++ rest) h.whole ∙ append_assoc h.preamble (bodies is ++ h.extension) rest ∙ ap (λ (z : Octets). h.preamble ++ z) (append_assoc (bodies is) h.extension rest) in
         let counted = roots_counted all Q j ws d ps 0 ps.roots is roots in
         let many : length (extension_bit e h.extended ++ presence is) ≡ extension_count ps + optionals ws ps ps.roots = omega (arith, length-append (extension_bit e h.extended) (presence is), front_count ps e h.extended ext, counted ∙ ap (optionals ws ps) (zero_more ps.roots)) in
-        subst (λ (z : Octets). TakesValue Q s.most n (sequence_by (part_at ws d) ws ps s n z) rest) (sym regrouped)
-        (takes_read Q s.most n s.start (preamble_at (extension_count ps + optionals ws ps ps.roots) (h.preamble ++ (bodies is ++ (h.extension ++ rest)))) (extension_bit e h.extended ++ presence is, bodies is ++ (h.extension ++ rest)) (λ b. from (s.end - length b.1) (body_by (part_at ws d) ws ps s b.0 n b.1)) rest
+        subst (λ (z : Octets). TakesValue Q (λ c. ⊤) s.most n (sequence_by (part_at ws d) ws ps s n z) rest) (sym regrouped)
+        (takes_read Q (λ c. ⊤) s.most n s.start (preamble_at (extension_count ps + optionals ws ps ps.roots) (h.preamble ++ (bodies is ++ (h.extension ++ rest)))) (extension_bit e h.extended ++ presence is, bodies is ++ (h.extension ++ rest)) (λ b. from (s.end - length b.1) (body_by (part_at ws d) ws ps s b.0 n b.1)) rest
         ((preamble_reads (extension_count ps + optionals ws ps ps.roots)).again h.preamble (bodies is ++ (h.extension ++ rest)) (extension_bit e h.extended ++ presence is) (h.bits, many))
-        (takes_from Q s.most n (s.end - length (bodies is ++ (h.extension ++ rest))) (body_by (part_at ws d) ws ps s (extension_bit e h.extended ++ presence is) n (bodies is ++ (h.extension ++ rest))) rest
+        (takes_from Q (λ c. ⊤) s.most n (s.end - length (bodies is ++ (h.extension ++ rest))) (body_by (part_at ws d) ws ps s (extension_bit e h.extended ++ presence is) n (bodies is ++ (h.extension ++ rest))) rest tt
         (body_taken d ps s e h.extended is js h.extension n rest ext h.only roots adds h.rest (at_later all s.end h.preamble (bodies is ++ (h.extension ++ rest)) (subst (IsAt all s.end) regrouped at)))))
       where
         zero_more : (k : ℕ) → 0 + k ≡ k
@@ -281,11 +316,11 @@ module _ (all : Octets) (ws : List ℕ) (none : form_of ws nothing ≡ Nothing) 
     tagged ps i g q rest small tag alternative =
         ap (λ (z : Result (Tag × Octets) DecodeErrorKind). z >>= λ (t : Tag × Octets). found ps t.0 t.1 (alternative_of ws ps t.0)) ((tag_reads Oer).again q rest g (small, tag)) ∙ ap (found ps g rest) alternative
 
-    choice_taken : (d : ℕ) (ps : Parts) (i : ℕ) (s : Scope) (g : Tag) (root : Bool) (q r f : Octets) (n : ℕ) (rest : Octets) → g.value < 2 ^ 32 → alternative_of ws ps g ≡ Some i → nat_lt i ps.roots ≡ root → PartTaken all Q j ws d (alternative_at ws ps i).name (alternative_at ws ps i).type_number f → IsTag Lenient q g → IsAlternative Lenient root r f → IsAt all s.end (q ++ (r ++ rest)) → TakesValue Q s.most n (choice_by (part_at ws d) ws ps s n (q ++ (r ++ rest))) rest
+    choice_taken : (d : ℕ) (ps : Parts) (i : ℕ) (s : Scope) (g : Tag) (root : Bool) (q r f : Octets) (n : ℕ) (rest : Octets) → g.value < 2 ^ 32 → alternative_of ws ps g ≡ Some i → nat_lt i ps.roots ≡ root → PartTaken all Q j ws d (alternative_at ws ps i).name (alternative_at ws ps i).type_number f → IsTag Lenient q g → IsAlternative Lenient root r f → IsAt all s.end (q ++ (r ++ rest)) → TakesValue Q (λ c. ⊤) s.most n (choice_by (part_at ws d) ws ps s n (q ++ (r ++ rest))) rest
     unfolding choice_by
     choice_taken d ps i s g root q r f n rest small alternative less h tag is at =
-        takes_read Q s.most n s.start (tagged_at ws ps (q ++ (r ++ rest))) (i, r ++ rest) (λ t. from (s.end - length t.1) (chosen (part_at ws d) ws ps s t.0 n t.1)) rest (tagged ps i g q (r ++ rest) small tag alternative)
-        (takes_from Q s.most n (s.end - length (r ++ rest)) (chosen (part_at ws d) ws ps s i n (r ++ rest)) rest
+        takes_read Q (λ c. ⊤) s.most n s.start (tagged_at ws ps (q ++ (r ++ rest))) (i, r ++ rest) (λ t. from (s.end - length t.1) (chosen (part_at ws d) ws ps s t.0 n t.1)) rest (tagged ps i g q (r ++ rest) small tag alternative)
+        (takes_from Q (λ c. ⊤) s.most n (s.end - length (r ++ rest)) (chosen (part_at ws d) ws ps s i n (r ++ rest)) rest tt
         (alternative_taken d (inside s (alternative_at ws ps i).type_number (alternative_at ws ps i).name (nat_le ps.roots i)) n root r f rest (not_less i ps.roots root less) (at_later all s.end q (r ++ rest) at) h is))
 
   -- ---- all trees
@@ -294,7 +329,7 @@ module _ (all : Octets) (ws : List ℕ) (none : form_of ws nothing ≡ Nothing) 
   struct set extensible r a pr pa d m o rest i (ps, form, ext, ns, turn, roots, adds) (deep, is, js, ri, ai, s) =
       let taken = roots_in_order all (Q m (Struct set extensible r a)) (j m (Struct set extensible r a)) ws (d - 1) ps set ps.roots is (row_tags r) ns turn (roots_are m (Struct set extensible r a) r (d - 1) ns ps is pr (λ y v k. (ps, form, inl (ns, turn, k))) i.0 roots ri) in
       let spelled = spelled_in_order Lenient o set extensible is js s in
-      scope_taken (Struct set extensible r a) d m (Sequence ps) (o ++ rest) rest form refl deep (λ sc n at. sequence_taken m (Struct set extensible r a) (d - 1) ps sc extensible (in_writing_order set is) js o n rest ext taken (additions_are m (Struct set extensible r a) a (d - 1) 0 ps.additions ps js pa (λ y v k. (ps, form, inr k)) i.1 adds ai) spelled at)
+      scope_taken (Struct set extensible r a) (Shows (Struct set extensible r a) o) d m (Sequence ps) (o ++ rest) rest form refl deep (λ sc n at. sequence_taken m (Struct set extensible r a) (d - 1) ps sc extensible (in_writing_order set is) js o n rest ext taken (additions_are m (Struct set extensible r a) a (d - 1) 0 ps.additions ps js pa (λ y v k. (ps, form, inr k)) i.1 adds ai) spelled at)
 
   items : (ordered : Bool) (ts : Trees) → EachTree Taken ts → Taken (ListOf ordered ts)
   unfolding Rattle.oer_spec.specs.Encoding.IsTree Rattle.oer_spec.specs.Encoding.IsEncoding Rattle.oer_walk.specs.Described.Describes scope_by
@@ -305,14 +340,14 @@ module _ (all : Octets) (ws : List ℕ) (none : form_of ws nothing ≡ Nothing) 
       let as_many = same_empties (d - 1) own ts i elements in
       let again = reordered_empties read own mixed in
       let taken : AllTaken all (Q m (ListOf ordered ts)) (j m (ListOf ordered ts)) ws (d - 1) element read = Reorders-all (λ (o : Octets). PartTaken all (Q m (ListOf ordered ts)) (j m (ListOf ordered ts)) ws (d - 1) nothing element o) read own mixed (each_taken m (ListOf ordered ts) ts (d - 1) element own p (λ x v a b k. (form ∙ ap (λ (z : ℕ). ListForm z) (sym b), a, k)) i each elements) in
-      scope_taken (ListOf ordered ts) d m (ListForm element) (o ++ rest) rest form refl deep (λ s n at. subst (λ (z : Octets). TakesValue (Q m (ListOf ordered ts)) s.most n (list_by (part_at ws (d - 1)) element s n z) rest) (sym regrouped)
+      scope_taken (ListOf ordered ts) (Shows (ListOf ordered ts) o) d m (ListForm element) (o ++ rest) rest form refl deep (λ s n at. subst (λ (z : Octets). TakesValue (Q m (ListOf ordered ts)) (λ c. ⊤) s.most n (list_by (part_at ws (d - 1)) element s n z) rest) (sym regrouped)
       (list_taken m (ListOf ordered ts) (d - 1) element q read rest s n (subst (IsQuantity Lenient q) (sym (Reorders-length read own mixed)) many) taken (omega arith) (subst (IsAt all s.end) regrouped at)))
 
   choice : (roots additions : List Tag) (g : Tag) (t : Tree) → Taken t → Taken (ChoiceTree roots additions g t)
   unfolding Rattle.oer_spec.specs.Encoding.IsTree Rattle.oer_spec.specs.Encoding.IsEncoding Rattle.oer_walk.specs.Described.Describes scope_by
   choice roots additions g t p d m o rest i (ps, k, form, small, alternative, less, described) (deep, f, inner, (q, r, split, tag, is)) =
       let regrouped : o ++ rest ≡ q ++ (r ++ rest) = ap (λ (z : Octets). z ++ rest) split ∙ append_assoc q r rest in
-      scope_taken (ChoiceTree roots additions g t) d m (Choice ps) (o ++ rest) rest form refl deep (λ s n at. subst (λ (z : Octets). TakesValue (Q m (ChoiceTree roots additions g t)) s.most n (choice_by (part_at ws (d - 1)) ws ps s n z) rest) (sym regrouped)
+      scope_taken (ChoiceTree roots additions g t) (Shows (ChoiceTree roots additions g t) o) d m (Choice ps) (o ++ rest) rest form refl deep (λ s n at. subst (λ (z : Octets). TakesValue (Q m (ChoiceTree roots additions g t)) (λ c. ⊤) s.most n (choice_by (part_at ws (d - 1)) ws ps s n z) rest) (sym regrouped)
       (choice_taken m (ChoiceTree roots additions g t) (d - 1) ps k s g (holds roots g) q r f n rest small alternative less (body_of m (ChoiceTree roots additions g t) (d - 1) (alternative_at ws ps k).name (alternative_at ws ps k).type_number t f p (λ x a b. (ps, k, form, alternative, (a, b), refl)) i.0 described inner) tag is (subst (IsAt all s.end) regrouped at)))
 
   pub tree_taken : (t : Tree) → Taken t
@@ -332,7 +367,7 @@ pub walk_takes : (ws us : List ℕ) (levels : ℕ) (p : Place) (input o rest : O
 walk_takes ws us levels p input o rest t same fits closed e i f h ends =
     subst (λ (z : Octets). TakesPart (AreNodes us input p.type_number t) p.most 0 (part_at ws levels p 0 z) rest) (sym e)
     (subst (λ (z : List ℕ). TakesPart (AreNodes us input p.type_number t) p.most 0 (part_at z levels p 0 (o ++ rest)) rest) (sym same)
-    (takes_closed input (AreNodes us input p.type_number t) (AreInside us input p.type_number t) us levels p 0 o rest closed (λ x inner a b l r. whole_nodes input us none levels p.type_number t o x inner b f h l r) at (tree_taken input us none t levels p.type_number o rest i f h)))
+    (takes_closed input (AreNodes us input p.type_number t) (AreInside us input p.type_number t) (Shows input us none t o) us levels p 0 o rest closed (λ x inner a b l c r. whole_nodes input us none levels p.type_number t o x inner b f h l c r) at (tree_taken input us none t levels p.type_number o rest i f h)))
   where
     none : form_of us nothing ≡ Nothing
     none = nothing_is us fits

@@ -1,14 +1,16 @@
 -- What the parts of a walk are, where an encoding is in front: encodings of what is in its tree, each in its place.
-use Rattle.std.specs.Prelude.{◌≡◌, ℕ, ◌+◌, None, Some, List, [], ◌∷◌, ◌++◌, take, ◌⊎◌, slice_range}
+use Rattle.std.specs.Prelude.{◌≡◌, ℕ, ◌+◌, None, Some, List, [], ◌∷◌, ◌++◌, take, ◌⊎◌, ⊤, slice_range}
 use Rattle.asn1_core.specs.Octets.{Octets}
 use Rattle.oer_spec.specs.Encoding.{IsTree, IsEncoding, row_tags}
 use Rattle.oer_spec.specs.Lengths.{IsBehindLength}
 use Rattle.oer_spec.specs.Mode.{Lenient}
 use Rattle.oer_spec.specs.Tree.{Tree, Primitive, Struct, ListOf, Choice as ChoiceTree, Rows, NoRows, Required, Optional, Default, Slot, Absent, Present, Trees, NoTrees, More}
 use Rattle.oer_walk.specs.Described.{Describes, AreInTurn}
+use Rattle.oer_walk.specs.Forms.{leaf_form}
 use Rattle.oer_walk.specs.Tables.{nothing, form_of, component_of, alternative_at, alternative_of}
 use Rattle.oer_walk.specs.declared.nodes.Node.{Node}
-use Rattle.oer_walk.specs.declared.table.Form.TheVariants.{List as ListForm, Sequence, Choice}
+use Rattle.oer_walk.specs.declared.table.Form.{Form}
+use Rattle.oer_walk.specs.declared.table.Form.TheVariants.{Counted, List as ListForm, Sequence, Choice}
 use Rattle.oer_walk.specs.declared.table.Parts.{Parts}
 use Rattle.oer_walk.specs.declared.walks.Walked.{Walked}
 
@@ -51,9 +53,22 @@ IsPartOf ws type_number (ChoiceTree roots additions g t) x v =
 
 -- ---- the nodes of a tree
 
--- The part's octets are these, or in an open type (X.696, 30) a length, these, and what lenient reading passes over.
+-- The part's octets are these, or in an open type (X.696, 30) these behind a length. That counts also what lenient reading passes over,
+-- which is behind the part.
 abbrev pub LiesAt : Octets → Node → Octets → Type 0
-LiesAt input x o = (slice_range input x.start x.end ≡ o) ⊎ ((content left : Octets) × IsBehindLength Lenient (slice_range input x.start x.end) content × (content ≡ o ++ left))
+LiesAt input x o =
+    (slice_range input x.start x.end ≡ o) ⊎ ((l left : Octets) × (slice_range input x.start x.end ≡ l ++ o) × IsBehindLength Lenient (l ++ (o ++ left)) (o ++ left))
+
+-- The content of a leaf of that form: all its octets, or those behind their length.
+abbrev pub IsContentBy : Form → Octets → Octets → Type 0
+IsContentBy Counted o content = IsBehindLength Lenient o content
+IsContentBy _ o content = content ≡ o
+
+abbrev pub IsContent : Tree → Octets → Octets → Type 0
+IsContent (Primitive l) o content = IsContentBy (leaf_form l) o content
+IsContent (Struct set extensible r a) o content = ⊤
+IsContent (ListOf ordered ts) o content = ⊤
+IsContent (ChoiceTree roots additions g t) o content = ⊤
 
 -- The octets of the node x are an encoding of a tree of its type.
 pub record IsEncodedAt (ws : List ℕ) (input : Octets) (t : Tree) (x : Node) : Type 0 where
@@ -62,6 +77,7 @@ pub record IsEncodedAt (ws : List ℕ) (input : Octets) (t : Tree) (x : Node) : 
   pub octets : Octets
   pub spelled : IsEncoding Lenient levels octets t
   pub place : LiesAt input x octets
+  pub content : IsContent t octets (slice_range input x.content x.end)
 
 mutual
   -- Nodes of a tree of that type: the tree's own, whose octets are an encoding of it, and behind it those of its parts.

@@ -53,6 +53,13 @@ PartWalk = Place → ℕ → Octets → Walk Octets
 abbrev pub ValueWalk : Type 0
 ValueWalk = Scope → ℕ → Octets → Walk (ℕ × Octets)
 
+-- where a part's content begins, where it ends, and what is behind the part
+abbrev pub Extent : Type 0
+Extent = ℕ × ℕ × Octets
+
+abbrev pub ExtentWalk : Type 0
+ExtentWalk = Scope → ℕ → Octets → Walk Extent
+
 -- ---- parts
 
 abbrev pub scope_of : Place → ℕ → ℕ → Scope
@@ -62,36 +69,36 @@ scope_of p n start = record { type_number = p.type_number; level = p.level; node
 abbrev pub inside : Scope → ℕ → ℕ → Bool → Place
 inside s type_number name is_open = record { name = name; type_number = type_number; level = min (s.level + 1) (2 ^ 32 - 1); around = s.node; is_open = is_open; end = s.end; most = s.most }
 
--- the content begins there, and the value ends in front of what is left
-abbrev pub node_of : List ℕ → Place → ℕ → Result (ℕ × Octets) Stop → Node
+abbrev pub node_of : List ℕ → Place → ℕ → Result Extent Stop → Node
 node_of ws p start (Ok x) =
-    record { name = p.name; type_number = p.type_number; kind = kind_of ws p.type_number; level = p.level; around = p.around; start = start; content = x.0; end = p.end - length x.1 }
+    record { name = p.name; type_number = p.type_number; kind = kind_of ws p.type_number; level = p.level; around = p.around; start = start; content = x.0; end = x.1 }
 node_of ws p start (Err s) =
     record { name = p.name; type_number = p.type_number; kind = kind_of ws p.type_number; level = p.level; around = p.around; start = start; content = start; end = 2 ^ 64 - 1 }
 
-abbrev pub left_of : Result (ℕ × Octets) Stop → Result Octets Stop
-left_of (Ok x) = Ok x.1
+abbrev pub left_of : Result Extent Stop → Result Octets Stop
+left_of (Ok x) = Ok x.2
 left_of (Err s) = Err s
 
 -- a part, in front of those inside it
-abbrev pub noded : List ℕ → Place → ℕ → Walk (ℕ × Octets) → Walk Octets
+abbrev pub noded : List ℕ → Place → ℕ → Walk Extent → Walk Octets
 noded ws p start w = record { nodes = node_of ws p start w.answer ∷ w.nodes; answer = left_of w.answer }
 
-abbrev pub left_behind : Octets → Result (ℕ × Octets) Stop → Result (ℕ × Octets) Stop
-left_behind after (Ok x) = Ok (x.0, after)
-left_behind after (Err s) = Err s
+-- a value in octets up to that place ends in front of what it leaves of them; what is behind the part may be something else
+abbrev pub ends_before : ℕ → (Octets → Octets) → Result (ℕ × Octets) Stop → Result Extent Stop
+ends_before end behind (Ok x) = Ok (x.0, end - length x.1, behind x.1)
+ends_before end behind (Err s) = Err s
 
-abbrev pub leaving : Octets → Walk (ℕ × Octets) → Walk (ℕ × Octets)
-leaving after w = record { nodes = w.nodes; answer = left_behind after w.answer }
+abbrev pub ending : ℕ → (Octets → Octets) → Walk (ℕ × Octets) → Walk Extent
+ending end behind w = record { nodes = w.nodes; answer = ends_before end behind w.answer }
 
 abbrev pub is_nothing : Form → Bool
 is_nothing Nothing = true
 is_nothing _ = false
 
--- what an open type has in it; octets if the table doesn't have its type
-unfoldable pub open_content : ValueWalk → List ℕ → Scope → ℕ → ℕ → Octets → Octets → Walk (ℕ × Octets)
+-- what an open type has in it, where octets may be left behind the value; octets if the table doesn't have its type
+unfoldable pub open_content : ValueWalk → List ℕ → Scope → ℕ → ℕ → Octets → Octets → Walk Extent
 open_content value ws s n content octets after =
-    cond (is_nothing (form_of ws s.type_number)) (done (content, after)) (leaving after (value (record s { end = s.end - length after }) n octets))
+    cond (is_nothing (form_of ws s.type_number)) (done (content, s.end - length after, after)) (ending (s.end - length after) (λ left. after) (value (record s { end = s.end - length after }) n octets))
 
 -- the octets behind a length, what is behind the length, and what is behind the octets
 unfoldable pub behind_length_at : Octets → Result (Octets × Octets × Octets) DecodeErrorKind
@@ -101,14 +108,14 @@ behind_length_at input = do
   Ok (x.0, c.1, x.1)
 
 -- an open type (X.696, 30)
-unfoldable pub open_by : ValueWalk → List ℕ → ValueWalk
+unfoldable pub open_by : ValueWalk → List ℕ → ExtentWalk
 open_by value ws s n input = reads s.start (behind_length_at input) (λ x. open_content value ws s n (s.end - length x.1) x.0 x.2)
 
 -- what is in a part whose node is at that place
-unfoldable pub within_by : ValueWalk → List ℕ → Place → ℕ → Octets → Walk (ℕ × Octets)
+unfoldable pub within_by : ValueWalk → List ℕ → Place → ℕ → Octets → Walk Extent
 within_by value ws p n input =
     let s = scope_of p n (p.end - length input) in
-    cond p.is_open (open_by value ws s (n + 1) input) (value s (n + 1) input)
+    cond p.is_open (open_by value ws s (n + 1) input) (ending s.end (λ rest. rest) (value s (n + 1) input))
 
 unfoldable pub part_by : ValueWalk → List ℕ → PartWalk
 part_by value ws p n input = cond (nat_lt n p.most) (noded ws p (p.end - length input) (within_by value ws p n input)) (stopped (p.end - length input) TooManyEmptyElements)

@@ -20,7 +20,8 @@ pub struct Node {
     pub start: usize,
     /// The place of its first octet behind lengths, a tag or a preamble.
     pub content: usize,
-    /// The place behind its last octet; `usize::MAX` where the walk stopped inside it.
+    /// The place behind its last octet, of an addition behind its value: lenient reading passes over what is left of the octets that its
+    /// length counts. `usize::MAX` where the walk stopped inside it.
     pub end: usize,
 }
 

@@ -1,5 +1,6 @@
 //! The walk.
 ghost use Rattle.std.specs.Prelude.{◌≡◌, ◌<◌, ◌≤◌, ◌-◌, ◌^◌, ◌&&◌, false, IfOk, Ok, Err, length, drop, get_or, min};
+ghost use Rattle.asn1_core.specs.Octets.{Octets};
 ghost use Rattle.oer_leaf_read.specs.Views.{bits_left};
 ghost use Rattle.oer_spec.specs.Reading.{Gives};
 ghost use Rattle.oer_walk.specs.Described.{TakesEncodings};
@@ -99,9 +100,18 @@ fn next_bit(bits: BitSlice<'_>) -> (bool, BitSlice<'_>)
     }
 }
 
-/// The node of a part that ends there.
-fn whole_node(table: Table<'_>, place: Place, start: usize, content: usize, left: &[u8]) -> Node
-    ensures { result ≡ node_of table.entry.words.now place start (Ok (content, left.now)) }
+/// What is in a part: where its content begins, where that ends, and what is behind the part. In an open type the content may end
+/// before the part does: lenient reading passes over what is left.
+#[derive(Clone, Copy)]
+struct Extent<'a> {
+    content: usize,
+    end: usize,
+    after: &'a [u8],
+}
+
+/// The node of a part whose content is there.
+fn whole_node(table: Table<'_>, place: Place, start: usize, content: usize, end: usize) -> Node
+    ensures { (rest : Octets) → result ≡ node_of table.entry.words.now place start (Ok (content, end, rest)) }
 {
     Node {
         name: place.name,
@@ -111,7 +121,7 @@ fn whole_node(table: Table<'_>, place: Place, start: usize, content: usize, left
         around: place.around,
         start,
         content,
-        end: place.end.saturating_sub(left.len()),
+        end,
     }
 }
 
@@ -154,13 +164,13 @@ fn walk_part<'a>(
     }
     *count = node + 1;
     match walk_within(table, place, levels, rest, &mut *count, &mut *room) {
-        Ok((content, after)) => {
+        Ok(extent) => {
             put(
                 &mut *room,
                 node,
-                whole_node(table, place, start, content, after),
+                whole_node(table, place, start, extent.content, extent.end),
             );
-            Ok(after)
+            Ok(extent.after)
         }
         Err(stop) => {
             put(&mut *room, node, cut_node(table, place, start));
@@ -169,7 +179,7 @@ fn walk_part<'a>(
     }
 }
 
-/// What is in a part whose node is the one before these: where its content begins, and what is behind it.
+/// What is in a part whose node is the one before these.
 #[cycle(walks)]
 #[tactic(auto, unfolding(crate::specs::Walks::within_by))]
 fn walk_within<'a>(
@@ -179,16 +189,20 @@ fn walk_within<'a>(
     rest: &'a [u8],
     count: &mut usize,
     room: &mut [Node],
-) -> Result<(usize, &'a [u8]), Stop>
+) -> Result<Extent<'a>, Stop>
     requires { 0 < count.old }
-    ensures { IsWalk (λ x. (x.0, x.1.now)) result count.old count.new room.old room.new (within_by (value_at table.entry.words.now levels) table.entry.words.now place (count.old - 1) rest.now) }
+    ensures { IsWalk (λ x. (x.content, x.end, x.after.now)) result count.old count.new room.old room.new (within_by (value_at table.entry.words.now levels) table.entry.words.now place (count.old - 1) rest.now) }
 {
     let scope = place.scope(*count - 1, place.end.saturating_sub(rest.len()));
     if place.is_open {
-        walk_open(table, scope, levels, rest, &mut *count, &mut *room)
-    } else {
-        walk_value(table, scope, levels, rest, &mut *count, &mut *room)
+        return walk_open(table, scope, levels, rest, &mut *count, &mut *room);
     }
+    let (content, after) = walk_value(table, scope, levels, rest, &mut *count, &mut *room)?;
+    Ok(Extent {
+        content,
+        end: scope.end.saturating_sub(after.len()),
+        after,
+    })
 }
 
 /// The octets behind a length at the front; what is behind the length; and what is behind the octets.
@@ -201,8 +215,7 @@ fn read_open(rest: &[u8]) -> Result<(&[u8], &[u8], &[u8]), DecodeErrorKind>
     Ok((octets, behind, after))
 }
 
-/// An open type: a length, and a value in so many octets (X.696, 30); octets if the table doesn't have its type. Answers where
-/// the value's content begins, and what is behind the open type.
+/// An open type: a length, and a value in so many octets (X.696, 30); octets if the table doesn't have its type.
 #[cycle(walks)]
 #[tactic(auto, unfolding(crate::specs::Walks::open_by, crate::specs::Walks::open_content))]
 fn walk_open<'a>(
@@ -212,16 +225,22 @@ fn walk_open<'a>(
     rest: &'a [u8],
     count: &mut usize,
     room: &mut [Node],
-) -> Result<(usize, &'a [u8]), Stop>
-    ensures { IsWalk (λ x. (x.0, x.1.now)) result count.old count.new room.old room.new (open_by (value_at table.entry.words.now levels) table.entry.words.now scope count.old rest.now) }
+) -> Result<Extent<'a>, Stop>
+    ensures { IsWalk (λ x. (x.content, x.end, x.after.now)) result count.old count.new room.old room.new (open_by (value_at table.entry.words.now levels) table.entry.words.now scope count.old rest.now) }
 {
     match read_open(rest) {
         Ok((octets, behind, after)) => {
+            let end = scope.end.saturating_sub(after.len());
             if table.form_of(scope.type_number).is_nothing() {
-                return Ok((scope.end.saturating_sub(behind.len()), after));
+                let content = scope.end.saturating_sub(behind.len());
+                return Ok(Extent {
+                    content,
+                    end,
+                    after,
+                });
             }
-            let inner = scope.up_to(scope.end.saturating_sub(after.len()));
-            let (content, _left) = walk_value(
+            let inner = scope.up_to(end);
+            let (content, left) = walk_value(
                 table,
                 inner,
                 levels,
@@ -229,7 +248,11 @@ fn walk_open<'a>(
                 &mut *count,
                 &mut *room,
             )?;
-            Ok((content, after))
+            Ok(Extent {
+                content,
+                end: end.saturating_sub(left.len()),
+                after,
+            })
         }
         Err(kind) => Err(scope.stop(kind)),
     }

@@ -79,8 +79,18 @@ fn bits_leaf(alloc: Global, tables: &Tables, node: Node, octets: &[u8]) -> Resul
         .len()
         .saturating_mul(8)
         .saturating_sub(usize::from(*unused));
-    let names = names_of(alloc, tables, node, rest)?;
-    Ok(Leaf::Bits(count, hex_of(alloc, rest)?, names))
+    let names = names_of(alloc, tables, node, rest, count)?;
+    Ok(Leaf::Bits(count, bits_in_hex(alloc, rest, count)?, names))
+}
+
+/// So many bits in hexadecimal, with zeros behind them: lenient reading takes any unused bits.
+fn bits_in_hex(alloc: Global, octets: &[u8], count: usize) -> Result<String> {
+    let mut bits = Vec::from_slice(alloc, octets)?;
+    if let Some(last) = bits.last_mut() {
+        let unused = (8 - count % 8) % 8;
+        *last = *last >> unused << unused;
+    }
+    hex_of(alloc, bits.as_slice())
 }
 
 /// Whether a bit is set, counted from the highest of the first octet.
@@ -91,12 +101,18 @@ fn is_set(octets: &[u8], bit: usize) -> bool {
     }
 }
 
-/// The names of the bits that are set, with commas between them.
-fn names_of(alloc: Global, tables: &Tables, node: Node, octets: &[u8]) -> Result<String> {
+/// The names of those of so many bits that are set, with commas between them.
+fn names_of(
+    alloc: Global,
+    tables: &Tables,
+    node: Node,
+    octets: &[u8],
+    count: usize,
+) -> Result<String> {
     let mut names = String::new(alloc);
     for it in tables.values.iter() {
         let bit = usize::try_from(it.number).unwrap_or(usize::MAX);
-        if it.type_number == node.type_number && is_set(octets, bit) {
+        if it.type_number == node.type_number && bit < count && is_set(octets, bit) {
             if !names.is_empty() {
                 names.push_str(", ")?;
             }
@@ -209,9 +225,10 @@ pub fn leaf_of(alloc: Global, tables: &Tables, node: Node, octets: &[u8]) -> Res
         Some(Kind::Integer) => number_leaf(alloc, tables, node, octets, word(0) == 1),
         Some(Kind::Enumerated) => enumerated_leaf(alloc, tables, node, octets),
         Some(Kind::FixedBitString) => {
-            let names = names_of(alloc, tables, node, octets)?;
-            let digits = hex_of(alloc, octets)?;
-            Ok(Leaf::FixedBits(word(0) as usize, digits, names))
+            let count = word(0) as usize;
+            let names = names_of(alloc, tables, node, octets, count)?;
+            let digits = bits_in_hex(alloc, octets, count)?;
+            Ok(Leaf::FixedBits(count, digits, names))
         }
         Some(Kind::BitString | Kind::NamedBitString) => { bits_leaf(alloc, tables, node, octets) }
         Some(Kind::FixedString) => octets_leaf(alloc, octets, string_kind(1)),

@@ -61,12 +61,12 @@ walk_known-returns t c =
 
 pub walk_part-returns-in-Ok : goal.walk_part-returns-in-Ok
 walk_part-returns-in-Ok t c =
-    part_walked c.args.table.words.now c.args.levels (λ (x : ℕ × Bor (List ℕ)). (x.0, x.1.now)) (λ (x : Bor (List ℕ)). x.now) c.walk_within.result (c.in-Ok.content, c.in-Ok.after) c.in-Ok.after c.args.place c.args.count.now _ (c.args.count.now + 1 - 1) _ _ _ c.args.rest.now c.whole_node.result
-    (omega arith) (omega arith) c.in-Ok.is refl (c.whole_node.ensures ∙ ap (λ (z : ℕ). node_of c.args.table.words.now c.args.place z (Ok (c.in-Ok.content, c.in-Ok.after.now))) c.saturating_sub-start.ensures) c.put.ensures c.walk_within.ensures
+    part_walked c.args.table.words.now c.args.levels (λ x. (x.content, x.end, x.after.now)) (λ (x : Bor (List ℕ)). x.now) c.walk_within.result c.in-Ok.extent c.in-Ok.extent.after c.args.place c.args.count.now _ (c.args.count.now + 1 - 1) _ _ _ c.args.rest.now c.whole_node.result
+    (omega arith) (omega arith) c.in-Ok.is refl (c.whole_node.ensures c.in-Ok.extent.after.now ∙ ap (λ (z : ℕ). node_of c.args.table.words.now c.args.place z (Ok (c.in-Ok.extent.content, c.in-Ok.extent.end, c.in-Ok.extent.after.now))) c.saturating_sub-start.ensures) c.put.ensures c.walk_within.ensures
 
 pub walk_part-returns-in-Err : goal.walk_part-returns-in-Err
 walk_part-returns-in-Err t c =
-    part_cut c.args.table.words.now c.args.levels (λ (x : ℕ × Bor (List ℕ)). (x.0, x.1.now)) (λ (x : Bor (List ℕ)). x.now) c.walk_within.result c.in-Err.stop c.args.place c.args.count.now _ (c.args.count.now + 1 - 1) _ _ _ c.args.rest.now c.cut_node.result
+    part_cut c.args.table.words.now c.args.levels (λ x. (x.content, x.end, x.after.now)) (λ (x : Bor (List ℕ)). x.now) c.walk_within.result c.in-Err.stop c.args.place c.args.count.now _ (c.args.count.now + 1 - 1) _ _ _ c.args.rest.now c.cut_node.result
     (omega arith) (omega arith) c.in-Err.is (c.cut_node.ensures c.in-Err.stop ∙ ap (λ (z : ℕ). node_of c.args.table.words.now c.args.place z (Err c.in-Err.stop)) c.saturating_sub-start.ensures) c.put-in-Err.ensures c.walk_within.ensures
 
 pub walk_unknown-returns-in_err-rest : goal.walk_unknown-returns-in_err-rest
