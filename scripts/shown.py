@@ -26,7 +26,7 @@ ABSENT = "oershow: NoModule: absent.asn: No such file or directory (os error 2)\
 
 # modules, and their tables: an addition in a group of a CHOICE; a choice without a tag in another; a SET, whose root is in the order of
 # tags, with a group, and an addition, which may always be absent; lists; names of numbers that a type has from the one that it is a name
-# of; defaults, with words in them that stand in lists of layouts too; one with parts, which go by their names in the table; named bits of a
+# of; defaults, with words in them that stand in lists of layouts too; ones with parts, which go by their names in the table, also where two names are one in Rust; named bits of a
 # fixed size and of others, with as many 0 bits in defaults as the least size wants
 TABLES = (
     (
@@ -83,6 +83,13 @@ TABLES = (
         ("c_d", "r_type", "a_b"),
         ("C", "B", "A", "NULL"),
         ('default 2 0 {"r_type": {"c_d": null}}',),
+    ),
+    (
+        "A ::= SEQUENCE { x B DEFAULT { a-b 1, aB 2 } } B ::= SEQUENCE { a-b INTEGER (0..9), aB INTEGER (0..9) }",
+        "words 4 5 15 22 25 11 0 2 0 0 0 2 1 0 3 11 0 1 0 2 1 0 2 1 0 2 1 0",
+        ("a_b", "a_b_", "x"),
+        ("B", "A", "INTEGER", "INTEGER"),
+        ("range 2 0 9", "range 3 0 9", 'default 1 0 {"a_b": 1, "a_b_": 2}'),
     ),
     (
         "B ::= BIT STRING { x(1), y(9) } A ::= SEQUENCE { a B DEFAULT '1000'B, b B (SIZE(4..12)) DEFAULT {x}, c B (SIZE(8)) }",

@@ -6,6 +6,7 @@ mod types_02;
 mod types_03;
 mod types_04;
 mod types_05;
+mod types_06;
 pub mod values;
 
 pub use types_01::{
@@ -27,4 +28,8 @@ pub use types_04::{
 pub use types_05::{
     Extra, ExtraComponents, ExtraId, Extras, Setting, SettingComponents,
     SettingLastDefaultKindDefault, SettingMarkDefault, SettingRangeDefaultKindDefault,
+};
+pub use types_06::{
+    Wide, WideComponents, WideFromB31Slots, WideFromB31Values, WideFromB31View, WideFromB32Slots,
+    WideFromB32Values, WideFromB32View,
 };

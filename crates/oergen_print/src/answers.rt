@@ -1,11 +1,11 @@
-//! What the prover is told of `put` of the enums of a CHOICE: how each variant is written.
+//! What the prover is told: of `put` of the enums of a CHOICE, how each variant is written; of a piece of a long row, what its structs hold.
 
 use crate::chains::{HOLDING, PART};
 use crate::knots::knot_name;
 use crate::objects::objects_of;
 use crate::part_names::variant_names;
 use crate::parts::push_part_name;
-use crate::templates::{PART_ANSWER, PUT_ANSWER};
+use crate::templates::{HELD_READ_ANSWER, HELD_TAKEN_ANSWER, PART_ANSWER, PUT_ANSWER};
 use crate::text::{Text, Words};
 use oergen_layouts::definitions::{Definition, Part};
 use oergen_layouts::rows::Position;
@@ -16,12 +16,24 @@ use std::alloc::{AllocError, Global};
 /// Of how many alternatives of a CHOICE in a cycle the prover finds itself how `put` writes them: the tenth it doesn't.
 const MAX_FOUND: usize = 9;
 
-/// The answers for `put` of an enum.
+/// The answers for a function of an impl.
 #[derive(Drop)]
 pub struct Answers {
-    /// The name of its impl, as proofs have it.
+    /// The name of the impl, as proofs have it.
     pub name: Text,
+    pub function: &'static str,
     pub text: Text,
+}
+
+impl Answers {
+    /// The answers for `put` of an enum.
+    fn of_put(name: Text, text: Text) -> Answers {
+        Answers {
+            name,
+            function: "put",
+            text,
+        }
+    }
 }
 
 /// Answers by a template, one for each name, of which the first ones have none: nor has a single one, of which the prover asks nothing.
@@ -68,7 +80,7 @@ fn push_part_answers(
         let mut variant = Text::new(alloc);
         push_part_name(&mut variant, "", parts.len());
         let text = filled(alloc, PUT_ANSWER, part, 0);
-        answers.push(Answers { name, text })?;
+        answers.push(Answers::of_put(name, text))?;
         parts.push(variant)?;
     }
     Ok(())
@@ -96,7 +108,7 @@ fn choice_answers(
         }
         filled(alloc, PUT_ANSWER, roots.as_slice(), found)
     };
-    answers.push(Answers { name, text })?;
+    answers.push(Answers::of_put(name, text))?;
     Ok(answers)
 }
 
@@ -126,4 +138,32 @@ pub fn answers_of(
         additions,
         found,
     )
+}
+
+/// The name of the piece of a long row whose places a line of its impls names: of another line none.
+fn held_name(line: &str) -> Option<&str> {
+    let held = line.strip_prefix("    type Slots = ")?;
+    let name = held.strip_suffix("Slots;")?;
+    if name.contains("<") { None } else { Some(name) }
+}
+
+/// Puts what the prover is told of the pieces of a long row behind other answers: of those that structs hold in the text of a type.
+pub fn push_held_answers(
+    alloc: Global,
+    text: &str,
+    answers: &mut Vec<Answers>,
+) -> Result<(), AllocError> {
+    for name in text.split('\n').filter_map(held_name) {
+        answers.push(Answers {
+            name: Text::of(alloc, &[name, "Slotted"]),
+            function: "taken",
+            text: Text::of(alloc, &[HELD_TAKEN_ANSWER]),
+        })?;
+        answers.push(Answers {
+            name: Text::of(alloc, &[name, "Reads"]),
+            function: "read",
+            text: Text::of(alloc, &[HELD_READ_ANSWER]),
+        })?;
+    }
+    Ok(())
 }

@@ -1,12 +1,16 @@
 //! The row of a type, in pieces of few cells each.
 
 use crate::cells::Cell;
-use crate::templates::{PIECE, PIECE_IMPLS};
+use crate::templates::{HELD_PIECE, HELD_PIECE_IMPLS, PIECE, PIECE_IMPLS};
 use crate::text::{Text, Words};
 use std::alloc::Global;
 
 /// How many cells stand in an alias: a longer one is indented too far to be read.
 const CELLS: usize = 5;
+
+/// How many cells of a row stand in one another at most, but for their tables: past some more the borrow checker doesn't cover what holds
+/// their values. A multiple of `CELLS`.
+pub const NESTED: usize = 30;
 
 /// How many characters a line has at most.
 const WIDTH: usize = 100;
@@ -79,6 +83,22 @@ impl<'c> Chain<'c> {
     /// Whether the row is one of parts: that of a CHOICE of many alternatives.
     pub fn has_parts(&self) -> bool {
         self.is_choice && self.cells.len() > FLAT
+    }
+
+    /// Whether what stands from a cell of a long row on is held by structs of its own: past so many cells of the root, and past it.
+    pub fn is_held_from(&self, at: usize) -> bool {
+        let is_long = !self.is_choice && self.knot.is_none() && self.cells.len() > NESTED;
+        let is_last = at == self.root_count && at < self.cells.len();
+        let is_full = at < self.root_count && at % NESTED == 0;
+        is_long && at != 0 && (is_last || is_full)
+    }
+
+    /// Appends the name of the row from a cell on.
+    pub fn push_rest(&self, out: &mut Text, at: usize) {
+        if let Some(cell) = self.cells.get(at) {
+            out.push_all(&[self.owner, "From"]);
+            out.push_text(&cell.camel);
+        }
     }
 
     /// Whether the enum of the CHOICE holds the parts, in place of the alternatives.
@@ -181,13 +201,11 @@ pub struct Span {
 fn name_in(alloc: Global, of: Chain<'_>, span: Span, at: usize, otherwise: &Text) -> Text {
     let behind = of.cells.get(at..).unwrap_or(&[]);
     let mut name = Text::new(alloc);
-    match behind.first() {
-        Some(cell) if span.from < at && at < span.to => {
-            name.push_all(&[of.owner, "From"]);
-            name.push_text(&cell.camel);
-            push_parameter(&mut name, behind);
-        }
-        _ => name.push_text(otherwise),
+    if span.from < at && at < span.to {
+        of.push_rest(&mut name, at);
+        push_parameter(&mut name, behind);
+    } else {
+        name.push_text(otherwise);
     }
     name
 }
@@ -197,16 +215,22 @@ fn has_pieces(of: Chain<'_>, span: Span) -> bool {
     !of.is_choice && of.knot.is_none() && span.to <= of.root_count
 }
 
-/// Prints a piece of a row as a type, with the alias of its own cells.
-fn push_piece(out: &mut Text, of: Chain<'_>, name: &Text, cells: &[Cell], end: &Text) {
+/// Prints a piece of a row as a type, with the alias of its own cells, from one on.
+fn push_piece(out: &mut Text, of: Chain<'_>, name: &Text, from: usize, cells: &[Cell], end: &Text) {
     let alloc = out.alloc();
+    let (held, impls) = if of.is_held_from(from) {
+        (HELD_PIECE, HELD_PIECE_IMPLS)
+    } else {
+        ("", PIECE_IMPLS)
+    };
     let mut words = Words::new(alloc);
     words.put("NAME", name.as_str());
     words.put("EXT", if of.is_extensible { "true" } else { "false" });
     out.fill(PIECE, &words);
     let row = Text::of(alloc, &[name.as_str(), "Row"]);
     push_alias(alloc, out, &row, cells, end);
-    out.fill(PIECE_IMPLS, &words);
+    out.fill(held, &words);
+    out.fill(impls, &words);
 }
 
 /// Prints cells in aliases of few, of which the first is named, with `end` behind the last cell.
@@ -224,7 +248,7 @@ pub fn push_aliases(out: &mut Text, of: Chain<'_>, span: Span, first: &Text, end
             push_doc(out, of, part);
         }
         if number != 0 && has_pieces(of, span) {
-            push_piece(out, of, &own, part, &end);
+            push_piece(out, of, &own, start, part, &end);
         } else {
             push_alias(alloc, out, &own, part, &end);
         }
@@ -256,12 +280,19 @@ fn end_of_roots(alloc: Global, of: Chain<'_>) -> Text {
 /// Prints the row of a type, `OWNERRow`: what stands in its root, and behind that its additions.
 pub fn push_row(alloc: Global, out: &mut Text, of: Chain<'_>) {
     let row = named(alloc, of.owner, "Row", of.cells);
-    let end = end_of_roots(alloc, of);
     let roots = Span {
         from: 0,
         to: of.roots().len(),
     };
-    push_aliases(out, of, roots, &row, &end);
+    if of.is_held_from(roots.to) {
+        let mut rest = Text::new(alloc);
+        of.push_rest(&mut rest, roots.to);
+        push_aliases(out, of, roots, &row, &rest);
+        push_doc(out, of, of.additions());
+        push_piece(out, of, &rest, roots.to, &[], &end_of_roots(alloc, of));
+    } else {
+        push_aliases(out, of, roots, &row, &end_of_roots(alloc, of));
+    }
     if !of.additions().is_empty() {
         let name = named(alloc, of.owner, "Additions", of.additions());
         let end = named(alloc, "End", "", &[]);

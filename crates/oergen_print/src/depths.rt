@@ -1,6 +1,6 @@
 //! How deep the structs, enums, tuples and references of printed types stand in one another: the language refuses more than 64.
 
-use crate::chains::{FLAT, HOLDING, PART};
+use crate::chains::{FLAT, HOLDING, NESTED, PART};
 use crate::choices::ALTERNATIVES;
 use crate::sequences::{in_text_order, root_places};
 use crate::shapes::{drops_zeros, number_of_octets, sizes_of};
@@ -37,6 +37,9 @@ const KEPT: usize = 7;
 
 /// What stands around a component where a row is written: the reference to all of them, and its own.
 const VIEW: usize = 2;
+
+/// The structs that hold the rest of a long row: one behind so many cells, and one behind the root.
+const HELD: usize = 2;
 
 /// What stands around a value that a call answers with what is left behind it.
 const ANSWER: usize = 2;
@@ -100,9 +103,10 @@ impl Row {
     /// The depth of a type of that row: a struct of the library around a struct or an enum.
     fn depth(self) -> Depth {
         let whole = Depth::of(self.own.saturating_add(2));
+        let held = if self.count > NESTED { HELD } else { 0 };
         Depth {
             own: whole.own,
-            within: whole.within.max(self.within),
+            within: whole.within.max(self.within.saturating_add(held)),
             cells: self.most,
         }
     }

@@ -1,4 +1,4 @@
-//! The files beside a crate's types: definitions and proofs of those that contain themselves, and answers of wide CHOICEs.
+//! The files beside a crate's types: definitions and proofs of those that contain themselves, and answers of wide CHOICEs and long rows.
 
 use crate::answers::Answers;
 use crate::knot_templates::ANSWERS;
@@ -51,7 +51,7 @@ fn proof_file(alloc: Global, place: (&str, &str), knot: &Knot) -> Result<File, A
     File::at(alloc, &path, text.end()?)
 }
 
-/// Puts the files of the answers of what writes a CHOICE behind others: none where there are no answers.
+/// Puts the files of answers behind others: none where there are no answers.
 fn push_answer_files(
     alloc: Global,
     files: &mut Vec<File>,
@@ -60,14 +60,19 @@ fn push_answer_files(
 ) -> Result<(), AllocError> {
     let (library, module) = place;
     for one in answers.iter() {
-        let name = one.name.as_str();
+        let (name, function) = (one.name.as_str(), one.function);
         let front = ["use Rattle.", library, ".proofs.", module, ".", name];
         let mut text = Text::of(alloc, &front);
-        text.push(".put.Goals as goal\n");
+        text.push(".");
+        text.push(function);
+        text.push(".Goals as goal\n");
         text.push_text(&one.text);
-        let path = [library, "/proofs/", module, "/", name, "/put/Answers.antt"];
+        let mut path = Text::of(alloc, &[library, "/proofs/", module, "/", name, "/"]);
+        path.push(function);
+        path.push("/Answers.antt");
+        let path = path.end()?;
         if !one.text.is_empty() || !one.text.is_whole() {
-            files.push(File::at(alloc, &path, text.end()?)?)?;
+            files.push(File::at(alloc, &[path.as_str()], text.end()?)?)?;
         }
     }
     Ok(())

@@ -1,7 +1,7 @@
 //! All types in order of use, each printed or left out.
 ghost use Rattle.std.specs.Prelude.{◌≡◌, ◌+◌, [], Err, false, IfOk, length};
 
-use crate::answers::{Answers, answers_of};
+use crate::answers::{Answers, answers_of, push_held_answers};
 use crate::choices::push_choice;
 use crate::cycles::{again, require_cycle, run_of};
 use crate::depths::{Depth, depths_of, require_depth};
@@ -60,7 +60,7 @@ pub struct Printed {
     pub weights: Weights,
     /// What they have of it as their knot, which is the last of its cycle.
     pub knot: Option<Knot>,
-    /// The answers of what writes a CHOICE, where the prover asks for them.
+    /// The answers that the prover asks for.
     pub answers: Vec<Answers>,
     /// Whether values of it have octets: it is no set of objects.
     pub is_coded: bool,
@@ -396,6 +396,8 @@ fn print_one<'m>(
         text = with_clone(scope.alloc, text.as_str())?;
     }
     let names = shown_names(scope.alloc, text.as_str())?;
+    let mut answers = answers_of(scope, all, definition)?;
+    push_held_answers(scope.alloc, text.as_str(), &mut answers)?;
     Ok(Printed {
         name: definition.rust_name.clone()?,
         text,
@@ -403,7 +405,7 @@ fn print_one<'m>(
         cycle: definition.cycle.map(|cycle| cycle.number),
         weights: weights_of(scope, all, definition)?,
         knot: knot_of(scope.alloc, all, definition)?,
-        answers: answers_of(scope, all, definition)?,
+        answers,
         is_coded: objects_of(scope, definition).is_none(),
     })
 }

@@ -58,22 +58,47 @@ fn push_fields(out: &mut Text, of: Chain<'_>) {
     out.heed(&fields);
 }
 
-/// The names of the fields, a line each.
-fn push_list(out: &mut Text, cells: &[Cell]) {
-    for (index, cell) in cells.iter().enumerate() {
-        let between = if index == 0 { "" } else { ",\n" };
-        out.push_all(&[between, "            ", cell.field.as_str()]);
+/// The structs that hold the rest of a row from a cell on, of its values and of references to them, a line by themselves.
+fn push_holders(out: &mut Text, of: Chain<'_>, at: usize) {
+    let mut rest = Text::new(out.alloc());
+    of.push_rest(&mut rest, at);
+    let rest = rest.as_str();
+    out.push_all(&[";\n            ", rest, "Values ", rest, "View:\n"]);
+}
+
+/// The names of the fields, a line each, with the structs that hold those of a long row.
+fn push_list(out: &mut Text, of: Chain<'_>) {
+    for (index, cell) in of.cells.iter().enumerate() {
+        if of.is_held_from(index) {
+            push_holders(out, of, index);
+        } else if index != 0 {
+            out.push(",\n");
+        }
+        out.push_all(&["            ", cell.field.as_str()]);
+    }
+}
+
+/// What ends the pairs of a value's fields but the first, the last one first.
+fn push_ends(out: &mut Text, of: Chain<'_>) {
+    let count = of.cells.len();
+    for passed in 1..count {
+        let index = count.saturating_sub(passed);
+        out.push(if of.is_held_from(index) { " })" } else { ")" });
     }
 }
 
 /// A value's fields, one behind another as a row has them.
-fn push_pairs(out: &mut Text, cells: &[Cell]) {
-    for (index, cell) in cells.iter().enumerate() {
-        let both = if index == 0 { "both v." } else { "(both v." };
-        out.push_all(&[both, cell.field.as_str(), " "]);
+fn push_pairs(out: &mut Text, of: Chain<'_>) {
+    for (index, cell) in of.cells.iter().enumerate() {
+        if of.is_held_from(index) {
+            out.push("(record { 0 = both v.");
+        } else {
+            out.push(if index == 0 { "both v." } else { "(both v." });
+        }
+        out.push_all(&[cell.field.as_str(), " "]);
     }
     out.push("tt");
-    out.push_times(")", cells.len().saturating_sub(1));
+    push_ends(out, of);
 }
 
 /// Components as a table of the library has them, a line each, and what begins its lines.
@@ -155,8 +180,8 @@ fn words_of(alloc: Global, doc: &str, of: Chain<'_>, is_set: bool) -> Words {
     words.begin("RC").push_count(of.roots().len());
     words.begin("EC").push_count(of.additions().len());
     push_fields(words.begin("FIELDS"), of);
-    push_pairs(words.begin("PAIRS"), of.cells);
-    push_list(words.begin("LIST"), of.cells);
+    push_pairs(words.begin("PAIRS"), of);
+    push_list(words.begin("LIST"), of);
     push_table(words.begin("ROOTS"), of, "COMPONENTS", of.roots());
     push_additions(words.begin("ADDITIONS"), of);
     put_table_names(&mut words, of);

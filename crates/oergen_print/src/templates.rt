@@ -114,6 +114,84 @@ impl<'v> Views<'v> for @NAME@ {
 
 "#;
 
+/// What holds a piece of a long row: a struct of its values, one of its places, and one of references to its values. So what holds the
+/// whole row has fewer types in one another.
+pub const HELD_PIECE: &str = r#"/// The values of `@NAME@`.
+#[derive(Drop)]
+pub struct @NAME@Values(pub <@NAME@Row as Components>::Values);
+
+/// The places of `@NAME@`.
+#[derive(Drop)]
+pub struct @NAME@Slots(pub <@NAME@Row as Slotted>::Slots);
+
+/// References to the values of `@NAME@`.
+#[derive(Drop)]
+pub struct @NAME@View<'v>(pub <@NAME@Row as Views<'v>>::View);
+
+"#;
+
+/// What such a piece is by the row of its components.
+pub const HELD_PIECE_IMPLS: &str = r#"impl Components for @NAME@ {
+    ghost use Rattle.rasn_oer.specs.Schema.{through, through_is};
+
+    type Values = @NAME@Values;
+
+    ghost EXTENSIBLE = { ⟦<@NAME@Row as Components>⟧.EXTENSIBLE };
+
+    const EXTENSIBLE: bool = @EXT@;
+
+    ghost schema = { through (λ v. v.0) ⟦<@NAME@Row as Components>⟧.schema };
+
+    ghost is_schema = { through_is (λ v. v.0) ⟦<@NAME@Row as Components>⟧.schema ⟦<@NAME@Row as Components>⟧.EXTENSIBLE ⟦<@NAME@Row as Components>⟧.is_schema };
+}
+
+impl Slotted for @NAME@ {
+    ghost use Rattle.std.proofs.Common.{ap};
+
+    type Slots = @NAME@Slots;
+
+    ghost filled = { λ v. record { 0 = ⟦<@NAME@Row as Slotted>⟧.filled v.0 } };
+
+    ghost filled_once = { λ v w e. ap (λ z. record { 0 = z }) (⟦<@NAME@Row as Slotted>⟧.filled_once v.0 w.0 (ap (λ z. z.0) e)) };
+
+    #[inline(always)]
+    fn empty() -> Self::Slots {
+        @NAME@Slots(@NAME@Row::empty())
+    }
+
+    #[inline(always)]
+    fn taken(slots: Self::Slots) -> Self::Values {
+        let @NAME@Slots(slots) = slots;
+        @NAME@Values(@NAME@Row::taken(slots))
+    }
+}
+
+impl Reads for @NAME@ {
+    ghost Refuses = { ⟦<@NAME@Row as Reads>⟧.Refuses };
+
+    #[inline(always)]
+    fn read(
+        alloc: Global,
+        decoder: &mut Decoder<'_>,
+        slots: &mut Self::Slots,
+    ) -> Result<(), DecodeError> {
+        <@NAME@Row as Reads>::read(alloc, decoder, &mut slots.0)
+    }
+}
+
+impl<'v> Views<'v> for @NAME@ {
+    type View = @NAME@View<'v>;
+
+    ghost seen = { λ v. record { 0 = ⟦<@NAME@Row as Views<'v>>⟧.seen v.0 } };
+
+    #[inline(always)]
+    fn write(view: &Self::View, encoder: &mut Encoder<'_>) -> Result<(), EncodeError> {
+        @NAME@Row::write(&view.0, encoder)
+    }
+}
+
+"#;
+
 /// The tables of components, and how they are written. Those of what holds knots are constants of the module, since no constant of a
 /// generic impl is known to the check.
 pub const TABLES: &str = r#"@CONSTANTS@impl@WRITES@ Tabled<@RC@, @EC@> for @NAME@Components@K@ {
@@ -351,6 +429,21 @@ returns-in-@VARIANT@ g c = rw c.in-@VARIANT@.is c.put@IN@.ensures
 pub const PUT_ANSWER: &str = r#"
 pub returns-in-@VARIANT@ : goal.returns-in-@VARIANT@
 returns-in-@VARIANT@ g c = rw c.in-@VARIANT@.is (rw c.tag@IN@.ensures at c.put_alternative@IN@.ensures)
+"#;
+
+/// The answer of what takes the values out of the places of a piece of a long row.
+pub const HELD_TAKEN_ANSWER: &str = r#"use Rattle.std.proofs.Common.{ap}
+
+pub taken-requires : goal.taken-requires
+taken-requires c = (c.requires.0.0, ap (λ z. z.0) c.requires.1)
+"#;
+
+/// The answer of what reads them.
+pub const HELD_READ_ANSWER: &str = r#"use Rattle.std.proofs.Common.{ap}
+use Rattle.std.proofs.lemmas.Result.{on_ok_weaker}
+
+pub returns-clause-read : goal.returns-clause-read
+returns-clause-read c = on_ok_weaker c.read.result (λ x. (record { 0 = x.0 }, ap (λ z. record { 0 = z }) x.1, x.2, x.3, x.4)) c.read.ensures.read
 "#;
 
 /// An ENUMERATED, and the enum of its values.

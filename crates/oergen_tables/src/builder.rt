@@ -5,7 +5,7 @@ use crate::forms::{Entry, Form, Table};
 use crate::leaves::{enumerated_form, leaf_form, plain_name};
 use crate::rows::{Addition, Field, choice_form, ordered, sequence_form};
 use oer_walk::Kind;
-use oergen_layouts::definitions::{Definition, Part};
+use oergen_layouts::definitions::{Definition, Part, free_name};
 use oergen_layouts::order::behind_names;
 use oergen_layouts::rows::{Position, Row};
 use oergen_layouts::scope::Scope;
@@ -192,10 +192,10 @@ impl<'m, 'a, 'd> Builder<'m, 'a, 'd> {
         Ok(number)
     }
 
-    /// A component or an alternative.
-    fn field_of(&mut self, part: &Part<'m>, row: Row<'m>) -> Result<Field, Refusal> {
+    /// A component or an alternative of that name.
+    fn field_of(&mut self, part: &Part<'m>, row: Row<'m>, name: &str) -> Result<Field, Refusal> {
         Ok(Field {
-            name: self.name_number(part.rust_name.as_str())?,
+            name: self.name_number(name)?,
             type_number: self.type_number(part, row.of)?,
             may_be_absent: may_be_absent(row),
             default_value: default_text(self.scope, row)?,
@@ -204,12 +204,15 @@ impl<'m, 'a, 'd> Builder<'m, 'a, 'd> {
         })
     }
 
-    /// The components or alternatives of a definition, in the order of its text.
+    /// The components or alternatives of a definition, in the order of its text: a name that one before has has a `_` behind it.
     fn fields_of(&mut self, parts: &[Part<'m>]) -> Result<Vec<Field>, Refusal> {
-        let mut fields = Vec::new(self.alloc());
+        let alloc = self.alloc();
+        let mut names = BTreeMap::new(alloc);
+        let mut fields = Vec::new(alloc);
         for part in parts.iter() {
             if let Some(row) = part.row {
-                fields.push(self.field_of(part, row)?)?;
+                let name = free_name(alloc, &mut names, part.rust_name.as_str())?;
+                fields.push(self.field_of(part, row, name.as_str())?)?;
             }
         }
         Ok(fields)

@@ -5,7 +5,7 @@ ghost use Rattle.hex.specs.Hex.{encode_upper};
 
 use crate::leaves::named_number;
 use oergen_layouts::bits::{drop_zeros, fill_up, literal_bits, packed};
-use oergen_layouts::definitions::rows_in;
+use oergen_layouts::definitions::{free_name, rows_in};
 use oergen_layouts::names::component_name;
 use oergen_layouts::numbers::{Spot, first_of, named, names_of, settled};
 use oergen_layouts::parts::{alternative_of, components_of, require_components, row_named};
@@ -17,6 +17,7 @@ use oergen_parse::ast::{Body, NamedValue, Need, Numbered, Simple, Type, Value};
 use oergen_parse::lexer::TokenId;
 use oergen_parse::refusal::Refusal;
 use std::alloc::{AllocError, Global};
+use std::collections::BTreeMap;
 
 /// How many values may stand in one another.
 const MAX_LEVELS: u32 = 64;
@@ -199,6 +200,21 @@ fn json_of_octets<'m>(scope: Scope<'m, '_>, value: &'m Value) -> Result<Option<S
     }
 }
 
+/// The name in the table of a component or an alternative among others, which `Builder` gives their fields too.
+fn name_in(scope: Scope<'_, '_>, rows: &[Row<'_>], row: Row<'_>) -> Result<String, AllocError> {
+    let alloc = scope.alloc;
+    let mut names = BTreeMap::new(alloc);
+    let mut name = String::new(alloc);
+    for one in rows.iter() {
+        let wanted = component_name(alloc, scope.text(one.name))?;
+        name = free_name(alloc, &mut names, wanted.as_str())?;
+        if one.name.index == row.name.index {
+            break;
+        }
+    }
+    Ok(name)
+}
+
 /// The values of named parts in JSON, by the components or the alternatives that they are of; nothing where one has no such text.
 #[cycle(values)]
 fn json_of_parts<'m>(
@@ -218,7 +234,7 @@ fn json_of_parts<'m>(
             return Ok(None);
         };
         let between = if at == 0 { "" } else { ", " };
-        let name = component_name(alloc, scope.text(row.name))?;
+        let name = name_in(scope, rows, row)?;
         text.push_str(format!(in alloc; "{between}\"{name}\": {value}")?.as_str())?;
     }
     text.push('}')?;

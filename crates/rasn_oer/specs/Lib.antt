@@ -4,6 +4,7 @@ pub mod Conversions
 pub mod Open
 -- what a type by its row names
 pub use Rattle.oer_rows.specs.Values as Values
+pub use Rattle.oer_rows.specs.Schema as Schema
 pub use Rattle.oer_choices.specs.declared.alternatives.Either.TheVariants as Alternative
 pub use Rattle.asn1_core.specs.declared.constraints.Bounded.TheVariants as Bounded
 -- what a type that contains itself names

@@ -32,26 +32,33 @@ macro_rules! rows_of {
     };
 }
 
-/// A row's values, one behind another: `pairs![a, b]` is `Both(a, Both(b, ()))`, as a pattern and as an expression.
+/// A row's values, one behind another: `pairs![a, b]` is `Both(a, Both(b, ()))`, as a pattern and as an expression. Where a struct holds
+/// the rest of a long row, `pairs![a; Rest: b]` is `Both(a, Rest(Both(b, ())))`.
 #[macro_export]
 macro_rules! pairs {
     () => { () };
-    ($first:ident $(, $rest:ident)*) => { $crate::Both($first, $crate::pairs![$($rest),*]) };
+    ($first:ident) => { $crate::Both($first, ()) };
+    ($first:ident, $($rest:tt)*) => { $crate::Both($first, $crate::pairs![$($rest)*]) };
+    ($first:ident; $held:ident: $($rest:tt)*) => { $crate::Both($first, $held($crate::pairs![$($rest)*])) };
 }
 
-/// References to the fields of a struct as a row has them: `views![self: a, b]` is `Both(&self.a, Both(&self.b, ()))`.
+/// References to the fields of a struct as a row has them: `views![self: a, b]` is `Both(&self.a, Both(&self.b, ()))`. Where structs hold
+/// the rest of a long row, `views![self: a; Values View: b]` is `Both(&self.a, View(Both(&self.b, ())))`.
 #[macro_export]
 macro_rules! views {
     ($of:ident:) => { () };
-    ($of:ident: $first:ident $(, $rest:ident)*) => { $crate::Both(&$of.$first, $crate::views![$of: $($rest),*]) };
+    ($of:ident: $first:ident) => { $crate::Both(&$of.$first, ()) };
+    ($of:ident: $first:ident, $($rest:tt)*) => { $crate::Both(&$of.$first, $crate::views![$of: $($rest)*]) };
+    ($of:ident: $first:ident; $values:ident $view:ident: $($rest:tt)*) => { $crate::Both(&$of.$first, $view($crate::views![$of: $($rest)*])) };
 }
 
-/// The struct of a row's values: `built![T from row: a, b]` is `T { a, b }`, each field by its name.
+/// The struct of a row's values: `built![T from row: a, b]` is `T { a, b }`, each field by its name. Where structs hold the rest of a long
+/// row, `built![T from row: a; Values View: b]` takes it out of `Values`.
 #[macro_export]
 macro_rules! built {
-    ($made:ident from $row:ident: $($name:ident),*) => {{
-        let $crate::pairs![$($name),*] = $row;
-        $made { $($name),* }
+    ($made:ident from $row:ident: $($name:ident),* $(; $values:ident $view:ident: $($more:ident),*)*) => {{
+        let $crate::pairs![$($name),* $(; $values: $($more),*)*] = $row;
+        $made { $($name,)* $($($more,)*)* }
     }};
 }
 

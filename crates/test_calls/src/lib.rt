@@ -20,6 +20,8 @@ mod lent;
 #[cfg(test)]
 mod limits;
 #[cfg(test)]
+mod long_rows;
+#[cfg(test)]
 mod messages;
 #[cfg(test)]
 mod octets;

@@ -1,0 +1,68 @@
+//! Octets by hand from X.696, of a sequence of more components than stand in one another.
+
+use crate::kept::{agree, only_lenient};
+use asn1_core::DecodeErrorKind;
+use example_recursive::{Wide, WideComponents};
+use rasn_oer::prelude::*;
+use std::test::Fail;
+
+/// A preamble, and 31 components, of which each other is TRUE.
+const ROOT: &[u8] = b"\x00\xff\x00\xff\x00\xff\x00\xff\x00\xff\x00\xff\x00\xff\x00\xff\
+    \x00\xff\x00\xff\x00\xff\x00\xff\x00\xff\x00\xff\x00\xff\x00\xff";
+
+/// The same with another TRUE at the end.
+const LENIENT: &[u8] = b"\x00\xff\x00\xff\x00\xff\x00\xff\x00\xff\x00\xff\x00\xff\x00\xff\
+    \x00\xff\x00\xff\x00\xff\x00\xff\x00\xff\x00\xff\x00\xff\x00\x01";
+
+/// The same, with an addition behind a bitmap.
+const EXTENDED: &[u8] = b"\x80\xff\x00\xff\x00\xff\x00\xff\x00\xff\x00\xff\x00\xff\x00\xff\
+    \x00\xff\x00\xff\x00\xff\x00\xff\x00\xff\x00\xff\x00\xff\x00\xff\
+    \x02\x07\x80\x01\xff";
+
+/// A sequence, of which each other component is TRUE.
+fn each_other(b32: Option<bool>) -> Wide {
+    Sequence(WideComponents {
+        b1: true,
+        b2: false,
+        b3: true,
+        b4: false,
+        b5: true,
+        b6: false,
+        b7: true,
+        b8: false,
+        b9: true,
+        b10: false,
+        b11: true,
+        b12: false,
+        b13: true,
+        b14: false,
+        b15: true,
+        b16: false,
+        b17: true,
+        b18: false,
+        b19: true,
+        b20: false,
+        b21: true,
+        b22: false,
+        b23: true,
+        b24: false,
+        b25: true,
+        b26: false,
+        b27: true,
+        b28: false,
+        b29: true,
+        b30: false,
+        b31: true,
+        b32,
+    })
+}
+
+#[test]
+fn long_rows_are_read_and_written(rt: HostRuntime) -> Result<(), Fail> {
+    let alloc = rt.alloc();
+    assert!(rt; agree(alloc, &each_other(None), ROOT)?);
+    assert!(rt; agree(alloc, &each_other(Some(true)), EXTENDED)?);
+    let kind = DecodeErrorKind::InvalidBool { value: 1 };
+    assert!(rt; only_lenient(alloc, &each_other(None), LENIENT, ROOT, kind)?);
+    Ok(())
+}
