@@ -271,28 +271,39 @@ class Comparison:
                     self.faults.append(f"{it.own}: {value} is written otherwise by the table")
 
 
-def main():
-    parser = argparse.ArgumentParser(usage=__doc__)
-    parser.add_argument("oergen")
-    parser.add_argument("oershow")
+def words_of(usage, count, usual):
+    """The words of a run: the paths of both programs, the seed, and how many of that."""
+    parser = argparse.ArgumentParser(usage=usage)
+    for program in ("oergen", "oershow"):
+        parser.add_argument(program, type=lambda it: pathlib.Path(it).resolve())
     parser.add_argument("--seed", type=int, default=1)
-    parser.add_argument("--defaults", type=int, default=8)
-    words = parser.parse_args()
+    parser.add_argument(count, type=int, default=usual)
+    return parser.parse_args()
+
+
+def told(name, what, faults, otherwise):
+    """Prints the first faults, and what was compared: the exit status."""
+    for fault in faults[:40]:
+        print(f"{name}: {fault}")
+    how = f"{len(faults)} faults" if faults else otherwise
+    print(f"{name}: {what}, {how}")
+    return 1 if faults else 0
+
+
+def main():
+    words = words_of(__doc__, "--defaults", 8)
     maker = Maker(words.seed)
     defaults = [maker.default() for _ in range(words.defaults)]
     with tempfile.TemporaryDirectory(prefix="defaults-") as name:
         tree = pathlib.Path(name)
         (tree / "m.asn").write_text("\n".join(["M DEFINITIONS AUTOMATIC TAGS ::= BEGIN", *maker.lines, "END\n"]), encoding="utf-8")
-        build(pathlib.Path(words.oergen).resolve(), tree)
-        comparison = Comparison(pathlib.Path(words.oershow).resolve(), tree)
+        build(words.oergen, tree)
+        comparison = Comparison(words.oershow, tree)
         for it in defaults:
             comparison.compare(it)
         comparison.driver.stdin.close()
-    for fault in comparison.faults[:40]:
-        print(f"random_defaults: {fault}")
-    how = f"{len(comparison.faults)} faults" if comparison.faults else "as they should be"
-    print(f"random_defaults: {len(defaults)} defaults and {comparison.tried} values beside them, {how}")
-    return 1 if comparison.faults else 0
+    what = f"{len(defaults)} defaults and {comparison.tried} values beside them"
+    return told("random_defaults", what, comparison.faults, "as they should be")
 
 
 if __name__ == "__main__":

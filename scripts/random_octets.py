@@ -9,7 +9,6 @@ each round a type's function canonicalises 300 random octet strings, of those th
 leniently, `oershow --json` has to show a value, which `--from-json` writes as the function does; additions that the table doesn't have
 are taken out. The same seed gives the same modules and octets.
 """
-import argparse
 import json
 import pathlib
 import random
@@ -21,7 +20,7 @@ sys.dont_write_bytecode = True
 sys.path.insert(0, str(pathlib.Path(__file__).resolve().parent))
 
 import random_modules  # noqa: E402
-from random_defaults import build  # noqa: E402
+from random_defaults import build, told, words_of  # noqa: E402
 
 # Octets that lengths, tags, quantities and preambles often are.
 LIKELY = (0, 0, 0, 1, 1, 1, 2, 2, 3, 4, 5, 8, 0x10, 0x20, 0x30, 0x40, 0x41, 0x7F, 0x80, 0x80, 0x81, 0x82, 0x83, 0x84, 0x85, 0xA0, 0xC0, 0xE0, 0xFF)
@@ -89,32 +88,23 @@ def faults_of(oershow, tree, of, read):
     again = lines_of([oershow, "--from-json", table, of], values)
     if not len(shown) == len(again) == len(read):
         return [f"{of}: {len(shown)} values and {len(again)} encodings of {len(read)} strings"]
-    rows = zip(read.items(), shown, again)
-    return [f"{of} of {octets.hex()}: {it}, written as {by_table}, and not {written}" for (octets, written), it, by_table in rows if by_table != written]
+    rows = [row for row in zip(read.items(), shown, again) if row[2] != row[0][1]]
+    return [f"{of} of {octets.hex()}: {it}, written as {by_table}, and not {written}" for (octets, written), it, by_table in rows]
 
 
 def main():
-    parser = argparse.ArgumentParser(usage=__doc__)
-    parser.add_argument("oergen")
-    parser.add_argument("oershow")
-    parser.add_argument("--seed", type=int, default=1)
-    parser.add_argument("--rounds", type=int, default=12)
-    words = parser.parse_args()
+    words = words_of(__doc__, "--rounds", 12)
     rng, faults, compared = random.Random(words.seed), [], 0
     with tempfile.TemporaryDirectory(prefix="octets-") as name:
         tree = pathlib.Path(name)
         (tree / "m.asn").write_text(random_modules.text(random.Random(f"{words.seed} 0")), encoding="utf-8")
-        types = build(pathlib.Path(words.oergen).resolve(), tree)
+        types = build(words.oergen, tree)
         for of in types:
             read = found(rng, tree, of, words.rounds)
             some = dict(rng.sample(sorted(read.items()), min(COMPARED, len(read))))
             compared += len(some)
-            faults += faults_of(pathlib.Path(words.oershow).resolve(), tree, of, some) if some else []
-    for fault in faults[:40]:
-        print(f"random_octets: {fault}")
-    how = f"{len(faults)} faults" if faults else "shown as they are read"
-    print(f"random_octets: {compared} values of {len(types)} types, {how}")
-    return 1 if faults else 0
+            faults += faults_of(words.oershow, tree, of, some) if some else []
+    return told("random_octets", f"{compared} values of {len(types)} types", faults, "shown as they are read")
 
 
 if __name__ == "__main__":

@@ -26,8 +26,8 @@ ABSENT = "oershow: NoModule: absent.asn: No such file or directory (os error 2)\
 
 # modules, and their tables: an addition in a group of a CHOICE; a choice without a tag in another; a SET, whose root is in the order of
 # tags, with a group, and an addition, which may always be absent; lists; names of numbers that a type has from the one that it is a name
-# of; defaults, with words in them that stand in lists of layouts too; ones with parts, which go by their names in the table, also where two names are one in Rust; named bits of a
-# fixed size and of others, with as many 0 bits in defaults as the least size wants
+# of; defaults, with words in them that stand in lists of layouts too; ones with parts, which go by their names in the table, also where
+# two names are one in Rust; named bits of a fixed size and of others, with as many 0 bits in defaults as the least size wants
 TABLES = (
     (
         "A ::= CHOICE { a NULL, ..., [[ b BOOLEAN ]] }",
