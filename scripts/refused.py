@@ -39,6 +39,11 @@ DEEP_CHOICE = (
 )
 DEEP_LISTS = "2:7: met 'SEQUENCE'; can read at most 40 lists directly inside one another"
 WIDE = "2:7: met 'SEQUENCE'; can read at most 50 components, and in a group as many: others aren't printed yet"
+WIDE_CYCLE = (
+    "2:7: met 'SEQUENCE'; can read at most 28 components of a type that contains itself, and in a group as many: "
+    "others aren't printed yet"
+)
+CYCLE_PRINTED = ("m: rasn_oer oer_write asn1_core\n", "", 0, None)
 
 # types with a size that is no word of a table, and what is said of each
 SIZES = (("OCTET STRING", 4294967295), ("BMPString", 2147483648), ("UniversalString", 1073741824), ("BIT STRING", 4294967295))
@@ -54,12 +59,12 @@ DEPTHS = (
     ("CHOICE { a ", " }", 31, DEEP_CHOICE),
     ("SEQUENCE OF ", "", 40, DEEP_LISTS),
 )
-# the same of choices that keep what is newer: the octets of an unknown alternative are deeper than NULL
 # a default of a CHOICE that keeps what newer versions have
 KEPT_DEFAULT = (
     "A ::= SEQUENCE { a B DEFAULT b:NULL } B ::= CHOICE { b NULL, ... }",
     "2:30: met 'b'; can read a default with parts of a type of no cycle that keeps nothing unknown, without an empty SET OF: others aren't printed yet",
 )
+# the same as DEPTHS of choices that keep what is newer: the octets of an unknown alternative are deeper than NULL
 KEPT_DEPTH = ("CHOICE { a ", ", ... }", 27, DEEP_CHOICE)
 
 
@@ -123,15 +128,20 @@ def nested(front, behind):
     return lambda levels: f"A ::= {front * levels}NULL{behind * levels}"
 
 
-def wide(count):
+def wide(count, first="c NULL"):
     """A SEQUENCE of so many components."""
     components = "".join(f", c{number} NULL" for number in range(1, count))
-    return f"A ::= SEQUENCE {{ c NULL{components} }}"
+    return f"A ::= SEQUENCE {{ {first}{components} }}"
+
+
+def wide_cycle(count):
+    """A SEQUENCE of so many components, of which one is itself."""
+    return wide(count, "c A OPTIONAL")
 
 
 def bounds():
     """How deep types may stand in one another, and how many components side by side."""
-    cases = bound(wide, 50, WIDE)
+    cases = bound(wide, 50, WIDE) + bound(wide_cycle, 28, WIDE_CYCLE, printed=CYCLE_PRINTED)
     for front, behind, most, message in DEPTHS:
         cases += bound(nested(front, behind), most, message)
     front, behind, most, message = KEPT_DEPTH

@@ -7,6 +7,7 @@ mod types_03;
 mod types_04;
 mod types_05;
 mod types_06;
+mod types_07;
 pub mod values;
 
 pub use types_01::{
@@ -32,4 +33,7 @@ pub use types_05::{
 pub use types_06::{
     Wide, WideComponents, WideFromB31Slots, WideFromB31Values, WideFromB31View, WideFromB32Slots,
     WideFromB32Values, WideFromB32View,
+};
+pub use types_07::{
+    Newest, NewestComponents, NewestFromB31Slots, NewestFromB31Values, NewestFromB31View,
 };

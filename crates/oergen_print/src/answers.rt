@@ -5,7 +5,8 @@ use crate::knots::knot_name;
 use crate::objects::objects_of;
 use crate::part_names::variant_names;
 use crate::parts::push_part_name;
-use crate::templates::{HELD_READ_ANSWER, HELD_TAKEN_ANSWER, PART_ANSWER, PUT_ANSWER};
+use crate::piece_templates::{HELD_READ_ANSWER, HELD_TAKEN_ANSWER};
+use crate::templates::{PART_ANSWER, PUT_ANSWER};
 use crate::text::{Text, Words};
 use oergen_layouts::definitions::{Definition, Part};
 use oergen_layouts::rows::Position;
@@ -140,11 +141,11 @@ pub fn answers_of(
     )
 }
 
-/// The name of the piece of a long row whose places a line of its impls names: of another line none.
-fn held_name(line: &str) -> Option<&str> {
-    let held = line.strip_prefix("    type Slots = ")?;
-    let name = held.strip_suffix("Slots;")?;
-    if name.contains("<") { None } else { Some(name) }
+/// The piece of a long row of whose places a line is the struct, and the trait of these; of another line none.
+fn held_piece(line: &str) -> Option<(&str, &str)> {
+    let (name, of) = line.strip_prefix("pub struct ")?.split_once("Slots(pub <")?;
+    let (_, slotted) = of.strip_suffix(">::Slots);")?.split_once(" as ")?;
+    Some((name, slotted))
 }
 
 /// Puts what the prover is told of the pieces of a long row behind other answers: of those that structs hold in the text of a type.
@@ -153,16 +154,23 @@ pub fn push_held_answers(
     text: &str,
     answers: &mut Vec<Answers>,
 ) -> Result<(), AllocError> {
-    for name in text.split('\n').filter_map(held_name) {
+    for (name, slotted) in text.split('\n').filter_map(held_piece) {
+        let (reads, read) = if slotted == "Slotted" {
+            ("Reads", "read")
+        } else {
+            ("ReadsAdditions", "read_additions")
+        };
         answers.push(Answers {
-            name: Text::of(alloc, &[name, "Slotted"]),
+            name: Text::of(alloc, &[name, slotted]),
             function: "taken",
             text: Text::of(alloc, &[HELD_TAKEN_ANSWER]),
         })?;
+        let mut words = Words::new(alloc);
+        words.put("READ", read);
         answers.push(Answers {
-            name: Text::of(alloc, &[name, "Reads"]),
-            function: "read",
-            text: Text::of(alloc, &[HELD_READ_ANSWER]),
+            name: Text::of(alloc, &[name, reads]),
+            function: read,
+            text: words.filled(HELD_READ_ANSWER),
         })?;
     }
     Ok(())

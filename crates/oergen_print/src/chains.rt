@@ -1,7 +1,9 @@
 //! The row of a type, in pieces of few cells each.
 
 use crate::cells::Cell;
-use crate::templates::{HELD_PIECE, HELD_PIECE_IMPLS, PIECE, PIECE_IMPLS};
+use crate::piece_templates::{
+    ADDITION_WORDS, HELD_PIECE, HELD_WORDS, PIECE, PIECE_IMPLS, PIECE_WORDS, ROOT_WORDS,
+};
 use crate::text::{Text, Words};
 use std::alloc::Global;
 
@@ -85,12 +87,12 @@ impl<'c> Chain<'c> {
         self.is_choice && self.cells.len() > FLAT
     }
 
-    /// Whether what stands from a cell of a long row on is held by structs of its own: past so many cells of the root, and past it.
+    /// Whether what stands from a cell of a long row on is held by structs of its own: past so many cells of the root, past the root, and
+    /// past so many additions.
     pub fn is_held_from(&self, at: usize) -> bool {
         let is_long = !self.is_choice && self.knot.is_none() && self.cells.len() > NESTED;
-        let is_last = at == self.root_count && at < self.cells.len();
-        let is_full = at < self.root_count && at % NESTED == 0;
-        is_long && at != 0 && (is_last || is_full)
+        let place = at.checked_sub(self.root_count).unwrap_or(at);
+        is_long && at != 0 && at < self.cells.len() && place % NESTED == 0
     }
 
     /// Appends the name of the row from a cell on.
@@ -210,27 +212,37 @@ fn name_in(alloc: Global, of: Chain<'_>, span: Span, at: usize, otherwise: &Text
     name
 }
 
-/// Whether the pieces of a span behind the first are types of their own: those of a root's components, but in a cycle.
-fn has_pieces(of: Chain<'_>, span: Span) -> bool {
-    !of.is_choice && of.knot.is_none() && span.to <= of.root_count
+/// Whether the pieces of a type's row behind the first ones are types of their own: those of components, but in a cycle.
+fn has_pieces(of: Chain<'_>) -> bool {
+    !of.is_choice && of.knot.is_none()
+}
+
+/// What stands for the words of the templates of a piece from a cell on.
+fn piece_words(alloc: Global, of: Chain<'_>, name: &Text, from: usize) -> Words {
+    let mut words = Words::new(alloc);
+    words.put("NAME", name.as_str());
+    words.put("EXT", if of.is_extensible { "true" } else { "false" });
+    words.fill_all(if from > of.root_count {
+        ADDITION_WORDS
+    } else {
+        ROOT_WORDS
+    });
+    words.fill_all(PIECE_WORDS);
+    words
 }
 
 /// Prints a piece of a row as a type, with the alias of its own cells, from one on.
 fn push_piece(out: &mut Text, of: Chain<'_>, name: &Text, from: usize, cells: &[Cell], end: &Text) {
     let alloc = out.alloc();
-    let (held, impls) = if of.is_held_from(from) {
-        (HELD_PIECE, HELD_PIECE_IMPLS)
-    } else {
-        ("", PIECE_IMPLS)
-    };
-    let mut words = Words::new(alloc);
-    words.put("NAME", name.as_str());
-    words.put("EXT", if of.is_extensible { "true" } else { "false" });
+    let mut words = piece_words(alloc, of, name, from);
     out.fill(PIECE, &words);
     let row = Text::of(alloc, &[name.as_str(), "Row"]);
     push_alias(alloc, out, &row, cells, end);
-    out.fill(held, &words);
-    out.fill(impls, &words);
+    if of.is_held_from(from) {
+        out.fill(HELD_PIECE, &words);
+        words.fill_all(HELD_WORDS);
+    }
+    out.fill(PIECE_IMPLS, &words);
 }
 
 /// Prints cells in aliases of few, of which the first is named, with `end` behind the last cell.
@@ -247,7 +259,7 @@ pub fn push_aliases(out: &mut Text, of: Chain<'_>, span: Span, first: &Text, end
         if number != 0 {
             push_doc(out, of, part);
         }
-        if number != 0 && has_pieces(of, span) {
+        if number != 0 && has_pieces(of) {
             push_piece(out, of, &own, start, part, &end);
         } else {
             push_alias(alloc, out, &own, part, &end);

@@ -20,6 +20,9 @@ const MAX_LISTS: usize = 40;
 /// How many components a row has at most: past some more the compiler gives up on its impls.
 const MAX_CELLS: usize = 50;
 
+/// How many of a type that contains itself, whose rows aren't cut in pieces.
+const MAX_CYCLE_CELLS: usize = 28;
+
 /// The depth of a list, and of a type in a box: what they hold lies apart.
 const APART: usize = 4;
 
@@ -399,12 +402,20 @@ fn require_lists<'m>(
     Ok(())
 }
 
-/// What can be read where a type has too many cells.
-fn limit_of(definition: &Definition<'_>) -> &'static str {
+/// How many cells the row of a type has at most, and what can be read where it has more.
+fn limit_of(definition: &Definition<'_>) -> (usize, &'static str) {
     if matches!(definition.of.body, Body::Choice(_)) {
-        ALTERNATIVES
-    } else {
-        "at most 50 components, and in a group as many: others aren't printed yet"
+        return (MAX_CELLS, ALTERNATIVES);
+    }
+    match definition.cycle {
+        None => (
+            MAX_CELLS,
+            "at most 50 components, and in a group as many: others aren't printed yet",
+        ),
+        Some(_) => (
+            MAX_CYCLE_CELLS,
+            "at most 28 components of a type that contains itself, and in a group as many: others aren't printed yet",
+        ),
     }
 }
 
@@ -416,10 +427,9 @@ pub fn require_depth<'m>(
     depth: Option<&Depth>,
 ) -> Result<(), Refusal> {
     require_lists(scope, all, definition)?;
+    let (most, limit) = limit_of(definition);
     match depth {
-        Some(depth) if depth.cells > MAX_CELLS => {
-            Err(scope.refused(definition.of.first, limit_of(definition)))
-        }
+        Some(depth) if depth.cells > most => Err(scope.refused(definition.of.first, limit)),
         Some(depth) if depth.within > MAX_DEPTH => Err(scope.refused(
             definition.of.first,
             "a type that is at most 64 deep in Rust, as docs/COMPILER.md counts it: what a list holds is counted anew",

@@ -30,6 +30,7 @@ pub mod objects;
 pub mod outputs;
 pub mod part_names;
 pub mod parts;
+mod piece_templates;
 pub mod printer;
 pub mod sections;
 pub mod sequences;

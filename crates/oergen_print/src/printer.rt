@@ -40,10 +40,10 @@ additionviews alternativeknot application compared components context defaulted 
 extensible held holdsknot intagorder isfalse isnull isnumber istrue knot knotalternating knotalternatives knotrow \
 knotrowed layered limited limits listof optional optionaladdition optionaladditionknot optionalknot place private \
 reads readsadditions readsalternatives readsknot readsknotalternatives required requiredaddition requiredknot rowed \
-schemed sequence set tabled takes takesalternative takesknot takesknotalternative textorder universal views writes \
+schemed sequence set slotted slottedadditions tabled takes takesalternative takesknot takesknotalternative textorder universal views writes \
 octets openoctets bmptext generaltext graphictext ia5text numerictext printabletext teletextext universaltext utf8text visibletext \
 within equalasspelled spelled encode encoder bare isemptylist utf8_from are_bits bits_from bmp_from universal_from built fields \
-part choicepart readspart holdstags from_parts from_row pairs rows_of table tags namedbits between atleast atmost fixedsize sizebetween sizeatleast decode_open_type other_octets";
+part choicepart putspart readspart holdstags from_parts from_row pairs rows_of table tags namedbits between atleast atmost fixedsize sizebetween sizeatleast decode_open_type other_octets";
 
 /// How often names may be put right.
 const MAX_RENAMES: usize = 16;

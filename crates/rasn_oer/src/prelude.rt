@@ -153,6 +153,7 @@ pub use oer_rows::Set;
 pub use oer_rows::SizeAtLeast;
 pub use oer_rows::SizeBetween;
 pub use oer_rows::Slotted;
+pub use oer_rows::SlottedAdditions;
 pub use oer_rows::Tabled;
 pub use oer_rows::Takes;
 pub use oer_rows::TeletexText;

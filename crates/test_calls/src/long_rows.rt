@@ -1,8 +1,8 @@
-//! Octets by hand from X.696, of a sequence of more components than stand in one another.
+//! Octets by hand from X.696, of sequences of more components, and of more additions, than stand in one another.
 
 use crate::kept::{agree, only_lenient};
 use asn1_core::DecodeErrorKind;
-use example_recursive::{Wide, WideComponents};
+use example_recursive::{Newest, NewestComponents, Wide, WideComponents};
 use rasn_oer::prelude::*;
 use std::test::Fail;
 
@@ -18,6 +18,12 @@ const LENIENT: &[u8] = b"\x00\xff\x00\xff\x00\xff\x00\xff\x00\xff\x00\xff\x00\xf
 const EXTENDED: &[u8] = b"\x80\xff\x00\xff\x00\xff\x00\xff\x00\xff\x00\xff\x00\xff\x00\xff\
     \x00\xff\x00\xff\x00\xff\x00\xff\x00\xff\x00\xff\x00\xff\x00\xff\
     \x02\x07\x80\x01\xff";
+
+/// An extension bit, a bitmap of 31 bits, and the first and the last addition: TRUE and FALSE.
+const ADDITIONS: &[u8] = b"\x80\x05\x01\x80\x00\x00\x02\x01\xff\x01\x00";
+
+/// The same with another TRUE.
+const LENIENT_ADDITIONS: &[u8] = b"\x80\x05\x01\x80\x00\x00\x02\x01\x01\x01\x00";
 
 /// A sequence, of which each other component is TRUE.
 fn each_other(b32: Option<bool>) -> Wide {
@@ -57,6 +63,43 @@ fn each_other(b32: Option<bool>) -> Wide {
     })
 }
 
+/// A sequence of two additions at most.
+fn newest(b1: Option<bool>, b31: Option<bool>) -> Newest {
+    Sequence(NewestComponents {
+        b1,
+        b2: None,
+        b3: None,
+        b4: None,
+        b5: None,
+        b6: None,
+        b7: None,
+        b8: None,
+        b9: None,
+        b10: None,
+        b11: None,
+        b12: None,
+        b13: None,
+        b14: None,
+        b15: None,
+        b16: None,
+        b17: None,
+        b18: None,
+        b19: None,
+        b20: None,
+        b21: None,
+        b22: None,
+        b23: None,
+        b24: None,
+        b25: None,
+        b26: None,
+        b27: None,
+        b28: None,
+        b29: None,
+        b30: None,
+        b31,
+    })
+}
+
 #[test]
 fn long_rows_are_read_and_written(rt: HostRuntime) -> Result<(), Fail> {
     let alloc = rt.alloc();
@@ -64,5 +107,16 @@ fn long_rows_are_read_and_written(rt: HostRuntime) -> Result<(), Fail> {
     assert!(rt; agree(alloc, &each_other(Some(true)), EXTENDED)?);
     let kind = DecodeErrorKind::InvalidBool { value: 1 };
     assert!(rt; only_lenient(alloc, &each_other(None), LENIENT, ROOT, kind)?);
+    Ok(())
+}
+
+#[test]
+fn many_additions_are_read_and_written(rt: HostRuntime) -> Result<(), Fail> {
+    let alloc = rt.alloc();
+    let both = newest(Some(true), Some(false));
+    assert!(rt; agree(alloc, &both, ADDITIONS)?);
+    assert!(rt; agree(alloc, &newest(None, None), b"\x00")?);
+    let kind = DecodeErrorKind::InvalidBool { value: 1 };
+    assert!(rt; only_lenient(alloc, &both, LENIENT_ADDITIONS, ADDITIONS, kind)?);
     Ok(())
 }
