@@ -40,7 +40,7 @@ DEEP_CHOICE = (
 DEEP_LISTS = "2:7: met 'SEQUENCE'; can read at most 40 lists directly inside one another"
 WIDE = "2:7: met 'SEQUENCE'; can read at most 50 components, and in a group as many: others aren't printed yet"
 WIDE_CYCLE = (
-    "2:7: met 'SEQUENCE'; can read at most 28 components of a type that contains itself, and in a group as many: "
+    "2:7: met 'SEQUENCE'; can read at most 30 components of a type that contains itself, and in a group as many: "
     "others aren't printed yet"
 )
 CYCLE_PRINTED = ("m: rasn_oer oer_write asn1_core\n", "", 0, None)
@@ -141,7 +141,7 @@ def wide_cycle(count):
 
 def bounds():
     """How deep types may stand in one another, and how many components side by side."""
-    cases = bound(wide, 50, WIDE) + bound(wide_cycle, 28, WIDE_CYCLE, printed=CYCLE_PRINTED)
+    cases = bound(wide, 50, WIDE) + bound(wide_cycle, 30, WIDE_CYCLE, printed=CYCLE_PRINTED)
     for front, behind, most, message in DEPTHS:
         cases += bound(nested(front, behind), most, message)
     front, behind, most, message = KEPT_DEPTH

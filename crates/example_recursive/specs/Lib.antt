@@ -6,3 +6,4 @@ pub mod GroupWeights
 pub mod BagWeights
 pub mod FilterWeights
 pub mod QueryWeights
+pub mod BranchWeights

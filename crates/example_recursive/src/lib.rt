@@ -8,6 +8,7 @@ mod types_04;
 mod types_05;
 mod types_06;
 mod types_07;
+mod types_08;
 pub mod values;
 
 pub use types_01::{
@@ -37,3 +38,4 @@ pub use types_06::{
 pub use types_07::{
     Newest, NewestComponents, NewestFromB31Slots, NewestFromB31Values, NewestFromB31View,
 };
+pub use types_08::{Branch, BranchComponents, BranchContent, BranchFromLeft, BranchFromRight};

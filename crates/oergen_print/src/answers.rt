@@ -155,10 +155,10 @@ pub fn push_held_answers(
     answers: &mut Vec<Answers>,
 ) -> Result<(), AllocError> {
     for (name, slotted) in text.split('\n').filter_map(held_piece) {
-        let (reads, read) = if slotted == "Slotted" {
-            ("Reads", "read")
+        let (reads, read, others) = if slotted == "Slotted" {
+            ("Reads", "read", "x.2, x.3, x.4")
         } else {
-            ("ReadsAdditions", "read_additions")
+            ("ReadsAdditions", "read_additions", "x.2, x.3")
         };
         answers.push(Answers {
             name: Text::of(alloc, &[name, slotted]),
@@ -167,6 +167,7 @@ pub fn push_held_answers(
         })?;
         let mut words = Words::new(alloc);
         words.put("READ", read);
+        words.put("OTHERS", others);
         answers.push(Answers {
             name: Text::of(alloc, &[name, reads]),
             function: read,

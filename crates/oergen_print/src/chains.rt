@@ -2,7 +2,8 @@
 
 use crate::cells::Cell;
 use crate::piece_templates::{
-    ADDITION_WORDS, HELD_PIECE, HELD_WORDS, PIECE, PIECE_IMPLS, PIECE_WORDS, ROOT_WORDS,
+    ADDITION_WORDS, HELD_PIECE, HELD_WORDS, KNOT_PARAMETER, KNOT_PIECE_IMPLS, PIECE, PIECE_IMPLS,
+    PIECE_WORDS, ROOT_WORDS,
 };
 use crate::text::{Text, Words};
 use std::alloc::Global;
@@ -212,16 +213,15 @@ fn name_in(alloc: Global, of: Chain<'_>, span: Span, at: usize, otherwise: &Text
     name
 }
 
-/// Whether the pieces of a type's row behind the first ones are types of their own: those of components, but in a cycle.
-fn has_pieces(of: Chain<'_>) -> bool {
-    !of.is_choice && of.knot.is_none()
-}
-
 /// What stands for the words of the templates of a piece from a cell on.
-fn piece_words(alloc: Global, of: Chain<'_>, name: &Text, from: usize) -> Words {
+fn piece_words(alloc: Global, of: Chain<'_>, from: usize) -> Words {
     let mut words = Words::new(alloc);
-    words.put("NAME", name.as_str());
+    of.push_rest(words.begin("NAME"), from);
     words.put("EXT", if of.is_extensible { "true" } else { "false" });
+    if hold_knots(of.cells.get(from..).unwrap_or(&[])) {
+        words.fill_all(KNOT_PARAMETER);
+    }
+    words.put_filled("ROW", "@NAME@Row@K@");
     words.fill_all(if from > of.root_count {
         ADDITION_WORDS
     } else {
@@ -232,17 +232,24 @@ fn piece_words(alloc: Global, of: Chain<'_>, name: &Text, from: usize) -> Words 
 }
 
 /// Prints a piece of a row as a type, with the alias of its own cells, from one on.
-fn push_piece(out: &mut Text, of: Chain<'_>, name: &Text, from: usize, cells: &[Cell], end: &Text) {
+fn push_piece(out: &mut Text, of: Chain<'_>, from: usize, cells: &[Cell], end: &Text) {
     let alloc = out.alloc();
-    let mut words = piece_words(alloc, of, name, from);
+    let mut words = piece_words(alloc, of, from);
     out.fill(PIECE, &words);
-    let row = Text::of(alloc, &[name.as_str(), "Row"]);
-    push_alias(alloc, out, &row, cells, end);
+    push_alias(alloc, out, &words.filled("@ROW@"), cells, end);
     if of.is_held_from(from) {
         out.fill(HELD_PIECE, &words);
         words.fill_all(HELD_WORDS);
     }
     out.fill(PIECE_IMPLS, &words);
+    out.fill(
+        if of.knot.is_some() {
+            KNOT_PIECE_IMPLS
+        } else {
+            ""
+        },
+        &words,
+    );
 }
 
 /// Prints cells in aliases of few, of which the first is named, with `end` behind the last cell.
@@ -259,8 +266,8 @@ pub fn push_aliases(out: &mut Text, of: Chain<'_>, span: Span, first: &Text, end
         if number != 0 {
             push_doc(out, of, part);
         }
-        if number != 0 && has_pieces(of) {
-            push_piece(out, of, &own, start, part, &end);
+        if number != 0 && !of.is_choice {
+            push_piece(out, of, start, part, &end);
         } else {
             push_alias(alloc, out, &own, part, &end);
         }
@@ -301,7 +308,7 @@ pub fn push_row(alloc: Global, out: &mut Text, of: Chain<'_>) {
         of.push_rest(&mut rest, roots.to);
         push_aliases(out, of, roots, &row, &rest);
         push_doc(out, of, of.additions());
-        push_piece(out, of, &rest, roots.to, &[], &end_of_roots(alloc, of));
+        push_piece(out, of, roots.to, &[], &end_of_roots(alloc, of));
     } else {
         push_aliases(out, of, roots, &row, &end_of_roots(alloc, of));
     }

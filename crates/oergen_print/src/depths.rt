@@ -20,8 +20,8 @@ const MAX_LISTS: usize = 40;
 /// How many components a row has at most: past some more the compiler gives up on its impls.
 const MAX_CELLS: usize = 50;
 
-/// How many of a type that contains itself, whose rows aren't cut in pieces.
-const MAX_CYCLE_CELLS: usize = 28;
+/// How many of a type that contains itself: no structs hold the rest of its row.
+const MAX_CYCLE_CELLS: usize = NESTED;
 
 /// The depth of a list, and of a type in a box: what they hold lies apart.
 const APART: usize = 4;
@@ -414,7 +414,7 @@ fn limit_of(definition: &Definition<'_>) -> (usize, &'static str) {
         ),
         Some(_) => (
             MAX_CYCLE_CELLS,
-            "at most 28 components of a type that contains itself, and in a group as many: others aren't printed yet",
+            "at most 30 components of a type that contains itself, and in a group as many: others aren't printed yet",
         ),
     }
 }

@@ -1,9 +1,19 @@
 //! What is printed of the pieces of a row: between two `@` stands a word that is put in.
 
 /// A piece of a row behind its first one: a type of its own, since the check of a row takes the longer the more its text says at once.
-pub const PIECE: &str = r#"pub struct @NAME@;
+pub const PIECE: &str = r#"pub struct @NAME@@K@@HOLDS@;
 
 "#;
+
+/// The parameter of a piece that holds knots, and its bounds.
+pub const KNOT_PARAMETER: &[(&str, &str)] = &[
+    ("K", "<K>"),
+    ("TURBO", "::<K>"),
+    ("HOLDS", "(PhantomData<K>)"),
+    ("WRITING", "<K: Encode>"),
+    ("READING", "<K: Encode + Decode>"),
+    ("VIEWED", ", K: Encode + 'v"),
+];
 
 /// The traits of a piece of root components, and what they have.
 pub const ROOT_WORDS: &[(&str, &str)] = &[
@@ -11,14 +21,18 @@ pub const ROOT_WORDS: &[(&str, &str)] = &[
     ("VALUES", "Values"),
     ("SCHEMA", "schema"),
     ("THROUGH", "through"),
-    ("IF_EXTENSIBLE", "⟦<@NAME@Row as Components>⟧.EXTENSIBLE "),
+    ("IF_EXTENSIBLE", "⟦<@ROW@ as Components>⟧.EXTENSIBLE "),
     ("EXTENSIBLE", EXTENSIBLE),
+    ("KNOT_EXTENSIBLE", KNOT_EXTENSIBLE),
     ("SLOTTED", "Slotted"),
     ("READS", "Reads"),
     ("READ", "read"),
     ("VIEWS", "Views"),
     ("VIEW", "View"),
     ("WRITE", "write"),
+    ("KNOT_ROWED", "KnotRow"),
+    ("READS_KNOT", "ReadsKnot"),
+    ("READ_KNOT", "read"),
     (
         "SIGNATURE",
         "(view: &Self::View, encoder: &mut Encoder<'_>) -> Result<(), EncodeError>",
@@ -26,7 +40,14 @@ pub const ROOT_WORDS: &[(&str, &str)] = &[
 ];
 
 /// Whether a row is extensible.
-const EXTENSIBLE: &str = r#"    ghost EXTENSIBLE = { ⟦<@NAME@Row as Components>⟧.EXTENSIBLE };
+const EXTENSIBLE: &str = r#"    ghost EXTENSIBLE = { ⟦<@ROW@ as Components>⟧.EXTENSIBLE };
+
+    const EXTENSIBLE: bool = @EXT@;
+
+"#;
+
+/// Whether one that holds knots is.
+const KNOT_EXTENSIBLE: &str = r#"    ghost EXTENSIBLE = { ⟦<@ROW@ as KnotRow<K>>⟧.EXTENSIBLE };
 
     const EXTENSIBLE: bool = @EXT@;
 
@@ -44,6 +65,9 @@ pub const ADDITION_WORDS: &[(&str, &str)] = &[
     ("VIEWS", "AdditionViews"),
     ("VIEW", "MoreView"),
     ("WRITE", "write_additions"),
+    ("KNOT_ROWED", "KnotAdditions"),
+    ("READS_KNOT", "ReadsKnotAdditions"),
+    ("READ_KNOT", "read_knot_additions"),
     (
         "SIGNATURE",
         "(\n        view: &Self::MoreView,\n        encoder: &mut Encoder<'_>,\n    ) -> Result<(), EncodeError>",
@@ -52,17 +76,16 @@ pub const ADDITION_WORDS: &[(&str, &str)] = &[
 
 /// What a piece is by the row of its own cells.
 pub const PIECE_WORDS: &[(&str, &str)] = &[
-    ("ROW", "⟦<@NAME@Row as @ROWED@>⟧."),
-    ("IS_SCHEMA", "@ROW@is_@SCHEMA@"),
-    ("OWN_SCHEMA", "@ROW@@SCHEMA@"),
-    ("OWN_VALUES", "<@NAME@Row as @ROWED@>::@VALUES@"),
-    ("OWN_SLOTS", "<@NAME@Row as @SLOTTED@>::Slots"),
-    ("OWN_VIEW", "<@NAME@Row as @VIEWS@<'v>>::@VIEW@"),
-    ("FILLED", "⟦<@NAME@Row as @SLOTTED@>⟧.filled"),
+    ("IS_SCHEMA", "⟦<@ROW@ as @ROWED@>⟧.is_@SCHEMA@"),
+    ("OWN_SCHEMA", "⟦<@ROW@ as @ROWED@>⟧.@SCHEMA@"),
+    ("OWN_VALUES", "<@ROW@ as @ROWED@>::@VALUES@"),
+    ("OWN_SLOTS", "<@ROW@ as @SLOTTED@>::Slots"),
+    ("OWN_VIEW", "<@ROW@ as @VIEWS@<'v>>::@VIEW@"),
+    ("FILLED", "⟦<@ROW@ as @SLOTTED@>⟧.filled"),
     ("FILLED_ONCE", "@FILLED@_once"),
-    ("SEEN", "⟦<@NAME@Row as @VIEWS@<'v>>⟧.seen"),
-    ("EMPTY", "@NAME@Row::empty()"),
-    ("TAKEN", "@NAME@Row::taken(slots)"),
+    ("SEEN", "⟦<@ROW@ as @VIEWS@<'v>>⟧.seen"),
+    ("EMPTY", "@NAME@Row@TURBO@::empty()"),
+    ("TAKEN", "@NAME@Row@TURBO@::taken(slots)"),
     ("SLOTS", "slots"),
     ("SEES", "view"),
 ];
@@ -117,7 +140,7 @@ pub struct @NAME@View<'v>(pub @OWN_VIEW@);
 "#;
 
 /// The impls of a piece.
-pub const PIECE_IMPLS: &str = r#"impl @ROWED@ for @NAME@ {
+pub const PIECE_IMPLS: &str = r#"impl@WRITING@ @ROWED@ for @NAME@@K@ {
 @USES_SCHEMA@    type @VALUES@ = @OWN_VALUES@;
 
 @EXTENSIBLE@    ghost @SCHEMA@ = { @OWN_SCHEMA@ };
@@ -125,7 +148,7 @@ pub const PIECE_IMPLS: &str = r#"impl @ROWED@ for @NAME@ {
     ghost is_@SCHEMA@ = { @IS_SCHEMA@ };
 }
 
-impl @SLOTTED@ for @NAME@ {
+impl@WRITING@ @SLOTTED@ for @NAME@@K@ {
 @USES_SLOTS@    type Slots = @OWN_SLOTS@;
 
     ghost filled = { @FILLED@ };
@@ -143,8 +166,8 @@ impl @SLOTTED@ for @NAME@ {
     }
 }
 
-impl @READS@ for @NAME@ {
-    ghost Refuses = { ⟦<@NAME@Row as @READS@>⟧.Refuses };
+impl@READING@ @READS@ for @NAME@@K@ {
+    ghost Refuses = { ⟦<@ROW@ as @READS@>⟧.Refuses };
 
     #[inline(always)]
     fn @READ@(
@@ -152,18 +175,44 @@ impl @READS@ for @NAME@ {
         decoder: &mut Decoder<'_>,
         slots: &mut Self::Slots,
     ) -> Result<(), DecodeError> {
-        <@NAME@Row as @READS@>::@READ@(alloc, decoder, @SLOTS@)
+        <@ROW@ as @READS@>::@READ@(alloc, decoder, @SLOTS@)
     }
 }
 
-impl<'v> @VIEWS@<'v> for @NAME@ {
+impl<'v@VIEWED@> @VIEWS@<'v> for @NAME@@K@ {
     type @VIEW@ = @OWN_VIEW@;
 
     ghost seen = { @SEEN@ };
 
     #[inline(always)]
     fn @WRITE@@SIGNATURE@ {
-        @NAME@Row::@WRITE@(@SEES@, encoder)
+        @NAME@Row@TURBO@::@WRITE@(@SEES@, encoder)
+    }
+}
+
+"#;
+
+/// The impls of one in a cycle, by the knots that it holds.
+pub const KNOT_PIECE_IMPLS: &str = r#"impl<K> @KNOT_ROWED@<K> for @NAME@@K@ {
+    type @VALUES@ = <@ROW@ as @KNOT_ROWED@<K>>::@VALUES@;
+
+@KNOT_EXTENSIBLE@    ghost @SCHEMA@ = { ⟦<@ROW@ as @KNOT_ROWED@<K>>⟧.@SCHEMA@ };
+
+    ghost weight = { ⟦<@ROW@ as @KNOT_ROWED@<K>>⟧.weight };
+
+    ghost ties = { ⟦<@ROW@ as @KNOT_ROWED@<K>>⟧.ties };
+}
+
+impl<K: Encode> @READS_KNOT@<K> for @NAME@@K@ {
+    ghost refusing = { ⟦<@ROW@ as @READS_KNOT@<K>>⟧.refusing };
+
+    fn @READ_KNOT@<F: Fn(&mut Decoder<'_>) -> Result<K, DecodeError>>(
+        alloc: Global,
+        decoder: &mut Decoder<'_>,
+        slots: &mut Self::Slots,
+        knot: &F,
+    ) -> Result<(), DecodeError> {
+        <@ROW@ as @READS_KNOT@<K>>::@READ_KNOT@(alloc, decoder, slots, knot)
     }
 }
 
@@ -181,5 +230,5 @@ pub const HELD_READ_ANSWER: &str = r#"use Rattle.std.proofs.Common.{ap}
 use Rattle.std.proofs.lemmas.Result.{on_ok_weaker}
 
 pub returns-clause-read : goal.returns-clause-read
-returns-clause-read c = on_ok_weaker c.@READ@.result (λ (v, e, others). (record { 0 = v }, ap (λ z. record { 0 = z }) e, others)) c.@READ@.ensures.read
+returns-clause-read c = on_ok_weaker c.@READ@.result (λ x. (record { 0 = x.0 }, ap (λ z. record { 0 = z }) x.1, @OTHERS@)) c.@READ@.ensures.read
 "#;

@@ -37,9 +37,9 @@ numericstring objectidentifier octetstring printablestring sequenceof setof tag 
 utf8string visiblestring constrainedinteger integer integerrange alternating alternative alternatives alternativeviews either \
 enumeration numbered oneof decode decodechoice decodeinside decodeknot decoder decoderoptions additiongroup additions \
 additionviews alternativeknot application compared components context defaulted defaultedaddition defaultvalue end \
-extensible held holdsknot intagorder isfalse isnull isnumber istrue knot knotalternating knotalternatives knotrow \
+extensible held holdsknot intagorder isfalse isnull isnumber istrue knot knotalternating knotadditions knotalternatives knotrow \
 knotrowed layered limited limits listof optional optionaladdition optionaladditionknot optionalknot place private \
-reads readsadditions readsalternatives readsknot readsknotalternatives required requiredaddition requiredknot rowed \
+reads readsadditions readsalternatives readsknot readsknotadditions readsknotalternatives required requiredaddition requiredknot rowed \
 schemed sequence set slotted slottedadditions tabled takes takesalternative takesknot takesknotalternative textorder universal views writes \
 octets openoctets bmptext generaltext graphictext ia5text numerictext printabletext teletextext universaltext utf8text visibletext \
 within equalasspelled spelled encode encoder bare isemptylist utf8_from are_bits bits_from bmp_from universal_from built fields \

@@ -2,8 +2,9 @@
 
 use crate::kept::{agree, only_lenient};
 use asn1_core::DecodeErrorKind;
-use example_recursive::{Newest, NewestComponents, Wide, WideComponents};
+use example_recursive::{Branch, BranchComponents, Newest, NewestComponents, Wide, WideComponents};
 use rasn_oer::prelude::*;
+use std::alloc::Global;
 use std::test::Fail;
 
 /// A preamble, and 31 components, of which each other is TRUE.
@@ -100,6 +101,33 @@ fn newest(b1: Option<bool>, b31: Option<bool>) -> Newest {
     })
 }
 
+/// A preamble with the bits of the extension and of `left`, five components, and a branch without any; an addition behind a bitmap.
+const BRANCH: &[u8] = b"\xc0\xff\x00\x00\x00\x00\x00\x00\x00\x00\x00\x00\
+    \x02\x02\x04\x06\x00\xff\x00\x00\x00\x00";
+
+/// A sequence that may hold itself.
+fn branch(a: bool, left: Option<Held<Branch>>, right: Option<Held<Branch>>) -> Branch {
+    Branch(Sequence(BranchComponents {
+        a,
+        b: false,
+        c: false,
+        d: false,
+        e: false,
+        left,
+        f: None,
+        g: None,
+        h: None,
+        i: None,
+        j: None,
+        right,
+    }))
+}
+
+/// One without branches.
+fn leaf(alloc: Global, a: bool) -> Result<Option<Held<Branch>>, Fail> {
+    Ok(Some(Held(Box::new(alloc, branch(a, None, None))?)))
+}
+
 #[test]
 fn long_rows_are_read_and_written(rt: HostRuntime) -> Result<(), Fail> {
     let alloc = rt.alloc();
@@ -118,5 +146,13 @@ fn many_additions_are_read_and_written(rt: HostRuntime) -> Result<(), Fail> {
     assert!(rt; agree(alloc, &newest(None, None), b"\x00")?);
     let kind = DecodeErrorKind::InvalidBool { value: 1 };
     assert!(rt; only_lenient(alloc, &both, LENIENT_ADDITIONS, ADDITIONS, kind)?);
+    Ok(())
+}
+
+#[test]
+fn branches_are_read_and_written(rt: HostRuntime) -> Result<(), Fail> {
+    let alloc = rt.alloc();
+    let whole = branch(true, leaf(alloc, false)?, leaf(alloc, true)?);
+    assert!(rt; agree(alloc, &whole, BRANCH)?);
     Ok(())
 }
