@@ -117,18 +117,22 @@ class Maker:
         of = self.type(levels)
         return f"{self.name('c')} {self.tagged(of, at, is_tagged)}{self.need(of)}"
 
+    def how_many(self, usual, most):
+        """How many components, or additions: now and then more than stand in an alias, or in one another."""
+        return self.rng.randint(6, most) if self.rng.random() < 0.02 else self.rng.randint(0, usual)
+
     def sequence(self, levels):
         sort = self.rng.choice(("SEQUENCE", "SEQUENCE", "SET"))
         is_tagged = not self.is_automatic or self.rng.random() < 0.1
         at, parts = 0, []
-        for _ in range(self.rng.randint(0, 5)):
+        for _ in range(self.how_many(5, 32)):
             parts.append(self.component(at, levels, is_tagged))
             at += 1
-        if sort == "SEQUENCE" and self.sequences and self.rng.random() < 0.2:
+        if sort == "SEQUENCE" and self.sequences and at < 6 and self.rng.random() < 0.2:
             parts.append(f"COMPONENTS OF {self.sequences.pop()}")
         if self.rng.random() < 0.4:
             parts.append("...")
-            for _ in range(self.rng.randint(0, 3)):
+            for _ in range(self.how_many(3, 12)):
                 if self.rng.random() < 0.3:
                     parts.append(f"[[ {self.component(at, levels, is_tagged)}, {self.component(at + 1, levels, is_tagged)} ]]")
                     at += 1
