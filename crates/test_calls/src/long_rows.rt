@@ -1,4 +1,4 @@
-//! Octets by hand from X.696, of sequences of more components, and of more additions, than stand in one another.
+//! Octets by hand from X.696, of sequences whose rows are in pieces.
 
 use crate::kept::{agree, only_lenient};
 use asn1_core::DecodeErrorKind;
